@@ -196,6 +196,18 @@ verdict-over lines n cs = (λ e. go (overBelow (2 ^ n) cs) refl e, λ r. back (o
     back true h r = refl
     back false h r = absurd (omega (arith, r .more, over-none (2 ^ n) cs h (r .set) (r .below) (r .two)))
 
+-- not over if and only if no set of elements below n does
+pub fine-verdict : (lines n : ℕ) (cs : List ℕ) → NotOverIn n cs → verdict lines n cs ≢ over
+unfolding NotOverIn
+fine-verdict lines n cs fine e = let r = verdict-over lines n cs .0 e in omega (arith, r .more, fine (r .set) (r .below) (r .two))
+
+pub verdict-fine : (lines n : ℕ) (cs : List ℕ) → verdict lines n cs ≢ over → NotOverIn n cs
+verdict-fine lines n cs ne = go (overBelow (2 ^ n) cs) refl
+  where
+    go : (b : Bool) → overBelow (2 ^ n) cs ≡ b → NotOverIn n cs
+    go true e = absurd (ne (verdict-over lines n cs .1 (over-test n cs (subst T (sym e) tt))))
+    go false e = not-over-test n cs e
+
 -- else that of every maximal list of merges
 pub verdict-every : (lines n : ℕ) (cs : List ℕ) → Pairs cs → Below n cs → NotOverIn n cs → (p : List Merge) → Maximal cs p
     → verdict lines n cs ≡ listVerdict lines n cs p
