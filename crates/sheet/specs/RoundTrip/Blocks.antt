@@ -8,24 +8,21 @@ use mathlib.Core.List.{List, [], _∷_, _++_}
 use lib.Dec.{leb}
 use lib.ListN.{length, take, getD, length-append}
 use lib.Seq.{take-append-seam, length-take-le}
-use Rattle.sheet.specs.declared.Size.{Size}
-use Rattle.sheet.specs.declared.Size.the-variants.{Given, Missing}
-use Rattle.sheet.specs.declared.Tag.{Tag}
-use Rattle.sheet.specs.declared.Tag.the-variants.{Given as TagGiven, Missing as NoTag}
-use Rattle.sheet.specs.declared.Constraint.{Constraint}
 use Rattle.sheet.specs.declared.Sheet.{Sheet}
 use Rattle.sheet.specs.Facts.{Facts, pick, linesOf, sheetOf, factsOf, blankConstraint}
-use Rattle.sheet.specs.Field.{digits, unsigned32}
-use Rattle.sheet.specs.Field.Laws.{and-both, length-digits}
+use Rattle.sheet.specs.Field.{digits}
+use Rattle.sheet.specs.Field.Laws.{length-digits}
+use Rattle.sheet.specs.Rules.Laws.{and-true}
 use Rattle.sheet.specs.Rules.{elementCount, constraintCount, constraintsFault, sheetFault}
 use Rattle.sheet.specs.Decode.{kindBytes}
-use Rattle.sheet.specs.Encode.{sizeBytes, tagBytes, constraintBytes, constraintsBytes, sheetBytes}
+use Rattle.sheet.specs.Encode.{constraintsBytes, sheetBytes}
+use Rattle.sheet.specs.Encode.Laws.{constraints-length}
 use Rattle.sheet.specs.Accepted.{tagNumber, Accepted}
 
 -- ---- counts in range
 
 pub elements-most : (n : ℕ) → elementCount n ≡ true → n ≤ 64
-elements-most n h = leb-true n 64 (and-both (leb 2 n) (leb n 64) h .1)
+elements-most n h = leb-true n 64 (and-true (leb 2 n) (leb n 64) h .1)
 
 pub constraints-most : (e : ℕ) → constraintCount e ≡ true → e ≤ 200
 constraints-most e h = leb-true e 200 h
@@ -57,26 +54,6 @@ module _ (s : Sheet) (elements : length (s .elements) ≡ 64) (constraints : len
       go false q n-ok e-ok h = absurd (omega arith)
 
 -- ---- length
-
-size-length : (z : Size) → length (sizeBytes z) ≤ 4
-unfolding sizeBytes
-size-length (Given z) = omega (arith, length-digits 4 (unsigned32 z))
-size-length Missing = omega arith
-
-tag-length : (t : Tag) → length (tagBytes t) ≤ 2
-unfolding tagBytes
-tag-length (TagGiven t) = omega (arith, length-digits 2 t)
-tag-length NoTag = omega arith
-
-pub constraint-length : (c : Constraint) → length (constraintBytes c) ≤ 9
-unfolding constraintBytes
-constraint-length c =
-    omega (arith, size-length (c .size), tag-length (c .tag), length-append (sizeBytes (c .size)) (tagBytes (c .tag)))
-
-pub constraints-length : (cs : List Constraint) → length (constraintsBytes cs) ≤ 9 * length cs
-unfolding constraintsBytes
-constraints-length [] = omega arith
-constraints-length (c ∷ cs) = rw length-append (omega (arith, constraint-length c, constraints-length cs))
 
 pub sheet-length : (f : Facts) → Accepted f → length (sheetBytes f) ≤ 1814
 unfolding sheetBytes
