@@ -10,6 +10,7 @@ use Rattle.sheet.specs.Encode.{sheetBytes}
 use Rattle.space.specs.declared.Written.{Written}
 use Rattle.space.specs.declared.Written.the-variants.{Refused}
 use Rattle.space.specs.Space.{answer, after}
+pub mod Laws
 
 unfoldable pub writeAnswer : Sheet → List ℕ → Written
 writeAnswer s space = pick (eqb (sheetFault s) 0) (answer (sheetBytes (factsOf s)) space) (Refused (sheetFault s))

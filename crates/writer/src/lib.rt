@@ -104,7 +104,13 @@ fn put_constraint(out: &mut [u8], at: usize, c: Constraint) -> usize
 {
     let size = c.size;
     let tag = c.tag;
-    let a1 = put_head(out, at, c.first, c.second, size_bit(size) + 2 * tag_bit(tag));
+    let a1 = put_head(
+        out,
+        at,
+        c.first,
+        c.second,
+        size_bit(size) + 2 * tag_bit(tag),
+    );
     let a2 = put_size(out, a1, size);
     put_tag(out, a2, tag)
 }

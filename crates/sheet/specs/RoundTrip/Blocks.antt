@@ -38,20 +38,25 @@ unfolding sheetFault sheetOf
 sheetOf-fault f h =
     rw (h .element-count, h .constraint-count, take-append-seam (f .elements), take-append-seam (f .constraints)) (h .no-fault)
 
--- blocks of the right length that no rule refuses
+-- blocks that no rule refuses
+pub sheetFault-none : (s : Sheet) → sheetFault s ≡ 0
+    → (elementCount (s .n) ≡ true) × (constraintCount (s .e) ≡ true) × (constraintsFault (factsOf s .elements) [] (factsOf s .constraints) ≡ 0)
+unfolding sheetFault
+sheetFault-none s h = go (elementCount (s .n)) (constraintCount (s .e)) (constraintsFault (factsOf s .elements) [] (factsOf s .constraints)) h
+  where
+    go : (p q : Bool) (k : ℕ) → pick p (pick q k 5) 3 ≡ 0 → (p ≡ true) × (q ≡ true) × (k ≡ 0)
+    go true true k h = (refl, refl, h)
+    go true false k h = absurd (omega arith)
+    go false q k h = absurd (omega arith)
+
+-- and that have the right lengths
 module _ (s : Sheet) (elements : length (s .elements) ≡ 64) (constraints : length (s .constraints) ≡ 200) where
   pub factsOf-accepted : sheetFault s ≡ 0 → ((i : ℕ) → tagNumber (getD (factsOf s .constraints) i blankConstraint .tag) < 2 ^ 16) → Accepted (factsOf s)
-  unfolding sheetFault
-  factsOf-accepted h tags = go (elementCount (s .n)) (constraintCount (s .e)) refl refl h
-    where
-      go : (p q : Bool) → elementCount (s .n) ≡ p → constraintCount (s .e) ≡ q
-          → pick p (pick q (constraintsFault (factsOf s .elements) [] (factsOf s .constraints)) 5) 3 ≡ 0 → Accepted (factsOf s)
-      go true true n-ok e-ok h =
-          let n-is : length (take (s .n) (s .elements)) ≡ s .n = length-take-le (s .n) (s .elements) (omega (arith, elements-most (s .n) n-ok)) in
-          let e-is : length (take (s .e) (s .constraints)) ≡ s .e = length-take-le (s .e) (s .constraints) (omega (arith, constraints-most (s .e) e-ok)) in
-          record { element-count = rw n-is n-ok; constraint-count = rw e-is e-ok; no-fault = h; tags = tags }
-      go true false n-ok e-ok h = absurd (omega arith)
-      go false q n-ok e-ok h = absurd (omega arith)
+  factsOf-accepted h tags =
+      let f = sheetFault-none s h in
+      let n-is : length (take (s .n) (s .elements)) ≡ s .n = length-take-le (s .n) (s .elements) (omega (arith, elements-most (s .n) (f .0))) in
+      let e-is : length (take (s .e) (s .constraints)) ≡ s .e = length-take-le (s .e) (s .constraints) (omega (arith, constraints-most (s .e) (f .1))) in
+      record { element-count = rw n-is (f .0); constraint-count = rw e-is (f .1); no-fault = f .2; tags = tags }
 
 -- ---- length
 
