@@ -1,6 +1,6 @@
 -- A step's kind and placements. Document 01, "Joint kinds and placements", after document 001, section 2.2. Everything here computes. `lines` is
 -- the set of the elements that are lines, e the count of constraints, `sizes` the constraints' sizes, 0 for a missing one. Assumes nothing.
-use mathlib.Core.Bool.{true, false, _&&_}
+use mathlib.Core.Bool.{Bool, true, false, _&&_}
 use mathlib.Core.List.{List}
 use Prim.Native.Nat.{ℕ, zero, suc, _+_, _-_, max}
 use lib.Dec.{ltb, eqb}
@@ -9,6 +9,7 @@ use lib.IntN.{ℤ, pos, natAbs, _-ℤ_}
 use lib.ListN.{getD}
 use Rattle.theory.specs.Set.{_∩_}
 use Rattle.theory.specs.Merge.{Merge, slot, three, joint}
+pub mod Laws
 pub mod Examples
 
 -- ---- the kind after the joint
@@ -33,8 +34,13 @@ pub data Ways : Type 0 where
   unknown : Ways
 
 -- x above y gives 0, equal 1, below 2
+abbrev pub byOrder : Bool → Bool → ℕ
+byOrder true below = 0
+byOrder false false = 1
+byOrder false true = 2
+
 unfoldable pub against : ℕ → ℕ → ℕ
-against x y = elim (ltb y x) [ true ↦ 0 | false ↦ elim (ltb x y) [ true ↦ 2 | false ↦ 1 ] ]
+against x y = byOrder (ltb y x) (ltb x y)
 
 -- three points: the longest distance against the sum of the other two
 unfoldable pub triangle : ℕ → ℕ → ℕ → ℕ

@@ -1,12 +1,12 @@
 -- Laws of three open sets: the size of the union and of the joint, and that each has two elements or more. Assumes nothing.
-use mathlib.Core.Path.{_≡_, ap}
+use mathlib.Core.Path.{_≡_, ap, subst, sym}
 use mathlib.Core.Logic.{_≢_, Ne·symm}
 use Prim.Native.Nat.{ℕ, _+_, _≤_}
 use native.Mathlib.Omega.{arith}
 use lib.Count.{ones}
 use Rattle.theory.specs.Merge.{Open, Three, union, joint}
 use Rattle.theory.specs.Set.{_∩_, _∪_, _⊑_}
-use Rattle.theory.specs.Set.Laws.{size-or, size-le, sub-trans, or-l, or-r, and-r, and-or, singles-apart, singles-or, or-least, and-l}
+use Rattle.theory.specs.Set.Laws.{size-or, size-le, sub-trans, or-l, or-r, and-r, and-or, singles-apart, singles-or, or-least, and-l, size-none, size-zero, and-most, and-mono, sub-refl}
 
 pub size-union : (t : Three) → Open (t .a) (t .b) (t .c) → ones (union t) + 3 ≡ ones (t .a) + ones (t .b) + ones (t .c)
 unfolding union
@@ -65,3 +65,23 @@ module _ (a b c : ℕ) (o : Open a b c) where
 
   pub big-c : 2 ≤ ones c
   big-c = open-big c (b ∩ c) (a ∩ c) (and-r b c) (and-r a c) (o .bc) (o .ac) (o .bc≢ac)
+
+-- ---- open, by what the three have in common
+
+pub open-meet : (a b c : ℕ) → Open a b c → a ∩ b ∩ c ≡ 0
+open-meet a b c o =
+    size-none (a ∩ b ∩ c)
+    (omega (arith, singles-apart (a ∩ b) (b ∩ c) (o .ab) (o .bc) (o .ab≢bc), size-le ((a ∩ b) ∩ (b ∩ c)) (a ∩ b ∩ c) (and-most (and-l (a ∩ b) c) (and-mono (and-r a b) (sub-refl c)))))
+
+pub meet-open : (a b c : ℕ) → ones (a ∩ b) ≡ 1 → ones (b ∩ c) ≡ 1 → ones (a ∩ c) ≡ 1 → a ∩ b ∩ c ≡ 0 → Open a b c
+meet-open a b c p q r z = record {
+  ab = p;
+  bc = q;
+  ac = r;
+  ab≢bc = λ e. clash (a ∩ b) p (and-most (sub-refl (a ∩ b)) (subst (λ (x : ℕ). x ⊑ c) (sym e) (and-r b c)));
+  bc≢ac = λ e. clash (b ∩ c) q (and-most (and-most (subst (λ (x : ℕ). x ⊑ a) (sym e) (and-l a c)) (and-l b c)) (and-r b c));
+  ab≢ac = λ e. clash (a ∩ b) p (and-most (sub-refl (a ∩ b)) (subst (λ (x : ℕ). x ⊑ c) (sym e) (and-r a c)));
+}
+  where
+    clash : (x : ℕ) → ones x ≡ 1 → x ⊑ a ∩ b ∩ c → ⊥
+    clash x e h = omega (arith, size-le (a ∩ b ∩ c) x h, ap ones z, size-zero)
