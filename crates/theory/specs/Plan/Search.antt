@@ -1,14 +1,15 @@
 -- The search for the first open merge finds it, or there is none. Assumes nothing.
 use mathlib.Core.Path.{_≡_, refl, sym, _∙_, subst}
-use mathlib.Core.Logic.{_≢_, _⊎_, inl, inr}
+use mathlib.Core.Logic.{_⊎_, inl, inr}
 use mathlib.Core.List.{List, [], _∷_}
-use mathlib.Core.Bool.{Bool, true, false, not, _&&_}
+use mathlib.Core.Bool.{Bool, true, false, not}
 use mathlib.Core.Option.{Option, none, some}
 use Prim.Native.Nat.{ℕ, zero, suc, _+_, _≤_, _<_}
 use native.Mathlib.Omega.{arith}
 use native.Mathlib.Decide.{ℕ-discrete}
-use lib.Dec.{T, eqb, eqb→eq, eqb-refl, T-not, not-T}
+use lib.Dec.{T, eqb, eqb→eq}
 use lib.Count.{ones}
+use Rattle.theory.specs.Tests.{and-intro, and-both, eq-test, ne-test, test-ne}
 use Rattle.theory.specs.Set.{_∩_}
 use Rattle.theory.specs.Merge.{Merge, merge, slot, Open, OpenAt, Ended}
 use Rattle.theory.specs.Merge.Threes.{open-living, open-at}
@@ -16,27 +17,6 @@ use Rattle.theory.specs.Plan.{openTest, thirdOf, secondOf, firstOf, asce
 use Rattle.theory.specs.Plan.Order.{merge-by, open-ascending, ascends}
 
 -- ---- the test of an open three
-
-pub and-left : (x y : Bool) → T (x && y) → T x
-and-left true y t = tt
-and-left false y t = t
-
-pub and-right : (x y : Bool) → T (x && y) → T y
-and-right true y t = t
-and-right false y t = absurd t
-
-pub and-intro : (x y : Bool) → T x → T y → T (x && y)
-and-intro true y p q = q
-and-intro false y p q = p
-
-eq-test : (x y : ℕ) → x ≡ y → T (eqb x y)
-eq-test x y e = subst (λ (z : ℕ). T (eqb x z)) e (eqb-refl x)
-
-ne-test : (x y : ℕ) → x ≢ y → T (not (eqb x y))
-ne-test x y n = not-T (eqb x y) (λ t. n (eqb→eq x y t))
-
-test-ne : (x y : ℕ) → T (not (eqb x y)) → x ≢ y
-test-ne x y t e = T-not (eqb x y) t (eq-test x y e)
 
 module _ (a b c : ℕ) where
   pub open-test : Open a b c → T (openTest a b c)
@@ -51,17 +31,18 @@ module _ (a b c : ℕ) where
   pub test-open : T (openTest a b c) → Open a b c
   unfolding openTest
   test-open t =
-      let t1 = and-right (eqb (ones (a ∩ b)) 1) _ t in
-      let t2 = and-right (eqb (ones (b ∩ c)) 1) _ t1 in
-      let t3 = and-right (eqb (ones (a ∩ c)) 1) _ t2 in
-      let t4 = and-right (not (eqb (a ∩ b) (b ∩ c))) _ t3 in
+      let t1 = and-both (eqb (ones (a ∩ b)) 1) _ t in
+      let t2 = and-both (eqb (ones (b ∩ c)) 1) _ (t1 .1) in
+      let t3 = and-both (eqb (ones (a ∩ c)) 1) _ (t2 .1) in
+      let t4 = and-both (not (eqb (a ∩ b) (b ∩ c))) _ (t3 .1) in
+      let t5 = and-both (not (eqb (b ∩ c) (a ∩ c))) _ (t4 .1) in
       record {
-        ab = eqb→eq (ones (a ∩ b)) 1 (and-left (eqb (ones (a ∩ b)) 1) _ t);
-        bc = eqb→eq (ones (b ∩ c)) 1 (and-left (eqb (ones (b ∩ c)) 1) _ t1);
-        ac = eqb→eq (ones (a ∩ c)) 1 (and-left (eqb (ones (a ∩ c)) 1) _ t2);
-        ab≢bc = test-ne (a ∩ b) (b ∩ c) (and-left (not (eqb (a ∩ b) (b ∩ c))) _ t3);
-        bc≢ac = test-ne (b ∩ c) (a ∩ c) (and-left (not (eqb (b ∩ c) (a ∩ c))) _ t4);
-        ab≢ac = test-ne (a ∩ b) (a ∩ c) (and-right (not (eqb (b ∩ c) (a ∩ c))) _ t4);
+        ab = eqb→eq (ones (a ∩ b)) 1 (t1 .0);
+        bc = eqb→eq (ones (b ∩ c)) 1 (t2 .0);
+        ac = eqb→eq (ones (a ∩ c)) 1 (t3 .0);
+        ab≢bc = test-ne (a ∩ b) (b ∩ c) (t4 .0);
+        bc≢ac = test-ne (b ∩ c) (a ∩ c) (t5 .0);
+        ab≢ac = test-ne (a ∩ b) (a ∩ c) (t5 .1);
       }
 
 -- ---- the first open merge

@@ -6,8 +6,9 @@ use mathlib.Core.Bool.{Bool, true, false, _||_}
 use mathlib.Core.List.{List, [], _∷_}
 use Prim.Native.Nat.{ℕ, _+_, _*_, _≤_, _<_}
 use native.Mathlib.Omega.{arith}
-use lib.Dec.{T, eqb, eqb→eq, eqb-refl}
+use lib.Dec.{T, eqb, eqb→eq}
 use lib.ListN.{length}
+use Rattle.theory.specs.Tests.{eq-test, false-ne, iff-same}
 use Rattle.theory.specs.Set.{_∩_, _⊑_}
 use Rattle.theory.specs.Set.Laws.{and-sub, sub-and}
 use Rattle.theory.specs.Constraints.{Among, Pairs, Below, Perm, same, NotOver}
@@ -57,7 +58,7 @@ pub angled-is : (lines : ℕ) (js : List ℕ) → T (angled lines js) → (j : �
 angled-is lines js t = let r = angled-some lines js t in (r .0, r .1, and-sub (r .0) lines (eqb→eq (r .0 ∩ lines) (r .0) (r .2)))
 
 pub is-angled : (lines : ℕ) (js : List ℕ) (j : ℕ) → Among j js → j ⊑ lines → T (angled lines js)
-is-angled lines js j i h = some-angled lines js j i (subst (λ (z : ℕ). T (eqb z j)) (sym (sub-and j lines h)) (eqb-refl j))
+is-angled lines js j i h = some-angled lines js j i (eq-test (j ∩ lines) j (sub-and j lines h))
 
 pub judged-meets : (lines n e : ℕ) (js : List ℕ) (l : ℕ) → Meets lines n e js l (judged lines n e js l)
 unfolding judged
@@ -66,15 +67,12 @@ judged-meets lines n e js l = go (angled lines js) (eqb (e + 3) (2 * n)) (eqb l 
     none : angled lines js ≡ false → (j : ℕ) → Among j js → j ⊑ lines → ⊥
     none q j i h = subst T q (is-angled lines js j i h)
 
-    differ : (x y : ℕ) → eqb x y ≡ false → x ≢ y
-    differ x y q r = subst T q (subst (λ (z : ℕ). T (eqb x z)) r (eqb-refl x))
-
     go : (a b c : Bool) → angled lines js ≡ a → eqb (e + 3) (2 * n) ≡ b → eqb l 1 ≡ c
         → Meets lines n e js l (elim a [ true ↦ angle | false ↦ elim b [ true ↦ elim c [ true ↦ well | false ↦ stuck ] | false ↦ under ] ])
     go true b c p q r = let s = angled-is lines js (subst T (sym p) tt) in meets-angle (s .0) (s .1) (s .2)
     go false true true p q r = meets-well (none p) (eqb→eq (e + 3) (2 * n) (subst T (sym q) tt)) (eqb→eq l 1 (subst T (sym r) tt))
-    go false true false p q r = meets-stuck (none p) (eqb→eq (e + 3) (2 * n) (subst T (sym q) tt)) (differ l 1 r)
-    go false false c p q r = meets-under (none p) (differ (e + 3) (2 * n) q)
+    go false true false p q r = meets-stuck (none p) (eqb→eq (e + 3) (2 * n) (subst T (sym q) tt)) (false-ne l 1 r)
+    go false false c p q r = meets-under (none p) (false-ne (e + 3) (2 * n) q)
 
 -- under means below 2n-3, and stuck that several clusters are left
 pub under-below : (n : ℕ) (cs : List ℕ) → 2 ≤ n → Below n cs → NotOver cs → length cs + 3 ≢ 2 * n → length cs + 3 < 2 * n
@@ -85,12 +83,6 @@ pub stuck-several : (n : ℕ) (cs : List ℕ) → 2 ≤ n → Pairs cs → lengt
 stuck-several n cs two pairs e p v ne = omega (arith, steps-left cs pairs p v, steps-half cs pairs (omega arith) p v, ne)
 
 -- ---- the order has no influence
-
-iff-same : (a b : Bool) → (T a → T b) → (T b → T a) → a ≡ b
-iff-same true true f g = refl
-iff-same true false f g = absurd (f tt)
-iff-same false true f g = absurd (g tt)
-iff-same false false f g = refl
 
 pub angled-same : (lines : ℕ) (js ks : List ℕ) → ((x : ℕ) → Among x js ↔ Among x ks) → angled lines js ≡ angled lines ks
 angled-same lines js ks h =
