@@ -50,7 +50,8 @@ triangle x y z = against (max (max x y) z) (x + y + z - max (max x y) z)
 unfoldable pub strip : ℕ → ℤ → ℤ → ℕ
 strip d d1 d2 = against (natAbs (d2 -ℤ d1)) d
 
--- the three constraints, each with its size; the distance of two points is above 0, so it is its absolute value
+-- the constraints a, b and a third, with their sizes x, y, z: the one without a line is d. A distance of two points is above 0, so it is its
+-- own absolute value
 unfoldable pub stripOf : ℕ → ℕ → ℕ → ℤ → ℤ → ℤ → ℕ
 stripOf lines a b x y z =
     elim (eqb (a ∩ lines) 0) [
@@ -58,16 +59,26 @@ stripOf lines a b x y z =
       | false ↦ elim (eqb (b ∩ lines) 0) [ true ↦ strip (natAbs y) x z | false ↦ strip (natAbs z) x y ]
     ]
 
+-- by kind, from two of the three constraints and the three sizes
 unfoldable pub placed : ℕ → JointKind → ℕ → ℕ → ℤ → ℤ → ℤ → Ways
 placed lines ppp a b x y z = known (triangle (natAbs x) (natAbs y) (natAbs z))
 placed lines ppl a b x y z = known (stripOf lines a b x y z)
 placed lines pll a b x y z = known 1
 placed lines lll a b x y z = unknown
 
+-- the size of constraint i
+abbrev pub sizeAt : List ℤ → ℕ → ℤ
+sizeAt sizes i = getD sizes i (pos 0)
+
+-- all three parts are initial clusters
+abbrev pub initial : ℕ → Merge → Bool
+initial e m = ltb (m .i) e && (ltb (m .j) e && ltb (m .k) e)
+
 -- the step m among the clusters s: known only if all three parts are initial clusters and the kind isn't lll
 unfoldable pub ways : ℕ → ℕ → List ℤ → List ℕ → Merge → Ways
 ways lines e sizes s m =
-    elim (ltb (m .i) e && (ltb (m .j) e && ltb (m .k) e)) [
-      | true ↦ placed lines (jointKind lines (joint (three s m))) (slot s (m .i)) (slot s (m .j)) (getD sizes (m .i) (pos 0)) (getD sizes (m .j) (pos 0)) (getD sizes (m .k) (pos 0))
+    elim (initial e m) [
+      | true ↦
+          placed lines (jointKind lines (joint (three s m))) (slot s (m .i)) (slot s (m .j)) (sizeAt sizes (m .i)) (sizeAt sizes (m .j)) (sizeAt sizes (m .k))
       | false ↦ unknown
     ]

@@ -1,8 +1,9 @@
--- Laws of tests that compute: a conjunction, an equality and a difference of numbers. Assumes nothing.
+-- Laws of tests that compute: a conjunction, an equality and a difference of numbers, one of three numbers. Assumes nothing.
 use mathlib.Core.Path.{_≡_, refl, subst}
-use mathlib.Core.Logic.{_≢_}
+use mathlib.Core.Logic.{_≢_, _⊎_, inl, inr, ⊎-elim}
 use mathlib.Core.Bool.{Bool, true, false, not, _&&_}
 use Prim.Native.Nat.{ℕ}
+use native.Mathlib.Decide.{ℕ-discrete}
 use lib.Dec.{T, eqb, eqb→eq, eqb-refl, T-not, not-T}
 
 pub and-intro : (a b : Bool) → T a → T b → T (a && b)
@@ -31,3 +32,13 @@ iff-same true true f g = refl
 iff-same true false f g = absurd (f tt)
 iff-same false true f g = absurd (g tt)
 iff-same false false f g = refl
+
+-- whether a number is one of three
+pub one-of : (x a b c : ℕ) → Dec ((x ≡ a) ⊎ (x ≡ b) ⊎ (x ≡ c))
+one-of x a b c = go (ℕ-discrete x a) (ℕ-discrete x b) (ℕ-discrete x c)
+  where
+    go : Dec (x ≡ a) → Dec (x ≡ b) → Dec (x ≡ c) → Dec ((x ≡ a) ⊎ (x ≡ b) ⊎ (x ≡ c))
+    go (yes e) q r = yes (inl e)
+    go (no n) (yes e) r = yes (inr (inl e))
+    go (no n) (no k) (yes e) = yes (inr (inr e))
+    go (no n) (no k) (no l) = no (⊎-elim n (⊎-elim k l))

@@ -7,10 +7,10 @@ use lib.ListN.{length}
 use Rattle.theory.specs.Set.{_⊑_}
 use Rattle.theory.specs.Constraints.{Ends, clusters, Among}
 use Rattle.theory.specs.Merge.{Merge, slot, three, union, OpenAt, Valid, final, Ended, Maximal, live}
-use Rattle.theory.specs.Merge.Family.{Good}
+use Rattle.theory.specs.Merge.Family.{Good, Distinct, threes}
 use Rattle.theory.specs.Merge.Family.Invariant as invariant
 use Rattle.theory.specs.Merge.Family.Outcome.{never-smaller}
-use Rattle.theory.specs.Merge.Numbered.{Distinct, start-distinct, merge-at, threes, as-start, as-end, ended-there}
+use Rattle.theory.specs.Merge.Numbered.{start-distinct, merge-at, as-start, as-end, ended-there}
 use Rattle.theory.specs.Over.Laws.{fine-most}
 use Rattle.theory.specs.Demand.{Accepted}
 use Rattle.theory.specs.Demand.Proof.{accepted-pairs, accepted-below, accepted-fine, accepted-good}

@@ -8,9 +8,9 @@ use Rattle.theory.specs.Constraints.Laws.{perm-map, fine-perm, sound-per
 use Rattle.theory.specs.Merge.{Merge, slot, Valid, final, live}
 use Rattle.theory.specs.Merge.Count.{steps-left, weights-kept, steps-half, steps-most, same-left}
 use Rattle.theory.specs.Merge.Either.{either-way}
-use Rattle.theory.specs.Merge.Family.{Good}
+use Rattle.theory.specs.Merge.Family.{Good, Distinct}
 use Rattle.theory.specs.Merge.Family.Invariant.{share}
-use Rattle.theory.specs.Merge.Numbered.{Distinct, every-order, good-final, start-good, start-distinct}
+use Rattle.theory.specs.Merge.Numbered.{every-order, good-final, start-good, start-distinct}
 use Rattle.theory.specs.Plan.Laws.{plan-of-maximal}
 use Rattle.theory.specs.Verdict.Laws.{same-verdict, verdict-every, fine-verdict, verdict-fine}
 use Rattle.theory.specs.Demand.{Accepted, Counted, Demand3}

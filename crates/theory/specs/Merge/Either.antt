@@ -9,10 +9,10 @@ use lib.ListN.{length}
 use Rattle.theory.specs.Tests.{eq-test}
 use Rattle.theory.specs.Constraints.{NotOver, Pairs}
 use Rattle.theory.specs.Merge.{Three, union, joint, Merge, slot, three, OpenAt, put, live, Part, Valid, final, isPart, stand, moved, Differ, EitherWay}
-use Rattle.theory.specs.Merge.Family.{absorb, movedIn, Meeting, coincide, commute, In, Same, OpenIn, after, Good}
+use Rattle.theory.specs.Merge.Family.{absorb, movedIn, Meeting, coincide, commute, In, Same, OpenIn, after, Good, Distinct}
 use Rattle.theory.specs.Merge.Family.Diamond.{absorb-part, absorb-other, three-by, meeting}
 use Rattle.theory.specs.Merge.Family.Outcome.{open-same, after-same}
-use Rattle.theory.specs.Merge.Numbered.{Distinct, in-part, part-in, alive-lt, put-new, put-old, cleared-other, merge-at, put-live, put-good, put-distinct, at-numbers, good-final, start-good, start-distinct}
+use Rattle.theory.specs.Merge.Numbered.{in-part, part-in, alive-lt, put-new, put-old, cleared-other, merge-at, put-live, put-good, put-distinct, at-numbers, good-final, start-good, start-distinct}
 
 -- ---- what stands for a cluster
 

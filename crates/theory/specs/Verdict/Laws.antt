@@ -9,7 +9,7 @@ use native.Mathlib.Omega.{arith}
 use lib.Dec.{T, eqb, eqb→eq}
 use lib.ListN.{length}
 use Rattle.theory.specs.Tests.{eq-test, false-ne, iff-same}
-use Rattle.theory.specs.Set.{_∩_, _⊑_}
+use Rattle.theory.specs.Set.{_∩_}
 use Rattle.theory.specs.Set.Laws.{and-sub, sub-and}
 use Rattle.theory.specs.Constraints.{Among, Pairs, Below, Perm, same, NotOver}
 use Rattle.theory.specs.Constraints.Laws.{length-perm}
@@ -20,15 +20,9 @@ use Rattle.theory.specs.Plan.{planOf}
 use Rattle.theory.specs.Plan.Laws.{plan-of-maximal}
 use Rattle.theory.specs.Over.{IsOver, isOver}
 use Rattle.theory.specs.Over.Laws.{fine-most, isOver-over, isOver-fine, fine-isOver, over-isOver}
-use Rattle.theory.specs.Verdict.{Verdict, over, angle, well, stuck, under, allLines, angled, judged, listVerdict, verdict}
+use Rattle.theory.specs.Verdict.{Verdict, over, angle, well, stuck, under, allLines, angled, judged, Angle, Meets, meets-angle, meets-well, meets-stuck, meets-under, listVerdict, verdict}
 
 -- ---- what the names say
-
-pub data Meets (lines n e : ℕ) (js : List ℕ) (l : ℕ) : Verdict → Type 0 where
-  meets-angle : (j : ℕ) → Among j js → j ⊑ lines → Meets lines n e js l angle
-  meets-well : ((j : ℕ) → Among j js → j ⊑ lines → ⊥) → e + 3 ≡ 2 * n → l ≡ 1 → Meets lines n e js l well
-  meets-stuck : ((j : ℕ) → Among j js → j ⊑ lines → ⊥) → e + 3 ≡ 2 * n → l ≢ 1 → Meets lines n e js l stuck
-  meets-under : ((j : ℕ) → Among j js → j ⊑ lines → ⊥) → e + 3 ≢ 2 * n → Meets lines n e js l under
 
 angled-some : (lines : ℕ) (js : List ℕ) → T (angled lines js) → (x : ℕ) × Among x js × T (allLines lines x)
 unfolding angled
@@ -54,22 +48,22 @@ some-angled lines (j ∷ js) x (inr i) t = go (allLines lines j) (some-angled li
     go false t = t
 
 -- some joint is three lines
-pub angled-is : (lines : ℕ) (js : List ℕ) → T (angled lines js) → (j : ℕ) × Among j js × (j ⊑ lines)
+pub angled-is : (lines : ℕ) (js : List ℕ) → T (angled lines js) → Angle lines js
 angled-is lines js t = let r = angled-some lines js t in (r .0, r .1, and-sub (r .0) lines (eqb→eq (r .0 ∩ lines) (r .0) (r .2)))
 
-pub is-angled : (lines : ℕ) (js : List ℕ) (j : ℕ) → Among j js → j ⊑ lines → T (angled lines js)
-is-angled lines js j i h = some-angled lines js j i (eq-test (j ∩ lines) j (sub-and j lines h))
+pub is-angled : (lines : ℕ) (js : List ℕ) → Angle lines js → T (angled lines js)
+is-angled lines js (j, i, h) = some-angled lines js j i (eq-test (j ∩ lines) j (sub-and j lines h))
 
 pub judged-meets : (lines n e : ℕ) (js : List ℕ) (l : ℕ) → Meets lines n e js l (judged lines n e js l)
 unfolding judged
 judged-meets lines n e js l = go (angled lines js) (eqb (e + 3) (2 * n)) (eqb l 1) refl refl refl
   where
-    none : angled lines js ≡ false → (j : ℕ) → Among j js → j ⊑ lines → ⊥
-    none q j i h = subst T q (is-angled lines js j i h)
+    none : angled lines js ≡ false → Angle lines js → ⊥
+    none q h = subst T q (is-angled lines js h)
 
     go : (a b c : Bool) → angled lines js ≡ a → eqb (e + 3) (2 * n) ≡ b → eqb l 1 ≡ c
         → Meets lines n e js l (elim a [ true ↦ angle | false ↦ elim b [ true ↦ elim c [ true ↦ well | false ↦ stuck ] | false ↦ under ] ])
-    go true b c p q r = let s = angled-is lines js (subst T (sym p) tt) in meets-angle (s .0) (s .1) (s .2)
+    go true b c p q r = meets-angle (angled-is lines js (subst T (sym p) tt))
     go false true true p q r = meets-well (none p) (eqb→eq (e + 3) (2 * n) (subst T (sym q) tt)) (eqb→eq l 1 (subst T (sym r) tt))
     go false true false p q r = meets-stuck (none p) (eqb→eq (e + 3) (2 * n) (subst T (sym q) tt)) (false-ne l 1 r)
     go false false c p q r = meets-under (none p) (false-ne (e + 3) (2 * n) q)
@@ -109,7 +103,7 @@ not-over : (lines n e : ℕ) (js : List ℕ) (l : ℕ) → judged lines n e js l
 not-over lines n e js l q = go (judged lines n e js l) (judged-meets lines n e js l) q
   where
     go : (v : Verdict) → Meets lines n e js l v → v ≡ over → ⊥
-    go v (meets-angle j i h) r = let z : _≡_ {A = ℕ} 0 1 = cc in omega arith
+    go v (meets-angle h) r = let z : _≡_ {A = ℕ} 0 1 = cc in omega arith
     go v (meets-well a b c) r = let z : _≡_ {A = ℕ} 0 1 = cc in omega arith
     go v (meets-stuck a b c) r = let z : _≡_ {A = ℕ} 0 1 = cc in omega arith
     go v (meets-under a b) r = let z : _≡_ {A = ℕ} 0 1 = cc in omega arith
