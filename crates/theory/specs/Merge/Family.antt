@@ -1,5 +1,6 @@
 -- The clusters as a family of sets, a predicate: the numbers and the order of the clusters are of no account there. Families are what the
--- proofs of "Every order of merging" work with; the numbered clusters are shown to step as their family does. Assumes nothing.
+-- proofs of "Every order of merging" work with; the numbered clusters are shown to step as their family does. A name
+-- that ends in In is of families what the name without it is of numbered clusters. Assumes nothing.
 use mathlib.Core.Path.{_≡_}
 use mathlib.Core.Logic.{_≢_, _↔_, _⊎_}
 use mathlib.Core.List.{List, [], _∷_}
