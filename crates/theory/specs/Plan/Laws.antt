@@ -134,3 +134,9 @@ unfolding joints
 joints-ascending [] s = refl
 joints-ascending (m ∷ p) s =
     ap₂ _∷_ (joint-ascending s m) (ap (λ (t : List ℕ). joints t (map ascending p)) (put-ascending s m) ∙ joints-ascending p (put s m))
+
+pub maximal-ascending : (p : List Merge) (s : List ℕ) → Maximal s p → Maximal s (map ascending p)
+maximal-ascending p s m = record { valid = valid-ascending p s (m .valid); ended = subst Ended (sym (final-ascending p s)) (m .ended) }
+
+pub ascending-maximal : (p : List Merge) (s : List ℕ) → Maximal s (map ascending p) → Maximal s p
+ascending-maximal p s m = record { valid = ascending-valid p s (m .valid); ended = subst Ended (final-ascending p s) (m .ended) }
