@@ -7,7 +7,6 @@ use lib.Dec.{eqb, ltb}
 use lib.IntN.{ℤ, pos, negsuc}
 use lib.ListN.{length, take, drop, getD}
 use Rattle.sheet.specs.Facts.{pick}
-
 pub mod Laws
 
 pub data Field (A : Type 0) : Type 0 where

@@ -12,7 +12,6 @@ use Rattle.sheet.specs.Accepted.{Accepted}
 use Rattle.sheet.specs.RoundTrip.Written.{sheet-back}
 use Rattle.sheet.specs.RoundTrip.Read.{sheet-read}
 use Rattle.sheet.specs.RoundTrip.Blocks.{sheet-length}
-
 pub mod Written
 pub mod Read
 pub mod Blocks

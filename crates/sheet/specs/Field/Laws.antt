@@ -117,7 +117,7 @@ field-front k s {u} {t} h e =
     record {
       front = sym (rw (← p .1, ← p .2, is) (take-append-drop k s));
       below = rw (p .1) at below;
-      rest = rw (p .2) at (bytes-drop k s h)
+      rest = rw (p .2) at (bytes-drop k s h);
     }
 
 pub record FrontByte (s : List ℕ) (b : ℕ) (t : List ℕ) : Type 0 where

@@ -95,7 +95,7 @@ dimension-front a b p s h e =
       front = m .front ∙ rw (← bits, append-assoc, ← g .front, ← f .front);
       taken = f .taken;
       below = g .below;
-      rest = g .rest
+      rest = g .rest;
     })))))
 
 record ConstraintFront (elements : List Element) (done : List Constraint) (s : List ℕ) (c : Constraint) (t : List ℕ) : Type 0 where
@@ -119,7 +119,7 @@ constraint-front elements done s {c} h e =
       front = fa .front ∙ rw (fb .front, f .front, ← f .ends-are .0, ← f .ends-are .1);
       taken = rw (f .ends-are .0, f .ends-are .1, ascend, not-true (stands done a b) new, f .taken);
       below = f .below;
-      rest = f .rest
+      rest = f .rest;
     }))))
 
 -- ---- all constraints
@@ -156,7 +156,7 @@ constraints-front elements (suc k) done s h e =
       front = f .front ∙ ap (λ (l : List ℕ). constraintBytes c ++ l) (r .front);
       spent = r .spent;
       taken = rw (f .taken, r .taken);
-      below = tags-cons c (r .new) (f .below) (r .below)
+      below = tags-cons c (r .new) (f .below) (r .below);
     })
 
 -- ---- the sheet
@@ -200,7 +200,7 @@ module _ {s s1 s2 s3 s4 t : List ℕ} {n k : ℕ} {elements : List Element} {cs 
       (record {
         spent = spent;
         same = sym (a ∙ rw (b, c, d, e, n-is, k-is));
-        accepted = record { element-count = rw n-is n-ok; constraint-count = rw k-is k-ok; no-fault = taken; tags = tags }
+        accepted = record { element-count = rw n-is n-ok; constraint-count = rw k-is k-ok; no-fault = taken; tags = tags };
       })
 
 pub sheet-read : (s : List ℕ) {f : Facts} {t : List ℕ} → Bytes s → readSheet s ≡ value f t → Read s f t

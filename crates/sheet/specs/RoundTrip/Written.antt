@@ -104,8 +104,16 @@ module _ (elements : List Element) (done : List Constraint) (c : Constraint) whe
   constraint-back s h t =
       let f = fault h in
       let p = pairAt elements (c .first) (c .second) in
-      rw (f .0, f .1, map-back p (c .size) (c .tag) (f .2), bits (c .size) (c .tag) .0, bits (c .size) (c .tag) .1, append-assoc,
-        size-back p (c .size) (tagBytes (c .tag) ++ s) (f .2), tag-back (c .tag) s t)
+      rw (
+        f .0,
+        f .1,
+        map-back p (c .size) (c .tag) (f .2),
+        bits (c .size) (c .tag) .0,
+        bits (c .size) (c .tag) .1,
+        append-assoc,
+        size-back p (c .size) (tagBytes (c .tag) ++ s) (f .2),
+        tag-back (c .tag) s t,
+      )
 
 -- ---- all constraints
 
@@ -117,7 +125,7 @@ constraints-back elements [] done h t = rw append-nil
 constraints-back elements (c ∷ cs) done h t =
     let f = or-else-none (constraintFault elements done c) (constraintsFault elements (done ++ c ∷ []) cs) h in
     rw (constraint-back elements done c (constraintsBytes cs) (f .0) (t 0))
-      (constraints-back elements cs (done ++ c ∷ []) (f .1) (λ i. t (suc i)) ∙ rw append-assoc)
+    (constraints-back elements cs (done ++ c ∷ []) (f .1) (λ i. t (suc i)) ∙ rw append-assoc)
 
 -- ---- kinds
 
@@ -140,6 +148,11 @@ pub sheet-back : (f : Facts) → Accepted f → readSheet (sheetBytes f) ≡ val
 unfolding readSheet readKinds readConstraints sheetBytes
 sheet-back f h =
     let es = f .elements in
-    rw (h .element-count, field-digits (kindBytes (length es)) (linesOf es) (length (f .constraints) ∷ constraintsBytes (f .constraints)) (kinds-fit es),
-      lt-ltb _ _ (linesOf-below es), elementsOf-linesOf es, h .constraint-count,
-      constraints-back es (f .constraints) [] (h .no-fault) (h .tags))
+    rw (
+      h .element-count,
+      field-digits (kindBytes (length es)) (linesOf es) (length (f .constraints) ∷ constraintsBytes (f .constraints)) (kinds-fit es),
+      lt-ltb _ _ (linesOf-below es),
+      elementsOf-linesOf es,
+      h .constraint-count,
+      constraints-back es (f .constraints) [] (h .no-fault) (h .tags),
+    )
