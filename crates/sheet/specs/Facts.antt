@@ -15,6 +15,8 @@ use Rattle.sheet.specs.declared.Tag.the-variants.{Missing as NoTag}
 use Rattle.sheet.specs.declared.Constraint.{Constraint}
 use Rattle.sheet.specs.declared.Sheet.{Sheet}
 
+pub mod Laws
+
 pub record Facts : Type 0 where
   pub elements : List Element
   pub constraints : List Constraint

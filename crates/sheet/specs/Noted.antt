@@ -7,6 +7,8 @@ use lib.ListN.{getD, length}
 use Rattle.sheet.specs.declared.Constraint.{Constraint}
 use Rattle.sheet.specs.Rules.{stands}
 
+pub mod Laws
+
 pub record Noted (pairs : List ℕ) (cs : List Constraint) : Type 0 where
   pub places : length pairs ≡ 64
   pub says : (a b : ℕ) → a < 64 → eqb (getD pairs a 0 / 2 ^ b % 2) 1 ≡ stands cs a b

@@ -1,40 +1,37 @@
 use borrow.Author.Needs.{needs}
+use mathlib.Core.Path.{_≡_, sym, ap, _∙_}
+use mir.Facts.{toZ-ofZ}
+use mir.Syntax.{w32}
+use Rattle.sheet.specs.declared.Size.{Size}
+use Rattle.sheet.specs.Rules.{sizeFault}
 use Rattle.sheet.proofs.size_fault.Statement.{statement}
 use Rattle.sheet.proofs.size_fault.Tie as tie
-use Rattle.sheet.proofs.size_fault.Reads as reads
-use Rattle.sheet.proofs.size_fault.Lts as lts
-use Rattle.sheet.proofs.size_optional.Reads as size-optional-reads
-use Rattle.sheet.proofs.size_range.Reads as size-range-reads
 
--- src/lib.rt:152:21
 enum-known-size : tie.Need-enum-known-size
 enum-known-size c = search needs
 
--- src/lib.rt:153:16
 size-range-requires : tie.Need-size-range-requires
 size-range-requires c κs = search needs
 
--- src/lib.rt:156:16
 enum-told : tie.Need-enum-told
 enum-told c = search needs
 
--- src/lib.rt:156:16
 size-optional-requires : tie.Need-size-optional-requires
 size-optional-requires c κs = search needs
 
--- src/lib.rt:148:1
 returns : tie.Need-returns
-returns c = ?
+returns c =
+    let g = c .before .before .before .size .given in
+    rw (ap (sizeFault (c .before .before .before .before .before .args .p)) (g .1), ← (rw (toZ-ofZ {w = w32} {z = g .0 .0} (search needs)) at (c .before .size-range .ensures)), c .if1 .taken)
 
--- src/lib.rt:148:1
 returns-2 : tie.Need-returns-2
-returns-2 c = ?
+returns-2 c =
+    let g = c .before .before .before .size .given in
+    rw (ap (sizeFault (c .before .before .before .before .before .args .p)) (g .1), ← (rw (toZ-ofZ {w = w32} {z = g .0 .0} (search needs)) at (c .before .size-range .ensures)), c .if1 .left)
 
--- src/lib.rt:148:1
 returns-3 : tie.Need-returns-3
 returns-3 c = search needs
 
--- src/lib.rt:148:1
 returns-4 : tie.Need-returns-4
 returns-4 c = search needs
 

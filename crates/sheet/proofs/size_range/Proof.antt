@@ -1,61 +1,54 @@
 use borrow.Author.Needs.{needs}
+use mathlib.Core.Path.{_≡_, refl, sym, ap, _∙_}
+use mir.Facts.{toZ-ofZ}
+use Rattle.sheet.specs.declared.PairKind.{PairKind}
+use Rattle.sheet.specs.Rules.{sizeRange}
 use Rattle.sheet.proofs.size_range.Statement.{statement}
 use Rattle.sheet.proofs.size_range.Tie as tie
-use Rattle.sheet.proofs.size_range.Reads as reads
-use Rattle.sheet.proofs.size_range.Lts as lts
-use Rattle.sheet.proofs.within.Reads as within-reads
 
--- src/lib.rt:131:29
 enum-told : tie.Need-enum-told
 enum-told c = search needs
 
--- src/lib.rt:131:29
 within-requires : tie.Need-within-requires
 within-requires c κs = search needs
 
--- src/lib.rt:133:16
 enum-told-2 : tie.Need-enum-told-2
 enum-told-2 c = search needs
 
--- src/lib.rt:133:16
 within-requires-2 : tie.Need-within-requires-2
 within-requires-2 c κs = search needs
 
--- src/lib.rt:134:17
 returns : tie.Need-returns
-returns c = ?
+returns c =
+    rw (ap (λ (k : PairKind). sizeRange k (c .before .before .before .before .args .z)) (c .before .before .enum-told2 .given .1), ← (rw (toZ-ofZ (c .before .before .before .before .fits .z)) at (c .before .within2 .ensures)), c .if1 .taken)
 
--- src/lib.rt:136:13
 within-requires-3 : tie.Need-within-requires-3
 within-requires-3 c κs = search needs
 
--- src/lib.rt:139:16
 enum-told-3 : tie.Need-enum-told-3
 enum-told-3 c = search needs
 
--- src/lib.rt:139:16
 within-requires-4 : tie.Need-within-requires-4
 within-requires-4 c κs = search needs
 
--- src/lib.rt:140:17
 returns-2 : tie.Need-returns-2
-returns-2 c = ?
+returns-2 c =
+    rw (ap (λ (k : PairKind). sizeRange k (c .before .before .before .before .args .z)) (c .before .before .enum-told3 .given .1), ← (rw (toZ-ofZ (c .before .before .before .before .fits .z)) at (c .before .within4 .ensures)), c .if2 .taken)
 
--- src/lib.rt:142:13
 within-requires-5 : tie.Need-within-requires-5
 within-requires-5 c κs = search needs
 
--- src/lib.rt:127:1
 returns-3 : tie.Need-returns-3
-returns-3 c = ?
+returns-3 c =
+    rw (ap (λ (k : PairKind). sizeRange k (c .before .before .before .args .z)) (c .before .enum-told .given .1)) (rw (toZ-ofZ (c .before .before .before .fits .z)) at (c .within .ensures))
 
--- src/lib.rt:127:1
 returns-4 : tie.Need-returns-4
-returns-4 c = ?
+returns-4 c =
+    rw (ap (λ (k : PairKind). sizeRange k (c .before .before .before .before .before .args .z)) (c .before .before .before .enum-told2 .given .1), ← (rw (toZ-ofZ (c .before .before .before .before .before .fits .z)) at (c .before .before .within2 .ensures)), c .before .if1 .left) (rw (toZ-ofZ (c .before .before .before .before .before .fits .z)) at (c .within3 .ensures))
 
--- src/lib.rt:127:1
 returns-5 : tie.Need-returns-5
-returns-5 c = ?
+returns-5 c =
+    rw (ap (λ (k : PairKind). sizeRange k (c .before .before .before .before .before .args .z)) (c .before .before .before .enum-told3 .given .1), ← (rw (toZ-ofZ (c .before .before .before .before .before .fits .z)) at (c .before .before .within4 .ensures)), c .before .if2 .left) (rw (toZ-ofZ (c .before .before .before .before .before .fits .z)) at (c .within5 .ensures))
 
 pub size-range-spec : {M : Type 1} → statement M
 size-range-spec =
