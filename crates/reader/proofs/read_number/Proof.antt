@@ -69,7 +69,7 @@ wide-requires c κs = search needs
 add-u : tie.Need-add-u Inv-loop μ-loop
 add-u c =
     let a = c .before .before .before .loop in
-    below-most (c .before .before .before .before .before .before .before .args .k) (a .i) (a .u) (c .wide .result) (c .before .before .loop-test .taken) (a .inv .0) (a .inv .2) (byte-below c) (c .before .before .before .before .before .before .before .pre)
+    omega (arith, below-most (c .before .before .before .before .before .before .before .args .k) (a .i) (a .u) (c .wide .result) (c .before .before .loop-test .taken) (a .inv .0) (a .inv .2) (byte-below c) (c .before .before .before .before .before .before .before .pre))
 
 -- src/lib.rt:175:5
 loop-less : tie.Need-loop-less Inv-loop μ-loop

@@ -1,3 +1,5 @@
+use native.Mathlib.Omega.{arith}
+use Rattle.sheet.specs.Decode.{tag}
 use borrow.Author.Needs.{needs}
 use Rattle.reader.proofs.read_tag.Statement.{statement}
 use Rattle.reader.proofs.read_tag.Tie as tie
@@ -24,19 +26,24 @@ refusal-requires c κs = search needs
 
 -- src/lib.rt:214:13
 returns : tie.Need-returns
-returns c = ?
+unfolding tag
+returns c =
+    rw (c .before .before .before .before .if1 .taken, ← c .before .before .before .read-number .ensures .reads, c .refusal .ensures, c .before .enum-told .given .1)
 
 -- src/lib.rt:216:35
 cast-t10 : tie.Need-cast-t10
-cast-t10 c = ?
+cast-t10 c = omega (arith, c .before .before .before .read-number .ensures .below _ _ (c .before .number .given .1))
 
 -- src/lib.rt:208:1
 returns-2 : tie.Need-returns-2
-returns-2 c = ?
+unfolding tag
+returns-2 c =
+    rw (c .before .before .before .before .if1 .taken, ← c .before .before .before .read-number .ensures .reads, c .before .number .given .1)
 
 -- src/lib.rt:208:1
 returns-3 : tie.Need-returns-3
-returns-3 c = ?
+unfolding tag
+returns-3 c = rw (c .if1 .left)
 
 pub read-tag-spec : {M : Type 1} → statement M
 read-tag-spec =
