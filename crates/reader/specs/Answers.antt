@@ -4,11 +4,12 @@ use Prim.Native.Nat.{ℕ, _<_, _^_}
 use mathlib.Core.Path.{_≡_}
 use mathlib.Core.List.{List, []}
 use lib.ListN.{drop}
+use Rattle.sheet.specs.declared.Element.{Element}
 use Rattle.sheet.specs.declared.Size.{Size}
 use Rattle.sheet.specs.declared.Tag.{Tag}
 use Rattle.sheet.specs.declared.Constraint.{Constraint}
-use Rattle.sheet.specs.Facts.{Facts, sheetOf}
-use Rattle.sheet.specs.Field.{Field, value, refused, field, openingBytes}
+use Rattle.sheet.specs.Facts.{Facts, elementsOf, sheetOf}
+use Rattle.sheet.specs.Field.{Field, value, refused, next, openingBytes}
 use Rattle.reader.specs.declared.Cursor.{Cursor}
 use Rattle.reader.specs.declared.OpeningRead.{OpeningRead}
 use Rattle.reader.specs.declared.OpeningRead.the-variants as opening
@@ -38,6 +39,11 @@ abbrev pub asNumber : List ℕ → NumberRead → Field ℕ
 asNumber s (number.Value v c) = value v (drop (c .at) s)
 asNumber s (number.Refused k) = refused k
 
+-- the kinds of n elements as one number
+abbrev pub asKinds : ℕ → List ℕ → NumberRead → Field (List Element)
+asKinds n s (number.Value m c) = value (elementsOf n m) (drop (c .at) s)
+asKinds n s (number.Refused k) = refused k
+
 abbrev pub asSize : List ℕ → SizeRead → Field Size
 asSize s (size.Value v c) = value v (drop (c .at) s)
 asSize s (size.Refused k) = refused k
@@ -55,12 +61,15 @@ abbrev pub ruleOf : {A : Type 0} → Field A → ℕ
 ruleOf (value a s) = 0
 ruleOf (refused k) = k
 
--- a number of k bytes at a place: the field there, and below 256 ^ k
-pub record NumberAt (k : ℕ) (s : List ℕ) (at : ℕ) (r : NumberRead) : Type 0 where
-  pub reads : asNumber s r ≡ field k (drop at s)
-  pub below : (v : ℕ) (c : Cursor) → r ≡ number.Value v c → v < 256 ^ k
+-- a number that was read lies below the bound
+pub record Below (bound : ℕ) (r : NumberRead) : Type 0 where
+  pub below : (v : ℕ) (c : Cursor) → r ≡ number.Value v c → v < bound
 
 -- ---- the whole answer
+
+-- the facts of these elements and of the constraints that are read
+abbrev pub factsWith : List Element → Field (List Constraint) → Field Facts
+factsWith es f = next f (λ cs s. value (record { elements = es; constraints = cs }) s)
 
 -- the rule that refused the sheet, 0 of an accepted one
 abbrev pub outcomeNumber : Outcome → ℕ

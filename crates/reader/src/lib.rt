@@ -5,13 +5,11 @@ ghost use mathlib.Core.Path.{_≡_};
 ghost use mathlib.Core.List.{List, [], _∷_};
 ghost use Prim.Native.Nat.{ℕ, _≤_, _<_, _-_, _^_};
 ghost use lib.ListN.{length, drop};
-ghost use Rattle.sheet.specs.declared.Element.{Element};
-ghost use Rattle.sheet.specs.declared.Constraint.{Constraint as Constraintᶠ};
 ghost use Rattle.sheet.specs.Facts.{Facts, elementsOf, linesOf};
 ghost use Rattle.sheet.specs.Field.{refused, byte, field, signed32};
-ghost use Rattle.sheet.specs.Decode.{opening, size, tag, dimension, constraint, readKinds, readConstraints, readSheet};
+ghost use Rattle.sheet.specs.Decode.{opening, size, tag, dimension, constraint, constraints, readKinds, readConstraints, readSheet};
 ghost use Rattle.sheet.specs.Noted.{Noted};
-ghost use Rattle.reader.specs.Answers.{ruleOf, asOpening, asByte, asNumber, asSize, asTag, asConstraint, asReading, outcomeNumber, NumberAt};
+ghost use Rattle.reader.specs.Answers.{ruleOf, asOpening, asByte, asNumber, asSize, asTag, asConstraint, asKinds, Below, factsWith, asReading, outcomeNumber};
 use sheet::Constraint;
 use sheet::Element;
 use sheet::Kind;
@@ -164,7 +162,8 @@ pub fn read_byte(s: &[u8], c: Cursor) -> ByteRead
 // A number of k bytes, lowest first: rule 2 where they are not all there.
 pub fn read_number(s: &[u8], c: Cursor, k: usize) -> NumberRead
     requires { ⌜ k ≤ 8 ⌝ }
-    ensures { λ r. ⌜ NumberAt k (now (s .entry)) (c .at) r ⌝ }
+    ensures { λ r. ⌜ asNumber (now (s .entry)) r ≡ field k (drop (c .at) (now (s .entry))) ⌝ }
+    ensures { λ r. ⌜ Below (256 ^ k) r ⌝ }
 {
     let at = c.at;
     if bytes_left(s.len(), at) < k {
@@ -219,6 +218,78 @@ fn read_tag(s: &[u8], c: Cursor, stands: bool) -> TagRead
     }
 }
 
+// The size, where bit 0 of the map stands: rule 9.
+fn read_size(s: &[u8], c: Cursor, p: PairKind, stands: bool) -> SizeRead
+    ensures { λ r. ⌜ asSize (now (s .entry)) r ≡ size p stands (drop (c .at) (now (s .entry))) ⌝ }
+{
+    if stands {
+        let number = read_number(s, c, 4);
+        let NumberRead::Value(u, after) = number else {
+            return SizeRead::Refused(number.refusal());
+        };
+        let z = signed(u);
+        if !sheet::size_range(p, z) {
+            return SizeRead::Refused(9);
+        }
+        SizeRead::Value(Size::Given(z), after)
+    } else {
+        SizeRead::Value(Size::Missing, c)
+    }
+}
+
+// The bit map and the fields whose bit stands: rule 8, and the constraint between the ends a and b.
+fn read_dimension(s: &[u8], c: Cursor, a: u8, b: u8, p: PairKind) -> ConstraintRead
+    ensures { λ r. ⌜ asConstraint (now (s .entry)) r ≡ dimension a b p (drop (c .at) (now (s .entry))) ⌝ }
+{
+    let third = read_byte(s, c);
+    let ByteRead::Value(map, c1) = third else {
+        return ConstraintRead::Refused(third.refusal());
+    };
+    if !sheet::bit_map(p, map) {
+        return ConstraintRead::Refused(8);
+    }
+    let sized = read_size(s, c1, p, map % 2 == 1);
+    let SizeRead::Value(z, c2) = sized else {
+        return ConstraintRead::Refused(sized.refusal());
+    };
+    let tagged = read_tag(s, c2, map / 2 == 1);
+    let TagRead::Value(t, c3) = tagged else {
+        return ConstraintRead::Refused(tagged.refusal());
+    };
+    ConstraintRead::Value(
+        Constraint {
+            first: a,
+            second: b,
+            size: z,
+            tag: t,
+        },
+        c3,
+    )
+}
+
+// One constraint after those noted, among n elements whose kinds are the bits of lines: rules 6 to 9.
+pub fn read_constraint(s: &[u8], c: Cursor, pairs: &[u64; 64], n: usize, lines: u64) -> ConstraintRead
+    requires { ⌜ n ≤ 64 ⌝ }
+    ensures { λ r. ⌜ ((es : List Element) (cs : List Constraint) → n ≡ length es → lines ≡ linesOf es → Noted (now (pairs .entry)) cs → asConstraint (now (s .entry)) r ≡ constraint es cs (drop (c .at) (now (s .entry)))) ⌝ }
+{
+    let start = read_byte(s, c);
+    let ByteRead::Value(a, c1) = start else {
+        return ConstraintRead::Refused(start.refusal());
+    };
+    let end = read_byte(s, c1);
+    let ByteRead::Value(b, c2) = end else {
+        return ConstraintRead::Refused(end.refusal());
+    };
+    if !sheet::ends_ascend(n, a, b) {
+        return ConstraintRead::Refused(6);
+    }
+    if sheet::pair_stands(pairs, a, b) {
+        return ConstraintRead::Refused(7);
+    }
+    let p = sheet::pair_of(sheet::kind_at(lines, a), sheet::kind_at(lines, b));
+    read_dimension(s, c2, a, b, p)
+}
+
 // A refused sheet is the blank one.
 fn refuse(k: u8) -> Reading
     ensures { λ r. ⌜ r ≡ asReading (refused k) ⌝ }
@@ -241,6 +312,102 @@ fn refuse(k: u8) -> Reading
             constraints,
         },
     }
+}
+
+// The e constraints after the kinds, and then the end of the sheet: rule 10.
+fn read_constraints(s: &[u8], start: Cursor, n: usize, lines: u64, e: usize) -> Reading
+    requires { ⌜ (n ≤ 64) × (lines < 2 ^ n) × (e ≤ 200) ⌝ }
+    ensures { λ r. ⌜ r ≡ asReading (factsWith (elementsOf n lines) (constraints (elementsOf n lines) e [] (drop (start .at) (now (s .entry))))) ⌝ }
+{
+    let none = Constraint {
+        first: 0,
+        second: 0,
+        size: Size::Missing,
+        tag: Tag::Missing,
+    };
+    let mut cs = [none; 200];
+    let mut pairs = [0u64; 64];
+    let mut c = start;
+    let mut i: usize = 0;
+    while i < e {
+        let got = read_constraint(s, c, &pairs, n, lines);
+        let ConstraintRead::Value(k, after) = got else {
+            return refuse(got.refusal());
+        };
+        sheet::note_pair(&mut pairs, k.first, k.second);
+        cs[i] = k;
+        c = after;
+        i += 1;
+    }
+    let at = c.at;
+    if at < s.len() {
+        return refuse(10);
+    }
+    let elements = sheet::elements_of(n, lines);
+    Reading {
+        outcome: Outcome::Accepted,
+        sheet: Sheet {
+            n,
+            e,
+            elements,
+            constraints: cs,
+        },
+    }
+}
+
+// The kinds of n elements as one number: rule 4.
+fn read_kinds(s: &[u8], c: Cursor, n: usize) -> NumberRead
+    requires { ⌜ n ≤ 64 ⌝ }
+    ensures { λ r. ⌜ asKinds n (now (s .entry)) r ≡ readKinds n (drop (c .at) (now (s .entry))) ⌝ }
+    ensures { λ r. ⌜ Below (2 ^ n) r ⌝ }
+{
+    let number = read_number(s, c, (n + 7) / 8);
+    let NumberRead::Value(m, after) = number else {
+        return NumberRead::Refused(number.refusal());
+    };
+    if !sheet::kind_bits(n, m) {
+        return NumberRead::Refused(4);
+    }
+    NumberRead::Value(m, after)
+}
+
+// What follows the kinds: rule 5, and the constraints.
+fn read_rest(s: &[u8], c: Cursor, n: usize, lines: u64) -> Reading
+    requires { ⌜ (n ≤ 64) × (lines < 2 ^ n) ⌝ }
+    ensures { λ r. ⌜ r ≡ asReading (readConstraints (elementsOf n lines) (drop (c .at) (now (s .entry)))) ⌝ }
+{
+    let count = read_byte(s, c);
+    let ByteRead::Value(b, after) = count else {
+        return refuse(count.refusal());
+    };
+    let e = b as usize;
+    if !sheet::constraint_count(e) {
+        return refuse(5);
+    }
+    read_constraints(s, after, n, lines, e)
+}
+
+// The sheet that any bytes stand for, or the rule that refuses them.
+pub fn read_sheet(s: &[u8]) -> Reading
+    ensures { λ r. ⌜ r ≡ asReading (readSheet (now (s .entry))) ⌝ }
+{
+    let front = read_opening(s);
+    let OpeningRead::Value(c1) = front else {
+        return refuse(front.refusal());
+    };
+    let count = read_byte(s, c1);
+    let ByteRead::Value(b, c2) = count else {
+        return refuse(count.refusal());
+    };
+    let n = b as usize;
+    if !sheet::element_count(n) {
+        return refuse(3);
+    }
+    let kinds = read_kinds(s, c2, n);
+    let NumberRead::Value(lines, c3) = kinds else {
+        return refuse(kinds.refusal());
+    };
+    read_rest(s, c3, n, lines)
 }
 
 // The number of an outcome in document 01: the rule that refuses, 0 of an accepted sheet.

@@ -28,17 +28,17 @@ refusal-requires c κs = search needs
 returns : tie.Need-returns
 unfolding tag
 returns c =
-    rw (c .before .before .before .before .if1 .taken, ← c .before .before .before .read-number .ensures .reads, c .refusal .ensures, c .before .enum-told .given .1)
+    rw (c .before .before .before .before .if1 .taken, ← c .before .before .before .read-number .ensures .0, c .refusal .ensures, c .before .enum-told .given .1)
 
 -- src/lib.rt:216:35
 cast-t10 : tie.Need-cast-t10
-cast-t10 c = omega (arith, c .before .before .before .read-number .ensures .below _ _ (c .before .number .given .1))
+cast-t10 c = omega (arith, c .before .before .before .read-number .ensures .1 .below _ _ (c .before .number .given .1))
 
 -- src/lib.rt:208:1
 returns-2 : tie.Need-returns-2
 unfolding tag
 returns-2 c =
-    rw (c .before .before .before .before .if1 .taken, ← c .before .before .before .read-number .ensures .reads, c .before .number .given .1)
+    rw (c .before .before .before .before .if1 .taken, ← c .before .before .before .read-number .ensures .0, c .before .number .given .1)
 
 -- src/lib.rt:208:1
 returns-3 : tie.Need-returns-3
