@@ -14,7 +14,6 @@ use Rattle.sheet.specs.declared.Tag.{Tag}
 use Rattle.sheet.specs.declared.Tag.the-variants.{Missing as NoTag}
 use Rattle.sheet.specs.declared.Constraint.{Constraint}
 use Rattle.sheet.specs.declared.Sheet.{Sheet}
-
 pub mod Laws
 
 pub record Facts : Type 0 where

@@ -1,12 +1,14 @@
 -- A field of a sheet, read at the front of the bytes left: its value with the bytes after it, or the number of the rule that refuses it
 -- (document 01, "Refused": "The first field that fails decides").
-use Prim.Native.Nat.{ℕ, zero, suc, _+_, _*_, _-_, _/_, _%_, _^_}
+use Prim.Native.Nat.{ℕ, zero, suc, _+_, _*_, _-_, _/_, _%_, _^_, _<_}
 use mathlib.Core.Bool.{Bool, true, false, _&&_}
 use mathlib.Core.List.{List, [], _∷_}
 use lib.Dec.{eqb, ltb}
 use lib.IntN.{ℤ, pos, negsuc}
-use lib.ListN.{length, take, drop}
+use lib.ListN.{length, take, drop, getD}
 use Rattle.sheet.specs.Facts.{pick}
+
+pub mod Laws
 
 pub data Field (A : Type 0) : Type 0 where
   value : A → List ℕ → Field A
@@ -31,6 +33,10 @@ number (b ∷ s) = b + 256 * number s
 unfoldable pub digits : ℕ → ℕ → List ℕ
 digits zero u = []
 digits (suc k) u = u % 256 ∷ digits k (u / 256)
+
+-- each item is a byte
+pub record Bytes (s : List ℕ) : Type 0 where
+  pub each : (i : ℕ) → getD s i 0 < 256
 
 -- a field of k bytes; rule 2: the sheet ends inside a field
 unfoldable pub field : ℕ → List ℕ → Field ℕ

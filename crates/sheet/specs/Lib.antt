@@ -5,3 +5,5 @@ pub mod Rules
 pub mod Decode
 pub mod Encode
 pub mod Noted
+pub mod Accepted
+pub mod RoundTrip

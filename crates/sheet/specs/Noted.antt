@@ -6,7 +6,6 @@ use lib.Dec.{eqb}
 use lib.ListN.{getD, length}
 use Rattle.sheet.specs.declared.Constraint.{Constraint}
 use Rattle.sheet.specs.Rules.{stands}
-
 pub mod Laws
 
 pub record Noted (pairs : List ℕ) (cs : List Constraint) : Type 0 where

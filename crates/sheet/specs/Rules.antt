@@ -17,6 +17,7 @@ use Rattle.sheet.specs.declared.Size.the-variants.{Given, Missing}
 use Rattle.sheet.specs.declared.Constraint.{Constraint}
 use Rattle.sheet.specs.declared.Sheet.{Sheet}
 use Rattle.sheet.specs.Facts.{Facts, factsOf, pick, blankElement}
+pub mod Laws
 
 -- 3: 2 to 64 elements
 abbrev pub elementCount : ℕ → Bool

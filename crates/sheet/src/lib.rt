@@ -150,12 +150,8 @@ pub fn size_fault(p: PairKind, size: Size) -> u8
     ensures { λ r. ⌜ r ≡ sizeFault p size ⌝ }
 {
     match size {
-        Size::Given(z) => {
-            if size_range(p, z) { 0 } else { 9 }
-        }
-        Size::Missing => {
-            if size_optional(p) { 0 } else { 8 }
-        }
+        Size::Given(z) => { if size_range(p, z) { 0 } else { 9 } }
+        Size::Missing => { if size_optional(p) { 0 } else { 8 } }
     }
 }
 
@@ -164,7 +160,11 @@ pub fn kind_at(lines: u64, i: u8) -> Kind
     requires { ⌜ i < 64 ⌝ }
     ensures { λ r. ⌜ r ≡ kindOf (eqb (lines / 2 ^ i % 2) 1) ⌝ }
 {
-    if (lines >> i) % 2 == 1 { Kind::Line } else { Kind::Point }
+    if (lines >> i) % 2 == 1 {
+        Kind::Line
+    } else {
+        Kind::Point
+    }
 }
 
 // The elements by the number of their kinds.

@@ -54,10 +54,12 @@ loop-again c =
     let h = c .before .loop-test .taken in
     let r : a .i < length (a .elements) = rw (a .inv .1) (omega arith) in
     let x : Element = record { kind = c .kind-at .result } in
-    let e : x ≡ elementOf (a .left % 2) = ap (λ (k : Kind). record { kind = k }) (c .kind-at .ensures ∙ rw div-one) in
-    (omega arith, rw length-set (a .inv .1),
-    a .inv .2 ∙ one-more n (a .i) (a .left) (a .elements) h r ∙ rw e,
-    still-blank (a .elements) 64 (a .i) blankElement x (omega arith) (a .inv .3))
+    let e : x ≡ elementOf (a .left % 2) = ap (λ (k : Kind). record { kind = k }) (c .kind-at .ensures ∙ rw div-one) in (
+      omega arith,
+      rw length-set (a .inv .1),
+      a .inv .2 ∙ one-more n (a .i) (a .left) (a .elements) h r ∙ rw e,
+      still-blank (a .elements) 64 (a .i) blankElement x (omega arith) (a .inv .3),
+    )
 
 -- at the end all elements are taken
 all : (n lines i left : ℕ) (elements : List Element) → i ≡ n → elementsOf n lines ≡ take i elements ++ elementsOf (n - i) left → take i elements ≡ elementsOf n lines

@@ -68,9 +68,10 @@ loop-less c = search needs
 loop-again : tie.Need-loop-again Inv-loop μ-loop
 loop-again c =
     let a = c .before .before .before .loop in
-    let s = c .before .before .before .before in
-    (omega arith,
-    rw (c .line-bit .ensures, a .inv .1) (sym (one-more (s .args .t1) (s .args .n) (a .i) (c .before .before .loop-test .taken) (a .inv .0) (room s))))
+    let s = c .before .before .before .before in (
+      omega arith,
+      rw (c .line-bit .ensures, a .inv .1) (sym (one-more (s .args .t1) (s .args .n) (a .i) (c .before .before .loop-test .taken) (a .inv .0) (room s))),
+    )
 
 returns : tie.Need-returns Inv-loop μ-loop
 returns c =
