@@ -48,14 +48,14 @@ kind-bits-requires c κs = search needs
 returns-2 : tie.Need-returns-2
 unfolding readKinds
 returns-2 c =
-    (rw (← c .before .before .before .before .before .read-number .ensures .0, c .before .before .before .number .given .1, ← c .before .kind-bits .ensures, not-true _ (c .if1 .taken)),
+    (rw (← c .before .before .before .before .before .read-number .ensures .0, c .before .before .before .number .given .1, ← c .before .kind-bits .ensures, not-true (c .before .kind-bits .result) (c .if1 .taken)),
     record { below = λ v d e. let z : _≡_ {A = ℕ} 0 1 = cc in omega arith })
 
 -- src/lib.rt:359:1
 returns-3 : tie.Need-returns-3
 unfolding readKinds
 returns-3 c =
-    let h = not-false _ (c .if1 .left) in
+    let h = not-false (c .before .kind-bits .result) (c .if1 .left) in
     (rw (← c .before .before .before .before .before .read-number .ensures .0, c .before .before .before .number .given .1, ← c .before .kind-bits .ensures, h),
     record { below = λ v d e. let q : c .before .before .before .number .given .0 .0 ≡ v = cc in rw (← q) (ltb-true _ _ (sym (c .before .kind-bits .ensures) ∙ h)) })
 
