@@ -2,3 +2,4 @@
 pub mod Opening
 pub mod Numbers
 pub mod Constraints
+pub mod Sheets
