@@ -268,7 +268,13 @@ fn read_dimension(s: &[u8], c: Cursor, a: u8, b: u8, p: PairKind) -> ConstraintR
 }
 
 // One constraint after those noted, among n elements whose kinds are the bits of lines: rules 6 to 9.
-pub fn read_constraint(s: &[u8], c: Cursor, pairs: &[u64; 64], n: usize, lines: u64) -> ConstraintRead
+pub fn read_constraint(
+    s: &[u8],
+    c: Cursor,
+    pairs: &[u64; 64],
+    n: usize,
+    lines: u64,
+) -> ConstraintRead
     requires { ⌜ n ≤ 64 ⌝ }
     ensures { λ r. ⌜ ((es : List Element) (cs : List Constraint) → n ≡ length es → lines ≡ linesOf es → Noted (now (pairs .entry)) cs → asConstraint (now (s .entry)) r ≡ constraint es cs (drop (c .at) (now (s .entry)))) ⌝ }
 {

@@ -126,7 +126,7 @@ loop-again c =
           a .inv .reads
           ∙ one-more (elementsOf (g .n) (g .lines)) (g .e) (a .i) (take (a .i) (a .cs)) (drop (a .c .at) (g .s .now)) (c .before .before .before .before .before .before .before .loop-test .taken) (taken (c .before .before))
           ∙ rw (add-one, take-suc-set (a .cs) (a .i) k h);
-      blank = still-blank (a .cs) 200 (a .i) blankConstraint k (omega (arith, c .before .before .before .before .before .before .before .before .before .before .pre)) (a .inv .blank)
+      blank = still-blank (a .cs) 200 (a .i) blankConstraint k (omega (arith, c .before .before .before .before .before .before .before .before .before .before .pre)) (a .inv .blank);
     }
 
 -- src/lib.rt:344:9

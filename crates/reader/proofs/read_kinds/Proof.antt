@@ -36,9 +36,10 @@ refusal-requires c κs = search needs
 -- src/lib.rt:366:9
 returns : tie.Need-returns
 unfolding readKinds
-returns c =
-    (rw (← c .before .before .before .read-number .ensures .0, c .refusal .ensures, c .before .enum-told .given .1),
-    record { below = λ v d e. let z : _≡_ {A = ℕ} 0 1 = cc in omega arith })
+returns c = (
+  rw (← c .before .before .before .read-number .ensures .0, c .refusal .ensures, c .before .enum-told .given .1),
+  record { below = λ v d e. let z : _≡_ {A = ℕ} 0 1 = cc in omega arith },
+)
 
 -- src/lib.rt:368:9
 kind-bits-requires : tie.Need-kind-bits-requires
@@ -47,17 +48,19 @@ kind-bits-requires c κs = search needs
 -- src/lib.rt:369:9
 returns-2 : tie.Need-returns-2
 unfolding readKinds
-returns-2 c =
-    (rw (← c .before .before .before .before .before .read-number .ensures .0, c .before .before .before .number .given .1, ← c .before .kind-bits .ensures, not-true (c .before .kind-bits .result) (c .if1 .taken)),
-    record { below = λ v d e. let z : _≡_ {A = ℕ} 0 1 = cc in omega arith })
+returns-2 c = (
+  rw (← c .before .before .before .before .before .read-number .ensures .0, c .before .before .before .number .given .1, ← c .before .kind-bits .ensures, not-true (c .before .kind-bits .result) (c .if1 .taken)),
+  record { below = λ v d e. let z : _≡_ {A = ℕ} 0 1 = cc in omega arith },
+)
 
 -- src/lib.rt:359:1
 returns-3 : tie.Need-returns-3
 unfolding readKinds
 returns-3 c =
-    let h = not-false (c .before .kind-bits .result) (c .if1 .left) in
-    (rw (← c .before .before .before .before .before .read-number .ensures .0, c .before .before .before .number .given .1, ← c .before .kind-bits .ensures, h),
-    record { below = λ v d e. let q : c .before .before .before .number .given .0 .0 ≡ v = cc in rw (← q) (ltb-true _ _ (sym (c .before .kind-bits .ensures) ∙ h)) })
+    let h = not-false (c .before .kind-bits .result) (c .if1 .left) in (
+      rw (← c .before .before .before .before .before .read-number .ensures .0, c .before .before .before .number .given .1, ← c .before .kind-bits .ensures, h),
+      record { below = λ v d e. let q : c .before .before .before .number .given .0 .0 ≡ v = cc in rw (← q) (ltb-true _ _ (sym (c .before .kind-bits .ensures) ∙ h)) },
+    )
 
 pub read-kinds-spec : {M : Type 1} → statement M
 read-kinds-spec =

@@ -27,9 +27,10 @@ bytes-left-requires c κs = search needs
 -- src/lib.rt:171:9
 returns : tie.Need-returns Inv-loop μ-loop
 returns c =
-    let b = c .before .before .before in
-    (sym (field-short (b .args .s .now) (b .args .c .at) (b .args .k) (omega arith)),
-    record { below = λ v d e. let z : _≡_ {A = ℕ} 0 1 = cc in omega arith })
+    let b = c .before .before .before in (
+      sym (field-short (b .args .s .now) (b .args .c .at) (b .args .k) (omega arith)),
+      record { below = λ v d e. let z : _≡_ {A = ℕ} 0 1 = cc in omega arith },
+    )
 
 room : (c : tie.Else1 Inv-loop μ-loop) → c .before .before .before .args .k ≤ length (c .before .before .before .args .s .now) - c .before .before .before .args .c .at
 room c = omega arith
@@ -77,10 +78,11 @@ loop-less c = search needs
 loop-again : tie.Need-loop-again Inv-loop μ-loop
 loop-again c =
     let a = c .before .before .before .loop in
-    let b = c .before .before .before .before in
-    (omega arith,
-    rw (a .inv .1, c .wide .ensures) refl ∙ sym (number-more (b .before .before .before .args .s .now) (b .before .before .before .args .c .at) (b .before .before .before .args .k) (a .i) (c .before .before .loop-test .taken) (a .inv .0) (room b)),
-    below-more (b .before .before .before .args .k) (a .i) (a .u) (c .wide .result) (c .before .before .loop-test .taken) (a .inv .0) (a .inv .2) (byte-below c))
+    let b = c .before .before .before .before in (
+      omega arith,
+      rw (a .inv .1, c .wide .ensures) refl ∙ sym (number-more (b .before .before .before .args .s .now) (b .before .before .before .args .c .at) (b .before .before .before .args .k) (a .i) (c .before .before .loop-test .taken) (a .inv .0) (room b)),
+      below-more (b .before .before .before .args .k) (a .i) (a .u) (c .wide .result) (c .before .before .loop-test .taken) (a .inv .0) (a .inv .2) (byte-below c),
+    )
 
 -- src/lib.rt:179:39
 add-t7 : tie.Need-add-t7 Inv-loop μ-loop
@@ -93,10 +95,11 @@ returns-2 c =
     let b = c .before .before in
     let g = c .before .before .before .before .before .args in
     let z : a .i ≡ 0 = omega arith in
-    let w : g .k - a .i ≡ g .k = omega arith in
-    (ap (λ (m : ℕ). value m (drop (g .c .at + g .k) (g .s .now))) (a .inv .1 ∙ ap (λ (m : ℕ). number (drop m (take (g .k) (drop (g .c .at) (g .s .now))))) z)
-    ∙ sym (field-whole (g .s .now) (g .c .at) (g .k) (room b)),
-    record { below = λ v d e. let q : a .u ≡ v = cc in omega (arith, ap (λ (m : ℕ). 256 ^ m) w) })
+    let w : g .k - a .i ≡ g .k = omega arith in (
+      ap (λ (m : ℕ). value m (drop (g .c .at + g .k) (g .s .now))) (a .inv .1 ∙ ap (λ (m : ℕ). number (drop m (take (g .k) (drop (g .c .at) (g .s .now))))) z)
+          ∙ sym (field-whole (g .s .now) (g .c .at) (g .k) (room b)),
+      record { below = λ v d e. let q : a .u ≡ v = cc in omega (arith, ap (λ (m : ℕ). 256 ^ m) w) },
+    )
 
 pub read-number-spec : {M : Type 1} → statement M
 read-number-spec =

@@ -189,7 +189,7 @@ pub pairs-perm : {l k : List ℕ} → Perm l k → Pairs l → Pairs k
 unfolding Pairs
 pairs-perm p h x i = h x (among-perm p x .1 i)
 
-pub length-perm : {l k : List ℕ} → Perm l k → length l ≡ length k
+pub length-perm : {A : Type 0} {l k : List A} → Perm l k → length l ≡ length k
 length-perm same = refl
 length-perm (skip x p) = ap suc (length-perm p)
 length-perm (swap x y) = refl
