@@ -63,7 +63,7 @@ module _ (es : List Element) where
   pub not-refused : (done : List Constraint) (c : Constraint) → Taken done c → constraintFault es done c ≡ 0
   not-refused done c t = fault-size es done c (t .ends-ascend) (t .is-new) ∙ t .size-fits
 
-  none-else : (k j : ℕ) → or-else k j ≡ 0 → (k ≡ 0) × (j ≡ 0)
+  pub none-else : (k j : ℕ) → or-else k j ≡ 0 → (k ≡ 0) × (j ≡ 0)
   none-else zero j e = (refl, e)
   none-else (suc k) j e = absurd (omega arith)
 
