@@ -1,0 +1,312 @@
+-- Laws of sets: digits of the operations, sets equal by their elements, sizes, inclusion, single elements. Assumes nothing.
+use mathlib.Core.Path.{_≡_, refl, sym, ap, _∙_, subst}
+use mathlib.Core.Logic.{_≢_, _⊎_, inl, inr}
+use Prim.Native.Nat.{ℕ, zero, suc, _+_, _*_, _/_, _%_, _^_, _≤_, _<_, min, max}
+use native.Mathlib.Nat.{le-refl, le-trans, le-antisymm, div-one, pow-succ', div-div-eq-div-mul, mod-eq-of-lt, not-suc-le-zero, le-of-suc-le-suc}
+use native.Mathlib.Omega.{arith}
+use native.Mathlib.Decide.{ℕ-discrete}
+use lib.Arith.{bin-ind}
+use lib.Bits.{and-step, or-step, and-mask, mask-lt}
+use lib.Count.{ones, ones-step, ones-ones}
+use lib.Pow.{pow-lt}
+use Rattle.theory.specs.Set.{_∩_, _∪_, at, _⊑_, full}
+use Rattle.theory.specs.Sum.{sum}
+use Rattle.theory.specs.Sum.Laws.{sum-front}
+
+-- ---- digits of the operations
+
+and-low : (a b : ℕ) → (a ∩ b) % 2 ≡ min (a % 2) (b % 2)
+unfolding _∩_
+and-low a b = omega (arith, and-step a b)
+
+and-half : (a b : ℕ) → (a ∩ b) / 2 ≡ (a / 2) ∩ (b / 2)
+unfolding _∩_
+and-half a b = omega (arith, and-step a b)
+
+or-low : (a b : ℕ) → (a ∪ b) % 2 ≡ max (a % 2) (b % 2)
+unfolding _∪_
+or-low a b = omega (arith, or-step a b)
+
+or-half : (a b : ℕ) → (a ∪ b) / 2 ≡ (a / 2) ∪ (b / 2)
+unfolding _∪_
+or-half a b = omega (arith, or-step a b)
+
+pub at-and : (x a b : ℕ) → at x (a ∩ b) ≡ min (at x a) (at x b)
+unfolding at
+at-and zero a b = and-low a b
+at-and (suc x) a b = ap (at x) (and-half a b) ∙ at-and x (a / 2) (b / 2)
+
+pub at-or : (x a b : ℕ) → at x (a ∪ b) ≡ max (at x a) (at x b)
+unfolding at
+at-or zero a b = or-low a b
+at-or (suc x) a b = ap (at x) (or-half a b) ∙ at-or x (a / 2) (b / 2)
+
+pub at-le : (x a : ℕ) → at x a ≤ 1
+unfolding at
+at-le zero a = omega arith
+at-le (suc x) a = at-le x (a / 2)
+
+pub at-zero : (x : ℕ) → at x zero ≡ zero
+unfolding at
+at-zero zero = refl
+at-zero (suc x) = at-zero x
+
+pub bit : (x : ℕ) → x ≤ 1 → (x ≡ 0) ⊎ (x ≡ 1)
+bit zero h = inl refl
+bit (suc zero) h = inr refl
+bit (suc (suc x)) h = absurd (omega arith)
+
+-- the digit as code that shifts reads it
+pub at-div : (x a : ℕ) → at x a ≡ a / 2 ^ x % 2
+unfolding at
+at-div zero a = ap (λ (z : ℕ). z % 2) (sym (div-one a))
+at-div (suc x) a = at-div x (a / 2) ∙ ap (λ (z : ℕ). z % 2) (div-div-eq-div-mul a 2 (2 ^ x) ∙ ap (λ (z : ℕ). a / z) (sym (pow-succ' 2 x)))
+
+-- ---- two sets with the same elements are the same number
+
+pub zero-ext : (b : ℕ) → ((x : ℕ) → at x b ≡ zero) → b ≡ zero
+unfolding at
+zero-ext =
+    bin-ind (λ (b : ℕ). ((x : ℕ) → at x b ≡ zero) → b ≡ zero) (λ h. refl)
+    (λ b ih h. omega (arith, ih (λ x. h (suc x)), h zero))
+
+pub ext : (a b : ℕ) → ((x : ℕ) → at x a ≡ at x b) → a ≡ b
+unfolding at
+ext =
+    bin-ind (λ (a : ℕ). (b : ℕ) → ((x : ℕ) → at x a ≡ at x b) → a ≡ b)
+    (λ b h. sym (zero-ext b (λ x. sym (h x) ∙ at-zero x)))
+    (λ a ih b h. omega (arith, ih (b / 2) (λ x. h (suc x)), h zero))
+
+-- ---- sizes
+
+pub size-zero : ones zero ≡ zero
+unfolding ones
+size-zero = refl
+
+pub size-or : (a b : ℕ) → ones (a ∪ b) + ones (a ∩ b) ≡ ones a + ones b
+unfolding _∩_ _∪_
+size-or =
+    bin-ind (λ (a : ℕ). (b : ℕ) → ones (a ∪ b) + ones (a ∩ b) ≡ ones a + ones b) (λ b. omega (arith, size-zero))
+    (λ a ih b. omega (
+      arith,
+      ih (b / 2),
+      ones-step a,
+      ones-step b,
+      ones-step (a ∪ b),
+      ones-step (a ∩ b),
+      ap ones (or-half a b),
+      ap ones (and-half a b),
+      or-low a b,
+      and-low a b,
+    ))
+
+halves : {a b : ℕ} → a ⊑ b → a / 2 ⊑ b / 2
+unfolding at
+halves h = record { le = λ x. h .le (suc x) }
+
+pub size-le : (b a : ℕ) → a ⊑ b → ones a ≤ ones b
+unfolding at
+size-le =
+    bin-ind (λ (b : ℕ). (a : ℕ) → a ⊑ b → ones a ≤ ones b)
+    (λ a h. omega (arith, ap ones (zero-ext a (λ x. omega (arith, h .le x, at-zero x)))))
+    (λ b ih a h. omega (arith, ih (a / 2) (halves h), h .le zero, ones-step a, ones-step b))
+
+pub size-eq : (b a : ℕ) → a ⊑ b → ones b ≤ ones a → a ≡ b
+unfolding at
+size-eq =
+    bin-ind (λ (b : ℕ). (a : ℕ) → a ⊑ b → ones b ≤ ones a → a ≡ b) (λ a h k. zero-ext a (λ x. omega (arith, h .le x, at-zero x)))
+    (λ b ih a h k.
+    let l : ones (a / 2) ≤ ones (b / 2) = size-le (b / 2) (a / 2) (halves h) in
+    let low : a % 2 ≤ b % 2 = h .le zero in
+    let half : ones (b / 2) ≤ ones (a / 2) = omega (arith, ones-step a, ones-step b) in
+    let same : a / 2 ≡ b / 2 = ih (a / 2) (halves h) half in
+    omega (arith, ones-step a, ones-step b, ap ones same))
+
+-- only the empty set has no element
+pub size-none : (a : ℕ) → ones a ≡ zero → a ≡ zero
+size-none a e = sym (size-eq a zero (record { le = λ x. omega (arith, at-zero x) }) (omega arith))
+
+-- the size as a sum of digits
+pub size-sum : (n a : ℕ) → a < 2 ^ n → ones a ≡ sum n (λ x. at x a)
+unfolding sum at
+size-sum zero zero h = size-zero
+size-sum zero (suc a) h = absurd (not-suc-le-zero (le-of-suc-le-suc h))
+size-sum (suc n) a h =
+    let q : a < 2 * 2 ^ n = subst (λ (z : ℕ). a < z) (pow-succ' 2 n) h in
+    let l : a / 2 < 2 ^ n = omega arith in
+    omega (arith, ones-step a, size-sum n (a / 2) l, sum-front n (λ x. at x a))
+
+-- ---- the lattice, digit by digit
+
+pub sub-refl : (a : ℕ) → a ⊑ a
+sub-refl a = record { le = λ x. le-refl (at x a) }
+
+pub sub-trans : {a b c : ℕ} → a ⊑ b → b ⊑ c → a ⊑ c
+sub-trans h k = record { le = λ x. le-trans (h .le x) (k .le x) }
+
+pub sub-antisymm : (a b : ℕ) → a ⊑ b → b ⊑ a → a ≡ b
+sub-antisymm a b h k = ext a b (λ x. le-antisymm (h .le x) (k .le x))
+
+pub or-l : (a b : ℕ) → a ⊑ a ∪ b
+or-l a b = record { le = λ x. omega (arith, at-or x a b) }
+
+pub or-r : (a b : ℕ) → b ⊑ a ∪ b
+or-r a b = record { le = λ x. omega (arith, at-or x a b) }
+
+pub or-least : {a b c : ℕ} → a ⊑ c → b ⊑ c → a ∪ b ⊑ c
+or-least {a} {b} {c} h k = record { le = λ x. omega (arith, at-or x a b, h .le x, k .le x) }
+
+pub and-l : (a b : ℕ) → a ∩ b ⊑ a
+and-l a b = record { le = λ x. omega (arith, at-and x a b) }
+
+pub and-r : (a b : ℕ) → a ∩ b ⊑ b
+and-r a b = record { le = λ x. omega (arith, at-and x a b) }
+
+pub and-most : {a b c : ℕ} → c ⊑ a → c ⊑ b → c ⊑ a ∩ b
+and-most {a} {b} {c} h k = record { le = λ x. omega (arith, at-and x a b, h .le x, k .le x) }
+
+pub and-mono : {a b c d : ℕ} → a ⊑ c → b ⊑ d → a ∩ b ⊑ c ∩ d
+and-mono {a} {b} {c} {d} h k = record { le = λ x. omega (arith, at-and x a b, at-and x c d, h .le x, k .le x) }
+
+pub or-mono : {a b c d : ℕ} → a ⊑ c → b ⊑ d → a ∪ b ⊑ c ∪ d
+or-mono {a} {b} {c} {d} h k = record { le = λ x. omega (arith, at-or x a b, at-or x c d, h .le x, k .le x) }
+
+pub and-comm : (a b : ℕ) → a ∩ b ≡ b ∩ a
+and-comm a b = ext (a ∩ b) (b ∩ a) (λ x. omega (arith, at-and x a b, at-and x b a))
+
+pub or-comm : (a b : ℕ) → a ∪ b ≡ b ∪ a
+or-comm a b = ext (a ∪ b) (b ∪ a) (λ x. omega (arith, at-or x a b, at-or x b a))
+
+-- c meets a union in the union of what it shares with each part
+pub and-or : (a b c : ℕ) → (a ∪ b) ∩ c ≡ (a ∩ c) ∪ (b ∩ c)
+and-or a b c = ext ((a ∪ b) ∩ c) ((a ∩ c) ∪ (b ∩ c)) (λ x. simp (at-and, at-or) (omega arith))
+
+-- a ⊑ b, as one test
+pub sub-and : (a b : ℕ) → a ⊑ b → a ∩ b ≡ a
+sub-and a b h = ext (a ∩ b) a (λ x. omega (arith, at-and x a b, h .le x))
+
+pub sub-or : (a b : ℕ) → a ⊑ b → a ∪ b ≡ b
+sub-or a b h = ext (a ∪ b) b (λ x. omega (arith, at-or x a b, h .le x))
+
+pub and-sub : (a b : ℕ) → a ∩ b ≡ a → a ⊑ b
+and-sub a b e = record { le = λ x. omega (arith, at-and x a b, ap (at x) e) }
+
+-- ---- two different sets of one element have nothing in common
+
+pub singles-apart : (a b : ℕ) → ones a ≡ 1 → ones b ≡ 1 → a ≢ b → ones (a ∩ b) ≡ zero
+singles-apart a b ha hb ne = go (ones (a ∩ b)) refl
+  where
+    go : (k : ℕ) → ones (a ∩ b) ≡ k → k ≡ zero
+    go zero e = refl
+    go (suc k) e =
+        absurd (ne (sym (size-eq a (a ∩ b) (and-l a b) (omega arith)) ∙ size-eq b (a ∩ b) (and-r a b) (omega arith)))
+
+pub singles-or : (a b : ℕ) → ones a ≡ 1 → ones b ≡ 1 → a ≢ b → ones (a ∪ b) ≡ 2
+singles-or a b ha hb ne = omega (arith, size-or a b, singles-apart a b ha hb ne)
+
+-- ---- single elements
+
+pub at-same : (u : ℕ) → at u (2 ^ u) ≡ 1
+unfolding at
+at-same zero = refl
+at-same (suc u) = ap (at u) (omega arith) ∙ at-same u
+
+pub at-other : (x u : ℕ) → x ≢ u → at x (2 ^ u) ≡ 0
+unfolding at
+at-other zero zero ne = absurd (ne refl)
+at-other zero (suc u) ne = omega arith
+at-other (suc x) zero ne = at-zero x
+at-other (suc x) (suc u) ne = ap (at x) (omega arith) ∙ at-other x u (λ e. ne (ap suc e))
+
+pub size-pow : (u : ℕ) → ones (2 ^ u) ≡ 1
+size-pow zero = omega (arith, ones-step 1, size-zero)
+size-pow (suc u) =
+    let half : 2 ^ suc u / 2 ≡ 2 ^ u = omega arith in
+    omega (arith, ones-step (2 ^ suc u), ap ones half, size-pow u)
+
+pub pow-ne : (u v : ℕ) → u < v → 2 ^ u ≢ 2 ^ v
+pow-ne u v h e = omega (arith, pow-lt h)
+
+-- a set of one element or more has one
+pub some : (a : ℕ) → 1 ≤ ones a → (x : ℕ) × (at x a ≡ 1)
+unfolding at
+some =
+    bin-ind (λ (a : ℕ). 1 ≤ ones a → (x : ℕ) × (at x a ≡ 1)) (λ h. absurd (omega (arith, size-zero)))
+    (λ a ih h. go a ih h (ℕ-discrete (a % 2) 1))
+  where
+    go : (a : ℕ) → (1 ≤ ones (a / 2) → (x : ℕ) × (at x (a / 2) ≡ 1)) → 1 ≤ ones a → Dec (a % 2 ≡ 1) → (x : ℕ) × (at x a ≡ 1)
+    go a ih h (yes e) = (zero, e)
+    go a ih h (no n) = let r = ih (omega (arith, ones-step a)) in (suc (r .0), r .1)
+
+-- one of two or more has another
+pub two : (a : ℕ) → 2 ≤ ones a → (x y : ℕ) × (x < y) × (at x a ≡ 1) × (at y a ≡ 1)
+unfolding at
+two =
+    bin-ind (λ (a : ℕ). 2 ≤ ones a → (x y : ℕ) × (x < y) × (at x a ≡ 1) × (at y a ≡ 1)) (λ h. absurd (omega (arith, size-zero)))
+    (λ a ih h. go a ih h (ℕ-discrete (a % 2) 1))
+  where
+    go : (a : ℕ) → (2 ≤ ones (a / 2) → (x y : ℕ) × (x < y) × (at x (a / 2) ≡ 1) × (at y (a / 2) ≡ 1)) → 2 ≤ ones a → Dec (a % 2 ≡ 1)
+        → (x y : ℕ) × (x < y) × (at x a ≡ 1) × (at y a ≡ 1)
+    go a ih h (yes e) = let r = some (a / 2) (omega (arith, ones-step a)) in (zero, suc (r .0), omega arith, e, r .1)
+    go a ih h (no n) = let r = ih (omega (arith, ones-step a)) in (suc (r .0), suc (r .1), omega (arith, r .2), r .3, r .4)
+
+pub other : (a y : ℕ) → 2 ≤ ones a → (x : ℕ) × (at x a ≡ 1) × (x ≢ y)
+other a y h = go (ℕ-discrete (two a h .0) y)
+  where
+    go : Dec (two a h .0 ≡ y) → (x : ℕ) × (at x a ≡ 1) × (x ≢ y)
+    go (yes e) = let r = two a h in (r .1, r .4, λ f. omega (arith, r .2))
+    go (no n) = let r = two a h in (r .0, r .3, n)
+
+-- adding an element
+pub size-add : (a x : ℕ) → at x a ≡ 0 → ones (2 ^ x ∪ a) ≡ suc (ones a)
+size-add a x e = omega (arith, size-or (2 ^ x) a, size-pow x, ap ones apart, size-zero)
+  where
+    digit : (y : ℕ) → Dec (y ≡ x) → at y (2 ^ x ∩ a) ≡ at y zero
+    digit y (yes p) = omega (arith, at-and y (2 ^ x) a, at-zero y, ap (λ (z : ℕ). at z a) p)
+    digit y (no n) = omega (arith, at-and y (2 ^ x) a, at-zero y, at-other y x n)
+
+    apart : 2 ^ x ∩ a ≡ zero
+    apart = ext (2 ^ x ∩ a) zero (λ y. digit y (ℕ-discrete y x))
+
+-- two different elements make two or more
+pub two-in : (a x y : ℕ) → at x a ≡ 1 → at y a ≡ 1 → x ≢ y → 2 ≤ ones a
+two-in a x y p q n =
+    omega (arith, size-le a (2 ^ x ∪ 2 ^ y) (record { le = λ z. digit z (ℕ-discrete z x) (ℕ-discrete z y) }), size-add (2 ^ y) x (at-other x y n), size-pow y)
+  where
+    digit : (z : ℕ) → Dec (z ≡ x) → Dec (z ≡ y) → at z (2 ^ x ∪ 2 ^ y) ≤ at z a
+    digit z (yes e) d = omega (arith, ap (λ (w : ℕ). at w a) e, at-le z (2 ^ x ∪ 2 ^ y))
+    digit z (no m) (yes e) = omega (arith, ap (λ (w : ℕ). at w a) e, at-le z (2 ^ x ∪ 2 ^ y))
+    digit z (no m) (no k) = omega (arith, at-or z (2 ^ x) (2 ^ y), at-other z x m, at-other z y k)
+
+pub both : (x a b : ℕ) → at x a ≡ 1 → at x b ≡ 1 → at x (a ∩ b) ≡ 1
+both x a b p q = omega (arith, at-and x a b)
+
+pub in-both : (x a b : ℕ) → at x (a ∩ b) ≡ 1 → (at x a ≡ 1) × (at x b ≡ 1)
+in-both x a b e = (omega (arith, at-and x a b, at-le x a, at-le x b), omega (arith, at-and x a b, at-le x a, at-le x b))
+
+pub in-either : (x a b : ℕ) → at x (a ∪ b) ≡ 1 → (at x a ≡ 1) ⊎ (at x b ≡ 1)
+in-either x a b e = go (ℕ-discrete (at x a) 1)
+  where
+    go : Dec (at x a ≡ 1) → (at x a ≡ 1) ⊎ (at x b ≡ 1)
+    go (yes p) = inl p
+    go (no n) = inr (omega (arith, at-or x a b, at-le x a, at-le x b))
+
+pub or-left : (x a b : ℕ) → at x a ≡ 1 → at x (a ∪ b) ≡ 1
+or-left x a b e = omega (arith, at-or x a b, at-le x b)
+
+pub or-right : (x a b : ℕ) → at x b ≡ 1 → at x (a ∪ b) ≡ 1
+or-right x a b e = omega (arith, at-or x a b, at-le x a)
+
+-- ---- the elements below n
+
+pub below-full : (n x : ℕ) → x < 2 ^ n → x ⊑ full n
+unfolding full _∩_
+below-full n x h = and-sub x (full n) (and-mask x n ∙ mod-eq-of-lt h)
+
+pub cut-below : (n x : ℕ) → x ∩ full n < 2 ^ n
+unfolding full _∩_
+cut-below n x = mask-lt x n
+
+pub size-full : (n : ℕ) → ones (full n) ≡ n
+unfolding full
+size-full n = ones-ones n
