@@ -16,7 +16,7 @@ pub fn rewrite(sheet: &[u8], out: &mut [u8]) -> i32 {
 }
 
 /// First and set of an over sheet: how many items there are.
-pub fn over(sheet: &[u8], out: &mut [u64; 2]) -> i32 {
+pub fn over(sheet: &[u8], out: &mut [u64]) -> i32 {
     let first = unsafe { c::yard_over(sheet.as_ptr(), sheet.len(), &mut out[1]) };
     match first {
         SOUND => 0,
