@@ -65,26 +65,60 @@ pub fn for_sheet() -> Vec<Case> {
         case("200 distances, every tag", Dress { lines: 0, tags: 100 }, true, full),
         case("200 mixed, half the tags", Dress { lines: 40, tags: 50 }, true, full),
     ];
-    cases.extend(SIZES.map(|n| case("strip", PLAIN, false, |_| shapes::strip(n))));
+    cases.extend(growing("strip", false, |n, _| shapes::strip(n)));
     cases
+}
+
+/// The same shape at each of the element counts.
+fn growing(name: &str, mixed: bool, graph: impl Fn(usize, &mut Random) -> Graph) -> [Case; 3] {
+    SIZES.map(|n| case(name, PLAIN, mixed, |random| graph(n, random)))
 }
 
 /// Sheets for the search of an over set.
 pub fn for_over() -> Vec<Case> {
     let mut cases = Vec::new();
-    cases.extend(SIZES.map(|n| case("strip", PLAIN, false, |_| shapes::strip(n))));
-    cases.extend(SIZES.map(|n| case("merge tree", PLAIN, true, |r| shapes::merge_tree(n, r))));
-    cases.extend(SIZES.map(|n| case("Henneberg, 30 % split", PLAIN, true, |r| shapes::henneberg(n, 30, r))));
-    cases.extend(SIZES.map(|n| case("Henneberg, 90 % split", PLAIN, true, |r| shapes::henneberg(n, 90, r))));
+    cases.extend(growing("strip", false, |n, _| shapes::strip(n)));
+    cases.extend(growing("merge tree", true, shapes::merge_tree));
+    cases.extend(growing("Henneberg, 30 % split", true, |n, random| shapes::henneberg(n, 30, random)));
+    cases.extend(growing("Henneberg, 90 % split", true, |n, random| shapes::henneberg(n, 90, random)));
     cases.extend([
-        case("fan", PLAIN, false, |_| shapes::fan(64)),
-        case("book", PLAIN, false, |_| shapes::book(64)),
-        case("over, last of 126", PLAIN, false, |r| full_and_more(30, 126, r)),
-        case("over, full first, 200", PLAIN, false, |r| full_and_more(90, 200, r)),
-        case("over, scattered 200", PLAIN, false, |r| shapes::scattered(64, 200, r)),
-        case("scattered 100", PLAIN, false, |r| shapes::scattered(64, 100, r)),
+        case("fan, spokes first", PLAIN, false, |_| shapes::fan(64)),
+        case("book, spine last", PLAIN, false, |_| shapes::book(64)),
+        case("scattered", PLAIN, false, |random| shapes::scattered(64, 100, random)),
+        case("over, the last of 126", PLAIN, false, |random| full_and_more(30, 126, random)),
+        case("over, full first", PLAIN, false, |random| full_and_more(90, 200, random)),
+        case("over, scattered", PLAIN, false, |random| shapes::scattered(64, 200, random)),
     ]);
     cases
+}
+
+/// Sheets for plans, verdicts and reports.
+pub fn for_plan() -> Vec<Case> {
+    let lines = Dress { lines: 30, tags: 50 };
+    let mut cases = for_over();
+    cases.extend(growing("Henneberg, no split", true, |n, random| shapes::henneberg(n, 0, random)));
+    cases.extend([
+        case("strip, mixed", PLAIN, true, |_| shapes::strip(64)),
+        case("merge tree, lines and tags", lines, true, |random| shapes::merge_tree(64, random)),
+        case("K2,31 closed late", PLAIN, false, |_| shapes::closed_late(64, 31)),
+        case("K2,44 closed late", PLAIN, false, |_| shapes::closed_late(64, 44)),
+        case("fan, spokes last", PLAIN, false, |_| reversed(shapes::fan(64))),
+        case("merge tree less 8", PLAIN, true, |random| less(shapes::merge_tree(64, random), 8, random)),
+        case("scattered, few", PLAIN, false, |random| shapes::scattered(64, 60, random)),
+    ]);
+    cases
+}
+
+/// The graph with its pairs listed backwards.
+fn reversed(mut graph: Graph) -> Graph {
+    graph.pairs.reverse();
+    graph
+}
+
+/// The graph without some of its pairs.
+fn less(mut graph: Graph, count: usize, random: &mut Random) -> Graph {
+    graph.part_random(count, random);
+    graph
 }
 
 /// A full Henneberg graph on 64 elements in a random order, and then random pairs up to e.
