@@ -1,7 +1,8 @@
-//! The engine's plan and the verdict, by masks of clusters.
+//! The engine's plan and the verdict, by links between elements.
 //!
-//! On a sheet that is not over two living clusters share at most one element. So three make an open merge if and
-//! only if each two touch and no element is in all three.
+//! Two elements are linked if a living cluster holds both. On a sheet that is not over two living clusters share at
+//! most one element, so a cluster takes part in an open merge if and only if an element outside it is linked to two of
+//! its own.
 
 use super::over;
 use super::sheet::{Sheet, read};
@@ -9,54 +10,7 @@ use super::sheet::{Sheet, read};
 /// The most clusters of a sheet that is not over: 125 constraints and 62 steps.
 const MOST_CLUSTERS: usize = 187;
 /// The most steps of a plan.
-pub const MOST_STEPS: usize = 62;
-
-/// A set of clusters by number.
-#[derive(Clone, Copy)]
-struct Clusters([u64; 3]);
-
-const NONE: Clusters = Clusters([0; 3]);
-
-impl Clusters {
-    /// Puts a cluster in.
-    fn put(&mut self, i: usize) {
-        self.0[i >> 6] |= 1 << (i & 63);
-    }
-
-    /// Takes a cluster out.
-    fn take(&mut self, i: usize) {
-        self.0[i >> 6] &= !(1 << (i & 63));
-    }
-
-    /// Those in both.
-    fn and(self, other: Clusters) -> Clusters {
-        Clusters([0, 1, 2].map(|k| self.0[k] & other.0[k]))
-    }
-
-    /// Those in either.
-    fn or(self, other: Clusters) -> Clusters {
-        Clusters([0, 1, 2].map(|k| self.0[k] | other.0[k]))
-    }
-
-    /// Those in the first alone.
-    fn less(self, other: Clusters) -> Clusters {
-        Clusters([0, 1, 2].map(|k| self.0[k] & !other.0[k]))
-    }
-
-    /// The lowest cluster from i on.
-    fn from(&self, i: usize) -> Option<usize> {
-        let mut word = self.0[i >> 6] >> (i & 63) << (i & 63);
-        for k in i >> 6..3 {
-            if k > i >> 6 {
-                word = self.0[k];
-            }
-            if word != 0 {
-                return Some(64 * k + word.trailing_zeros() as usize);
-            }
-        }
-        None
-    }
-}
+const MOST_STEPS: usize = 62;
 
 /// A step: its parts ascending, and the joint.
 #[derive(Clone, Copy)]
@@ -68,13 +22,11 @@ pub struct Step {
 /// The clusters of a sheet while they are merged, and the steps so far.
 pub struct Merging {
     /// The elements of each cluster; 0 where it was merged away.
-    pub sets: [u64; MOST_CLUSTERS],
+    sets: [u64; MOST_CLUSTERS],
     /// How many clusters have a number.
-    pub made: usize,
-    /// For each cluster the living ones that share an element with it.
-    touch: [Clusters; MOST_CLUSTERS],
-    /// For each element the living clusters that hold it.
-    at: [Clusters; 64],
+    made: usize,
+    /// For each element those that are linked to it, and itself.
+    links: [u64; 64],
     steps: [Step; MOST_STEPS],
     count: usize,
 }
@@ -83,110 +35,78 @@ impl Merging {
     /// The initial clusters of a sheet that is not over.
     fn initial(sheet: &Sheet) -> Merging {
         let none = Step { parts: [0; 3], joint: 0 };
-        let mut merging = Merging {
-            sets: [0; MOST_CLUSTERS],
-            made: sheet.e,
-            touch: [NONE; MOST_CLUSTERS],
-            at: [NONE; 64],
-            steps: [none; MOST_STEPS],
-            count: 0,
-        };
-        for (i, c) in sheet.constraints[..sheet.e].iter().enumerate() {
-            merging.sets[i] = 1 << c.first | 1 << c.second;
-            merging.at[usize::from(c.first & 63)].put(i);
-            merging.at[usize::from(c.second & 63)].put(i);
-        }
-        for (i, c) in sheet.constraints[..sheet.e].iter().enumerate() {
-            let (first, second) = (merging.at[usize::from(c.first & 63)], merging.at[usize::from(c.second & 63)]);
-            merging.touch[i] = first.or(second);
-            merging.touch[i].take(i);
+        let mut merging =
+            Merging { sets: [0; MOST_CLUSTERS], made: sheet.e, links: [0; 64], steps: [none; MOST_STEPS], count: 0 };
+        for (set, c) in merging.sets.iter_mut().zip(&sheet.constraints[..sheet.e]) {
+            *set = 1 << c.first | 1 << c.second;
+            merging.links[usize::from(c.first & 63)] |= *set;
+            merging.links[usize::from(c.second & 63)] |= *set;
         }
         merging
     }
 
-    /// Those that make an open merge with i and j, which touch.
-    fn thirds(&self, i: usize, j: usize) -> Clusters {
-        let shared = (self.sets[i] & self.sets[j]).trailing_zeros() as usize;
-        self.touch[i].and(self.touch[j]).less(self.at[shared & 63])
+    /// The elements outside a set that are linked to two of its own.
+    fn outside(&self, set: u64) -> u64 {
+        let (mut once, mut twice, mut rest) = (0, 0, set);
+        while rest != 0 {
+            let links = self.links[rest.trailing_zeros() as usize & 63];
+            twice |= once & links;
+            once |= links;
+            rest &= rest - 1;
+        }
+        twice & !set
     }
 
-    /// The first open merge whose lowest cluster is i.
-    fn first_with(&self, i: usize) -> Option<[usize; 3]> {
-        let mut next = i + 1;
-        while let Some(j) = self.touch[i].from(next) {
-            if let Some(k) = self.thirds(i, j).from(j + 1) {
-                return Some([i, j, k]);
-            }
-            next = j + 1;
-        }
-        None
+    /// The lowest cluster from `from` on that meets both sets.
+    fn lowest_meeting(&self, from: usize, a: u64, b: u64) -> Option<usize> {
+        (from..self.made).find(|&i| self.sets[i] & a != 0 && self.sets[i] & b != 0)
     }
 
-    /// The first open merge with the cluster made last and a lowest one below `end`.
-    fn first_with_last(&self, end: usize) -> Option<[usize; 3]> {
-        let last = self.made - 1;
-        let mut next = 0;
-        while let Some(i) = self.touch[last].from(next).filter(|&i| i < end) {
-            if let Some(j) = self.thirds(i, last).from(i + 1) {
-                return Some([i, j, last]);
-            }
-            next = i + 1;
-        }
-        None
+    /// The first open merge, where below `from` only clusters that meet `last` take part in any.
+    fn first_open(&self, from: usize, last: u64) -> Option<[usize; 3]> {
+        let may = |&i: &usize| i >= from || self.sets[i] & last != 0;
+        let i = (0..self.made).filter(may).find(|&i| self.outside(self.sets[i]) != 0)?;
+        let a = self.sets[i];
+        let j = self.lowest_meeting(i + 1, a, self.outside(a))?;
+        let b = self.sets[j];
+        let k = self.lowest_meeting(j + 1, a & !b, b & !a)?;
+        Some([i, j, k])
     }
 
-    /// Makes an open merge.
-    fn merge(&mut self, parts: [usize; 3]) {
-        let [a, b, c] = parts.map(|i| self.sets[i]);
-        let (union, new) = (a | b | c, self.made);
-        let (mut gone, mut touch) = (NONE, NONE);
-        for i in parts {
-            gone.put(i);
-            touch = touch.or(self.touch[i]);
-            (self.sets[i], self.touch[i]) = (0, NONE);
+    /// Makes an open merge; the union.
+    fn merge(&mut self, parts: [usize; 3]) -> u64 {
+        let [a, b, c] = parts.map(|i| std::mem::take(&mut self.sets[i]));
+        let union = a | b | c;
+        let mut rest = union;
+        while rest != 0 {
+            self.links[rest.trailing_zeros() as usize & 63] |= union;
+            rest &= rest - 1;
         }
-        let touch = touch.less(gone);
-        let mut left = union;
-        while left != 0 {
-            let at = &mut self.at[left.trailing_zeros() as usize & 63];
-            *at = at.less(gone);
-            at.put(new);
-            left &= left - 1;
-        }
-        let mut next = 0;
-        while let Some(i) = touch.from(next) {
-            self.touch[i] = self.touch[i].less(gone);
-            self.touch[i].put(new);
-            next = i + 1;
-        }
-        self.sets[new] = union;
-        self.touch[new] = touch;
+        self.sets[self.made] = union;
         self.steps[self.count] = Step { parts, joint: a & b | a & c | b & c };
-        self.count += 1;
         self.made += 1;
+        self.count += 1;
+        union
     }
 
     /// The steps made.
     pub fn steps(&self) -> &[Step] {
         &self.steps[..self.count]
     }
+
+    /// The clusters by number; 0 where one was merged away.
+    pub fn sets(&self) -> &[u64] {
+        &self.sets[..self.made]
+    }
 }
 
-/// Takes the first open merge until there is none. No merge with a lowest cluster below i is open but those that
-/// the last one opened.
+/// Takes the first open merge until there is none.
 pub fn merge_all(sheet: &Sheet) -> Merging {
     let mut merging = Merging::initial(sheet);
-    let mut i = 0;
-    while i < merging.made {
-        match merging.first_with(i) {
-            None => i += 1,
-            Some(parts) => {
-                merging.merge(parts);
-                while let Some(parts) = merging.first_with_last(i) {
-                    merging.merge(parts);
-                }
-            }
-        }
+    let (mut from, mut last) = (0, 0);
+    while let Some(parts) = merging.first_open(from, last) {
+        last = merging.merge(parts);
+        from = parts[0];
     }
     merging
 }

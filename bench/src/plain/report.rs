@@ -68,7 +68,7 @@ impl Text {
         for (k, step) in merging.steps().iter().enumerate() {
             self.step(sheet, sheet.e + k, step);
         }
-        for (number, &set) in merging.sets[..merging.made].iter().enumerate() {
+        for (number, &set) in merging.sets().iter().enumerate() {
             if set != 0 {
                 self.list(b"cluster", [number].into_iter());
                 self.set(b" holds", set);
