@@ -173,16 +173,17 @@ pub fn turned(merges: &Merges, random: &mut Random) -> Vec<u16> {
 pub fn plan(plan: &[u16], random: &mut Random) -> Vec<u16> {
     let mut out = plan.to_vec();
     let at = random.below(out.len().max(1));
+    let step = at / 3 * 3..out.len().min(at / 3 * 3 + 3);
     match random.below(9) {
         0 => out.truncate(at),
-        1 => out.truncate(at / 3 * 3),
+        1 => out.truncate(step.start),
         2 => out.push(random.below(200) as u16),
         3 => out.extend([0, 1, 2]),
         _ if out.is_empty() => out.extend([0, 1, random.below(4) as u16]),
         4 => out[at] = out[at].wrapping_add(random.pick(&[1, 256, 65_535])),
         5 => out[at] = random.bits() as u16 >> random.below(16),
-        6 => out[at] = out[at / 3 * 3 + (at + 1) % 3],
-        7 => drop(out.drain(at / 3 * 3..at / 3 * 3 + 3)),
+        6 => out[at] = random.pick(&plan[step]),
+        7 => drop(out.drain(step)),
         _ => out.swap(at, random.below(plan.len())),
     }
     out

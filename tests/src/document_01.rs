@@ -2,7 +2,8 @@
 
 use crate::facts::{Columns, Constraint, Kind, Sheet};
 use crate::graph::Graph;
-use crate::{interface, shapes, writer};
+use crate::interface::{self, Found};
+use crate::{shapes, writer};
 
 /// Points with these constraints: the ends and the size.
 fn points(n: usize, constraints: &[(u8, u8, i32)]) -> Sheet {
@@ -18,7 +19,7 @@ fn pairs(graph: &Graph) -> Sheet {
 
 /// A sheet's report.
 fn report(sheet: &Sheet) -> String {
-    String::from_utf8(interface::report(&writer::bytes(sheet)).expect("an accepted sheet")).expect("ASCII")
+    String::from_utf8(Found::of(&writer::bytes(sheet)).report().expect("an accepted sheet")).expect("ASCII")
 }
 
 /// The sheet of "The report", with more elements and pairs.

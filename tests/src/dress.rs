@@ -30,14 +30,25 @@ pub fn dress(graph: &Graph, random: &mut Random) -> Sheet {
     let sizes = random.pick(&[Sizes::Few, Sizes::Few, Sizes::Ends, Sizes::All]);
     let kind = |random: &mut Random| if random.chance(lines) { Kind::Line } else { Kind::Point };
     let kinds: Vec<Kind> = (0..graph.n).map(|_| kind(random)).collect();
-    let constraint = |&(a, b): &(usize, usize)| Constraint {
+    let constraints = graph.pairs.iter().map(|&pair| constraint(&kinds, pair, sizes, tags, random)).collect();
+    Sheet { kinds, constraints }
+}
+
+/// A constraint that a sheet with these kinds may take; its pair may stand already.
+pub fn next(kinds: &[Kind], random: &mut Random) -> Constraint {
+    let a = random.below(kinds.len());
+    let b = (a + random.between(1, kinds.len() - 1)) % kinds.len();
+    constraint(kinds, (a.min(b), a.max(b)), Sizes::Few, 30, random)
+}
+
+/// A constraint of a pair, with a tag by a chance of `tags` in a hundred.
+fn constraint(kinds: &[Kind], (a, b): (usize, usize), sizes: Sizes, tags: usize, random: &mut Random) -> Constraint {
+    Constraint {
         first: a as u8,
         second: b as u8,
         size: size(kinds[a], kinds[b], sizes, random),
         tag: random.chance(tags).then(|| random.bits() as u16),
-    };
-    let constraints = graph.pairs.iter().map(constraint).collect();
-    Sheet { kinds, constraints }
+    }
 }
 
 /// A size in its range; between point and line it may be missing.

@@ -5,6 +5,7 @@
 //! `report`, `plans`, `sketch`, and `interface`, which gives the answers the C interface must give.
 //! The runs: `random`, `graph`, `shapes`, `dress`, `damage`, `space`, `run`, and `ffi`, the only unsafe code.
 
+pub mod calls;
 pub mod damage;
 #[cfg(test)]
 mod document_01;

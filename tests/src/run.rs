@@ -9,6 +9,9 @@ use crate::facts::Rule;
 use crate::random::Random;
 use crate::space::{Item, Space, rooms};
 
+/// What the inputs of a function are counted as.
+pub const INPUTS: &str = "inputs";
+
 /// A run from its seed on.
 pub struct Run {
     pub random: Random,
@@ -16,6 +19,7 @@ pub struct Run {
     started: Instant,
     calls: u64,
     counts: BTreeMap<&'static str, BTreeMap<String, u64>>,
+    lacks: Vec<String>,
 }
 
 impl Run {
@@ -24,7 +28,14 @@ impl Run {
         let given = std::env::args().nth(1).and_then(|word| word.parse().ok());
         let seed = given.unwrap_or(seed);
         println!("{name}: seed {seed}");
-        Run { random: Random::new(seed), name, started: Instant::now(), calls: 0, counts: BTreeMap::new() }
+        Run {
+            random: Random::new(seed),
+            name,
+            started: Instant::now(),
+            calls: 0,
+            counts: BTreeMap::new(),
+            lacks: Vec::new(),
+        }
     }
 
     /// Counts one more of something.
@@ -40,7 +51,7 @@ impl Run {
         answer: &Result<Vec<T>, Rule>,
         mut call: impl FnMut(&mut [T]) -> i32,
     ) {
-        self.count(function, "inputs");
+        self.count(function, INPUTS);
         self.count(function, outcome(answer));
         for room in rooms(answer, &mut self.random) {
             let mut space = Space::new(room, &mut self.random);
@@ -65,17 +76,29 @@ impl Run {
         }
     }
 
-    /// Prints the counts; fails where one of those that must come up did not, or not often enough.
-    pub fn finish(&self, must: impl IntoIterator<Item = (&'static str, String, u64)>) -> ExitCode {
+    /// How many calls were compared.
+    pub fn calls(&self) -> u64 {
+        self.calls
+    }
+
+    /// Requires that something came up at least so often.
+    pub fn must(&mut self, what: &'static str, which: &str, least: u64) {
+        let count = self.counts.get(what).and_then(|counts| counts.get(which)).copied().unwrap_or(0);
+        if count < least {
+            self.lacks.push(format!("{what} {which} came up {count} times, less than {least}"));
+        }
+    }
+
+    /// Prints the counts; fails where something did not come up as it must.
+    pub fn finish(&self) -> ExitCode {
         for (what, counts) in &self.counts {
             println!("{what}: {}", listed(counts));
         }
-        let count = |what, which: &String| self.counts.get(what).and_then(|counts| counts.get(which)).copied();
-        for (what, which, least) in must {
-            if count(what, &which).unwrap_or(0) < least {
-                println!("{}: {what} {which} came up less than {least} times", self.name);
-                return ExitCode::FAILURE;
-            }
+        for lack in &self.lacks {
+            println!("{}: {lack}", self.name);
+        }
+        if !self.lacks.is_empty() {
+            return ExitCode::FAILURE;
         }
         let seconds = self.started.elapsed().as_secs_f64();
         println!("{}: {} calls, no difference, {seconds:.1} s", self.name, self.calls);
@@ -89,8 +112,13 @@ fn listed(counts: &BTreeMap<String, u64>) -> String {
 }
 
 /// A rule as it is counted.
-pub fn rule(number: Rule) -> String {
+fn rule(number: Rule) -> String {
     format!("rule {number:02}")
+}
+
+/// Rules as they are counted.
+pub fn rules(numbers: impl IntoIterator<Item = Rule>) -> impl Iterator<Item = String> {
+    numbers.into_iter().map(rule)
 }
 
 /// An answer as it is counted: accepted, or the rule.

@@ -51,12 +51,16 @@ pub fn complete(m: usize, n: usize) -> Graph {
     Graph::of(n, (1..m.min(n)).flat_map(|b| (0..b).map(move |a| (a, b))))
 }
 
-/// Each new element is joined to two old ones or, with a chance of `split` in a hundred, splits a pair and is
-/// joined to a third (Henneberg's steps): 2n-3 pairs, not over.
+/// A graph grown from a pair by Henneberg's steps: 2n-3 pairs, not over.
 pub fn henneberg(n: usize, split: usize, random: &mut Random) -> Graph {
-    let mut graph = Graph::new(n);
-    graph.join(0, 1);
-    for new in 2..n {
+    grown(&strip(2), n, split, random)
+}
+
+/// A graph grown from another: each new element is joined to two old ones or, with a chance of `split` in a
+/// hundred, splits a pair and is joined to a third (Henneberg's steps). What was full and not over stays so.
+pub fn grown(from: &Graph, n: usize, split: usize, random: &mut Random) -> Graph {
+    let mut graph = Graph { n, pairs: from.pairs.clone() };
+    for new in from.n..n {
         let splits = new >= 3 && random.chance(split);
         let (a, b) =
             if splits { graph.pairs.swap_remove(random.below(graph.pairs.len())) } else { two_below(new, random) };
@@ -131,7 +135,7 @@ fn islands(n: usize, random: &mut Random) -> Graph {
 
 /// A graph of one of the plain families.
 fn basic(n: usize, random: &mut Random) -> Graph {
-    match random.below(13) {
+    match random.below(15) {
         0 => strip(n),
         1 => fan(n),
         2 => wheel(n),
@@ -142,7 +146,11 @@ fn basic(n: usize, random: &mut Random) -> Graph {
         7 => complete(random.between(3, 7), n),
         8 => henneberg(n, random.pick(&[0, 30, 90]), random),
         9 | 10 => merge_tree(n, random),
-        11 => scattered(n, random.below(2 * n), random),
+        11 | 12 if n >= 6 => {
+            let stuck = if random.chance(50) { prism(6) } else { bipartite(3, 6) };
+            grown(&stuck, n, random.pick(&[0, 0, 30, 90]), random)
+        }
+        13 => scattered(n, random.below(2 * n), random),
         _ => scattered(n, random.below(MOST_CONSTRAINTS + 1), random),
     }
 }

@@ -8,6 +8,7 @@ use Rattle.sheet.specs.declared.Tag.{Tag}
 use Rattle.sheet.specs.declared.Tag.the-variants.{Given as TagGiven, Missing as NoTag}
 use Rattle.sheet.specs.Facts.{Facts, blankConstraint}
 use Rattle.sheet.specs.Rules.{elementCount, constraintCount, constraintsFault}
+pub mod Laws
 
 abbrev pub tagNumber : Tag → ℕ
 tagNumber (TagGiven t) = t

@@ -14,6 +14,7 @@ use Rattle.sheet.specs.declared.Constraint.{Constraint}
 use Rattle.sheet.specs.Facts.{Facts, elementsOf, pick}
 use Rattle.sheet.specs.Field.{Field, value, refused, next, demand, field, byte, signed32, openingBytes, begins}
 use Rattle.sheet.specs.Rules.{elementCount, kindBits, constraintCount, ends, stands, pairAt, bitMap, sizeRange}
+pub mod Laws
 
 -- rule 1: the opening is short or different
 abbrev pub opening : List ℕ → Field (List ℕ)

@@ -7,3 +7,4 @@ pub mod Encode
 pub mod Noted
 pub mod Accepted
 pub mod RoundTrip
+pub mod Graph

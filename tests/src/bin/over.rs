@@ -2,14 +2,14 @@
 
 use std::process::ExitCode;
 
+use pattern_tests::calls::over;
 use pattern_tests::facts::{MOST_ELEMENTS, Sheet};
 use pattern_tests::graph::Graph;
 use pattern_tests::matching::by_matching;
 use pattern_tests::over::by_subsets;
-use pattern_tests::run::{Hex, Run, rule};
+use pattern_tests::run::{Hex, Run, rules};
 use pattern_tests::set::size;
-use pattern_tests::space::Space;
-use pattern_tests::{damage, dress, ffi, interface, writer};
+use pattern_tests::{damage, dress, writer};
 
 const ROUNDS: usize = 30_000;
 /// The most elements for which every set is looked at.
@@ -17,7 +17,7 @@ const FEW: usize = 10;
 const NOT_OVER: &str = "not over";
 
 fn main() -> ExitCode {
-    let mut run = Run::start("over", 5046_3032);
+    let mut run = Run::start("over", 50_463_032);
     for pairs in 0..1 << 10 {
         let mut graph = five_points(pairs);
         sheet(&mut run, &graph);
@@ -32,11 +32,14 @@ fn main() -> ExitCode {
         let damaged = damage::aimed(&many, &mut run.random);
         over(&mut run, &damaged);
     }
-    let rules = (1..=10).chain([17]).map(|number| ("pattern_over", rule(number), 100));
-    let names = [NOT_OVER, "set of 4", "set of 5 to 16", "set of 17 to 64"];
-    let all = names.map(|which| ("sheets", which.to_string(), 1_000));
-    let by_both = ["set of 4", "set of 5 to 16"].map(|which| ("sheets looked at set by set", which.to_string(), 500));
-    run.finish(rules.chain(all).chain(by_both))
+    rules((1..=10).chain([17])).for_each(|rule| run.must("pattern_over", &rule, 500));
+    for set in [NOT_OVER, "set of 4", "set of 5 to 16", "set of 17 to 64"] {
+        run.must("sheets", set, 1_000);
+    }
+    for set in [NOT_OVER, "set of 4", "set of 5 to 16"] {
+        run.must("sheets looked at set by set", set, 1_000);
+    }
+    run.finish()
 }
 
 /// Five elements with those of the ten pairs, in dictionary order, whose bit stands.
@@ -66,11 +69,4 @@ fn found(run: &mut Run, sheet: &Sheet) {
         run.same("reference", &Hex(&bytes), answer, by_subsets(sheet));
     }
     over(run, &bytes);
-}
-
-/// Compares `pattern_over` on some bytes.
-fn over(run: &mut Run, bytes: &[u8]) {
-    let given = Space::holding(bytes, &mut run.random);
-    let answer = interface::over(bytes);
-    run.lent("pattern_over", &Hex(bytes), &answer, |out| ffi::over(given.held(), out));
 }

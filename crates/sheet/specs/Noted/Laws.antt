@@ -18,7 +18,7 @@ use Rattle.sheet.specs.Rules.{stands}
 use Rattle.sheet.specs.Noted.{Noted}
 
 -- the pair stands in a list with one constraint more
-stands-more : (cs : List Constraint) (c : Constraint) (a b : ℕ) → stands (cs ++ c ∷ []) a b ≡ stands cs a b || (eqb (c .first) a && eqb (c .second) b)
+pub stands-more : (cs : List Constraint) (c : Constraint) (a b : ℕ) → stands (cs ++ c ∷ []) a b ≡ stands cs a b || (eqb (c .first) a && eqb (c .second) b)
 unfolding stands
 stands-more [] c a b = or-false (eqb (c .first) a && eqb (c .second) b)
   where
