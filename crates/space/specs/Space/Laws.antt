@@ -63,18 +63,14 @@ pub none-left : {items after : List ℕ} {at next : ℕ} → Put [] at items nex
 none-left {after = []} p = refl
 none-left {after = x ∷ xs} p = absurd (omega (arith, p .length-is))
 
-pub short-answer : (items space : List ℕ) → length space < length items → answer items space ≡ Refused 17
-unfolding answer
-short-answer items space h = rw (lt-ltb _ _ h)
+-- items that have no room are refused
+pub put-refused : (items space : List ℕ) → length space < length items → (Refused 17 ≡ answer items space) × (space ≡ after items space)
+unfolding answer after
+put-refused items space h = rw (lt-ltb _ _ h) (refl, refl)
 
-pub short-after : (items space : List ℕ) → length space < length items → after items space ≡ space
-unfolding after
-short-after items space h = rw (lt-ltb _ _ h)
-
-pub long-answer : (items space : List ℕ) → length items ≤ length space → answer items space ≡ Done (length items)
-unfolding answer
-long-answer items space h = rw (le-ltb _ _ h)
-
-pub put-after : {items space left : List ℕ} {next : ℕ} → length items ≤ length space → Put space 0 items next left → left ≡ after items space
-unfolding after
-put-after {items} {space} h p = rw (le-ltb _ _ h) (p .after-is (omega arith) ∙ sets-front items space h)
+-- items that have room are put from the front
+pub put-done : {items space left : List ℕ} {next : ℕ} → length items ≤ length space → Put space 0 items next left
+    → (Done next ≡ answer items space) × (left ≡ after items space)
+unfolding answer after
+put-done {items} {space} h p =
+    rw (le-ltb _ _ h) (ap Done (p .next-is ∙ zero-add _), p .after-is (omega arith) ∙ sets-front items space h)
