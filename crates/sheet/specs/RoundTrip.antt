@@ -1,7 +1,7 @@
 -- Reading and writing a sheet are each other's inverse (document 01, "The sheet in bytes" and "Refused"). The definitions are `readSheet` (Decode),
 -- `sheetBytes` (Encode) and `Accepted`; what the reader and the writer answer is said by these, so that the theorems hold of them. Assumes nothing.
 use Prim.Native.Nat.{ℕ, _≤_}
-use mathlib.Core.Path.{_≡_, ap, subst}
+use mathlib.Core.Path.{_≡_, subst}
 use mathlib.Core.List.{List, []}
 use lib.ListN.{length}
 use Rattle.sheet.specs.Facts.{Facts}

@@ -1,21 +1,20 @@
 -- Accepted facts in the blocks of a sheet and out again, and the length of their bytes. Assumes nothing.
-use Prim.Native.Nat.{ℕ, suc, _+_, _*_, _-_, _^_, _<_, _≤_}
+use Prim.Native.Nat.{ℕ, _^_, _<_, _≤_}
 use native.Mathlib.Omega.{arith}
 use borrow.Author.Tests.{leb-true}
-use mathlib.Core.Path.{_≡_, refl, ap}
-use mathlib.Core.Bool.{Bool, true, false, _&&_}
-use mathlib.Core.List.{List, [], _∷_, _++_}
+use mathlib.Core.Path.{_≡_, refl}
+use mathlib.Core.Bool.{Bool, true, false}
+use mathlib.Core.List.{[]}
 use lib.Dec.{leb}
 use lib.ListN.{length, take, getD, length-append, length-take}
 use lib.Seq.{take-append-seam, length-take-le}
 use Rattle.sheet.specs.declared.Sheet.{Sheet}
-use Rattle.sheet.specs.Facts.{Facts, pick, linesOf, sheetOf, factsOf, blankConstraint}
-use Rattle.sheet.specs.Field.{digits}
+use Rattle.sheet.specs.Facts.{Facts, pick, sheetOf, factsOf, blankConstraint}
 use Rattle.sheet.specs.Field.Laws.{length-digits}
 use Rattle.sheet.specs.Rules.Laws.{and-true}
 use Rattle.sheet.specs.Rules.{elementCount, constraintCount, constraintsFault, sheetFault}
 use Rattle.sheet.specs.Decode.{kindBytes}
-use Rattle.sheet.specs.Encode.{constraintsBytes, sheetBytes}
+use Rattle.sheet.specs.Encode.{sheetBytes}
 use Rattle.sheet.specs.Encode.Laws.{constraints-length}
 use Rattle.sheet.specs.Accepted.{tagNumber, Accepted}
 

@@ -2,15 +2,12 @@
 -- `answer` and `after`. Assumes nothing.
 use Prim.Native.Nat.{ℕ, suc, _+_, _≤_, _<_}
 use native.Mathlib.Nat.{add-zero, zero-add, add-suc, suc-add}
-use native.Mathlib.Numerals.{add-one}
 use native.Mathlib.Omega.{arith}
 use borrow.Author.Tests.{lt-ltb, le-ltb}
 use mathlib.Core.Path.{_≡_, refl, sym, ap, _∙_}
-use mathlib.Core.Logic.{_⊎_, ⊎-elim}
 use mathlib.Core.List.{List, [], _∷_, _++_}
-use lib.ListN.{length, drop, set, length-append, length-set}
-use lib.Seq.{sets, sets-eq, set-out, length-sets}
-use Rattle.space.specs.declared.Written.{Written}
+use lib.ListN.{length, drop, set, length-append}
+use lib.Seq.{sets, sets-eq, length-sets}
 use Rattle.space.specs.declared.Written.the-variants.{Done, Refused}
 use Rattle.space.specs.Space.{Put, answer, after}
 
