@@ -8,6 +8,7 @@ use lib.ListN.{length, getD, set}
 use Rattle.theory.specs.Set.{_∪_, at}
 use Rattle.sparsity.specs.Freedoms.{entry, stored, free, Table, Balanced, Closed}
 pub mod Laws
+pub mod Back
 
 -- what stands at place i of a list
 abbrev pub item : List ℕ → ℕ → ℕ
@@ -32,6 +33,13 @@ pub record Reached (own : List (List ℕ)) (a b : ℕ) (queue from : List ℕ) (
   pub marked : (i : ℕ) → i < count → at (item queue i) seen ≡ 1
   pub queued : (x : ℕ) → at x seen ≡ 1 → (i : ℕ) × (i < count) × (item queue i ≡ x)
   pub size : ones seen ≡ count
+  pub small : seen < 2 ^ 64
+
+-- nothing that was reached is lost
+pub record Longer (queue : List ℕ) (seen count : ℕ) (queue′ : List ℕ) (seen′ count′ : ℕ) : Type 0 where
+  pub more : count ≤ count′
+  pub places : (i : ℕ) → i < count → item queue′ i ≡ item queue i
+  pub marks : (x : ℕ) → at x seen ≡ 1 → at x seen′ ≡ 1
 
 -- the elements at the first p places use freedoms towards reached elements only, and none of them but the first two has a free entry
 pub record Scanned (own : List (List ℕ)) (queue : List ℕ) (seen p : ℕ) : Type 0 where
@@ -51,13 +59,24 @@ pub record Rebalanced (own : List (List ℕ)) (a b : ℕ) (new : List (List ℕ)
   pub balanced : (cs : List ℕ) (u : ℕ) → Balanced cs u own → Balanced cs u new
   pub closed : (u : ℕ) → at a u ≡ 1 → at b u ≡ 1 → Closed own u → Closed new u
 
--- the freedoms on the way to place i are turned, and the element there has a free entry; a and b have one more once the way ends
-pub record Walked (own : List (List ℕ)) (a b : ℕ) (queue : List ℕ) (count i : ℕ) (new : List (List ℕ)) : Type 0 where
-  pub inside : i < count
-  pub again : Rebalanced own a b new
+-- the way back from place p to the first two, and a free entry at its end
+pub record Way (own : List (List ℕ)) (queue from : List ℕ) (p : ℕ) : Type 0 where
+  pub table : Table own
+  pub far : 2 ≤ p
+  pub room : p < 64
+  pub inside : (i : ℕ) → i ≤ p → item queue i < 64
+  pub back : (i : ℕ) → 2 ≤ i → i ≤ p → item from i < i
+  pub link : (i : ℕ) → 2 ≤ i → i ≤ p → (s : ℕ) × (s < 2) × (entry own (item queue (item from i)) s ≡ item queue i)
+  pub apart : (i j : ℕ) → i < j → j ≤ p → item queue i ≢ item queue j
+  pub open-at : 0 < free own (item queue p)
+
+-- the freedoms on the way from place p to place i are turned, and the element there has a free entry; the first two have one more once the way ends
+pub record Walked (own : List (List ℕ)) (queue : List ℕ) (p i : ℕ) (new : List (List ℕ)) : Type 0 where
+  pub inside : i ≤ p
+  pub again : Rebalanced own (item queue 0) (item queue 1) new
   pub open-at : 0 < free new (item queue i)
   pub kept : (j s : ℕ) → j < i → entry new (item queue j) s ≡ entry own (item queue j) s
-  pub gain : i < 2 → free new a + free new b ≡ free own a + free own b + 1
+  pub gain : i < 2 → free new (item queue 0) + free new (item queue 1) ≡ free own (item queue 0) + free own (item queue 1) + 1
 
 -- one free entry more on a and b
 pub record Gained (own : List (List ℕ)) (a b : ℕ) (new : List (List ℕ)) : Type 0 where
