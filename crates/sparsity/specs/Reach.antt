@@ -19,10 +19,14 @@ pub data Visit (queue from : List ℕ) (seen count y p : ℕ) : List ℕ → Lis
   known : at y seen ≡ 1 → Visit queue from seen count y p queue from seen count
   fresh : at y seen ≡ 0 → Visit queue from seen count y p (set queue count y) (set from count p) (seen ∪ 2 ^ y) (count + 1)
 
+-- the two lists that the search is lent have 64 places
+pub record Lent (queue from : List ℕ) : Type 0 where
+  pub places : length queue ≡ 64
+  pub places′ : length from ≡ 64
+
 -- the queue has the elements reached so far, each but the first two with the place of an earlier one that uses a freedom towards it; seen is their set
 pub record Reached (own : List (List ℕ)) (a b : ℕ) (queue from : List ℕ) (seen count : ℕ) : Type 0 where
-  pub room : length queue ≡ 64
-  pub room′ : length from ≡ 64
+  pub lent : Lent queue from
   pub low : 2 ≤ count
   pub start : item queue 0 ≡ a
   pub start′ : item queue 1 ≡ b

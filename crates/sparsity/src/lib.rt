@@ -4,7 +4,7 @@
 ghost use mathlib.Core.Path.{_≡_};
 ghost use mathlib.Core.Logic.{_≢_};
 ghost use mathlib.Core.List.{[]};
-ghost use Prim.Native.Nat.{ℕ, _+_, _-_, _^_, _≤_, _<_};
+ghost use Prim.Native.Nat.{ℕ, _+_, _^_, _≤_, _<_};
 ghost use lib.Count.{ones};
 ghost use lib.ListN.{getD, set};
 ghost use Rattle.theory.specs.Set.{at};
@@ -12,7 +12,7 @@ ghost use Rattle.theory.specs.Constraints.{pair, Below};
 ghost use Rattle.theory.specs.Over.{overOf};
 ghost use Rattle.sparsity.specs.Listed.{masks, Listed};
 ghost use Rattle.sparsity.specs.Freedoms.{same, free, entry, Table, FreeBelow};
-ghost use Rattle.sparsity.specs.Reach.{item, Visit, Reached, Found, Gained, Gathered, Placed};
+ghost use Rattle.sparsity.specs.Reach.{item, Visit, Lent, Found, Way, Gained, Gathered, Placed};
 ghost use Rattle.sparsity.specs.Core.{Core};
 ghost use Rattle.sparsity.specs.Answer.{asOver};
 
@@ -81,6 +81,108 @@ fn visit(queue: &mut [u8; 64], from: &mut [u8; 64], f: Front, y: u8, p: u8) -> F
     queue[k] = y;
     from[k] = p;
     Front { seen: f.seen | bit, count: k + 1 }
+}
+
+// How many entries of x, y and z, are free, for an x that does not stand at the first two places.
+fn opens(y: u8, z: u8, x: u8, p: usize) -> usize
+    ensures { λ r. ⌜ ((2 ≤ p) → r ≡ same y x + same z x) × ((p < 2) → r ≡ 0) ⌝ }
+{
+    if p < 2 {
+        return 0;
+    }
+    one_if_same(y, x) + one_if_same(z, x)
+}
+
+// What a search has found: the set of the elements reached, how many there are, and the place of the first that has a free entry, or the count.
+pub struct Sought {
+    pub seen: u64,
+    pub count: usize,
+    pub place: usize,
+}
+
+// The search from a and b along the freedoms in use, for another element with a free entry.
+fn seek(own: [[u8; 2]; 64], queue: &mut [u8; 64], from: &mut [u8; 64], a: u8, b: u8) -> Sought
+    requires { ⌜ Table own × (a < 64) × (b < 64) × (a ≢ b) × Lent (now queue) (now from) ⌝ }
+    ensures { λ r. ⌜ Found own a b (now (queue .exit)) (now (from .exit)) (r .seen) (r .count) (r .place) ⌝ }
+{
+    queue[0] = a;
+    queue[1] = b;
+    let mut f = Front { seen: single(a) | single(b), count: 2 };
+    let mut p: usize = 0;
+    while p < f.count {
+        let x = queue[p];
+        let i = wide(x);
+        let y = own[i][0];
+        let z = own[i][1];
+        if opens(y, z, x, p) != 0 {
+            return Sought { seen: f.seen, count: f.count, place: p };
+        }
+        let g = visit(queue, from, f, y, p as u8);
+        let h = visit(queue, from, g, z, p as u8);
+        f = h;
+        p = p + 1;
+    }
+    Sought { seen: f.seen, count: f.count, place: p }
+}
+
+// Freedoms are turned along the way from place p back to one of the first two, which gets a free entry.
+fn release(own: [[u8; 2]; 64], queue: &[u8; 64], from: &[u8; 64], p: usize) -> [[u8; 2]; 64]
+    requires { ⌜ Way own (now queue) (now from) p ⌝ }
+    ensures { λ r. ⌜ Gained own (item (now (queue .entry)) 0) (item (now (queue .entry)) 1) r ⌝ }
+{
+    let mut t = own;
+    let mut i = p;
+    while 2 <= i {
+        let j = wide(from[i]);
+        let bx = queue[j];
+        let by = queue[i];
+        let x = wide(bx);
+        let y = wide(by);
+        let s = one_if_same(t[x][1], by);
+        let r = one_if_same(t[y][1], by);
+        t[x][s] = bx;
+        t[y][r] = bx;
+        i = j;
+    }
+    t
+}
+
+// As many free entries on a and b as can be had.
+fn gather(own: [[u8; 2]; 64], queue: &mut [u8; 64], from: &mut [u8; 64], a: u8, b: u8) -> [[u8; 2]; 64]
+    requires { ⌜ Table own × (a < 64) × (b < 64) × (a ≢ b) × Lent (now queue) (now from) ⌝ }
+    ensures { λ r. ⌜ Gathered own a b r × Lent (now (queue .exit)) (now (from .exit)) ⌝ }
+{
+    let mut t = own;
+    while free_ends(t, a, b) < 4 {
+        let s = seek(t, queue, from, a, b);
+        let p = s.place;
+        if s.count <= p {
+            return t;
+        }
+        let next = release(t, queue, from, p);
+        t = next;
+    }
+    t
+}
+
+// A free entry of a or b is used for the constraint between them.
+fn place(own: [[u8; 2]; 64], a: u8, b: u8) -> [[u8; 2]; 64]
+    requires { ⌜ Table own × (a < 64) × (b < 64) × (0 < free own a + free own b) ⌝ }
+    ensures { λ r. ⌜ Placed own a b r ⌝ }
+{
+    let mut t = own;
+    let i = wide(a);
+    let j = wide(b);
+    if t[i][0] == a {
+        t[i][0] = b;
+    } else if t[i][1] == a {
+        t[i][1] = b;
+    } else if t[j][0] == b {
+        t[j][0] = a;
+    } else {
+        t[j][1] = a;
+    }
+    t
 }
 
 // The answer of the search for an over set.

@@ -6,7 +6,7 @@ use Prim.Native.Nat.{ℕ, zero, suc, _+_, _*_, _^_, _≤_, _<_}
 use native.Mathlib.Nat.{lt-of-lt-of-le, lt-trans, lt-suc-self, zero-lt-suc, le-refl, ne-of-lt, ne-of-gt, not-suc-le-zero, le-of-suc-le-suc, eq-or-lt-of-le}
 use native.Mathlib.Decide.{ℕ-discrete, decLt}
 use native.Mathlib.Omega.{arith}
-use lib.Bits.{or-lt}
+use lib.Bits.{bitOr, or-lt}
 use lib.Count.{ones, ones-le}
 use lib.ListN.{length, getD, set, length-set}
 use lib.Pow.{pow-lt}
@@ -16,7 +16,7 @@ use Rattle.theory.specs.Set.Laws.{at-or, at-le, at-same, at-other, bit, size-ad
 use Rattle.sparsity.specs.Less.{at-below}
 use Rattle.sparsity.specs.Freedoms.{entry, stored, free, same, Table, Balanced, Closed}
 use Rattle.sparsity.specs.Freedoms.Laws.{same-refl, same-ne, same-eq, same-le, same-bit, free-row}
-use Rattle.sparsity.specs.Reach.{item, Visit, known, fresh, Reached, Longer, Scanned, Found, Rebalanced, Way, Walked, Gained, Stuck, Gathered, Placed}
+use Rattle.sparsity.specs.Reach.{item, Visit, known, fresh, Lent, Reached, Longer, Scanned, Found, Rebalanced, Way, Walked, Gained, Stuck, Gathered, Placed}
 
 -- ---- a visit
 
@@ -54,13 +54,13 @@ module _ (own : List (List ℕ)) (t : Table own) (a b : ℕ) (queue from : List 
     q-old i l = getD-set-other queue count i y 0 (ne-of-lt l)
 
     q-new : item q count ≡ y
-    q-new = getD-set-same queue count y 0 (omega (arith, r .room, fits))
+    q-new = getD-set-same queue count y 0 (omega (arith, r .lent .places, fits))
 
     f-old : (i : ℕ) → i < count → item f i ≡ item from i
     f-old i l = getD-set-other from count i p 0 (ne-of-lt l)
 
     f-new : item f count ≡ p
-    f-new = getD-set-same from count p 0 (omega (arith, r .room′, fits))
+    f-new = getD-set-same from count p 0 (omega (arith, r .lent .places′, fits))
 
     v-old : (x : ℕ) → at x seen ≡ 1 → at x v ≡ 1
     v-old x e = omega (arith, at-or x seen (2 ^ y), at-le x (2 ^ y))
@@ -80,8 +80,7 @@ module _ (own : List (List ℕ)) (t : Table own) (a b : ℕ) (queue from : List 
     pushed : Reached own a b q f v (count + 1)
     unfolding _∪_
     pushed = record {
-      room = length-set queue count y ∙ r .room;
-      room′ = length-set from count p ∙ r .room′;
+      lent = record { places = length-set queue count y ∙ r .lent .places; places′ = length-set from count p ∙ r .lent .places′ };
       low = omega (arith, r .low);
       start = q-old 0 (omega (arith, r .low)) ∙ r .start;
       start′ = q-old 1 (omega (arith, r .low)) ∙ r .start′;
@@ -125,16 +124,15 @@ module _ (own : List (List ℕ)) (t : Table own) (a b : ℕ) (queue from : List 
 -- ---- the search
 
 -- the queue at the start
-module _ (own : List (List ℕ)) (a b : ℕ) (la : a < 64) (lb : b < 64) (n : a ≢ b) (queue from : List ℕ)
-    (room : length queue ≡ 64) (room′ : length from ≡ 64) where
+module _ (own : List (List ℕ)) (a b : ℕ) (la : a < 64) (lb : b < 64) (n : a ≢ b) {queue from : List ℕ} (lent : Lent queue from) where
   abbrev two : List ℕ
   two = set (set queue 0 a) 1 b
 
   first : item two 0 ≡ a
-  first = getD-set-other (set queue 0 a) 1 0 b 0 (ne-of-lt (zero-lt-suc 0)) ∙ getD-set-same queue 0 a 0 (omega arith)
+  first = getD-set-other (set queue 0 a) 1 0 b 0 (ne-of-lt (zero-lt-suc 0)) ∙ getD-set-same queue 0 a 0 (omega (arith, lent .places))
 
   second : item two 1 ≡ b
-  second = getD-set-same (set queue 0 a) 1 b 0 (omega (arith, length-set queue 0 a))
+  second = getD-set-same (set queue 0 a) 1 b 0 (omega (arith, length-set queue 0 a, lent .places))
 
   either : (P : ℕ → Type 0) → P 0 → P 1 → (i : ℕ) → i < 2 → P i
   either P p q i l = ⊎-elim (λ (e : i ≡ 0). subst P (sym e) p) (λ (e : i ≡ 1). subst P (sym e) q) (bit i (le-of-suc-le-suc l))
@@ -151,8 +149,7 @@ module _ (own : List (List ℕ)) (a b : ℕ) (la : a < 64) (lb : b < 64) (n : a 
   pub begun : Reached own a b two from ends 2
   unfolding _∪_
   begun = record {
-    room = length-set (set queue 0 a) 1 b ∙ length-set queue 0 a ∙ room;
-    room′ = room′;
+    lent = record { places = length-set (set queue 0 a) 1 b ∙ length-set queue 0 a ∙ lent .places; places′ = lent .places′ };
     low = le-refl 2;
     start = first;
     start′ = second;
@@ -176,6 +173,10 @@ module _ (own : List (List ℕ)) (a b : ℕ) (la : a < 64) (lb : b < 64) (n : a 
       queued x e (yes p) d = (0, zero-lt-suc 1, first ∙ sym p)
       queued x e (no p) (yes q) = (1, lt-suc-self 1, second ∙ sym q)
       queued x e (no p) (no q) = absurd (omega (arith, at-or x (2 ^ a) (2 ^ b), at-other x a p, at-other x b q))
+
+  pub begun-with : (p q : ℕ) → p ≡ 2 ^ a → q ≡ 2 ^ b → Reached own a b two from (bitOr p q) 2
+  unfolding _∪_
+  begun-with p q ep eq = subst (λ (v : ℕ). Reached own a b two from v 2) (ap₂ bitOr (sym ep) (sym eq)) begun
 
 pub scanned-none : (own : List (List ℕ)) (queue : List ℕ) (seen : ℕ) → Scanned own queue seen 0
 scanned-none own queue seen = record { stays = λ i s l h. absurd (not-suc-le-zero l); none = λ i h l. absurd (not-suc-le-zero l) }
@@ -208,6 +209,92 @@ longer-trans q v n q′ v′ n′ q″ v″ n″ g h = record {
   marks = λ x e. h .marks x (g .marks x e);
 }
 
+pub reached-most : {own : List (List ℕ)} {a b : ℕ} {queue from : List ℕ} {seen count : ℕ} → Reached own a b queue from seen count → count ≤ 64
+reached-most {seen = seen} r = omega (arith, r .size, ones-le 64 seen (r .small))
+
+-- the element at place p, which is i, is scanned by two visits
+module _ {own : List (List ℕ)} {a b : ℕ} {queue from : List ℕ} {seen count : ℕ} (t : Table own) (r : Reached own a b queue from seen count)
+    (p : ℕ) (lp : p < count) {i : ℕ} (ei : i ≡ item queue p) where
+  entry-is : (s : ℕ) → entry own i s ≡ entry own (item queue p) s
+  entry-is s = ap (λ (x : ℕ). entry own x s) ei
+
+  pub place-fits : p < 64
+  place-fits = omega (arith, reached-most r)
+
+  pub scan-fits : i < 64
+  scan-fits = omega (arith, r .inside p lp)
+
+  pub scan-low : (s : ℕ) → s < 2 → entry own i s < 64
+  scan-low s l = t .low i s scan-fits l
+
+  module _ {q f : List ℕ} {v n : ℕ} (one : Visit queue from seen count (entry own i 0) p q f v n) where
+    mid : Reached own a b q f v n
+    mid = visit-reached own t a b queue from seen count r p 0 (entry own i 0) lp (zero-lt-suc 1) (entry-is 0) q f v n one
+
+    longer : Longer queue seen count q v n
+    longer = visit-longer own t a b queue from seen count r p 0 (entry own i 0) lp (zero-lt-suc 1) (entry-is 0) q f v n one
+
+    lp′ : p < n
+    lp′ = lt-of-lt-of-le lp (longer .more)
+
+    entry-is′ : entry own i 1 ≡ entry own (item q p) 1
+    entry-is′ = entry-is 1 ∙ ap (λ (x : ℕ). entry own x 1) (sym (longer .places p lp))
+
+    pub mid-size : ones v ≡ n
+    mid-size = mid .size
+
+    module _ {q′ f′ : List ℕ} {v′ n′ : ℕ} (two : Visit q f v n (entry own i 1) p q′ f′ v′ n′) where
+      pub scan-reached : Reached own a b q′ f′ v′ n′
+      scan-reached = visit-reached own t a b q f v n mid p 1 (entry own i 1) lp′ (le-refl 2) entry-is′ q′ f′ v′ n′ two
+
+      longer′ : Longer q v n q′ v′ n′
+      longer′ = visit-longer own t a b q f v n mid p 1 (entry own i 1) lp′ (le-refl 2) entry-is′ q′ f′ v′ n′ two
+
+      pub scan-below : p + 1 ≤ n′
+      scan-below = omega (arith, lp′, longer′ .more)
+
+      pub scan-next : Scanned own queue seen p → (2 ≤ p → 0 ≡ same (entry own i 0) (item queue p) + same (entry own i 1) (item queue p)) → Scanned own q′ v′ (p + 1)
+      unfolding free
+      scan-next sc shut =
+          scanned-next own queue seen count p lp sc
+          (λ h. ap₂ (λ (y z : ℕ). same y (item queue p) + same z (item queue p)) (sym (entry-is 0)) (sym (entry-is 1)) ∙ sym (shut h)) q′ v′ n′
+          (longer-trans queue seen count q v n q′ v′ n′ longer longer′)
+          (λ s l. ⊎-elim
+          (λ (e : s ≡ 0). ap (λ (k : ℕ). at (entry own (item queue p) k) v′) e ∙ ap (λ (y : ℕ). at y v′) (sym (entry-is 0))
+          ∙ longer′ .marks (entry own i 0) (visit-seen own t a b queue from seen count r p 0 (entry own i 0) lp (zero-lt-suc 1) (entry-is 0) q f v n one))
+          (λ (e : s ≡ 1). ap (λ (k : ℕ). at (entry own (item queue p) k) v′) e ∙ ap (λ (y : ℕ). at y v′) (sym (entry-is 1))
+          ∙ visit-seen own t a b q f v n mid p 1 (entry own i 1) lp′ (le-refl 2) entry-is′ q′ f′ v′ n′ two)
+          (bit s (le-of-suc-le-suc l)))
+
+  -- a free entry there, not at the first two places
+  pub found-here : Scanned own queue seen p → (h : ℕ) → h ≢ 0
+      → ((2 ≤ p → h ≡ same (entry own i 0) (item queue p) + same (entry own i 1) (item queue p)) × (p < 2 → h ≡ 0))
+      → Found own a b queue from seen count p
+  unfolding free
+  found-here sc h n o = record {
+    reached = r;
+    scanned = sc;
+    below = omega arith;
+    open-at = λ l. (far, positive (o .0 far));
+  }
+    where
+      far : 2 ≤ p
+      far = go (decLt p 2)
+        where
+          go : Dec (p < 2) → 2 ≤ p
+          go (yes l) = absurd (n (o .1 l))
+          go (no l) = omega arith
+
+      positive : h ≡ same (entry own i 0) (item queue p) + same (entry own i 1) (item queue p)
+          → 0 < same (entry own (item queue p) 0) (item queue p) + same (entry own (item queue p) 1) (item queue p)
+      positive e =
+          omega (arith, n, e, ap (λ (y : ℕ). same y (item queue p)) (entry-is 0), ap (λ (y : ℕ). same y (item queue p)) (entry-is 1))
+
+-- every place is scanned
+pub found-all : {own : List (List ℕ)} {a b : ℕ} {queue from : List ℕ} {seen count : ℕ} (p : ℕ) → Reached own a b queue from seen count
+    → Scanned own queue seen p → p ≤ count → count ≤ p → Found own a b queue from seen count p
+found-all p r sc l h = record { reached = r; scanned = sc; below = l; open-at = λ k. absurd (omega arith) }
+
 -- what is linked to the first two lies in every closed set that holds them
 pub linked-within : (own : List (List ℕ)) (queue from : List ℕ) (count : ℕ) → ((i : ℕ) → 2 ≤ i → i < count → item from i < i)
     → ((i : ℕ) → 2 ≤ i → i < count → (s : ℕ) × (s < 2) × (entry own (item queue (item from i)) s ≡ item queue i))
@@ -234,9 +321,9 @@ pub reached-within : (own : List (List ℕ)) (a b : ℕ) (queue from : List ℕ)
 reached-within own a b queue from seen count r u ea eb c =
     linked-within own queue from count (r .back) (r .link) u (ap (λ (x : ℕ). at x u) (r .start) ∙ ea) (ap (λ (x : ℕ). at x u) (r .start′) ∙ eb) c
 
-pub seen-within : (own : List (List ℕ)) (a b : ℕ) (queue from : List ℕ) (seen count : ℕ) → Reached own a b queue from seen count
+pub seen-within : {own : List (List ℕ)} {a b : ℕ} {queue from : List ℕ} {seen count : ℕ} → Reached own a b queue from seen count
     → (u : ℕ) → at a u ≡ 1 → at b u ≡ 1 → Closed own u → seen ⊑ u
-seen-within own a b queue from seen count r u ea eb c = record {
+seen-within {own} {a} {b} {queue} {from} {seen} {count} r u ea eb c = record {
   le = λ x. ⊎-elim
       (λ (e : at x seen ≡ 0). omega arith)
       (λ (e : at x seen ≡ 1).
@@ -246,7 +333,7 @@ seen-within own a b queue from seen count r u ea eb c = record {
 }
 
 -- all is reached, and nothing is free but at a and b: no more can be had
-module _ (own : List (List ℕ)) (a b : ℕ) (queue from : List ℕ) (seen count place : ℕ) (f : Found own a b queue from seen count place)
+module _ {own : List (List ℕ)} {a b : ℕ} {queue from : List ℕ} {seen count place : ℕ} (f : Found own a b queue from seen count place)
     (done : count ≤ place) where
   abbrev r : Reached own a b queue from seen count
   r = f .reached
@@ -287,9 +374,9 @@ module _ (own : List (List ℕ)) (a b : ℕ) (queue from : List ℕ) (seen count
   }
 
 -- where no more can be had, the search finds none
-pub stuck-none : (own : List (List ℕ)) (a b : ℕ) (queue from : List ℕ) (seen count place : ℕ) → Found own a b queue from seen count place
+pub stuck-none : {own : List (List ℕ)} {a b : ℕ} {queue from : List ℕ} {seen count place : ℕ} → Found own a b queue from seen count place
     → Stuck own a b → count ≤ place
-stuck-none own a b queue from seen count place f s = go (decLt place count)
+stuck-none {own} {a} {b} {queue} {from} {seen} {count} {place} f s = go (decLt place count)
   where
     go : Dec (place < count) → count ≤ place
     go (no n) = omega arith
