@@ -59,7 +59,9 @@ fn free_ends(own: [[u8; 2]; 64], a: u8, b: u8) -> usize
 {
     let i = wide(a);
     let j = wide(b);
-    one_if_same(own[i][0], a) + one_if_same(own[i][1], a) + (one_if_same(own[j][0], b) + one_if_same(own[j][1], b))
+    one_if_same(own[i][0], a)
+        + one_if_same(own[i][1], a)
+        + (one_if_same(own[j][0], b) + one_if_same(own[j][1], b))
 }
 
 // The set of the elements reached, and how many there are.
@@ -80,7 +82,10 @@ fn visit(queue: &mut [u8; 64], from: &mut [u8; 64], f: Front, y: u8, p: u8) -> F
     let k = f.count;
     queue[k] = y;
     from[k] = p;
-    Front { seen: f.seen | bit, count: k + 1 }
+    Front {
+        seen: f.seen | bit,
+        count: k + 1,
+    }
 }
 
 // How many entries of x, y and z, are free, for an x that does not stand at the first two places.
@@ -107,7 +112,10 @@ fn seek(own: [[u8; 2]; 64], queue: &mut [u8; 64], from: &mut [u8; 64], a: u8, b:
 {
     queue[0] = a;
     queue[1] = b;
-    let mut f = Front { seen: single(a) | single(b), count: 2 };
+    let mut f = Front {
+        seen: single(a) | single(b),
+        count: 2,
+    };
     let mut p: usize = 0;
     while p < f.count {
         let x = queue[p];
@@ -115,14 +123,22 @@ fn seek(own: [[u8; 2]; 64], queue: &mut [u8; 64], from: &mut [u8; 64], a: u8, b:
         let y = own[i][0];
         let z = own[i][1];
         if opens(y, z, x, p) != 0 {
-            return Sought { seen: f.seen, count: f.count, place: p };
+            return Sought {
+                seen: f.seen,
+                count: f.count,
+                place: p,
+            };
         }
         let g = visit(queue, from, f, y, p as u8);
         let h = visit(queue, from, g, z, p as u8);
         f = h;
         p = p + 1;
     }
-    Sought { seen: f.seen, count: f.count, place: p }
+    Sought {
+        seen: f.seen,
+        count: f.count,
+        place: p,
+    }
 }
 
 // Freedoms are turned along the way from place p back to one of the first two, which gets a free entry.
@@ -148,7 +164,13 @@ fn release(own: [[u8; 2]; 64], queue: &[u8; 64], from: &[u8; 64], p: usize) -> [
 }
 
 // As many free entries on a and b as can be had.
-fn gather(own: [[u8; 2]; 64], queue: &mut [u8; 64], from: &mut [u8; 64], a: u8, b: u8) -> [[u8; 2]; 64]
+fn gather(
+    own: [[u8; 2]; 64],
+    queue: &mut [u8; 64],
+    from: &mut [u8; 64],
+    a: u8,
+    b: u8,
+) -> [[u8; 2]; 64]
     requires { ⌜ Table own × (a < 64) × (b < 64) × (a ≢ b) × Lent (now queue) (now from) ⌝ }
     ensures { λ r. ⌜ Gathered own a b r × Lent (now (queue .exit)) (now (from .exit)) ⌝ }
 {

@@ -1,3 +1,6 @@
+-- `opens` meets its contract. Assumes nothing.
+use native.Mathlib.Omega.{arith}
+use Rattle.sparsity.specs.Freedoms.Laws.{same-bit}
 use borrow.Author.Needs.{needs}
 use Rattle.sparsity.proofs.opens.Statement.{statement}
 use Rattle.sparsity.proofs.opens.Tie as tie
@@ -19,7 +22,7 @@ one-if-same-requires-2 c κs = search needs
 
 -- src/lib.rt:93:5
 add-result : tie.Need-add-result
-add-result c = ?
+add-result c = omega (arith, same-bit _ _ _ (c .before .one-if-same .ensures), same-bit _ _ _ (c .one-if-same2 .ensures))
 
 -- src/lib.rt:87:1
 returns-2 : tie.Need-returns-2

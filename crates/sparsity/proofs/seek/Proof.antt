@@ -41,7 +41,7 @@ single-requires-2 c κs = search needs
 
 -- src/lib.rt:112:5
 loop-holds : tie.Need-loop-holds Inv-loop μ-loop
-loop-holds c = 
+loop-holds c =
     let s = c .before .before in (
       begun-with (s .args .t1) (s .args .a) (s .args .b) (s .pre .1) (s .pre .2) (s .pre .3) (s .pre .4) (c .before .single .result)
           (c .single2 .result) (c .before .single .ensures) (c .single2 .ensures),
@@ -59,7 +59,7 @@ wide-requires c κs = search needs
 
 -- src/lib.rt:115:17
 index-1-y : tie.Need-index-1-y Inv-loop μ-loop
-index-1-y c = 
+index-1-y c =
     let l = c .before .before .before .before .loop in
     let s = c .before .before .before .before .before .before .before in
     scan-fits (s .pre .0) (l .inv .0) (l .p) (c .before .before .if1 .taken) (c .wide .ensures)
@@ -74,7 +74,7 @@ index-2-y c = omega arith
 
 -- src/lib.rt:116:17
 index-1-z : tie.Need-index-1-z Inv-loop μ-loop
-index-1-z c = 
+index-1-z c =
     let l = c .before .before .before .before .before .loop in
     let s = c .before .before .before .before .before .before .before .before in
     scan-fits (s .pre .0) (l .inv .0) (l .p) (c .before .before .before .if1 .taken) (c .before .wide .ensures)
@@ -93,7 +93,7 @@ opens-requires c κs = search needs
 
 -- src/lib.rt:118:13
 returns : tie.Need-returns Inv-loop μ-loop
-returns c = 
+returns c =
     let l = c .before .before .before .before .before .before .before .before .loop in
     let s = c .before .before .before .before .before .before .before .before .before .before .before in
     found-here (s .pre .0) (l .inv .0) (l .p) (c .before .before .before .before .before .before .if1 .taken) (c .before .before .before .before .wide .ensures) (l .inv .1) (c .before .opens .result) (c .if2 .taken) (c .before .opens .ensures)
@@ -104,7 +104,7 @@ cast-visit c = omega (arith, reached-most (c .before .before .before .before .be
 
 -- src/lib.rt:120:13
 visit-requires : tie.Need-visit-requires Inv-loop μ-loop
-visit-requires c κs = 
+visit-requires c κs =
     let l = c .before .before .before .before .before .before .before .before .before .before .loop in
     let s = c .before .before .before .before .before .before .before .before .before .before .before .before .before in
     let h = c .before .before .before .before .before .before .before .before .if1 .taken in
@@ -117,7 +117,7 @@ cast-visit-2 c = omega (arith, reached-most (c .before .before .before .before .
 
 -- src/lib.rt:121:13
 visit-requires-2 : tie.Need-visit-requires-2 Inv-loop μ-loop
-visit-requires-2 c κs = 
+visit-requires-2 c κs =
     let l = c .before .before .before .before .before .before .before .before .before .before .before .before .before .loop in
     let s = c .before .before .before .before .before .before .before .before .before .before .before .before .before .before .before .before in
     let h = c .before .before .before .before .before .before .before .before .before .before .before .if1 .taken in
@@ -134,7 +134,7 @@ loop-less c = omega (arith, reached-most (c .before .before .before .before .bef
 
 -- src/lib.rt:112:5
 loop-again : tie.Need-loop-again Inv-loop μ-loop
-loop-again c = 
+loop-again c =
     let l = c .before .before .before .before .before .before .before .before .before .before .before .before .before .before .loop in
     let s = c .before .before .before .before .before .before .before .before .before .before .before .before .before .before .before .before .before in
     let h = c .before .before .before .before .before .before .before .before .before .before .before .before .if1 .taken in
@@ -148,7 +148,7 @@ loop-again c =
 
 -- src/lib.rt:104:1
 returns-2 : tie.Need-returns-2 Inv-loop μ-loop
-returns-2 c = 
+returns-2 c =
     let l = c .before .before .loop in
     found-all (l .p) (l .inv .0) (l .inv .1) (l .inv .2) (c .if1 .left)
 

@@ -10,7 +10,7 @@ use Rattle.theory.specs.Set.{at}
 use Rattle.theory.specs.Set.Laws.{bit}
 use Rattle.sparsity.specs.Freedoms.{entry, stored, free, same, Table, Balanced, Closed}
 use Rattle.sparsity.specs.Freedoms.Laws.{same-refl, same-ne, same-eq, same-bit, turned-table, turned-closed, turned-balanced, turned-gains, turned-other}
-use Rattle.sparsity.specs.Reach.{item, Reached, Found, Rebalanced, Way, Walked, Gained, Stuck, Gathered}
+use Rattle.sparsity.specs.Reach.{item, Reached, Found, Rebalanced, Way, Walked, Gained, Stuck, Gathered, Placed}
 use Rattle.sparsity.specs.Reach.Laws.{linked-within, reached-most}
 
 -- ---- entries
@@ -66,20 +66,20 @@ walk-start {p = p} w = record {
 }
 
 module _ {own : List (List ℕ)} {queue from : List ℕ} {p : ℕ} (way : Way own queue from p) {i : ℕ} {t : List (List ℕ)} (w : Walked own queue p i t)
-    (two : 2 ≤ i) {j x y : ℕ} (ej : j ≡ item from i) (ex : x ≡ item queue j) (ey : y ≡ item queue i) where
+    (two : 2 ≤ i) {j : ℕ} (ej : j ≡ item from i) where
   pub j-less : j < i
   j-less = omega (arith, ej, way .back i two (w .inside))
 
-  pub x-fits : x < 64
-  x-fits = omega (arith, ex, way .inside j (omega (arith, j-less, w .inside)))
+  pub x-fits : {x : ℕ} → x ≡ item queue j → x < 64
+  x-fits ex = omega (arith, ex, way .inside j (omega (arith, j-less, w .inside)))
 
-  pub y-fits : y < 64
-  y-fits = omega (arith, ey, way .inside i (w .inside))
+  pub y-fits : {y : ℕ} → y ≡ item queue i → y < 64
+  y-fits ey = omega (arith, ey, way .inside i (w .inside))
 
-  x≢y : x ≢ y
-  x≢y e = way .apart j i j-less (w .inside) (sym ex ∙ e ∙ ey)
+  module _ {x y s r : ℕ} (ex : x ≡ item queue j) (ey : y ≡ item queue i) (es : s ≡ same (entry t x 1) y) (er : r ≡ same (entry t y 1) y) where
+    x≢y : x ≢ y
+    x≢y e = way .apart j i j-less (w .inside) (sym ex ∙ e ∙ ey)
 
-  module _ {s r : ℕ} (es : s ≡ same (entry t x 1) y) (er : r ≡ same (entry t y 1) y) where
     holds : (s < 2) × (entry t x s ≡ y)
     holds =
         let o = way .link i two (w .inside) in
@@ -96,7 +96,7 @@ module _ {own : List (List ℕ)} {queue from : List ℕ} {p : ℕ} (way : Way ow
 
     other : (m k : ℕ) → m ≤ i → m ≢ j → m ≢ i → entry new (item queue m) k ≡ entry t (item queue m) k
     other m k l nj ni =
-        turned-other t (w .again .table) x y x-fits x≢y y-fits s r (holds .0) (opens .0) (holds .1) (opens .1) (item queue m) k
+        turned-other t (w .again .table) x y (x-fits ex) x≢y (y-fits ey) s r (holds .0) (opens .0) (holds .1) (opens .1) (item queue m) k
         (λ e. differ m j nj l (omega (arith, j-less)) (e ∙ ex)) (λ e. differ m i ni l (le-refl i) (e ∙ ey))
       where
         differ : (m n : ℕ) → m ≢ n → m ≤ i → n ≤ i → item queue m ≢ item queue n
@@ -109,17 +109,17 @@ module _ {own : List (List ℕ)} {queue from : List ℕ} {p : ℕ} (way : Way ow
     gains : free new (item queue j) ≡ free t (item queue j) + 1
     gains =
         subst (λ (z : ℕ). free new z ≡ free t z + 1) ex
-        (turned-gains t (w .again .table) x y x-fits x≢y y-fits s r (holds .0) (opens .0) (holds .1) (opens .1))
+        (turned-gains t (w .again .table) x y (x-fits ex) x≢y (y-fits ey) s r (holds .0) (opens .0) (holds .1) (opens .1))
 
     pub walk-step : Walked own queue p j (stored (stored t x s x) y r x)
     walk-step = record {
       inside = omega (arith, j-less, w .inside);
       again = record {
-        table = turned-table t (w .again .table) x y x-fits x≢y y-fits s r (holds .0) (opens .0) (holds .1) (opens .1);
+        table = turned-table t (w .again .table) x y (x-fits ex) x≢y (y-fits ey) s r (holds .0) (opens .0) (holds .1) (opens .1);
         balanced = λ cs u b.
-            turned-balanced t (w .again .table) x y x-fits x≢y y-fits s r (holds .0) (opens .0) (holds .1) (opens .1) cs u (w .again .balanced cs u b);
+            turned-balanced t (w .again .table) x y (x-fits ex) x≢y (y-fits ey) s r (holds .0) (opens .0) (holds .1) (opens .1) cs u (w .again .balanced cs u b);
         closed = λ u ea eb c.
-            turned-closed t (w .again .table) x y x-fits x≢y y-fits s r (holds .0) (opens .0) (holds .1) (opens .1) u
+            turned-closed t (w .again .table) x y (x-fits ex) x≢y (y-fits ey) s r (holds .0) (opens .0) (holds .1) (opens .1) u
             (ap (λ (z : ℕ). at z u) ex ∙ linked-within own queue from (suc p) (λ k h l. way .back k h (le-of-suc-le-suc l)) (λ k h l. way .link k h (le-of-suc-le-suc l)) u ea eb c j
             (omega (arith, j-less, w .inside)))
             (w .again .closed u ea eb c);
@@ -160,3 +160,32 @@ again-trans g h = record {
   balanced = λ cs u e. h .balanced cs u (g .balanced cs u e);
   closed = λ u ea eb c. h .closed u ea eb (g .closed u ea eb c);
 }
+
+-- the first two are a and b
+pub gained-ends : {own new : List (List ℕ)} {a b x y : ℕ} → x ≡ a → y ≡ b → Gained own x y new → Gained own a b new
+gained-ends {own} {new} {a} {b} {x} {y} ex ey g =
+    subst (λ (z : ℕ). Gained own a z new) ey (subst (λ (z : ℕ). Gained own z y new) ex g)
+
+-- ---- placing
+
+pub placed-first : (own : List (List ℕ)) {a i : ℕ} (b s : ℕ) → i ≡ a → s < 2 → entry own i s ≡ a → Placed own a b (stored own i s b)
+placed-first own {a} {i} b s ei l e =
+    record { from = i; to = b; slot = s; ends = inl (ei, refl); two = l; was-free = e ∙ sym ei; stores = refl }
+
+pub placed-second : (own : List (List ℕ)) (a : ℕ) {b j : ℕ} (s : ℕ) → j ≡ b → s < 2 → entry own j s ≡ b → Placed own a b (stored own j s a)
+placed-second own a {b} {j} s ej l e =
+    record { from = j; to = a; slot = s; ends = inr (ej, refl); two = l; was-free = e ∙ sym ej; stores = refl }
+
+-- the last of four entries, where the others are in use
+pub last-free : (own : List (List ℕ)) {a b i j : ℕ} → 0 < free own a + free own b → i ≡ a → j ≡ b → entry own i 0 ≢ a → entry own i 1 ≢ a → entry own j 0 ≢ b
+    → entry own j 1 ≡ b
+unfolding free
+last-free own {a} {b} {i} {j} h ei ej n0 n1 m0 =
+    ap (λ (x : ℕ). entry own x 1) ej
+    ∙ same-eq (entry own b 1) b
+    (omega (
+      arith,
+      same-ne (entry own a 0) a (λ e. n0 (ap (λ (x : ℕ). entry own x 0) ei ∙ e)),
+      same-ne (entry own a 1) a (λ e. n1 (ap (λ (x : ℕ). entry own x 1) ei ∙ e)),
+      same-ne (entry own b 0) b (λ e. m0 (ap (λ (x : ℕ). entry own x 0) ej ∙ e)),
+    ))

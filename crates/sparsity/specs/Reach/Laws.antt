@@ -88,9 +88,12 @@ module _ (own : List (List ℕ)) (t : Table own) (a b : ℕ) (queue from : List 
       back = λ i h l. split (λ i. 2 ≤ i → item f i < i) (λ h. omega (arith, f-new, lp)) (λ i l h. omega (arith, f-old i l, r .back i h l)) i l h;
       link = λ i h l. split Link (λ h. (s, ls, ap (λ (j : ℕ). entry own (item q j) s) f-new ∙ ap (λ (x : ℕ). entry own x s) (q-old p lp) ∙ sym ey ∙ sym q-new))
           (λ i l h.
-          let o = r .link i h l in
-          (o .0, o .1, ap (λ (j : ℕ). entry own (item q j) (o .0)) (f-old i l)
-          ∙ ap (λ (x : ℕ). entry own x (o .0)) (q-old (item from i) (omega (arith, r .back i h l))) ∙ o .2 ∙ sym (q-old i l))) i l h;
+          let o = r .link i h l in (
+            o .0,
+            o .1,
+            ap (λ (j : ℕ). entry own (item q j) (o .0)) (f-old i l)
+                ∙ ap (λ (x : ℕ). entry own x (o .0)) (q-old (item from i) (omega (arith, r .back i h l))) ∙ o .2 ∙ sym (q-old i l),
+          )) i l h;
       apart = λ i j l h. split (λ j. i < j → item q i ≢ item q j) (λ l e. old≢ i l (sym (q-old i l) ∙ e ∙ q-new))
           (λ j m l e. r .apart i j l m (sym (q-old i (lt-trans l m)) ∙ e ∙ q-old j m)) j h l;
       marked = split (λ i. at (item q i) v ≡ 1) (ap (λ (x : ℕ). at x v) q-new ∙ v-new)
