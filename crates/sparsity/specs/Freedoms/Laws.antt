@@ -14,7 +14,7 @@ use Rattle.theory.specs.Set.Laws.{at-le, bit, size-sum}
 use Rattle.theory.specs.Sum.{sum}
 use Rattle.theory.specs.Sum.Laws.{sum-le, sum-eq, sum-zero, sum-mul, sum-two, sum-change, sum-change₂, sum-tight}
 use Rattle.theory.specs.Constraints.{has, carried}
-use Rattle.sparsity.specs.Less.{at-below}
+use Rattle.sparsity.specs.Less.{at-below, less-same, less-other}
 use Rattle.sparsity.specs.Freedoms.{entry, stored, same, free, over, frees, kept, Table, Balanced, Closed, FreeBelow}
 
 -- ---- same
@@ -122,6 +122,17 @@ over-only a f x y lx ly n ex ey h =
       sum-zero 64 (λ x. 0) (λ x l. refl),
       one-times (at x a) (f x) ex,
       one-times (at y a) (f y) ey,
+    )
+
+-- one element taken out
+pub over-less : (a : ℕ) (f : ℕ → ℕ) (x : ℕ) → x < 64 → at x a ≡ 1 → over a f ≡ over (a - 2 ^ x) f + f x
+unfolding over
+over-less a f x l e =
+    omega (
+      arith,
+      sum-change 64 (λ z. at z a * f z) (λ z. at z (a - 2 ^ x) * f z) x l (λ z h n. ap (λ (i : ℕ). i * f z) (sym (less-other x z a e n))),
+      one-times (at x a) (f x) e,
+      no-times (at x (a - 2 ^ x)) (f x) (less-same x a e),
     )
 
 -- two for each element
@@ -418,6 +429,10 @@ module _ (own : List (List ℕ)) (a : ℕ) (la : a < 2 ^ 64) where
   pub frees-two : (x y : ℕ) → x ≢ y → at x a ≡ 1 → at y a ≡ 1 → free own x + free own y ≤ frees own a
   unfolding frees
   frees-two x y n ex ey = over-two a (free own) x y (at-below 64 x a la ex) (at-below 64 y a la ey) n ex ey
+
+  pub frees-less : (x : ℕ) → at x a ≡ 1 → frees own a ≡ frees own (a - 2 ^ x) + free own x
+  unfolding frees
+  frees-less x e = over-less a (free own) x (at-below 64 x a la e) e
 
   pub frees-only : (x y : ℕ) → x ≢ y → at x a ≡ 1 → at y a ≡ 1 → ((z : ℕ) → at z a ≡ 1 → z ≢ x → z ≢ y → free own z ≡ 0)
       → frees own a ≡ free own x + free own y
