@@ -212,3 +212,49 @@ pub enum Over {
     Not,
     First { constraint: usize, set: u64 },
 }
+
+// The set of two elements.
+fn pair_of(a: u8, b: u8) -> u64
+    requires { ⌜ (a < 64) × (b < 64) ⌝ }
+    ensures { λ r. ⌜ r ≡ pair a b ⌝ }
+{
+    single(a) | single(b)
+}
+
+// The first of e constraints that makes those up to it over, with the smallest set, where the sets within core tell. An end that has one constraint
+// at most takes the next without a search: once and twice are the elements with one and with two.
+fn search(firsts: &[u8; 200], seconds: &[u8; 200], e: usize, core: u64) -> Over
+    requires { ⌜ Listed (now firsts) (now seconds) e × Core (now firsts) (now seconds) e core ⌝ }
+    ensures { λ r. ⌜ ((n : ℕ) → Below n (masks (now (firsts .entry)) (now (seconds .entry)) e) → r ≡ asOver (overOf n (masks (now (firsts .entry)) (now (seconds .entry)) e))) ⌝ }
+{
+    let mut own = all_free();
+    let mut queue = [0u8; 64];
+    let mut from = [0u8; 64];
+    let mut once: u64 = 0;
+    let mut twice: u64 = 0;
+    let mut c: usize = 0;
+    while c < e {
+        let a = firsts[c];
+        let b = seconds[c];
+        let pair = pair_of(a, b);
+        if pair & core == pair {
+            if pair & twice == pair {
+                let t = gather(own, &mut queue, &mut from, a, b);
+                if free_ends(t, a, b) < 4 {
+                    let s = seek(t, &mut queue, &mut from, a, b);
+                    return Over::First {
+                        constraint: c,
+                        set: s.seen,
+                    };
+                }
+                own = t;
+            }
+            let next = place(own, a, b);
+            own = next;
+            twice = twice | (once & pair);
+            once = once | pair;
+        }
+        c = c + 1;
+    }
+    Over::Not
+}

@@ -5,11 +5,13 @@ use mathlib.Core.List.{List, []}
 use Prim.Native.Nat.{ℕ, zero, suc, _+_, _*_, _-_, _^_, _≤_, _<_}
 use native.Mathlib.Nat.{le-refl, le-step, lt-trans, zero-lt-suc, ne-of-lt}
 use native.Mathlib.Decide.{decLe}
+use native.Mathlib.Numerals.{add-one}
 use native.Mathlib.Omega.{arith}
+use lib.Bits.{bitAnd, bitOr}
 use lib.Count.{ones}
 use lib.ListN.{length, take, getD}
 use Rattle.theory.specs.Set.{_∩_, _∪_, _⊑_, at}
-use Rattle.theory.specs.Set.Laws.{at-and, at-or, at-le, bit, size-le, sub-refl, sub-trans, and-l, and-r, and-sub, two-in}
+use Rattle.theory.specs.Set.Laws.{at-and, at-or, at-le, bit, size-le, sub-refl, sub-trans, and-l, and-r, and-sub, sub-and, two-in}
 use Rattle.theory.specs.Constraints.{pair, has, carried, NotOver, Below}
 use Rattle.theory.specs.Constraints.Laws.{Has, inside, outside, has-dec, has-in, has-le, at-pair, at-end}
 use Rattle.theory.specs.Over.{IsOver, Tight, Smallest, FirstOver, Finding, fine, first, Finds, overOf}
@@ -19,12 +21,13 @@ use Rattle.sparsity.specs.Listed.{ends, masks, Listed}
 use Rattle.sparsity.specs.Listed.Laws.{carried-more, length-masks, take-masks, masks-at, ends-two, ends-below, masks-pairs, masks-below, carried-none, pair-in, pair-ends, has-not, has-other, pair-comm}
 use Rattle.sparsity.specs.Freedoms.{entry, stored, free, frees, kept, Table, Balanced, Closed, FreeBelow}
 use Rattle.sparsity.specs.Freedoms.Laws.{free-table, free-closed, free-balanced, balanced-outside, balanced-placed, stored-table, stored-closed, kept-le, closed-kept, kept-closed, frees-two, frees-less, frees-only}
-use Rattle.sparsity.specs.Reach.{Stuck, Placed}
+use Rattle.sparsity.specs.Reach.{Found, Stuck, Gathered, Placed}
+use Rattle.sparsity.specs.Reach.Laws.{found-first, found-second, found-closed, found-none, stuck-none, seen-within}
 use Rattle.sparsity.specs.Core.{Few, Core}
 use Rattle.sparsity.specs.Core.Laws.{few-none, few-other, few-outside, few-more}
 use Rattle.sparsity.specs.declared.Over.{Over}
 use Rattle.sparsity.specs.declared.Over.the-variants.{Not, First}
-use Rattle.sparsity.specs.Answer.{asOver, Kept}
+use Rattle.sparsity.specs.Answer.{asOver, Kept, Ready}
 
 -- ---- the start
 
@@ -59,13 +62,13 @@ module _ (us vs : List ℕ) (e u : ℕ) (l : Listed us vs e) (core : Core us vs 
   more : (x : ℕ) → carried new x ≡ carried old x + has m x
   more x = carried-more us vs c x
 
-  la : a < 64
+  pub la : a < 64
   la = lt-trans (l .ascend c lc) (l .below c lc)
 
-  lb : b < 64
+  pub lb : b < 64
   lb = l .below c lc
 
-  apart : a ≢ b
+  pub apart : a ≢ b
   apart = ne-of-lt (l .ascend c lc)
 
   -- ---- a constraint that does not lie in u
@@ -248,6 +251,81 @@ module _ (us vs : List ℕ) (e u : ℕ) (l : Listed us vs e) (core : Core us vs 
         smallest = subst (λ (cs : List ℕ). Smallest cs (getD (masks us vs e) c 0) r) (sym (take-masks us vs c e (omega arith)))
             (subst (λ (z : ℕ). Smallest old z r) (sym (masks-at us vs c e lc)) reached-smallest);
       }
+
+  -- ---- the same, of what the code has
+
+  pub kept-by : {t new : List (List ℕ)} {one two p q : ℕ} → t ≡ new → one ≡ p → two ≡ q → Kept us vs e u (suc c) new p q
+      → Kept us vs e u (c + 1) t one two
+  kept-by {t} {new} {one} {two} {p} {q} et e1 e2 k =
+      subst (λ (n : ℕ). Kept us vs e u n t one two) (sym (add-one c))
+      (subst (λ (z : List (List ℕ)). Kept us vs e u (suc c) z one two) (sym et)
+      (subst (λ (z : ℕ). Kept us vs e u (suc c) new z two) (sym e1) (subst (Kept us vs e u (suc c) new p) (sym e2) k)))
+
+  -- once and twice with the constraint that the code has as r
+  pub kept-marks : (once twice : ℕ) {t new : List (List ℕ)} {one two r : ℕ} → r ≡ m → t ≡ new → one ≡ bitOr once r → two ≡ bitOr twice (bitAnd once r)
+      → Kept us vs e u (suc c) new (once ∪ m) (twice ∪ (once ∩ m)) → Kept us vs e u (c + 1) t one two
+  unfolding _∪_ _∩_
+  kept-marks once twice q et e1 e2 k =
+      kept-by et (e1 ∙ ap (bitOr once) q) (e2 ∙ ap (λ (z : ℕ). bitOr twice (bitAnd once z)) q) k
+
+  pub told-in : {r w : ℕ} → r ≡ m → bitAnd r w ≡ r → m ⊑ w
+  unfolding _∩_
+  told-in {r} {w} q t = subst (λ (z : ℕ). z ⊑ w) q (and-sub r w t)
+
+  pub told-out : {r w : ℕ} → r ≡ m → (bitAnd r w ≡ r → ⊥) → m ⊑ w → ⊥
+  unfolding _∩_
+  told-out {r} {w} q t h = t (subst (λ (z : ℕ). bitAnd z w ≡ z) (sym q) (sub-and m w h))
+
+  module _ (own : List (List ℕ)) (once twice : ℕ) (k : Kept us vs e u c own once twice) (inside-u : m ⊑ u) where
+    -- an end that is not in twice
+    pub ready-lone : (m ⊑ twice → ⊥) → Ready us vs u c own
+    ready-lone n = go (bit (at a twice) (at-le a twice)) (bit (at b twice) (at-le b twice))
+      where
+        lone : (x : ℕ) → at x m ≡ 1 → at x twice ≡ 0 → (0 < free own x → 0 < free own a + free own b) → Ready us vs u c own
+        lone x i z o = record {
+          table = k .table;
+          closed = k .closed;
+          balanced = k .balanced;
+          right = lone-fine own (k .closed) (k .balanced) (k .fine) inside-u x i (k .lone x z);
+          open-end = o (lone-free own (k .closed) (k .balanced) (k .fine) inside-u x i (k .lone x z));
+        }
+
+        go : (at a twice ≡ 0) ⊎ (at a twice ≡ 1) → (at b twice ≡ 0) ⊎ (at b twice ≡ 1) → Ready us vs u c own
+        go (inl z) q = lone a (at-end a b .0) z (λ h. omega arith)
+        go (inr p) (inl z) = lone b (at-end a b .1) z (λ h. omega arith)
+        go (inr p) (inr q) = absurd (n (pair-in a b twice p q))
+
+    module _ (t : List (List ℕ)) (g : Gathered own a b t) where
+      t-closed : Closed t u
+      t-closed = let o = pair-ends a b u inside-u in g .again .closed u (o .0) (o .1) (k .closed)
+
+      t-balanced : Balanced old u t
+      t-balanced = g .again .balanced old u (k .balanced)
+
+      -- four free entries
+      pub ready-four : 4 ≤ free t a + free t b → Ready us vs u c t
+      ready-four h = record {
+        table = g .again .table;
+        closed = t-closed;
+        balanced = t-balanced;
+        right = four-fine t t-closed t-balanced (k .fine) inside-u h;
+        open-end = omega arith;
+      }
+
+      -- fewer
+      pub over-here : free t a + free t b < 4 → {queue from : List ℕ} {seen count place : ℕ} → Found t a b queue from seen count place
+          → FirstOver (masks us vs e) c seen
+      over-here h {queue} {from} {seen} {count} {place} f =
+          first-over t t-closed t-balanced (k .fine) inside-u (omega arith) seen (found-first f done) (found-second f done) (found-closed f done) (found-none f done)
+          (λ w wa wb wc. seen-within (f .reached) w wa wb wc)
+        where
+          done : count ≤ place
+          done = stuck-none f (⊎-elim (λ (q : 4 ≤ free t a + free t b). absurd (omega arith)) (λ s. s) (g .most))
+
+    -- the constraint is placed
+    pub kept-placed : (t new : List (List ℕ)) → Ready us vs u c t → Placed t a b new → Kept us vs e u (suc c) new (once ∪ m) (twice ∪ (once ∩ m))
+    kept-placed t new r p =
+        kept-next t (r .table) (r .closed) (r .balanced) (r .right) new p inside-u once twice (k .never) (k .lone)
 
 -- ---- the answer
 

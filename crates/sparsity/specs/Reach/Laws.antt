@@ -124,6 +124,9 @@ module _ (own : List (List ℕ)) (t : Table own) (a b : ℕ) (queue from : List 
   visit-seen q f v n (known e) = e
   visit-seen q f v n (fresh e) = v-new e
 
+pub lent-by : {q f queue from : List ℕ} → queue ≡ q → from ≡ f → Lent q f → Lent queue from
+lent-by eq ef l = record { places = ap length eq ∙ l .places; places′ = ap length ef ∙ l .places′ }
+
 -- ---- the search
 
 -- the queue at the start
