@@ -3,7 +3,7 @@ use mathlib.Core.Path.{_≡_, refl, sym, ap, _∙_, subst}
 use mathlib.Core.Logic.{_≢_, _⊎_, inl, inr, ⊎-elim}
 use mathlib.Core.List.{List, [], _∷_, _++_}
 use Prim.Native.Nat.{ℕ, zero, suc, _+_, _*_, _^_, _≤_, _<_}
-use native.Mathlib.Nat.{lt-suc-self, lt-of-lt-of-le, le-step, eq-or-lt-of-le, le-of-suc-le-suc, le-refl, lt-trans}
+use native.Mathlib.Nat.{lt-suc-self, lt-of-lt-of-le, le-step, le-refl, lt-trans}
 use native.Mathlib.Decide.{le-ind}
 use native.Mathlib.Omega.{arith}
 use lib.Count.{ones}
@@ -80,6 +80,16 @@ module _ (us vs : List ℕ) (e : ℕ) (l : Listed us vs e) where
           (l .differ c d (omega arith) h
           (size-eq x (ends us vs c) j (omega (arith, ends-two c (omega arith)))
           ∙ sym (size-eq x (ends us vs d) i (omega (arith, ends-two d h)))))
+
+  -- and no more than one
+  pub carried-one : (c : ℕ) → c ≤ e → (x : ℕ) → ones x ≡ 2 → carried (masks us vs c) x ≤ 1
+  unfolding masks carried
+  carried-one zero h x two = omega arith
+  carried-one (suc c) h x two = go (has-dec (ends us vs c) x) (carried-one c (omega arith) x two)
+    where
+      go : Has (ends us vs c) x → carried (masks us vs c) x ≤ 1 → carried (masks us vs (suc c)) x ≤ 1
+      go (inside i q) r = omega (arith, carried-more us vs c x, carried-none c c h (le-refl c) x two i)
+      go (outside n q) r = omega (arith, carried-more us vs c x)
 
 pub listed-part : {us vs : List ℕ} (e c : ℕ) → c ≤ e → Listed us vs e → Listed us vs c
 listed-part e c h l = record {
