@@ -20,9 +20,7 @@ fn count(w: Written) -> i32
     ensures { λ r. ⌜ r ≡ asCount w ⌝ }
 {
     match w {
-        Written::Done(n) => {
-            if n < 2147483648 { n as i32 } else { 2147483647 }
-        }
+        Written::Done(n) => { if n < 2147483648 { n as i32 } else { 2147483647 } }
         Written::Refused(k) => 0 - (k as i32),
     }
 }
@@ -64,7 +62,14 @@ fn tag_at(maps: &[u8], tags: &[u16], i: usize) -> Tag
 }
 
 // The constraint at a place of the columns.
-fn constraint_at(firsts: &[u8], seconds: &[u8], maps: &[u8], sizes: &[i32], tags: &[u16], i: usize) -> Constraint
+fn constraint_at(
+    firsts: &[u8],
+    seconds: &[u8],
+    maps: &[u8],
+    sizes: &[i32],
+    tags: &[u16],
+    i: usize,
+) -> Constraint
     ensures { λ r. ⌜ r ≡ constraintIn (now (firsts .entry)) (now (seconds .entry)) (now (maps .entry)) (now (sizes .entry)) (now (tags .entry)) i ⌝ }
 {
     let size = size_at(maps, sizes, i);
@@ -78,7 +83,13 @@ fn constraint_at(firsts: &[u8], seconds: &[u8], maps: &[u8], sizes: &[i32], tags
 }
 
 // The block of 200 constraints in the columns.
-fn constraints_in(firsts: &[u8], seconds: &[u8], maps: &[u8], sizes: &[i32], tags: &[u16]) -> [Constraint; 200]
+fn constraints_in(
+    firsts: &[u8],
+    seconds: &[u8],
+    maps: &[u8],
+    sizes: &[i32],
+    tags: &[u16],
+) -> [Constraint; 200]
     ensures { λ r. ⌜ r ≡ constraintsIn (now (firsts .entry)) (now (seconds .entry)) (now (maps .entry)) (now (sizes .entry)) (now (tags .entry)) 200 ⌝ }
 {
     let none = Constraint {
