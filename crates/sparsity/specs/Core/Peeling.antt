@@ -8,11 +8,11 @@ use native.Mathlib.Nat.{le-refl, le-step, lt-trans, lt-suc-self, ne-of-lt}
 use native.Mathlib.Decide.{ℕ-discrete, decLe, le-ind}
 use native.Mathlib.Numerals.{add-one}
 use native.Mathlib.Omega.{arith}
-use lib.Bits.{bitOr}
+use lib.Bits.{bitAnd, bitOr}
 use lib.Count.{ones}
 use lib.ListN.{length, getD, set, length-set, replicate, length-replicate}
 use lib.Seq.{getD-set-same, getD-set-other}
-use lib.Pow.{pow-pos}
+use lib.Pow.{pow-lt, pow-pos}
 use Rattle.theory.specs.Set.{_∩_, _∪_, _⊑_, at, full}
 use Rattle.theory.specs.Set.Laws.{at-and, at-or, at-le, at-zero, at-same, at-other, bit, ext, size-zero, size-le, size-add, sub-refl, sub-trans, and-l, and-r, and-mono, below-full}
 use Rattle.theory.specs.Constraints.{pair, has, carried, NotOver, NotOverIn, Pairs, Below}
@@ -173,7 +173,25 @@ module _ (us vs : List ℕ) (e : ℕ) (l : Listed us vs e) (c : ℕ) (lc : c < e
         (counts-end a b refl at-a) (counts-end b a (pair-comm a b) at-b) counts-other x lx w e;
   }
 
+  -- the same of what the code has
+  pub near-code : {i j sa sb : ℕ} → i ≡ a → j ≡ b → sa ≡ 2 ^ a → sb ≡ 2 ^ b
+      → Near us vs (c + 1) (set (set near i (bitOr (getD near i 0) sb)) j (bitOr (getD near j 0) sa))
+  unfolding _∪_
+  near-code {i} {j} {sa} {sb} ei ej ea eb =
+      subst (λ (x : ℕ). Near us vs (c + 1) (set (set near x (bitOr (getD near x 0) sb)) j (bitOr (getD near j 0) sa))) (sym ei)
+      (subst (λ (x : ℕ). Near us vs (c + 1) (set (set near a (bitOr (getD near a 0) sb)) x (bitOr (getD near x 0) sa))) (sym ej)
+      (subst (λ (x : ℕ). Near us vs (c + 1) (set (set near a (bitOr (getD near a 0) sb)) b (bitOr (getD near b 0) x))) (sym ea)
+      (subst (λ (x : ℕ). Near us vs (c + 1) (set (set near a (bitOr (getD near a 0) x)) b (bitOr (getD near b 0) (2 ^ a)))) (sym eb)
+      (subst (λ (x : ℕ). Near us vs x new) (sym (add-one c)) near-next))))
+
 -- ---- light elements
+
+-- without its two lowest elements a set is empty
+pub two-most : (k p q : ℕ) → ones p ≡ ones k - 1 → ones q ≡ ones p - 1 → q ≡ 0 → ones k ≤ 2
+two-most k p q ep eq z = omega (arith, ap ones z, size-zero)
+
+pub full-at : (n x : ℕ) → x < n → at x (full n) ≡ 1
+full-at n x l = omega (arith, below-full n (2 ^ x) (pow-lt l) .le x, at-same x, at-le x (full n))
 
 pub light-none : (near : List ℕ) (u : ℕ) → Light near u 0
 light-none near u = record { light = λ x e. absurd (omega (arith, at-zero x)) }
@@ -184,6 +202,24 @@ light-one near u todo x t e h = record { light = λ y q. go y q (ℕ-discrete y 
     go : (y : ℕ) → at y (todo ∪ 2 ^ x) ≡ 1 → Dec (y ≡ x) → (at y u ≡ 1) × (ones (getD near y 0 ∩ u) ≤ 2)
     go y q (yes p) = subst (λ (z : ℕ). (at z u ≡ 1) × (ones (getD near z 0 ∩ u) ≤ 2)) (sym p) (e, h)
     go y q (no n) = t .light y (omega (arith, q, at-or y todo (2 ^ x), at-other y x n))
+
+pub light-code : (near : List ℕ) (u todo : ℕ) {x i s new : ℕ} → Light near u todo → at x u ≡ 1 → i ≡ x → s ≡ 2 ^ x → ones (bitAnd (getD near i 0) u) ≤ 2
+    → new ≡ bitOr todo s → Light near u new
+unfolding _∪_ _∩_
+light-code near u todo {x} {i} {s} {new} t e ei es two q =
+    subst (Light near u) (sym (q ∙ ap (bitOr todo) es))
+    (light-one near u todo x t e (subst (λ (k : ℕ). ones (bitAnd (getD near k 0) u) ≤ 2) ei two))
+
+-- two neighbours at most in all
+pub light-all-code : (near : List ℕ) (todo : ℕ) {x i s new : ℕ} → Light near (full 64) todo → x < 64 → i ≡ x → s ≡ 2 ^ x → ones (getD near i 0) ≤ 2
+    → new ≡ bitOr todo s → Light near (full 64) new
+unfolding _∩_
+light-all-code near todo {x} {i} t l ei es two q =
+    light-code near (full 64) todo t (full-at 64 x l) ei es
+    (omega (arith, size-le (getD near i 0) (getD near i 0 ∩ full 64) (and-l (getD near i 0) (full 64)))) q
+
+pub light-same : (near : List ℕ) (u : ℕ) {todo new : ℕ} → new ≡ todo → Light near u todo → Light near u new
+light-same near u q t = subst (Light near u) (sym q) t
 
 pub light-or : (near : List ℕ) (u s t : ℕ) → Light near u s → Light near u t → Light near u (s ∪ t)
 light-or near u s t f g = record {
@@ -201,6 +237,30 @@ light-rest near u todo x t e h = record { light = λ y q. go y q (ℕ-discrete y
     go y q (no n) =
         let o = t .light y (sym (less-other x y todo h n) ∙ q) in
         (less-other x y u e n ∙ o .0, omega (arith, o .1, near-sub (getD near y 0) (u - 2 ^ x) u (less-sub x u e)))
+
+-- ---- one element taken away
+
+module _ (near : List ℕ) (left todo x s : ℕ) (p : Peeled near left) (t : Light near left todo) (e : at x todo ≡ 1) (es : s ≡ 2 ^ x) where
+  in-left : at x left ≡ 1
+  in-left = t .light x e .0
+
+  pub peel-room : s ≤ left
+  peel-room = omega (arith, at-room x left in-left)
+
+  pub todo-room : s ≤ todo
+  todo-room = omega (arith, at-room x todo e)
+
+  pub peel-less : left - s < left
+  peel-less = omega (arith, peel-room, pow-pos x)
+
+  pub peel-next : Peeled near (left - s)
+  peel-next = subst (λ (z : ℕ). Peeled near (left - z)) (sym es) (less x p in-left (t .light x e .1))
+
+  pub light-next : (r : ℕ) → Light near (left - s) r → Light near (left - s) (bitOr (todo - s) r)
+  unfolding _∪_
+  light-next r g =
+      light-or near (left - s) (todo - s) r
+      (subst (λ (z : ℕ). Light near (left - z) (todo - z)) (sym es) (light-rest near left todo x t in-left e)) g
 
 -- ---- the core
 
