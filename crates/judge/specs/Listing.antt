@@ -17,12 +17,10 @@ use Rattle.sheet.specs.declared.Constraint.{Constraint}
 use Rattle.sheet.specs.Facts.{Facts, block, blankConstraint}
 use Rattle.sheet.specs.Rules.{stands, constraintFault, constraintsFault}
 use Rattle.sheet.specs.Rules.Laws.{ends-true}
-use Rattle.sheet.specs.RoundTrip.Blocks.{elements-most, constraints-most}
-use Rattle.sheet.specs.Accepted.{Accepted}
 use Rattle.sheet.specs.Accepted.Laws.{taken, none-else}
 use Rattle.sheet.specs.Noted.Laws.{stands-more}
 use Rattle.sheet.specs.Graph.{endsOf, clustersOf, listedEnds}
-use Rattle.sheet.specs.Graph.Laws.{accepted-sound, accepted-most}
+use Rattle.sheet.specs.Graph.Laws.{ends-sound}
 use Rattle.graph.specs.Arrays.{endAt, endPair}
 use Rattle.graph.specs.Arrays.Laws.{map-append}
 use Rattle.sparsity.specs.Listed.{ends, masks, Listed}
@@ -113,24 +111,22 @@ module _ (es : List Element) where
   each-apart (c ∷ cs) done e (suc i) (suc j) d l h p q =
       each-apart cs (done ++ c ∷ []) (none-else es (constraintFault es done c) (constraintsFault es (done ++ c ∷ []) cs) e .1) i j d (le-of-suc-le-suc l) (le-of-suc-le-suc h) p q
 
-pub listed : (f : Facts) → Accepted f → Listed (endsIn false (f .constraints)) (endsIn true (f .constraints)) (length (f .constraints))
-listed f h = record {
-  few = constraints-most (length cs) (h .constraint-count);
-  ascend = λ c l. rw (end-in false cs c l, end-in true cs c l) (each-ends (f .elements) cs [] (h .no-fault) c blankConstraint l .0);
-  below = λ c l. rw (end-in true cs c l) (omega (arith, each-ends (f .elements) cs [] (h .no-fault) c blankConstraint l .1, accepted-most f h));
-  differ = λ c d l m e. apart c d l m (sym (ends-in cs c (omega arith)) ∙ e ∙ ends-in cs d m);
-}
-  where
-    cs : List Constraint
-    cs = f .constraints
+module _ (f : Facts) (elements : length (f .elements) ≤ 64) (constraints : length (f .constraints) ≤ 200) (fine : constraintsFault (f .elements) [] (f .constraints) ≡ 0) where
+  apart : (c d : ℕ) → c < d → d < length (f .constraints) → endPair (getD (f .constraints) c blankConstraint) ≡ endPair (getD (f .constraints) d blankConstraint) → ⊥
+  apart c d l m e =
+      let x = each-ends (f .elements) (f .constraints) [] fine c blankConstraint (omega arith) in
+      let y = each-ends (f .elements) (f .constraints) [] fine d blankConstraint m in
+      let p = pair-one _ _ _ _ (x .0) (y .0) e in
+      each-apart (f .elements) (f .constraints) [] fine c d blankConstraint l m (p .0) (p .1)
 
-    apart : (c d : ℕ) → c < d → d < length (f .constraints) → endPair (getD (f .constraints) c blankConstraint) ≡ endPair (getD (f .constraints) d blankConstraint) → ⊥
-    apart c d l m e =
-        let x = each-ends (f .elements) (f .constraints) [] (h .no-fault) c blankConstraint (omega arith) in
-        let y = each-ends (f .elements) (f .constraints) [] (h .no-fault) d blankConstraint m in
-        let p = pair-one _ _ _ _ (x .0) (y .0) e in
-        each-apart (f .elements) (f .constraints) [] (h .no-fault) c d blankConstraint l m (p .0) (p .1)
+  pub listed : Listed (endsIn false (f .constraints)) (endsIn true (f .constraints)) (length (f .constraints))
+  listed = record {
+    few = constraints;
+    ascend = λ c l. rw (end-in false (f .constraints) c l, end-in true (f .constraints) c l) (each-ends (f .elements) (f .constraints) [] fine c blankConstraint l .0);
+    below = λ c l. rw (end-in true (f .constraints) c l) (omega (arith, each-ends (f .elements) (f .constraints) [] fine c blankConstraint l .1));
+    differ = λ c d l m e. apart c d l m (sym (ends-in (f .constraints) c (omega arith)) ∙ e ∙ ends-in (f .constraints) d m);
+  }
 
--- every constraint is a set of the sheet's elements
-pub clusters-below : (f : Facts) → Accepted f → Below (length (f .elements)) (clustersOf f)
-clusters-below f h = sound-below (length (f .elements)) (listedEnds f) (accepted-sound f h)
+  -- every constraint is a set of the sheet's elements
+  pub clusters-below : Below (length (f .elements)) (clustersOf f)
+  clusters-below = sound-below (length (f .elements)) (listedEnds f) (ends-sound (f .elements) (f .constraints) [] fine)
