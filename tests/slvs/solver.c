@@ -3,6 +3,7 @@
 #include <stddef.h>
 #include <stdint.h>
 #include <string.h>
+#include <time.h>
 
 #include <slvs.h>
 
@@ -54,4 +55,10 @@ int32_t solver_solve(size_t n, const double (*at)[2], size_t e, const uint8_t (*
     Slvs_Solve(&system, SOLVED);
     *dof = system.dof;
     return system.result;
+}
+
+/* The processor time that this program has had, in nanoseconds. */
+double solver_clock(void)
+{
+    return 1e9 * (double)clock() / CLOCKS_PER_SEC;
 }

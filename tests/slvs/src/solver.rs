@@ -8,6 +8,7 @@ use crate::layout::Layout;
 mod c {
     unsafe extern "C" {
         pub fn solver_solve(n: usize, at: *const [f64; 2], e: usize, pairs: *const [u8; 2], dof: *mut i32) -> i32;
+        pub safe fn solver_clock() -> f64;
     }
 }
 
@@ -36,4 +37,9 @@ pub fn solve(graph: &Graph, layout: &Layout) -> Solved {
         1 => Solved::Redundant,
         other => Solved::Failed(other),
     }
+}
+
+/// The processor time that this program has had, in nanoseconds: what other programs had in between does not count.
+pub fn clock() -> f64 {
+    c::solver_clock()
 }
