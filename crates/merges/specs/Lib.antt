@@ -1,0 +1,2 @@
+-- What the search for the first open merge says, and why it is right.
+pub mod Links
