@@ -8,6 +8,7 @@ use lib.Bits.{bitAnd, bitXor, differ, xor-step, and-step}
 use lib.Count.{trailingZeros, under}
 use Rattle.theory.specs.Set.{_∩_, at}
 use Rattle.theory.specs.Set.Laws.{at-and, at-le, at-zero}
+use Rattle.merges.specs.Links.{beyond}
 
 -- ---- elements of a number of k digits
 
@@ -96,7 +97,7 @@ xor-split a b =
     differ-two (suc zero) (suc (suc y)) l m = absurd (omega arith)
     differ-two (suc (suc x)) y l m = absurd (omega arith)
 
-pub at-beyond : (y a b : ℕ) → at y (bitXor a (bitAnd a b)) ≡ at y a - at y b
+pub at-beyond : (y a b : ℕ) → at y (beyond a b) ≡ at y a - at y b
 unfolding at
 at-beyond zero a b =
     xor-split a (bitAnd a b) .0 ∙ ap (differ (a % 2)) (omega (arith, and-step a b)) ∙ digit-beyond (a % 2) (b % 2) (omega arith) (omega arith)

@@ -5,11 +5,11 @@ use mathlib.Core.List.{List}
 use Prim.Native.Nat.{ℕ, _-_, _^_, _<_}
 use native.Mathlib.Omega.{arith}
 use native.Mathlib.Decide.{ℕ-discrete}
-use lib.Bits.{bitAnd, bitOr, bitXor, and-le-l}
+use lib.Bits.{bitAnd, bitOr, and-le-l}
 use lib.Count.{trailingZeros}
 use Rattle.theory.specs.Set.{_∩_, _∪_, at}
 use Rattle.theory.specs.Set.Laws.{at-and, at-zero, at-le, both, in-both, in-either, or-left, or-right}
-use Rattle.merges.specs.Links.{linked, Reached, Outs}
+use Rattle.merges.specs.Links.{linked, beyond, Reached, Outs}
 use Rattle.merges.proofs.Digits.{lowest-in, rest-lowest, rest-other, at-beyond}
 
 -- once and twice are the elements linked to one and to two elements of x that lie not in rest
@@ -98,18 +98,18 @@ module _ (links : List ℕ) (x rest once twice : ℕ) (w : Seen links x rest onc
         twice-at p q r n i j o m e f (no g) (no h) =
             or-left r twice (once ∩ l) (w .twice-every p q r n i j (kept p g o) (kept q h m) e f)
 
-  pub seen-all : rest ≡ 0 → Outs links x (bitXor twice (bitAnd twice x))
+  pub seen-all : rest ≡ 0 → Outs links x (beyond twice x)
   seen-all z = record { only = λ r e. only r e; every = λ r h. every r h }
     where
       none : (p : ℕ) → at p rest ≡ 0
       none p = ap (at p) z ∙ at-zero p
 
-      only : (r : ℕ) → at r (bitXor twice (bitAnd twice x)) ≡ 1 → Reached links x r
+      only : (r : ℕ) → at r (beyond twice x) ≡ 1 → Reached links x r
       only r e =
           let b = at-beyond r twice x in
           let h = w .twice-only r (omega (arith, at-le r twice)) in
           record { p = h .0; q = h .1; differ = h .2; p-in = h .3; q-in = h .4; by-p = h .5; by-q = h .6; out = omega (arith, at-le r twice) }
 
-      every : (r : ℕ) → Reached links x r → at r (bitXor twice (bitAnd twice x)) ≡ 1
+      every : (r : ℕ) → Reached links x r → at r (beyond twice x) ≡ 1
       every r h =
           omega (arith, at-beyond r twice x, h .out, w .twice-every (h .p) (h .q) r (h .differ) (h .p-in) (h .q-in) (none (h .p)) (none (h .q)) (h .by-p) (h .by-q))

@@ -1,3 +1,5 @@
 -- Laws that the proofs of several functions share.
 pub mod Digits
 pub mod Gather
+pub mod Triangle
+pub mod First

@@ -4,9 +4,11 @@ use mathlib.Core.Path.{_≡_}
 use mathlib.Core.Logic.{_≢_}
 use mathlib.Core.List.{List}
 use Prim.Native.Nat.{ℕ, _≤_, _<_}
+use lib.Bits.{bitAnd, bitXor}
+use lib.Count.{ones}
 use lib.ListN.{getD}
 use Rattle.theory.specs.Set.{_∩_, at}
-use Rattle.theory.specs.Numbered.{slot}
+use Rattle.theory.specs.Merge.{slot, merge, OpenAt}
 
 -- the elements linked to p
 abbrev pub linked : List ℕ → ℕ → ℕ
@@ -33,6 +35,10 @@ pub record Outs (links : List ℕ) (x o : ℕ) : Type 0 where
   pub only : (r : ℕ) → at r o ≡ 1 → Reached links x r
   pub every : (r : ℕ) → Reached links x r → at r o ≡ 1
 
+-- what a has beyond b
+abbrev pub beyond : ℕ → ℕ → ℕ
+beyond a b = bitXor a (bitAnd a b)
+
 -- the least number from lo on that has the property, or hi if none below hi has it
 pub record Lowest (P : ℕ → Type 0) (lo hi r : ℕ) : Type 0 where
   pub low : lo ≤ r
@@ -40,10 +46,18 @@ pub record Lowest (P : ℕ → Type 0) (lo hi r : ℕ) : Type 0 where
   pub here : r < hi → P r
   pub none : (c : ℕ) → lo ≤ c → c < r → P c → ⊥
 
--- cluster c meets w, and reaches an element
-abbrev pub Reaching : List ℕ → List ℕ → ℕ → ℕ → Type 0
-Reaching s links w c = (slot s c ∩ w ≢ 0) × ((r : ℕ) × Reached links (slot s c) r)
+-- cluster c reaches an element, and meets `last` if it stands below `from`
+abbrev pub Reaching : List ℕ → List ℕ → ℕ → ℕ → ℕ → Type 0
+Reaching s links from last c = (c < from → slot s c ∩ last ≢ 0) × ((r : ℕ) × Reached links (slot s c) r)
 
 -- cluster c meets both a and b
 abbrev pub Meeting : List ℕ → ℕ → ℕ → ℕ → Type 0
 Meeting s a b c = (slot s c ∩ a ≢ 0) × (slot s c ∩ b ≢ 0)
+
+-- what the search for the first open merge relies on: two living clusters share at most one element; the links are those of the living
+-- clusters; none lives from `used` on; and a cluster below `from` that takes part in an open merge meets `last`
+pub record Ready (s links : List ℕ) (used from last : ℕ) : Type 0 where
+  pub apart : (i j : ℕ) → i ≢ j → slot s i ≢ 0 → slot s j ≢ 0 → ones (slot s i ∩ slot s j) ≤ 1
+  pub linking : Links s links
+  pub beyond : (n : ℕ) → used ≤ n → slot s n ≡ 0
+  pub since : (i j k : ℕ) → OpenAt s (merge i j k) → i < from → slot s i ∩ last ≢ 0
