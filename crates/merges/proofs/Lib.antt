@@ -1,5 +1,6 @@
 -- Laws that the proofs of several functions share.
 pub mod Digits
 pub mod Gather
+pub mod Scan
 pub mod Triangle
 pub mod First

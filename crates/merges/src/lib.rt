@@ -1,7 +1,8 @@
 // Living clusters as masks by number, the links between their elements, and the search for the first open merge.
 ghost use mathlib.Core.Path.{_≡_};
 ghost use Prim.Native.Nat.{_+_, _≤_, _<_};
-ghost use Rattle.merges.specs.Links.{Outs};
+ghost use Rattle.theory.specs.Plan.{openTest};
+ghost use Rattle.merges.specs.Links.{Outs, Lowest, Reaching, Meeting};
 
 // The elements outside x that are linked to two of its own.
 pub fn outs(links: &[u64; 64], x: u64) -> u64
@@ -18,4 +19,73 @@ pub fn outs(links: &[u64; 64], x: u64) -> u64
         rest = rest & (rest - 1);
     }
     twice ^ (twice & x)
+}
+
+// The lowest cluster that reaches an element, below `from` only among those that meet `last`; `used` if there is none.
+pub fn lowest_reaching(
+    slots: &[u64; 192],
+    links: &[u64; 64],
+    used: usize,
+    from: usize,
+    last: u64,
+) -> usize
+    requires { ⌜ used ≤ 192 ⌝ }
+    ensures { λ r. ⌜ Lowest (Reaching (now (slots .entry)) (now (links .entry)) from last) 0 used r ⌝ }
+{
+    let mut c: usize = 0;
+    while c < used {
+        let x = slots[c];
+        let near = if c < from { x & last } else { x };
+        if near != 0 {
+            let o = outs(links, x);
+            if o != 0 {
+                return c;
+            }
+        }
+        c += 1;
+    }
+    c
+}
+
+// The lowest cluster from `from` on that meets both a and b; `used` if there is none.
+pub fn lowest_meeting(slots: &[u64; 192], used: usize, from: usize, a: u64, b: u64) -> usize
+    requires { ⌜ (from ≤ used) × (used ≤ 192) ⌝ }
+    ensures { λ r. ⌜ Lowest (Meeting (now (slots .entry)) a b) from used r ⌝ }
+{
+    let mut c = from;
+    while c < used {
+        let x = slots[c];
+        if x & a != 0 {
+            if x & b != 0 {
+                return c;
+            }
+        }
+        c += 1;
+    }
+    c
+}
+
+// Does each two of the three share exactly one element, three different ones in all?
+pub fn open3(a: u64, b: u64, c: u64) -> bool
+    ensures { λ r. ⌜ r ≡ openTest a b c ⌝ }
+{
+    let x = a & b;
+    let y = b & c;
+    let z = a & c;
+    if u64::count_ones(x) != 1 {
+        return false;
+    }
+    if u64::count_ones(y) != 1 {
+        return false;
+    }
+    if u64::count_ones(z) != 1 {
+        return false;
+    }
+    if x == y {
+        return false;
+    }
+    if y == z {
+        return false;
+    }
+    x != z
 }
