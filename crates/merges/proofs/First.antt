@@ -6,14 +6,32 @@ use mathlib.Core.List.{List}
 use Prim.Native.Nat.{ℕ, zero, suc, _+_, _-_, _≤_, _<_}
 use native.Mathlib.Omega.{arith}
 use native.Mathlib.Decide.{ℕ-discrete, decLe, decLt}
+use lib.Count.{ones}
 use Rattle.theory.specs.Set.{_∩_, at}
-use Rattle.theory.specs.Set.Laws.{at-le, both, in-both}
-use Rattle.theory.specs.Merge.{slot, Merge, merge, OpenAt, Ended}
+use Rattle.theory.specs.Set.Laws.{at-le, both, in-both, size-zero}
+use Rattle.theory.specs.Merge.{slot, Merge, merge, Open, OpenAt, Ended}
+use Rattle.theory.specs.Merge.Threes.{big-a, big-b, big-c}
 use Rattle.theory.specs.Plan.{ascending, NotAfter, First}
 use Rattle.theory.specs.Plan.Order.{open-ab, open-bc, open-ascending, ascends}
 use Rattle.merges.specs.Links.{Reached, beyond, Outs, Lowest, Reaching, Meeting, Ready}
 use Rattle.merges.proofs.Digits.{at-beyond}
 use Rattle.merges.proofs.Triangle.{filled, element, triangle, corners, open-reached, closed, reached-open}
+
+-- three numbers that ascend, and whose clusters are open, make an open merge
+pub open-at : (s : List ℕ) (i j k : ℕ) → i < j → j < k → Open (slot s i) (slot s j) (slot s k) → OpenAt s (merge i j k)
+open-at s i j k l m o =
+    let a = slot s i in
+    let b = slot s j in
+    let c = slot s k in
+    record {
+      i≢j = λ e. omega arith;
+      j≢k = λ e. omega arith;
+      i≢k = λ e. omega arith;
+      livei = λ e. omega (arith, big-a a b c o, ap ones e, size-zero);
+      livej = λ e. omega (arith, big-b a b c o, ap ones e, size-zero);
+      livek = λ e. omega (arith, big-c a b c o, ap ones e, size-zero);
+      open3 = o;
+    }
 
 -- nothing before the lowest
 least : (P : ℕ → Type 0) (lo hi r c : ℕ) → Lowest P lo hi r → lo ≤ c → P c → r ≤ c

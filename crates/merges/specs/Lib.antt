@@ -1,2 +1,3 @@
--- What the search for the first open merge says, and why it is right.
+-- What the search for the first open merge says, and what it relies on.
 pub mod Links
+pub mod Search

@@ -1,8 +1,9 @@
 // Living clusters as masks by number, the links between their elements, and the search for the first open merge.
 ghost use mathlib.Core.Path.{_≡_};
 ghost use Prim.Native.Nat.{_+_, _≤_, _<_};
-ghost use Rattle.theory.specs.Plan.{openTest};
-ghost use Rattle.merges.specs.Links.{Outs, Lowest, Reaching, Meeting};
+ghost use Rattle.theory.specs.Plan.{openTest, firstOf};
+ghost use Rattle.merges.specs.Links.{Outs, Lowest, Reaching, Meeting, Ready};
+ghost use Rattle.merges.specs.Search.{Sound, told};
 
 // The elements outside x that are linked to two of its own.
 pub fn outs(links: &[u64; 64], x: u64) -> u64
@@ -88,4 +89,44 @@ pub fn open3(a: u64, b: u64, c: u64) -> bool
         return false;
     }
     x != z
+}
+
+// What a search for an open merge finds: the numbers of its three clusters, ascending.
+pub enum Found {
+    At(usize, usize, usize),
+    Nothing,
+}
+
+// The first open merge. Where two living clusters may share two elements, an open merge or nothing.
+pub fn first_open(
+    slots: &[u64; 192],
+    links: &[u64; 64],
+    used: usize,
+    from: usize,
+    last: u64,
+) -> Found
+    requires { ⌜ used ≤ 192 ⌝ }
+    ensures sound { λ r. ⌜ Sound (now (slots .entry)) used r ⌝ }
+    ensures first { λ r. ⌜ (Ready (now (slots .entry)) (now (links .entry)) used from last → told r ≡ firstOf 0 (now (slots .entry))) ⌝ }
+{
+    let i = lowest_reaching(slots, links, used, from, last);
+    if used <= i {
+        return Found::Nothing;
+    }
+    let x = slots[i];
+    let o = outs(links, x);
+    let j = lowest_meeting(slots, used, i + 1, x, o);
+    if used <= j {
+        return Found::Nothing;
+    }
+    let y = slots[j];
+    let k = lowest_meeting(slots, used, j + 1, x ^ (x & y), y ^ (y & x));
+    if used <= k {
+        return Found::Nothing;
+    }
+    if open3(x, y, slots[k]) {
+        Found::At(i, j, k)
+    } else {
+        Found::Nothing
+    }
 }
