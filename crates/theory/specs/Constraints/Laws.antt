@@ -199,6 +199,16 @@ pub fine-perm : {l k : List ℕ} → Perm l k → NotOver l → NotOver k
 unfolding NotOver
 fine-perm p h x b = omega (arith, h x b, carried-perm p x)
 
+pub fine-in-perm : (n : ℕ) {l k : List ℕ} → Perm l k → NotOverIn n l → NotOverIn n k
+unfolding NotOverIn
+fine-in-perm n p h x l b = omega (arith, h x l b, carried-perm p x)
+
+pub sound-perm : (n : ℕ) {l k : List Ends} → Perm l k → Sound n l → Sound n k
+sound-perm n same s = s
+sound-perm n (skip x p) s = (s .0, s .1, sound-perm n p (s .2))
+sound-perm n (swap x y) s = (s .2 .0, s .2 .1, (s .0, s .1, s .2 .2))
+sound-perm n (then p q) s = sound-perm n q (sound-perm n p s)
+
 -- ---- the pairs of a sheet
 
 pub size-pair : (u v : ℕ) → u < v → ones (pair u v) ≡ 2
