@@ -1,6 +1,7 @@
 -- Laws that the proofs of several functions share.
 pub mod Digits
 pub mod Gather
+pub mod Linkage
 pub mod Scan
 pub mod Triangle
 pub mod First

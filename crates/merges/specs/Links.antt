@@ -6,8 +6,8 @@ use mathlib.Core.List.{List}
 use Prim.Native.Nat.{ℕ, _≤_, _<_}
 use lib.Bits.{bitAnd, bitXor}
 use lib.Count.{ones}
-use lib.ListN.{getD}
-use Rattle.theory.specs.Set.{_∩_, at}
+use lib.ListN.{length, getD}
+use Rattle.theory.specs.Set.{_∩_, _∪_, at}
 use Rattle.theory.specs.Merge.{slot, merge, OpenAt}
 
 -- the elements linked to p
@@ -18,6 +18,12 @@ linked links p = getD links p 0
 pub record Links (s links : List ℕ) : Type 0 where
   pub only : (p r : ℕ) → at r (linked links p) ≡ 1 → (c : ℕ) × (at p (slot s c) ≡ 1) × (at r (slot s c) ≡ 1)
   pub every : (c p r : ℕ) → at p (slot s c) ≡ 1 → at r (slot s c) ≡ 1 → at r (linked links p) ≡ 1
+
+-- the links with the elements of u linked to each other
+pub record Linking (links : List ℕ) (u : ℕ) (next : List ℕ) : Type 0 where
+  pub long : length next ≡ length links
+  pub inside : (p : ℕ) → at p u ≡ 1 → linked next p ≡ linked links p ∪ u
+  pub outside : (p : ℕ) → at p u ≡ 0 → linked next p ≡ linked links p
 
 -- r lies outside x and is linked to two elements of x
 pub record Reached (links : List ℕ) (x r : ℕ) : Type 0 where

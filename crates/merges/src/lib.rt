@@ -1,9 +1,11 @@
 // Living clusters as masks by number, the links between their elements, and the search for the first open merge.
 ghost use mathlib.Core.Path.{_≡_};
 ghost use Prim.Native.Nat.{_+_, _≤_, _<_};
+ghost use lib.ListN.{length};
+ghost use Rattle.theory.specs.Merge.{merge as parts};
 ghost use Rattle.theory.specs.Plan.{openTest, firstOf};
-ghost use Rattle.merges.specs.Links.{Outs, Lowest, Reaching, Meeting, Ready};
-ghost use Rattle.merges.specs.Search.{Sound, told};
+ghost use Rattle.merges.specs.Links.{Outs, Lowest, Reaching, Meeting, Ready, Linking};
+ghost use Rattle.merges.specs.Search.{Sound, told, Merging};
 
 // The elements outside x that are linked to two of its own.
 pub fn outs(links: &[u64; 64], x: u64) -> u64
@@ -129,4 +131,38 @@ pub fn first_open(
     } else {
         Found::Nothing
     }
+}
+
+// Links the elements of u with each other.
+pub fn link(links: &mut [u64; 64], u: u64)
+    requires { ⌜ length (now links) ≡ 64 ⌝ }
+    ensures { λ r. ⌜ Linking (now (links .entry)) u (now (links .exit)) ⌝ }
+{
+    let mut rest = u;
+    while rest != 0 {
+        let p = u64::trailing_zeros(rest) as usize;
+        links[p] = links[p] | u;
+        rest = rest & (rest - 1);
+    }
+}
+
+// Merges clusters i, j and k: they die, and their union, which is answered, is cluster `used`.
+pub fn merge(
+    slots: &mut [u64; 192],
+    links: &mut [u64; 64],
+    used: usize,
+    i: usize,
+    j: usize,
+    k: usize,
+) -> u64
+    requires { ⌜ (i < used) × (j < used) × (k < used) × (used < 192) × (length (now links) ≡ 64) ⌝ }
+    ensures { λ r. ⌜ Merging (now (slots .entry)) (now (links .entry)) used (parts i j k) r (now (slots .exit)) (now (links .exit)) ⌝ }
+{
+    let u = slots[i] | slots[j] | slots[k];
+    slots[i] = 0;
+    slots[j] = 0;
+    slots[k] = 0;
+    slots[used] = u;
+    link(links, u);
+    u
 }
