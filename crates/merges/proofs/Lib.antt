@@ -5,3 +5,5 @@ pub mod Linkage
 pub mod Scan
 pub mod Triangle
 pub mod First
+pub mod Padded
+pub mod State

@@ -1,3 +1,4 @@
--- What the search for the first open merge says, and what it relies on.
+-- What the search for the first open merge says and relies on, and how the clusters stand in arrays.
 pub mod Links
 pub mod Search
+pub mod Held
