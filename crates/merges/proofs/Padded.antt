@@ -13,7 +13,8 @@ use Rattle.merges.specs.Held.{padded}
 pub length-padded : (k : ℕ) (l : List ℕ) → length l ≤ k → length (padded k l) ≡ k
 length-padded k l h = length-append l (replicate (k - length l) 0) ∙ ap (λ (n : ℕ). length l + n) (length-replicate (k - length l) 0) ∙ omega arith
 
-zeros : (n i : ℕ) → slot (replicate n 0) i ≡ 0
+-- an array of zeros
+pub zeros : (n i : ℕ) → slot (replicate n 0) i ≡ 0
 zeros zero i = refl
 zeros (suc n) zero = refl
 zeros (suc n) (suc i) = zeros n i

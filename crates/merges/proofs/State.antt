@@ -6,9 +6,10 @@ use Prim.Native.Nat.{ℕ, zero, suc, _+_, _*_, _≤_, _<_}
 use native.Mathlib.Omega.{arith}
 use native.Mathlib.Decide.{ℕ-discrete, decLt}
 use lib.Count.{ones}
-use lib.ListN.{length, set, length-append, List·getD-eq-default}
+use lib.ListN.{length, set, replicate, length-append, List·getD-append, List·getD-eq-default}
+use lib.Seq.{getD-append-seam}
 use Rattle.theory.specs.Set.{_∩_, _∪_, at, _⊑_}
-use Rattle.theory.specs.Set.Laws.{at-le, both, in-either, or-left, or-right}
+use Rattle.theory.specs.Set.Laws.{at-le, at-zero, both, in-either, or-left, or-right}
 use Rattle.theory.specs.Constraints.{Pairs, NotOver}
 use Rattle.theory.specs.Merge.{slot, Merge, merge, Three, three, OpenAt, union, joint, cleared, put, Part, Valid, final, Ended, joints}
 use Rattle.theory.specs.Merge.Numbered.{Distinct, Place, new, old, place, part-dec, alive-lt, length-put, put-new, put-old, cleared-other, good-final, start-good, start-distinct}
@@ -19,7 +20,7 @@ use Rattle.merges.specs.Links.{linked, Links, Linking, Ready}
 use Rattle.merges.specs.Search.{Merging}
 use Rattle.merges.specs.Held.{padded, flat, Held, Since}
 use Rattle.merges.proofs.Triangle.{filled, Corners, corners}
-use Rattle.merges.proofs.Padded.{slot-padded, three-padded, put-padded}
+use Rattle.merges.proofs.Padded.{zeros, slot-padded, three-padded, put-padded}
 
 -- ---- open merges go by what stands in the slots
 
@@ -34,6 +35,19 @@ module _ (a b : List ℕ) (same : (n : ℕ) → slot a n ≡ slot b n) where
     livek = λ z. o .livek (same (m .k) ∙ z);
     open3 = rw (← same (m .i), ← same (m .j), ← same (m .k)) (o .open3);
   }
+
+module _ (a b : List ℕ) (same : (n : ℕ) → slot a n ≡ slot b n) where
+  pub first-same : (m : Merge) → First a m → First b m
+  first-same m f = record {
+    i<j = f .i<j;
+    j<k = f .j<k;
+    isopen = open-same a b same m (f .isopen);
+    least = λ r o. f .least r (open-same b a (λ n. sym (same n)) r o);
+  }
+
+  pub ended-same : Ended a → Ended b
+  unfolding Ended
+  ended-same e m o = e m (open-same b a (λ n. sym (same n)) m o)
 
 -- ---- one merge more
 
@@ -80,30 +94,20 @@ in-union s m c p h e = omega (arith, le h, at-le p (union (three s m)))
     le (inr (inl z)) = subst (λ (n : ℕ). at p (slot s n) ≤ at p (union (three s m))) (sym z) (part-b (three s m) .le p)
     le (inr (inr z)) = subst (λ (n : ℕ). at p (slot s n) ≤ at p (union (three s m))) (sym z) (part-c (three s m) .le p)
 
-module _ (s links next : List ℕ) (m : Merge) (ls : Links s links) (ln : Linking links (union (three s m)) next) where
-  u : ℕ
-  u = union (three s m)
-
-  pub links-put : Links (put s m) next
-  unfolding u
-  links-put = record { only = λ p r e. only p r e (ℕ-discrete (at p u) 1); every = λ c p r i j. every c p r i j (place s m c (filled (slot (put s m) c) p i)) }
+-- the clusters s become s′: the union u stands at `made`, an old cluster lies in it or stays, and none but these stands in s′
+module _ (s s′ links next : List ℕ) (u made : ℕ) (ls : Links s links) (ln : Linking links u next) (is : slot s′ made ≡ u)
+    (kept : (c p : ℕ) → at p (slot s c) ≡ 1 → ((q : ℕ) → at q (slot s c) ≡ 1 → at q u ≡ 1) ⊎ (slot s′ c ≡ slot s c))
+    (came : (c p : ℕ) → at p (slot s′ c) ≡ 1 → (slot s′ c ≡ u) ⊎ (slot s′ c ≡ slot s c)) where
+  pub links-grown : Links s′ next
+  links-grown = record { only = λ p r e. only p r e (ℕ-discrete (at p u) 1); every = λ c p r i j. every c p r i j (came c p i) }
     where
-      -- two elements of the union, and of an old cluster
-      new-one : (p r : ℕ) → at p u ≡ 1 → at r u ≡ 1 → (c : ℕ) × (at p (slot (put s m) c) ≡ 1) × (at r (slot (put s m) c) ≡ 1)
-      new-one p r i j = (length s, ap (at p) (put-new s m) ∙ i, ap (at r) (put-new s m) ∙ j)
+      new-one : (p r : ℕ) → at p u ≡ 1 → at r u ≡ 1 → (c : ℕ) × (at p (slot s′ c) ≡ 1) × (at r (slot s′ c) ≡ 1)
+      new-one p r i j = (made, ap (at p) is ∙ i, ap (at r) is ∙ j)
 
-      old-one : (p r : ℕ) → (c : ℕ) × (at p (slot s c) ≡ 1) × (at r (slot s c) ≡ 1)
-          → (c : ℕ) × (at p (slot (put s m) c) ≡ 1) × (at r (slot (put s m) c) ≡ 1)
-      old-one p r (c, i, j) = go (part-dec c m)
-        where
-          go : Dec (Part c m) → (c : ℕ) × (at p (slot (put s m) c) ≡ 1) × (at r (slot (put s m) c) ≡ 1)
-          go (yes h) = new-one p r (in-union s m c p h i) (in-union s m c r h j)
-          go (no n) = let e : slot (put s m) c ≡ slot s c = kept n in (c, ap (at p) e ∙ i, ap (at r) e ∙ j)
-            where
-              kept : (Part c m → ⊥) → slot (put s m) c ≡ slot s c
-              kept n = put-old s m c (alive-lt s c (filled (slot s c) p i)) ∙ cleared-other s m c n
+      old-one : (p r : ℕ) → (c : ℕ) × (at p (slot s c) ≡ 1) × (at r (slot s c) ≡ 1) → (c : ℕ) × (at p (slot s′ c) ≡ 1) × (at r (slot s′ c) ≡ 1)
+      old-one p r (c, i, j) = ⊎-elim (λ h. new-one p r (h p i) (h r j)) (λ e. (c, ap (at p) e ∙ i, ap (at r) e ∙ j)) (kept c p i)
 
-      only : (p r : ℕ) → at r (linked next p) ≡ 1 → Dec (at p u ≡ 1) → (c : ℕ) × (at p (slot (put s m) c) ≡ 1) × (at r (slot (put s m) c) ≡ 1)
+      only : (p r : ℕ) → at r (linked next p) ≡ 1 → Dec (at p u ≡ 1) → (c : ℕ) × (at p (slot s′ c) ≡ 1) × (at r (slot s′ c) ≡ 1)
       only p r e (yes i) =
           ⊎-elim (λ h. old-one p r (ls .only p r h)) (λ h. new-one p r i h) (in-either r (linked links p) u (sym (ap (at r) (ln .inside p i)) ∙ e))
       only p r e (no n) = old-one p r (ls .only p r (sym (ap (at r) (ln .outside p (omega (arith, at-le p u)))) ∙ e))
@@ -112,10 +116,38 @@ module _ (s links next : List ℕ) (m : Merge) (ls : Links s links) (ln : Linkin
       link-old p r e (yes i) = ap (at r) (ln .inside p i) ∙ or-left r (linked links p) u e
       link-old p r e (no n) = ap (at r) (ln .outside p (omega (arith, at-le p u))) ∙ e
 
-      every : (c p r : ℕ) → at p (slot (put s m) c) ≡ 1 → at r (slot (put s m) c) ≡ 1 → Place s m c → at r (linked next p) ≡ 1
-      every c p r i j (new e f) =
-          ap (at r) (ln .inside p (sym (ap (at p) f) ∙ i)) ∙ or-right r (linked links p) u (sym (ap (at r) f) ∙ j)
-      every c p r i j (old n f) = link-old p r (ls .every c p r (sym (ap (at p) f) ∙ i) (sym (ap (at r) f) ∙ j)) (ℕ-discrete (at p u) 1)
+      every : (c p r : ℕ) → at p (slot s′ c) ≡ 1 → at r (slot s′ c) ≡ 1 → (slot s′ c ≡ u) ⊎ (slot s′ c ≡ slot s c) → at r (linked next p) ≡ 1
+      every c p r i j (inl f) = ap (at r) (ln .inside p (sym (ap (at p) f) ∙ i)) ∙ or-right r (linked links p) u (sym (ap (at r) f) ∙ j)
+      every c p r i j (inr f) = link-old p r (ls .every c p r (sym (ap (at p) f) ∙ i) (sym (ap (at r) f) ∙ j)) (ℕ-discrete (at p u) 1)
+
+-- a merge
+pub links-put : (s links next : List ℕ) (m : Merge) → Links s links → Linking links (union (three s m)) next → Links (put s m) next
+links-put s links next m ls ln =
+    links-grown s (put s m) links next (union (three s m)) (length s) ls ln (put-new s m) (λ c p i. kept c p i (part-dec c m)) (λ c p i. came c (place s m c (filled (slot (put s m) c) p i)))
+  where
+    kept : (c p : ℕ) → at p (slot s c) ≡ 1 → Dec (Part c m)
+        → ((q : ℕ) → at q (slot s c) ≡ 1 → at q (union (three s m)) ≡ 1) ⊎ (slot (put s m) c ≡ slot s c)
+    kept c p i (yes h) = inl (λ q e. in-union s m c q h e)
+    kept c p i (no n) = inr (put-old s m c (alive-lt s c (filled (slot s c) p i)) ∙ cleared-other s m c n)
+
+    came : (c : ℕ) → Place s m c → (slot (put s m) c ≡ union (three s m)) ⊎ (slot (put s m) c ≡ slot s c)
+    came c (new e f) = inl f
+    came c (old n f) = inr f
+
+-- one cluster more
+pub links-add : (s links next : List ℕ) (x : ℕ) → Links s links → Linking links x next → Links (s ++ (x ∷ [])) next
+links-add s links next x ls ln =
+    links-grown s (s ++ (x ∷ [])) links next x (length s) ls ln (getD-append-seam s x [] 0)
+    (λ c p i. inr (List·getD-append s (x ∷ []) 0 c (alive-lt s c (filled (slot s c) p i)))) (λ c p i. came c p i (ℕ-discrete c (length s)))
+  where
+    came : (c p : ℕ) → at p (slot (s ++ (x ∷ [])) c) ≡ 1 → Dec (c ≡ length s) → (slot (s ++ (x ∷ [])) c ≡ x) ⊎ (slot (s ++ (x ∷ [])) c ≡ slot s c)
+    came c p i (yes e) = inl (ap (slot (s ++ (x ∷ []))) e ∙ getD-append-seam s x [] 0)
+    came c p i (no n) =
+        inr (List·getD-append s (x ∷ []) 0 c (omega (arith, alive-lt (s ++ (x ∷ [])) c (filled (slot (s ++ (x ∷ [])) c) p i), length-append s (x ∷ []))))
+
+-- none at the start
+pub links-none : (k : ℕ) → Links [] (replicate k 0)
+links-none k = record { only = λ p r e. absurd (omega (arith, ap (at r) (zeros k p), at-zero r)); every = λ c p r i j. absurd (omega (arith, at-zero p)) }
 
 -- ---- the arrays after a merge
 

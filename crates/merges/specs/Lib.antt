@@ -2,3 +2,4 @@
 pub mod Links
 pub mod Search
 pub mod Held
+pub mod Run

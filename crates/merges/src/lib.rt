@@ -1,11 +1,12 @@
 // Living clusters as masks by number, the links between their elements, and the search for the first open merge.
 ghost use mathlib.Core.Path.{_≡_};
 ghost use Prim.Native.Nat.{_+_, _≤_, _<_};
-ghost use lib.ListN.{length};
-ghost use Rattle.theory.specs.Merge.{merge as parts};
+ghost use lib.ListN.{length, take};
+ghost use Rattle.theory.specs.Merge.{merge as parts, three, joint};
 ghost use Rattle.theory.specs.Plan.{openTest, firstOf};
-ghost use Rattle.merges.specs.Links.{Outs, Lowest, Reaching, Meeting, Ready, Linking};
+ghost use Rattle.merges.specs.Links.{Outs, Lowest, Reaching, Meeting, Ready, Links, Linking};
 ghost use Rattle.merges.specs.Search.{Sound, told, Merging};
+ghost use Rattle.merges.specs.Run.{Begun, Ran};
 
 // The elements outside x that are linked to two of its own.
 pub fn outs(links: &[u64; 64], x: u64) -> u64
@@ -165,4 +166,70 @@ pub fn merge(
     slots[used] = u;
     link(links, u);
     u
+}
+
+// The links of the first e clusters.
+pub fn link_all(slots: &[u64; 192], e: usize) -> [u64; 64]
+    requires { ⌜ (e ≤ 192) × (length (now slots) ≡ 192) ⌝ }
+    ensures { λ r. ⌜ Links (take e (now (slots .entry))) r × (length r ≡ 64) ⌝ }
+{
+    let mut links = [0u64; 64];
+    let mut i: usize = 0;
+    while i < e {
+        link(&mut links, slots[i]);
+        i += 1;
+    }
+    links
+}
+
+// The three elements that clusters i, j and k share.
+pub fn joint_of(slots: &[u64; 192], i: usize, j: usize, k: usize) -> u64
+    requires { ⌜ (i < 192) × (j < 192) × (k < 192) ⌝ }
+    ensures { λ r. ⌜ r ≡ joint (three (now (slots .entry)) (parts i j k)) ⌝ }
+{
+    let a = slots[i];
+    let b = slots[j];
+    let c = slots[k];
+    (a & b) | (b & c) | (a & c)
+}
+
+// A list of merges: the parts of each, ascending, their joints, and the clusters at the end, a dead one 0. Places beyond are 0.
+pub struct Run {
+    pub steps: usize,
+    pub parts: [u16; 192],
+    pub joints: [u64; 64],
+    pub slots: [u64; 192],
+}
+
+// The engine's plan for e constraints, given as the first e clusters. Of constraints that are over, a list of merges.
+pub fn merge_all(start: [u64; 192], e: usize) -> Run
+    requires { ⌜ Begun start e ⌝ }
+    ensures { λ r. ⌜ Ran (take e start) r ⌝ }
+{
+    let mut slots = start;
+    let mut links = link_all(&slots, e);
+    let mut parts = [0u16; 192];
+    let mut joints = [0u64; 64];
+    let mut steps: usize = 0;
+    let mut from: usize = 0;
+    let mut last: u64 = 0;
+    loop {
+        let used = e + steps;
+        let found = first_open(&slots, &links, used, from, last);
+        let Found::At(i, j, k) = found else {
+            return Run {
+                steps,
+                parts,
+                joints,
+                slots,
+            };
+        };
+        joints[steps] = joint_of(&slots, i, j, k);
+        parts[3 * steps] = i as u16;
+        parts[3 * steps + 1] = j as u16;
+        parts[3 * steps + 2] = k as u16;
+        last = merge(&mut slots, &mut links, used, i, j, k);
+        from = i;
+        steps += 1;
+    }
 }

@@ -1,0 +1,27 @@
+-- What a run of merges answers. Assumes nothing.
+use mathlib.Core.Path.{_≡_}
+use mathlib.Core.List.{List, [], _∷_}
+use Prim.Native.Nat.{ℕ, _≤_}
+use lib.ListN.{length, take}
+use Rattle.theory.specs.Constraints.{Pairs, NotOver}
+use Rattle.theory.specs.Merge.{Merge, Valid, final, joints}
+use Rattle.theory.specs.Plan.{planOf}
+use Rattle.merges.specs.Held.{padded, flat}
+use Rattle.merges.specs.declared.Run.{Run}
+
+-- e constraints, each a set of two elements, as the first e clusters
+pub record Begun (slots : List ℕ) (e : ℕ) : Type 0 where
+  pub few : e ≤ 125
+  pub count : length (take e slots) ≡ e
+  pub pairs : Pairs (take e slots)
+  pub are : slots ≡ padded 192 (take e slots)
+
+-- the arrays hold a list of merges of the constraints cs; where these are not over, it is the engine's plan
+pub record Ran (cs : List ℕ) (r : Run) : Type 0 where
+  pub p : List Merge
+  pub valid : Valid cs p
+  pub steps-are : r .steps ≡ length p
+  pub parts-are : r .parts ≡ padded 192 (flat p)
+  pub joints-are : r .joints ≡ padded 64 (joints cs p)
+  pub slots-are : r .slots ≡ padded 192 (final cs p)
+  pub plan : NotOver cs → p ≡ planOf cs
