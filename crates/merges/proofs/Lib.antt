@@ -7,3 +7,4 @@ pub mod Triangle
 pub mod First
 pub mod Padded
 pub mod State
+pub mod Running
