@@ -14,7 +14,7 @@ use Rattle.theory.specs.Plan.Laws.{plan-of-one}
 use Rattle.merges.specs.Links.{Links, Ready}
 use Rattle.merges.specs.Search.{Merging}
 use Rattle.merges.specs.Held.{padded, flat, Held, Since}
-use Rattle.merges.specs.Run.{Begun, Ran}
+use Rattle.merges.specs.Run.{Begun, Ran, Noted}
 use Rattle.merges.specs.declared.Run.{Run}
 use Rattle.merges.proofs.Padded.{store-padded, three-padded}
 use Rattle.merges.proofs.State.{open-same, first-same, ended-same, final-snoc, valid-snoc, joints-snoc, flat-snoc, length-flat, length-joints, held-slot, held-open, held-union, held-next, since-put, ready}
@@ -115,10 +115,10 @@ module _ (cs : List ℕ) (e : ℕ) (pairs : Pairs cs) (size : length cs ≡ e) (
       steps-fewer =
           omega (arith, w .count, short (w .p ++ (merge i j k ∷ [])) (valid-snoc (w .p) cs (merge i j k) (w .held .valid) there), length-append (w .p) (merge i j k ∷ []))
 
-      pub running-next : (Ready slots links (e + steps) from last → some (merge i j k) ≡ firstOf 0 slots) → (u v : ℕ) (slots′ links′ : List ℕ)
-          → Merging slots links (e + steps) (merge i j k) u slots′ links′ → v ≡ joint (three slots (merge i j k))
-          → Running cs e slots′ links′ (set (set (set parts (3 * steps) i) (3 * steps + 1) j) (3 * steps + 2) k) (set knots steps v) (steps + 1) i u
-      running-next first u v slots′ links′ g is =
+      pub running-next : (Ready slots links (e + steps) from last → some (merge i j k) ≡ firstOf 0 slots) → (u : ℕ) (slots′ links′ parts′ knots′ : List ℕ)
+          → Merging slots links (e + steps) (merge i j k) u slots′ links′ → Noted parts knots slots steps (merge i j k) parts′ knots′
+          → Running cs e slots′ links′ parts′ knots′ (steps + 1) i u
+      running-next first u slots′ links′ parts′ knots′ g noted =
           let p = w .p in
           let s = final cs p in
           let x = merge i j k in
@@ -131,12 +131,14 @@ module _ (cs : List ℕ) (e : ℕ) (pairs : Pairs cs) (size : length cs ≡ e) (
             p = q;
             held = subst (λ (n : ℕ). Held cs q slots′ links′ n) (omega arith) (held-next cs p slots links (e + steps) (w .held) x hi hj below there u slots′ links′ g room);
             count = omega (arith, w .count, length-append p (x ∷ []));
-            parts-are = ap (λ (a : List ℕ). set (set (set a (3 * steps) i) (3 * steps + 1) j) (3 * steps + 2) k) (w .parts-are)
+            parts-are = noted .parts-are
+                ∙ ap (λ (a : List ℕ). set (set (set a (3 * steps) i) (3 * steps + 1) j) (3 * steps + 2) k) (w .parts-are)
                 ∙ store-three 192 (flat p) (3 * steps) i j k (omega (arith, length-flat p, w .count)) (omega (arith, steps-fewer))
                 ∙ ap (padded 192) (sym (flat-snoc p x));
-            knots-are = ap₂ (λ (a : List ℕ) (n : ℕ). set a n v) (w .knots-are) (w .count ∙ sym (length-joints p cs))
-                ∙ store-padded 64 (joints cs p) v (omega (arith, length-joints p cs, w .count, steps-fewer))
-                ∙ ap (λ (y : ℕ). padded 64 (joints cs p ++ (y ∷ []))) (is ∙ knot)
+            knots-are = noted .knots-are
+                ∙ ap₂ (λ (a : List ℕ) (n : ℕ). set a n (joint (three slots x))) (w .knots-are) (w .count ∙ sym (length-joints p cs))
+                ∙ store-padded 64 (joints cs p) (joint (three slots x)) (omega (arith, length-joints p cs, w .count, steps-fewer))
+                ∙ ap (λ (y : ℕ). padded 64 (joints cs p ++ (y ∷ []))) knot
                 ∙ ap (padded 64) (sym (joints-snoc p cs x));
             firsts = λ fine. firsts-snoc p cs x (w .firsts fine) (first-there fine x (first (run-ready fine)));
             since = λ fine.

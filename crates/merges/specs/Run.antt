@@ -1,10 +1,10 @@
 -- What a run of merges answers. Assumes nothing.
 use mathlib.Core.Path.{_≡_}
 use mathlib.Core.List.{List, [], _∷_}
-use Prim.Native.Nat.{ℕ, _≤_}
-use lib.ListN.{length, take}
+use Prim.Native.Nat.{ℕ, _+_, _*_, _≤_}
+use lib.ListN.{length, take, set}
 use Rattle.theory.specs.Constraints.{Pairs, NotOver}
-use Rattle.theory.specs.Merge.{Merge, Valid, final, joints}
+use Rattle.theory.specs.Merge.{Merge, three, joint, Valid, final, joints}
 use Rattle.theory.specs.Plan.{planOf}
 use Rattle.merges.specs.Held.{padded, flat}
 use Rattle.merges.specs.declared.Run.{Run}
@@ -15,6 +15,11 @@ pub record Begun (slots : List ℕ) (e : ℕ) : Type 0 where
   pub count : length (take e slots) ≡ e
   pub pairs : Pairs (take e slots)
   pub are : slots ≡ padded 192 (take e slots)
+
+-- step n noted: the parts of the merge at 3n and after, its joint at n
+pub record Noted (parts knots slots : List ℕ) (n : ℕ) (m : Merge) (parts′ knots′ : List ℕ) : Type 0 where
+  pub parts-are : parts′ ≡ set (set (set parts (3 * n) (m .i)) (3 * n + 1) (m .j)) (3 * n + 2) (m .k)
+  pub knots-are : knots′ ≡ set knots n (joint (three slots m))
 
 -- the arrays hold a list of merges of the constraints cs; where these are not over, it is the engine's plan
 pub record Ran (cs : List ℕ) (r : Run) : Type 0 where

@@ -1,12 +1,12 @@
 // Living clusters as masks by number, the links between their elements, and the search for the first open merge.
 ghost use mathlib.Core.Path.{_≡_};
 ghost use Prim.Native.Nat.{_+_, _≤_, _<_};
-ghost use lib.ListN.{length, take};
-ghost use Rattle.theory.specs.Merge.{merge as parts, three, joint};
+ghost use lib.ListN.{length, take, replicate};
+ghost use Rattle.theory.specs.Merge.{merge as numbers};
 ghost use Rattle.theory.specs.Plan.{openTest, firstOf};
 ghost use Rattle.merges.specs.Links.{Outs, Lowest, Reaching, Meeting, Ready, Links, Linking};
 ghost use Rattle.merges.specs.Search.{Sound, told, Merging};
-ghost use Rattle.merges.specs.Run.{Begun, Ran};
+ghost use Rattle.merges.specs.Run.{Begun, Ran, Noted};
 
 // The elements outside x that are linked to two of its own.
 pub fn outs(links: &[u64; 64], x: u64) -> u64
@@ -157,7 +157,7 @@ pub fn merge(
     k: usize,
 ) -> u64
     requires { ⌜ (i < used) × (j < used) × (k < used) × (used < 192) × (length (now links) ≡ 64) ⌝ }
-    ensures { λ r. ⌜ Merging (now (slots .entry)) (now (links .entry)) used (parts i j k) r (now (slots .exit)) (now (links .exit)) ⌝ }
+    ensures { λ r. ⌜ Merging (now (slots .entry)) (now (links .entry)) used (numbers i j k) r (now (slots .exit)) (now (links .exit)) ⌝ }
 {
     let u = slots[i] | slots[j] | slots[k];
     slots[i] = 0;
@@ -182,15 +182,38 @@ pub fn link_all(slots: &[u64; 192], e: usize) -> [u64; 64]
     links
 }
 
-// The three elements that clusters i, j and k share.
-pub fn joint_of(slots: &[u64; 192], i: usize, j: usize, k: usize) -> u64
-    requires { ⌜ (i < 192) × (j < 192) × (k < 192) ⌝ }
-    ensures { λ r. ⌜ r ≡ joint (three (now (slots .entry)) (parts i j k)) ⌝ }
+// Notes step `steps`, which merges i, j and k: its parts and its joint.
+fn note(
+    parts: &mut [u16; 192],
+    joints: &mut [u64; 64],
+    slots: &[u64; 192],
+    steps: usize,
+    i: usize,
+    j: usize,
+    k: usize,
+)
+    requires { ⌜ (steps < 62) × (i < 192) × (j < 192) × (k < 192) ⌝ }
+    ensures { λ r. ⌜ Noted (now (parts .entry)) (now (joints .entry)) (now (slots .entry)) steps (numbers i j k) (now (parts .exit)) (now (joints .exit)) ⌝ }
 {
     let a = slots[i];
     let b = slots[j];
     let c = slots[k];
-    (a & b) | (b & c) | (a & c)
+    joints[steps] = (a & b) | (b & c) | (a & c);
+    parts[3 * steps] = i as u16;
+    parts[3 * steps + 1] = j as u16;
+    parts[3 * steps + 2] = k as u16;
+}
+
+fn no_parts() -> [u16; 192]
+    ensures { λ r. ⌜ r ≡ replicate 192 0 ⌝ }
+{
+    [0u16; 192]
+}
+
+fn no_joints() -> [u64; 64]
+    ensures { λ r. ⌜ r ≡ replicate 64 0 ⌝ }
+{
+    [0u64; 64]
 }
 
 // A list of merges: the parts of each, ascending, their joints, and the clusters at the end, a dead one 0. Places beyond are 0.
@@ -208,8 +231,8 @@ pub fn merge_all(start: [u64; 192], e: usize) -> Run
 {
     let mut slots = start;
     let mut links = link_all(&slots, e);
-    let mut parts = [0u16; 192];
-    let mut joints = [0u64; 64];
+    let mut parts = no_parts();
+    let mut joints = no_joints();
     let mut steps: usize = 0;
     let mut from: usize = 0;
     let mut last: u64 = 0;
@@ -224,10 +247,7 @@ pub fn merge_all(start: [u64; 192], e: usize) -> Run
                 slots,
             };
         };
-        joints[steps] = joint_of(&slots, i, j, k);
-        parts[3 * steps] = i as u16;
-        parts[3 * steps + 1] = j as u16;
-        parts[3 * steps + 2] = k as u16;
+        note(&mut parts, &mut joints, &slots, steps, i, j, k);
         last = merge(&mut slots, &mut links, used, i, j, k);
         from = i;
         steps += 1;

@@ -13,12 +13,6 @@ use Rattle.merges.specs.Links.{Ready}
 use Rattle.merges.proofs.First.{open-at, nothing, j-used, k-used, found}
 use Rattle.merges.proofs.first_open.Statement.{statement}
 use Rattle.merges.proofs.first_open.Tie as tie
-use Rattle.merges.proofs.first_open.Reads as reads
-use Rattle.merges.proofs.first_open.Lts as lts
-use Rattle.merges.proofs.lowest_meeting.Reads as lowest-meeting-reads
-use Rattle.merges.proofs.lowest_reaching.Reads as lowest-reaching-reads
-use Rattle.merges.proofs.open3.Reads as open3-reads
-use Rattle.merges.proofs.outs.Reads as outs-reads
 
 -- where the search relies on its ready state, the second number is below `used`
 second : (c : tie.After-lowest-meeting)

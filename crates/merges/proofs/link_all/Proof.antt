@@ -41,8 +41,7 @@ loop-again c =
     let a = c .before .before .before .before .before .args in
     let l = c .before .before .before .before .loop in
     let e = c .link .ensures in
-    let h : l .i < length (a .slots .now) = search needs in
-    (
+    let h : l .i < length (a .slots .now) = search needs in (
       search needs,
       subst (λ (s : List ℕ). Links s (c .link .last .0)) (sym (ap (λ (n : ℕ). take n (a .slots .now)) (add-one (l .i)) ∙ take-suc (a .slots .now) (l .i) 0 h))
           (links-add (take (l .i) (a .slots .now)) (l .links) (c .link .last .0) (getD (a .slots .now) (l .i) 0) (l .inv .1) e),

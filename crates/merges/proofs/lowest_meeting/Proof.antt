@@ -7,8 +7,6 @@ use Rattle.merges.specs.Links.{Meeting}
 use Rattle.merges.proofs.Scan.{Passed, passed-start, passed-next, passed-here, passed-end}
 use Rattle.merges.proofs.lowest_meeting.Statement.{statement}
 use Rattle.merges.proofs.lowest_meeting.Tie as tie
-use Rattle.merges.proofs.lowest_meeting.Reads as reads
-use Rattle.merges.proofs.lowest_meeting.Lts as lts
 
 abbrev Inv-loop : tie.InvT-loop
 Inv-loop slots used from a b c₀ c = Passed (Meeting slots a b) from used c

@@ -11,9 +11,6 @@ use Rattle.merges.proofs.Triangle.{filled, element}
 use Rattle.merges.proofs.Scan.{Passed, passed-start, passed-next, passed-here, passed-end}
 use Rattle.merges.proofs.lowest_reaching.Statement.{statement}
 use Rattle.merges.proofs.lowest_reaching.Tie as tie
-use Rattle.merges.proofs.lowest_reaching.Reads as reads
-use Rattle.merges.proofs.lowest_reaching.Lts as lts
-use Rattle.merges.proofs.outs.Reads as outs-reads
 
 abbrev Inv-loop : tie.InvT-loop
 Inv-loop slots links used from last c₀ c = Passed (Reaching slots links from last) 0 used c

@@ -1,131 +1,123 @@
+-- `merges::merge_all` meets its contract: the loop keeps `Running`. Assumes nothing.
+use mathlib.Core.Path.{_≡_, refl, sym, ap, _∙_, subst}
+use mathlib.Core.List.{List}
+use Prim.Native.Nat.{ℕ, _+_, _-_, _*_, _≤_, _<_}
+use native.Mathlib.Omega.{arith}
+use borrow.Author.Needs.{needs}
+use lib.ListN.{length, take, replicate}
+use Rattle.merges.specs.Search.{Sound, told}
+use Rattle.merges.specs.declared.Found.the-variants.{At}
+use Rattle.merges.proofs.Padded.{length-padded}
+use Rattle.merges.proofs.Running.{Running, running-start, steps-few, steps-fewer, running-next, running-end}
 use Rattle.merges.proofs.merge_all.Statement.{statement}
 use Rattle.merges.proofs.merge_all.Tie as tie
-use Rattle.merges.proofs.merge_all.Reads as reads
-use Rattle.merges.proofs.merge_all.Lts as lts
-use Rattle.merges.proofs.first_open.Reads as first-open-reads
-use Rattle.merges.proofs.joint_of.Reads as joint-of-reads
-use Rattle.merges.proofs.link_all.Reads as link-all-reads
-use Rattle.merges.proofs.merge.Reads as merge-reads
 
 abbrev Inv-loop : tie.InvT-loop
 Inv-loop e slots₀ links₀ parts₀ joints₀ steps₀ from₀ last₀ slots links parts joints steps from last =
-    ?
+    Running (take e slots₀) e slots links parts joints steps from last
 
 abbrev μ-loop : tie.MeasureT-loop
 μ-loop e slots₀ links₀ parts₀ joints₀ steps₀ from₀ last₀ slots links parts joints steps from last =
-    ?
+    64 - steps
 
--- src/lib.rt:210:21
+-- there are few steps
+few : (c : tie.At-loop Inv-loop μ-loop) → c .loop .steps ≤ 62
+few c =
+    let a = c .before .before .before .before .before .args in
+    let b = c .before .before .before .before .before .pre in
+    let l = c .loop in
+    steps-few (take (a .e) (a .start)) (a .e) (b .pairs) (b .count) (b .few) (l .slots) (l .links) (l .parts) (l .joints) (l .steps) (l .from) (l .last) (l .inv)
+
+-- what is found is open
+sound : (c : tie.After-found Inv-loop μ-loop)
+    → Sound (c .before .before .before .before .before .loop .slots) (c .before .before .before .before .before .before .before .before .before .before .args .e + c .before .before .before .before .before .loop .steps) (At (c .found .given .0 .0) (c .found .given .0 .1 .0) (c .found .given .0 .1 .1 .0))
+sound c = subst (Sound (c .before .before .before .before .before .loop .slots) (c .before .before .before .before .before .before .before .before .before .before .args .e + c .before .before .before .before .before .loop .steps)) (c .found .given .1) (c .before .before .first-open .ensures .0)
+
+-- and leaves room for a step more
+room : (c : tie.After-found Inv-loop μ-loop) → c .before .before .before .before .before .loop .steps < 62
+room c =
+    let a = c .before .before .before .before .before .before .before .before .before .before .args in
+    let b = c .before .before .before .before .before .before .before .before .before .before .pre in
+    let l = c .before .before .before .before .before .loop in
+    let o = sound c in
+    let m = c .found .given .0 in
+    steps-fewer (take (a .e) (a .start)) (a .e) (b .pairs) (b .count) (b .few) (l .slots) (l .links) (l .parts) (l .joints) (l .steps) (l .from) (l .last) (l .inv) (m .0) (m .1 .0)
+    (m .1 .1 .0) (o .0) (o .1) (o .2) (o .3)
+
 link-all-requires : tie.Need-link-all-requires Inv-loop μ-loop
-link-all-requires c κs = ?
+link-all-requires c κs =
+    let b = c .before .pre in
+    (omega (arith, b .few), ap length (b .are) ∙ length-padded 192 (take (c .before .args .e) (c .before .args .start)) (omega (arith, b .few, b .count)))
 
--- src/lib.rt:216:5
+no-parts-requires : tie.Need-no-parts-requires Inv-loop μ-loop
+no-parts-requires c κs = search needs
+
+no-joints-requires : tie.Need-no-joints-requires Inv-loop μ-loop
+no-joints-requires c κs = search needs
+
 loop-holds : tie.Need-loop-holds Inv-loop μ-loop
-loop-holds c = ?
+loop-holds c =
+    let a = c .before .before .before .before .args in
+    let l = c .before .before .link-all in
+    subst (λ (k : List ℕ). Running (take (a .e) (a .start)) (a .e) (a .start) (l .result) (c .before .no-parts .result) k 0 0 0) (sym (c .no-joints .ensures))
+    (subst (λ (k : List ℕ). Running (take (a .e) (a .start)) (a .e) (a .start) (l .result) k (replicate 64 0) 0 0 0) (sym (c .before .no-parts .ensures))
+    (running-start (a .start) (l .result) (a .e) (c .before .before .before .before .pre) (l .ensures .0) (l .ensures .1)))
 
--- src/lib.rt:217:20
 add-used : tie.Need-add-used Inv-loop μ-loop
-add-used c = ?
+add-used c = omega (arith, few c, c .before .before .before .before .before .pre .few)
 
--- src/lib.rt:218:13
 first-open-requires : tie.Need-first-open-requires Inv-loop μ-loop
-first-open-requires c κs = ?
+first-open-requires c κs = omega (arith, few (c .before .before), c .before .before .before .before .before .before .before .pre .few)
 
--- src/lib.rt:219:23
 enum-known-found : tie.Need-enum-known-found Inv-loop μ-loop
-enum-known-found c = ?
+enum-known-found c = search needs
 
--- src/lib.rt:222:17
 enum-told : tie.Need-enum-told Inv-loop μ-loop
-enum-told c = ?
+enum-told c = search needs
 
--- src/lib.rt:220:13
 returns : tie.Need-returns Inv-loop μ-loop
-returns c = ?
+returns c =
+    let a = c .before .before .before .before .before .before .before .before .before .before .args in
+    let b = c .before .before .before .before .before .before .before .before .before .before .pre in
+    let l = c .before .before .before .before .before .loop in
+    running-end (take (a .e) (a .start)) (a .e) (b .pairs) (b .count) (b .few) (l .slots) (l .links) (l .parts) (l .joints) (l .steps) (l .from) (l .last) (l .inv)
+    (λ ready. ap told (sym (c .enum-told .given .1)) ∙ c .before .before .first-open .ensures .1 ready) (record { steps = l .steps; parts = l .parts; joints = l .joints; slots = l .slots })
+    refl refl refl refl
 
--- src/lib.rt:227:25
-joint-of-requires : tie.Need-joint-of-requires Inv-loop μ-loop
-joint-of-requires c κs = ?
+note-requires : tie.Need-note-requires Inv-loop μ-loop
+note-requires c κs =
+    let d = c .before .before .before .before in
+    let o = sound d in
+    let f = few (c .before .before .before .before .before .before .before .before .before) in
+    let b = c .before .before .before .before .before .before .before .before .before .before .before .before .before .before .pre in
+    (room d, omega (arith, o .0, o .1, o .2, b .few), omega (arith, o .1, o .2, b .few), omega (arith, o .2, b .few))
 
--- src/lib.rt:227:9
-mul-joints : tie.Need-mul-joints Inv-loop μ-loop
-mul-joints c = ?
-
--- src/lib.rt:227:9
-array-write-joints : tie.Need-array-write-joints Inv-loop μ-loop
-array-write-joints c = ?
-
--- src/lib.rt:228:28
-cast-parts : tie.Need-cast-parts Inv-loop μ-loop
-cast-parts c = ?
-
--- src/lib.rt:228:15
-mul-parts : tie.Need-mul-parts Inv-loop μ-loop
-mul-parts c = ?
-
--- src/lib.rt:228:9
-mul-parts-2 : tie.Need-mul-parts-2 Inv-loop μ-loop
-mul-parts-2 c = ?
-
--- src/lib.rt:228:9
-array-write-parts : tie.Need-array-write-parts Inv-loop μ-loop
-array-write-parts c = ?
-
--- src/lib.rt:229:32
-cast-parts-2 : tie.Need-cast-parts-2 Inv-loop μ-loop
-cast-parts-2 c = ?
-
--- src/lib.rt:229:15
-mul-parts-3 : tie.Need-mul-parts-3 Inv-loop μ-loop
-mul-parts-3 c = ?
-
--- src/lib.rt:229:15
-add-parts : tie.Need-add-parts Inv-loop μ-loop
-add-parts c = ?
-
--- src/lib.rt:229:9
-mul-parts-4 : tie.Need-mul-parts-4 Inv-loop μ-loop
-mul-parts-4 c = ?
-
--- src/lib.rt:229:9
-array-write-parts-2 : tie.Need-array-write-parts-2 Inv-loop μ-loop
-array-write-parts-2 c = ?
-
--- src/lib.rt:230:32
-cast-parts-3 : tie.Need-cast-parts-3 Inv-loop μ-loop
-cast-parts-3 c = ?
-
--- src/lib.rt:230:15
-mul-parts-5 : tie.Need-mul-parts-5 Inv-loop μ-loop
-mul-parts-5 c = ?
-
--- src/lib.rt:230:15
-add-parts-2 : tie.Need-add-parts-2 Inv-loop μ-loop
-add-parts-2 c = ?
-
--- src/lib.rt:230:9
-mul-parts-6 : tie.Need-mul-parts-6 Inv-loop μ-loop
-mul-parts-6 c = ?
-
--- src/lib.rt:230:9
-array-write-parts-3 : tie.Need-array-write-parts-3 Inv-loop μ-loop
-array-write-parts-3 c = ?
-
--- src/lib.rt:231:9
 merge-requires : tie.Need-merge-requires Inv-loop μ-loop
-merge-requires c κs = ?
+merge-requires c κs =
+    let d = c .before .before .before .before .before .before .before in
+    let o = sound d in
+    let f = few (c .before .before .before .before .before .before .before .before .before .before .before .before) in
+    let b = c .before .before .before .before .before .before .before .before .before .before .before .before .before .before .before .before .before .pre in
+    (omega (arith, o .0, o .1, o .2), omega (arith, o .1, o .2), o .2, omega (arith, room d, b .few), c .before .before .before .before .before .before .before .before .before .before .before .before .loop .inv .held .room)
 
--- src/lib.rt:233:9
 add-steps : tie.Need-add-steps Inv-loop μ-loop
-add-steps c = ?
+add-steps c = omega (arith, room (c .before .before .before .before .before .before .before .before))
 
--- src/lib.rt:216:5
 loop-less : tie.Need-loop-less Inv-loop μ-loop
-loop-less c = ?
+loop-less c = omega (arith, room (c .before .before .before .before .before .before .before .before))
 
--- src/lib.rt:216:5
 loop-again : tie.Need-loop-again Inv-loop μ-loop
-loop-again c = ?
+loop-again c =
+    let a = c .before .before .before .before .before .before .before .before .before .before .before .before .before .before .before .before .before .before .args in
+    let b = c .before .before .before .before .before .before .before .before .before .before .before .before .before .before .before .before .before .before .pre in
+    let l = c .before .before .before .before .before .before .before .before .before .before .before .before .before .loop in
+    let d = c .before .before .before .before .before .before .before .before in
+    let o = sound d in
+    let m = d .found .given .0 in
+    let n = c .before .before .before .note in
+    running-next (take (a .e) (a .start)) (a .e) (b .pairs) (b .count) (b .few) (l .slots) (l .links) (l .parts) (l .joints) (l .steps) (l .from) (l .last) (l .inv) (m .0) (m .1 .0)
+    (m .1 .1 .0) (o .0) (o .1) (o .2) (o .3) (λ ready. ap told (sym (d .found .given .1)) ∙ d .before .before .first-open .ensures .1 ready) (c .merge .result)
+    (c .merge .last .0) (c .merge .last .1 .0) (n .last .0) (n .last .1 .0) (c .merge .ensures) (n .ensures)
 
 pub merge-all-spec : {M : Type 1} → statement M
 merge-all-spec =
@@ -134,29 +126,15 @@ merge-all-spec =
     Inv-loop
     μ-loop
     link-all-requires
+    no-parts-requires
+    no-joints-requires
     loop-holds
     add-used
     first-open-requires
     enum-known-found
     enum-told
     returns
-    joint-of-requires
-    mul-joints
-    array-write-joints
-    cast-parts
-    mul-parts
-    mul-parts-2
-    array-write-parts
-    cast-parts-2
-    mul-parts-3
-    add-parts
-    mul-parts-4
-    array-write-parts-2
-    cast-parts-3
-    mul-parts-5
-    add-parts-2
-    mul-parts-6
-    array-write-parts-3
+    note-requires
     merge-requires
     add-steps
     loop-less
