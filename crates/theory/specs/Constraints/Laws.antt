@@ -189,7 +189,7 @@ pub pairs-perm : {l k : List ℕ} → Perm l k → Pairs l → Pairs k
 unfolding Pairs
 pairs-perm p h x i = h x (among-perm p x .1 i)
 
-pub length-perm : {l k : List ℕ} → Perm l k → length l ≡ length k
+pub length-perm : {A : Type 0} {l k : List A} → Perm l k → length l ≡ length k
 length-perm same = refl
 length-perm (skip x p) = ap suc (length-perm p)
 length-perm (swap x y) = refl
@@ -198,10 +198,6 @@ length-perm (then p q) = length-perm p ∙ length-perm q
 pub fine-perm : {l k : List ℕ} → Perm l k → NotOver l → NotOver k
 unfolding NotOver
 fine-perm p h x b = omega (arith, h x b, carried-perm p x)
-
-pub fine-in-perm : (n : ℕ) {l k : List ℕ} → Perm l k → NotOverIn n l → NotOverIn n k
-unfolding NotOverIn
-fine-in-perm n p h x l b = omega (arith, h x l b, carried-perm p x)
 
 pub sound-perm : (n : ℕ) {l k : List Ends} → Perm l k → Sound n l → Sound n k
 sound-perm n same s = s

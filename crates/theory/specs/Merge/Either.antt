@@ -3,15 +3,16 @@ use mathlib.Core.Path.{_≡_, refl, sym, ap, _∙_, subst}
 use mathlib.Core.Logic.{_≢_, _↔_, inl, inr, Iff·trans, Iff·symm}
 use mathlib.Core.Bool.{Bool, true, false, _||_}
 use mathlib.Core.List.{List}
-use lib.Dec.{eqb, eqb→eq, eqb-refl, T}
+use lib.Dec.{eqb, eqb→eq, T}
 use Prim.Native.Nat.{ℕ}
 use lib.ListN.{length}
+use Rattle.theory.specs.Tests.{eq-test}
 use Rattle.theory.specs.Constraints.{NotOver, Pairs}
 use Rattle.theory.specs.Merge.{Three, union, joint, Merge, slot, three, OpenAt, put, live, Part, Valid, final, isPart, stand, moved, Differ, EitherWay}
-use Rattle.theory.specs.Merge.Family.{absorb, movedIn, Meeting, coincide, commute, In, Same, OpenIn, after, Good}
+use Rattle.theory.specs.Merge.Family.{absorb, movedIn, Meeting, coincide, commute, In, Same, OpenIn, after, Good, Distinct}
 use Rattle.theory.specs.Merge.Family.Diamond.{absorb-part, absorb-other, three-by, meeting}
 use Rattle.theory.specs.Merge.Family.Outcome.{open-same, after-same}
-use Rattle.theory.specs.Merge.Numbered.{Distinct, in-part, part-in, alive-lt, put-new, put-old, cleared-other, merge-at, put-live, put-good, put-distinct, at-numbers, good-final, start-good, start-distinct}
+use Rattle.theory.specs.Merge.Numbered.{in-part, part-in, alive-lt, put-new, put-old, cleared-other, merge-at, put-live, put-good, put-distinct, at-numbers, good-final, start-good, start-distinct}
 
 -- ---- what stands for a cluster
 
@@ -26,15 +27,12 @@ is-part n m t = go (eqb n (m .i)) (eqb n (m .j)) refl refl t
 part-is : (n : ℕ) (m : Merge) → Part n m → T (isPart n m)
 part-is n m h = go (eqb n (m .i)) (eqb n (m .j)) refl refl h
   where
-    equal : (x : ℕ) → n ≡ x → T (eqb n x)
-    equal x e = subst (λ (y : ℕ). T (eqb n y)) e (eqb-refl n)
-
     go : (p q : Bool) → eqb n (m .i) ≡ p → eqb n (m .j) ≡ q → Part n m → T (p || (q || eqb n (m .k)))
     go true q e f h = tt
     go false true e f h = tt
-    go false false e f (inl h) = absurd (subst T e (equal (m .i) h))
-    go false false e f (inr (inl h)) = absurd (subst T f (equal (m .j) h))
-    go false false e f (inr (inr h)) = equal (m .k) h
+    go false false e f (inl h) = absurd (subst T e (eq-test n (m .i) h))
+    go false false e f (inr (inl h)) = absurd (subst T f (eq-test n (m .j) h))
+    go false false e f (inr (inr h)) = eq-test n (m .k) h
 
 data Stands (s : List ℕ) (m : Merge) (n : ℕ) : Type 0 where
   new : Part n m → stand s m n ≡ length s → Stands s m n

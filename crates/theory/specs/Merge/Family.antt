@@ -1,5 +1,6 @@
 -- The clusters as a family of sets, a predicate: the numbers and the order of the clusters are of no account there. Families are what the
--- proofs of "Every order of merging" work with; the numbered clusters are shown to step as their family does. Assumes nothing.
+-- proofs of "Every order of merging" work with; the numbered clusters are shown to step as their family does. A name
+-- that ends in In is of families what the name without it is of numbered clusters. Assumes nothing.
 use mathlib.Core.Path.{_≡_}
 use mathlib.Core.Logic.{_≢_, _↔_, _⊎_}
 use mathlib.Core.List.{List, [], _∷_}
@@ -7,7 +8,7 @@ use lib.ListN.{length}
 use Prim.Native.Nat.{ℕ, zero, _+_, _*_}
 use native.Mathlib.Decide.{decLe}
 use lib.Count.{ones}
-use Rattle.theory.specs.Merge.{Open, Three, union, joint}
+use Rattle.theory.specs.Merge.{Open, Three, union, joint, Merge, slot, three, put, final, joints, live}
 use Rattle.theory.specs.Set.{_∩_, _∪_}
 use Rattle.theory.specs.Constraints.{carried, Among}
 pub mod Invariant
@@ -68,6 +69,23 @@ pub record AlikeIn (F G : Fam) (p q : List Three) : Type 0 where
 -- the initial clusters
 abbrev pub start : List ℕ → Fam
 start cs x = Among x cs
+
+-- ---- clusters by number
+
+-- no two living clusters are the same set
+unfoldable pub Distinct : List ℕ → Type 0
+Distinct s = (p q : ℕ) → slot s p ≢ 0 → slot s p ≡ slot s q → p ≡ q
+
+-- the threes of a list of merges
+abbrev pub threes : List ℕ → List Merge → List Three
+threes s [] = []
+threes s (m ∷ p) = three s m ∷ threes (put s m) p
+
+-- the same final clusters, joints and number of steps
+pub record Alike (s r : List ℕ) (p q : List Merge) : Type 0 where
+  pub finals : Same (live (final s p)) (live (final r q))
+  pub steps : length p ≡ length q
+  pub knots : (x : ℕ) → Among x (joints s p) ↔ Among x (joints r q)
 
 -- ---- what becomes of a set when u is made: it is swallowed if it shares two elements with u
 

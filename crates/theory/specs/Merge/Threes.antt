@@ -1,12 +1,13 @@
--- Laws of three open sets: the size of the union and of the joint, and that each has two elements or more. Assumes nothing.
-use mathlib.Core.Path.{_≡_, ap}
+-- Laws of three open sets: the sizes of union and joint, that each has two elements or more, and what they have in common. Assumes nothing.
+use mathlib.Core.Path.{_≡_, sym, ap, _∙_, subst}
 use mathlib.Core.Logic.{_≢_, Ne·symm}
+use mathlib.Core.List.{List}
 use Prim.Native.Nat.{ℕ, _+_, _≤_}
 use native.Mathlib.Omega.{arith}
 use lib.Count.{ones}
-use Rattle.theory.specs.Merge.{Open, Three, union, joint}
+use Rattle.theory.specs.Merge.{Open, Three, union, joint, Merge, slot, OpenAt}
 use Rattle.theory.specs.Set.{_∩_, _∪_, _⊑_}
-use Rattle.theory.specs.Set.Laws.{size-or, size-le, sub-trans, or-l, or-r, and-r, and-or, singles-apart, singles-or, or-least, and-l}
+use Rattle.theory.specs.Set.Laws.{size-or, size-le, sub-trans, or-l, or-r, and-r, and-or, singles-apart, singles-or, or-least, and-l, size-none, size-zero, and-most, and-mono, sub-refl, and-comm}
 
 pub size-union : (t : Three) → Open (t .a) (t .b) (t .c) → ones (union t) + 3 ≡ ones (t .a) + ones (t .b) + ones (t .c)
 unfolding union
@@ -65,3 +66,44 @@ module _ (a b c : ℕ) (o : Open a b c) where
 
   pub big-c : 2 ≤ ones c
   big-c = open-big c (b ∩ c) (a ∩ c) (and-r b c) (and-r a c) (o .bc) (o .ac) (o .bc≢ac)
+
+-- ---- open, by what the three have in common
+
+pub open-meet : (a b c : ℕ) → Open a b c → a ∩ b ∩ c ≡ 0
+open-meet a b c o =
+    size-none (a ∩ b ∩ c)
+    (omega (arith, singles-apart (a ∩ b) (b ∩ c) (o .ab) (o .bc) (o .ab≢bc), size-le ((a ∩ b) ∩ (b ∩ c)) (a ∩ b ∩ c) (and-most (and-l (a ∩ b) c) (and-mono (and-r a b) (sub-refl c)))))
+
+pub meet-open : (a b c : ℕ) → ones (a ∩ b) ≡ 1 → ones (b ∩ c) ≡ 1 → ones (a ∩ c) ≡ 1 → a ∩ b ∩ c ≡ 0 → Open a b c
+meet-open a b c p q r z = record {
+  ab = p;
+  bc = q;
+  ac = r;
+  ab≢bc = λ e. clash (a ∩ b) p (and-most (sub-refl (a ∩ b)) (subst (λ (x : ℕ). x ⊑ c) (sym e) (and-r b c)));
+  bc≢ac = λ e. clash (b ∩ c) q (and-most (and-most (subst (λ (x : ℕ). x ⊑ a) (sym e) (and-l a c)) (and-l b c)) (and-r b c));
+  ab≢ac = λ e. clash (a ∩ b) p (and-most (sub-refl (a ∩ b)) (subst (λ (x : ℕ). x ⊑ c) (sym e) (and-r a c)));
+}
+  where
+    clash : (x : ℕ) → ones x ≡ 1 → x ⊑ a ∩ b ∩ c → ⊥
+    clash x e h = omega (arith, size-le (a ∩ b ∩ c) x h, ap ones z, size-zero)
+
+-- three clusters that are open live, and are three different ones
+pub open-living : (a b c : ℕ) → Open a b c → (a ≢ 0) × (b ≢ 0) × (c ≢ 0)
+open-living a b c o = (
+  λ e. omega (arith, big-a a b c o, ap ones e, size-zero),
+  λ e. omega (arith, big-b a b c o, ap ones e, size-zero),
+  λ e. omega (arith, big-c a b c o, ap ones e, size-zero),
+)
+
+pub open-at : (s : List ℕ) (m : Merge) → Open (slot s (m .i)) (slot s (m .j)) (slot s (m .k)) → OpenAt s m
+open-at s m o =
+    let l = open-living (slot s (m .i)) (slot s (m .j)) (slot s (m .k)) o in
+    record {
+      i≢j = λ e. o .bc≢ac (ap (λ (n : ℕ). slot s n ∩ slot s (m .k)) (sym e));
+      j≢k = λ e. o .ab≢ac (ap (λ (n : ℕ). slot s (m .i) ∩ slot s n) e);
+      i≢k = λ e. o .ab≢bc (and-comm (slot s (m .i)) (slot s (m .j)) ∙ ap (λ (n : ℕ). slot s (m .j) ∩ slot s n) e);
+      livei = l .0;
+      livej = l .1;
+      livek = l .2;
+      open3 = o;
+    }

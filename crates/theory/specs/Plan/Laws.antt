@@ -57,7 +57,7 @@ plan-one (m ∷ p) (r ∷ q) s e f =
     let h = first-one s m r (e .0) (f .0) in
     ap₂ _∷_ h (plan-one p q (put s m) (e .1) (subst (λ (x : Merge). IsPlan (put s x) q) (sym h) (f .1)))
 
--- ---- the plan that computes is that one
+-- ---- the search
 
 -- an open merge that comes first is the one found; where none is open, none is found
 pub first-is : (s : List ℕ) (m : Merge) → First s m → firstOf 0 s ≡ some m
@@ -75,6 +75,22 @@ none-is s e = go (firstOf 0 s) (first-found s)
     go : (o : Option Merge) → Found s o → o ≡ none
     go o (found r b) = absurd (e r (b .isopen))
     go o (nothing f) = refl
+
+pub some-first : (s : List ℕ) (m : Merge) → firstOf 0 s ≡ some m → First s m
+some-first s m e = go (firstOf 0 s) (first-found s) e
+  where
+    go : (o : Option Merge) → Found s o → o ≡ some m → First s m
+    go o (found r b) q = let h : r ≡ m = cc in subst (First s) h b
+    go o (nothing f) q = let z : _≡_ {A = ℕ} 0 1 = cc in absurd (omega arith)
+
+pub none-ended : (s : List ℕ) → firstOf 0 s ≡ none → Ended s
+none-ended s e = go (firstOf 0 s) (first-found s) e
+  where
+    go : (o : Option Merge) → Found s o → o ≡ none → Ended s
+    go o (found r b) q = let z : _≡_ {A = ℕ} 0 1 = cc in absurd (omega arith)
+    go o (nothing f) q = f
+
+-- ---- the plan that computes is that one
 
 pub plan-is : (f : ℕ) (s : List ℕ) → left s ≤ f → IsPlan s (plan f s)
 unfolding plan Ended
@@ -118,3 +134,9 @@ unfolding joints
 joints-ascending [] s = refl
 joints-ascending (m ∷ p) s =
     ap₂ _∷_ (joint-ascending s m) (ap (λ (t : List ℕ). joints t (map ascending p)) (put-ascending s m) ∙ joints-ascending p (put s m))
+
+pub maximal-ascending : (p : List Merge) (s : List ℕ) → Maximal s p → Maximal s (map ascending p)
+maximal-ascending p s m = record { valid = valid-ascending p s (m .valid); ended = subst Ended (sym (final-ascending p s)) (m .ended) }
+
+pub ascending-maximal : (p : List Merge) (s : List ℕ) → Maximal s (map ascending p) → Maximal s p
+ascending-maximal p s m = record { valid = ascending-valid p s (m .valid); ended = subst Ended (final-ascending p s) (m .ended) }

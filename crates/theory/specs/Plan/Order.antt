@@ -22,9 +22,6 @@ pub by-exchange : (P : Merge → Type 0) → ((i j k : ℕ) → P (merge i j k) 
 unfolding ascending
 by-exchange P ab bc m h = go (m .i) (m .j) (m .k) h (decLe (m .i) (m .j)) (decLe (m .j) (m .k)) (decLe (m .i) (m .k))
   where
-    up : ℕ → ℕ → ℕ → Merge
-    up i j k = merge (min (min i j) k) (max (min i j) (min (max i j) k)) (max (max i j) k)
-
     go : (i j k : ℕ) → P (merge i j k) → Dec (i ≤ j) → Dec (j ≤ k) → Dec (i ≤ k)
         → P (merge (min (min i j) k) (max (min i j) (min (max i j) k)) (max (max i j) k))
     go i j k h (yes a) (yes b) c = subst P (merge-by (omega arith) (omega arith) (omega arith)) h

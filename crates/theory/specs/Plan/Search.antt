@@ -1,42 +1,22 @@
 -- The search for the first open merge finds it, or there is none. Assumes nothing.
-use mathlib.Core.Path.{_≡_, refl, sym, ap, _∙_, subst}
-use mathlib.Core.Logic.{_≢_, _⊎_, inl, inr}
+use mathlib.Core.Path.{_≡_, refl, sym, _∙_, subst}
+use mathlib.Core.Logic.{_⊎_, inl, inr}
 use mathlib.Core.List.{List, [], _∷_}
-use mathlib.Core.Bool.{Bool, true, false, not, _&&_}
+use mathlib.Core.Bool.{Bool, true, false, not}
 use mathlib.Core.Option.{Option, none, some}
 use Prim.Native.Nat.{ℕ, zero, suc, _+_, _≤_, _<_}
 use native.Mathlib.Omega.{arith}
 use native.Mathlib.Decide.{ℕ-discrete}
-use lib.Dec.{T, eqb, eqb→eq, eqb-refl, T-not, not-T}
+use lib.Dec.{T, eqb, eqb→eq}
 use lib.Count.{ones}
+use Rattle.theory.specs.Tests.{and-intro, and-both, eq-test, ne-test, test-ne}
 use Rattle.theory.specs.Set.{_∩_}
-use Rattle.theory.specs.Set.Laws.{size-zero, size-le, and-l, and-r}
 use Rattle.theory.specs.Merge.{Merge, merge, slot, Open, OpenAt, Ended}
+use Rattle.theory.specs.Merge.Threes.{open-living, open-at}
 use Rattle.theory.specs.Plan.{openTest, thirdOf, secondOf, firstOf, ascending, NotAfter, First}
 use Rattle.theory.specs.Plan.Order.{merge-by, open-ascending, ascends}
 
 -- ---- the test of an open three
-
-pub and-left : (x y : Bool) → T (x && y) → T x
-and-left true y t = tt
-and-left false y t = t
-
-pub and-right : (x y : Bool) → T (x && y) → T y
-and-right true y t = t
-and-right false y t = absurd t
-
-pub and-intro : (x y : Bool) → T x → T y → T (x && y)
-and-intro true y p q = q
-and-intro false y p q = p
-
-eq-test : (x y : ℕ) → x ≡ y → T (eqb x y)
-eq-test x y e = subst (λ (z : ℕ). T (eqb x z)) e (eqb-refl x)
-
-ne-test : (x y : ℕ) → x ≢ y → T (not (eqb x y))
-ne-test x y n = not-T (eqb x y) (λ t. n (eqb→eq x y t))
-
-test-ne : (x y : ℕ) → T (not (eqb x y)) → x ≢ y
-test-ne x y t e = T-not (eqb x y) t (eq-test x y e)
 
 module _ (a b c : ℕ) where
   pub open-test : Open a b c → T (openTest a b c)
@@ -51,28 +31,21 @@ module _ (a b c : ℕ) where
   pub test-open : T (openTest a b c) → Open a b c
   unfolding openTest
   test-open t =
-      let t1 = and-right (eqb (ones (a ∩ b)) 1) _ t in
-      let t2 = and-right (eqb (ones (b ∩ c)) 1) _ t1 in
-      let t3 = and-right (eqb (ones (a ∩ c)) 1) _ t2 in
-      let t4 = and-right (not (eqb (a ∩ b) (b ∩ c))) _ t3 in
+      let t1 = and-both (eqb (ones (a ∩ b)) 1) _ t in
+      let t2 = and-both (eqb (ones (b ∩ c)) 1) _ (t1 .1) in
+      let t3 = and-both (eqb (ones (a ∩ c)) 1) _ (t2 .1) in
+      let t4 = and-both (not (eqb (a ∩ b) (b ∩ c))) _ (t3 .1) in
+      let t5 = and-both (not (eqb (b ∩ c) (a ∩ c))) _ (t4 .1) in
       record {
-        ab = eqb→eq (ones (a ∩ b)) 1 (and-left (eqb (ones (a ∩ b)) 1) _ t);
-        bc = eqb→eq (ones (b ∩ c)) 1 (and-left (eqb (ones (b ∩ c)) 1) _ t1);
-        ac = eqb→eq (ones (a ∩ c)) 1 (and-left (eqb (ones (a ∩ c)) 1) _ t2);
-        ab≢bc = test-ne (a ∩ b) (b ∩ c) (and-left (not (eqb (a ∩ b) (b ∩ c))) _ t3);
-        bc≢ac = test-ne (b ∩ c) (a ∩ c) (and-left (not (eqb (b ∩ c) (a ∩ c))) _ t4);
-        ab≢ac = test-ne (a ∩ b) (a ∩ c) (and-right (not (eqb (b ∩ c) (a ∩ c))) _ t4);
+        ab = eqb→eq (ones (a ∩ b)) 1 (t1 .0);
+        bc = eqb→eq (ones (b ∩ c)) 1 (t2 .0);
+        ac = eqb→eq (ones (a ∩ c)) 1 (t3 .0);
+        ab≢bc = test-ne (a ∩ b) (b ∩ c) (t4 .0);
+        bc≢ac = test-ne (b ∩ c) (a ∩ c) (t5 .0);
+        ab≢ac = test-ne (a ∩ b) (a ∩ c) (t5 .1);
       }
 
 -- ---- the first open merge
-
--- a dead or missing cluster is in no open merge
-dead : (a b c : ℕ) → Open a b c → (a ≢ 0) × (b ≢ 0) × (c ≢ 0)
-dead a b c o = (
-  λ e. omega (arith, o .ab, size-le a (a ∩ b) (and-l a b), ap ones e, size-zero),
-  λ e. omega (arith, o .ab, size-le b (a ∩ b) (and-r a b), ap ones e, size-zero),
-  λ e. omega (arith, o .ac, size-le c (a ∩ c) (and-r a c), ap ones e, size-zero),
-)
 
 data Third (a b k : ℕ) (s : List ℕ) : Option ℕ → Type 0 where
   found : (r n : ℕ) → r ≡ k + n → Open a b (slot s n) → ((j : ℕ) → Open a b (slot s j) → n ≤ j) → Third a b k s (some r)
@@ -80,7 +53,7 @@ data Third (a b k : ℕ) (s : List ℕ) : Option ℕ → Type 0 where
 
 third : (s : List ℕ) (a b k : ℕ) → Third a b k s (thirdOf a b k s)
 unfolding thirdOf
-third [] a b k = nothing (λ j o. dead a b 0 o .2 refl)
+third [] a b k = nothing (λ j o. open-living a b 0 o .2 refl)
 third (c ∷ s) a b k = go (openTest a b c) refl (thirdOf a b (suc k) s) (third s a b (suc k))
   where
     not-here : openTest a b c ≡ false → Open a b c → ⊥
@@ -106,7 +79,7 @@ data Second (a i k : ℕ) (s : List ℕ) : Option Merge → Type 0 where
 
 second : (s : List ℕ) (a i k : ℕ) → Second a i k s (secondOf a i k s)
 unfolding secondOf
-second [] a i k = nothing (λ x y l o. dead a 0 0 o .1 refl)
+second [] a i k = nothing (λ x y l o. open-living a 0 0 o .1 refl)
 second (b ∷ s) a i k = go (thirdOf a b (suc k) s) (third s a b (suc k)) (secondOf a i (suc k) s) (second s a i (suc k))
   where
     go : (t : Option ℕ) → Third a b (suc k) s t → (o : Option Merge) → Second a i (suc k) s o
@@ -148,7 +121,7 @@ data Whole (k : ℕ) (s : List ℕ) : Option Merge → Type 0 where
 
 whole : (s : List ℕ) (k : ℕ) → Whole k s (firstOf k s)
 unfolding firstOf
-whole [] k = nothing (λ x y z l m o. dead 0 0 0 o .0 refl)
+whole [] k = nothing (λ x y z l m o. open-living 0 0 0 o .0 refl)
 whole (a ∷ s) k = go (secondOf a k (suc k) s) (second s a k (suc k)) (firstOf (suc k) s) (whole s (suc k))
   where
     go : (t : Option Merge) → Second a k (suc k) s t → (o : Option Merge) → Whole (suc k) s o → Whole k (a ∷ s) (elim t [ some m ↦ some m | none ↦ o ])
@@ -207,23 +180,12 @@ first-found s = go (firstOf 0 s) (whole s 0)
     go w (found x y z r e b c h f g d) = found r (subst (First s) (sym (e ∙ plain)) (record {
       i<j = b;
       j<k = c;
-      isopen = openAt;
+      isopen = open-at s (merge x y z) h;
       least = λ q u. let v = up q u in place (ascending q) (v .0) (v .1) (v .2 .open3) (ℕ-discrete (ascending q .i) x) (ℕ-discrete (ascending q .j) y);
     }))
       where
         plain : merge (0 + x) (0 + y) (0 + z) ≡ merge x y z
         plain = merge-by (omega arith) (omega arith) (omega arith)
-
-        openAt : OpenAt s (merge x y z)
-        openAt = let l = dead (slot s x) (slot s y) (slot s z) h in record {
-          i≢j = λ e. omega arith;
-          j≢k = λ e. omega arith;
-          i≢k = λ e. omega arith;
-          livei = l .0;
-          livej = l .1;
-          livek = l .2;
-          open3 = h;
-        }
 
         up : (q : Merge) → OpenAt s q → (ascending q .i < ascending q .j) × (ascending q .j < ascending q .k) × OpenAt s (ascending q)
         up q u = let l = ascends q (u .i≢j) (u .j≢k) (u .i≢k) in (l .0, l .1, open-ascending s q u)

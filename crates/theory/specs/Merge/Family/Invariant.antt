@@ -1,12 +1,13 @@
 -- A good family: each set carries exactly 2m-3 constraints and no constraint lies in two. A merge leaves a good family, and in one two sets
 -- share at most one element. Assumes nothing.
 use mathlib.Core.Path.{_≡_, refl, sym, ap, _∙_, subst}
-use mathlib.Core.Logic.{_≢_, _⊎_, inl, inr, ⊎-elim}
+use mathlib.Core.Logic.{_≢_, _⊎_, inl, inr}
 use mathlib.Core.List.{List}
 use Prim.Native.Nat.{ℕ, zero, _+_, _*_, _≤_}
 use native.Mathlib.Omega.{arith}
 use native.Mathlib.Decide.{ℕ-discrete, decLe}
 use lib.Count.{ones}
+use Rattle.theory.specs.Tests.{one-of}
 use Rattle.theory.specs.Merge.{Three, union}
 use Rattle.theory.specs.Set.{_∩_, _∪_, _⊑_}
 use Rattle.theory.specs.Set.Laws.{size-or, size-le, or-l, and-r, and-comm, sub-and, size-eq, and-l}
@@ -21,13 +22,7 @@ in-union t x (inr (inl e)) = subst (λ (y : ℕ). y ⊑ union t) (sym e) (part-b
 in-union t x (inr (inr e)) = subst (λ (y : ℕ). y ⊑ union t) (sym e) (part-c t)
 
 pub in-dec : (x : ℕ) (t : Three) → Dec (In x t)
-in-dec x t = go (ℕ-discrete x (t .a)) (ℕ-discrete x (t .b)) (ℕ-discrete x (t .c))
-  where
-    go : Dec (x ≡ t .a) → Dec (x ≡ t .b) → Dec (x ≡ t .c) → Dec (In x t)
-    go (yes e) q r = yes (inl e)
-    go (no n) (yes e) r = yes (inr (inl e))
-    go (no n) (no k) (yes e) = yes (inr (inr e))
-    go (no n) (no k) (no l) = no (λ h. ⊎-elim n (⊎-elim k l) h)
+in-dec x t = one-of x (t .a) (t .b) (t .c)
 
 pub good-same : (cs : List ℕ) {F G : Fam} → Same F G → Good cs G → Good cs F
 good-same cs h g = record {

@@ -1,0 +1,24 @@
+//! The engine's plan and the verdict, reading and the search for an over set included.
+
+use pattern_bench::timing::Contender;
+use pattern_bench::{cases, plain, table};
+use pattern_tests::ffi;
+
+fn main() {
+    let cases = cases::for_plan();
+    let mut contenders = vec![plan("proved", ffi::plan), plan("plain Rust", plain::plan::plan)];
+    #[cfg(feature = "yardstick")]
+    contenders.push(plan("yardstick", pattern_bench::yardstick::plan));
+    table::print("plan", &cases, &mut contenders);
+    let mut contenders =
+        vec![Contender::new("proved", ffi::verdict), Contender::new("plain Rust", plain::plan::verdict)];
+    #[cfg(feature = "yardstick")]
+    contenders.push(Contender::new("yardstick", pattern_bench::yardstick::verdict));
+    table::print("verdict", &cases, &mut contenders);
+}
+
+/// A contender with lent numbers of its own.
+fn plan(name: &'static str, plan: fn(&[u8], &mut [u16]) -> i32) -> Contender {
+    let mut out = [0; 256];
+    Contender::new(name, move |bytes| plan(bytes, &mut out))
+}

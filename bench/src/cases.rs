@@ -1,0 +1,132 @@
+//! The sheets that are timed, some shapes at n 16, 32 and 64.
+
+use pattern_tests::facts::{Constraint, Kind, Sheet};
+use pattern_tests::graph::Graph;
+use pattern_tests::random::Random;
+use pattern_tests::{shapes, writer};
+
+/// Sheets of one shape.
+pub struct Case {
+    pub name: String,
+    pub n: usize,
+    pub e: usize,
+    pub pool: Vec<Vec<u8>>,
+}
+
+/// How many sheets a case has.
+const POOL: usize = 32;
+/// The element counts between which growth is shown.
+const SIZES: [usize; 3] = [16, 32, 64];
+
+/// What a case's elements and constraints look like, in hundredths.
+#[derive(Clone, Copy)]
+struct Dress {
+    lines: usize,
+    tags: usize,
+}
+
+const PLAIN: Dress = Dress { lines: 0, tags: 0 };
+
+/// A case of graphs, each with other names and, if `mixed`, in another order.
+fn case(name: &str, dress: Dress, mixed: bool, graph: impl Fn(&mut Random) -> Graph) -> Case {
+    let random = &mut Random::new(name.len() as u64);
+    let mut sheet = || {
+        let mut graph = graph(random);
+        if mixed {
+            graph.rename(random);
+            random.shuffle(&mut graph.pairs);
+        }
+        dressed(&graph, dress, random)
+    };
+    let sheets: Vec<Sheet> = (0..POOL).map(|_| sheet()).collect();
+    let (n, e) = (sheets[0].n(), sheets[0].e());
+    Case { name: name.to_string(), n, e, pool: sheets.iter().map(writer::bytes).collect() }
+}
+
+/// A graph as a sheet.
+fn dressed(graph: &Graph, dress: Dress, random: &mut Random) -> Sheet {
+    let kind = |random: &mut Random| if random.chance(dress.lines) { Kind::Line } else { Kind::Point };
+    let kinds: Vec<Kind> = (0..graph.n).map(|_| kind(random)).collect();
+    let constraint = |&(a, b): &(usize, usize)| Constraint {
+        first: a as u8,
+        second: b as u8,
+        size: (kinds[a] == kinds[b] || random.chance(70)).then(|| random.between(1, 17_999) as i32),
+        tag: random.chance(dress.tags).then(|| random.bits() as u16),
+    };
+    let constraints = graph.pairs.iter().map(constraint).collect();
+    Sheet { kinds, constraints }
+}
+
+/// Sheets for reading and writing.
+pub fn for_sheet() -> Vec<Case> {
+    let full = |random: &mut Random| shapes::scattered(64, 200, random);
+    let mut cases = vec![
+        case("200 distances", PLAIN, true, full),
+        case("200 distances, every tag", Dress { lines: 0, tags: 100 }, true, full),
+        case("200 mixed, half the tags", Dress { lines: 40, tags: 50 }, true, full),
+    ];
+    cases.extend(growing("strip", false, |n, _| shapes::strip(n)));
+    cases
+}
+
+/// The same shape at each of the element counts.
+fn growing(name: &str, mixed: bool, graph: impl Fn(usize, &mut Random) -> Graph) -> [Case; 3] {
+    SIZES.map(|n| case(name, PLAIN, mixed, |random| graph(n, random)))
+}
+
+/// Sheets for the search of an over set.
+pub fn for_over() -> Vec<Case> {
+    let mut cases = Vec::new();
+    cases.extend(growing("strip", false, |n, _| shapes::strip(n)));
+    cases.extend(growing("merge tree", true, shapes::merge_tree));
+    cases.extend(growing("Henneberg, 30 % split", true, |n, random| shapes::henneberg(n, 30, random)));
+    cases.extend(growing("Henneberg, 90 % split", true, |n, random| shapes::henneberg(n, 90, random)));
+    cases.extend([
+        case("fan, spokes first", PLAIN, false, |_| shapes::fan(64)),
+        case("book, spine last", PLAIN, false, |_| shapes::book(64)),
+        case("scattered", PLAIN, false, |random| shapes::scattered(64, 100, random)),
+        case("over, the last of 126", PLAIN, false, |random| full_and_more(30, 126, random)),
+        case("over, full first", PLAIN, false, |random| full_and_more(90, 200, random)),
+        case("over, scattered", PLAIN, false, |random| shapes::scattered(64, 200, random)),
+    ]);
+    cases
+}
+
+/// Sheets for plans, verdicts and reports.
+pub fn for_plan() -> Vec<Case> {
+    let lines = Dress { lines: 30, tags: 50 };
+    let mut cases = for_over();
+    cases.extend(growing("Henneberg, no split", true, |n, random| shapes::henneberg(n, 0, random)));
+    cases.extend([
+        case("strip, mixed", PLAIN, true, |_| shapes::strip(64)),
+        case("merge tree, lines and tags", lines, true, |random| shapes::merge_tree(64, random)),
+        case("K2,31 closed late", PLAIN, false, |_| shapes::closed_late(64, 31)),
+        case("K2,44 closed late", PLAIN, false, |_| shapes::closed_late(64, 44)),
+        case("fan, spokes last", PLAIN, false, |_| reversed(shapes::fan(64))),
+        case("merge tree less 8", PLAIN, true, |random| less(shapes::merge_tree(64, random), 8, random)),
+        case("scattered, few", PLAIN, false, |random| shapes::scattered(64, 60, random)),
+    ]);
+    cases
+}
+
+/// The graph with its pairs listed backwards.
+fn reversed(mut graph: Graph) -> Graph {
+    graph.pairs.reverse();
+    graph
+}
+
+/// The graph without some of its pairs.
+fn less(mut graph: Graph, count: usize, random: &mut Random) -> Graph {
+    graph.part_random(count, random);
+    graph
+}
+
+/// A full Henneberg graph on 64 elements in a random order, and then random pairs up to e.
+fn full_and_more(split: usize, e: usize, random: &mut Random) -> Graph {
+    let mut graph = shapes::henneberg(64, split, random);
+    graph.rename(random);
+    random.shuffle(&mut graph.pairs);
+    let more = e - graph.pairs.len();
+    graph.join_random(more, random);
+    graph
+}

@@ -1,0 +1,47 @@
+//! Plain Rust that is written to be fast: what a Rust programmer would put in the proved library's place.
+
+pub mod over;
+pub mod plan;
+pub mod report;
+pub mod sheet;
+
+#[cfg(test)]
+mod tests {
+    use pattern_tests::facts::Rule;
+    use pattern_tests::interface::Found;
+    use pattern_tests::random::Random;
+    use pattern_tests::space::{Item, Space};
+    use pattern_tests::{damage, dress, interface, writer};
+
+    /// Sheets, sound and damaged.
+    fn sheets() -> impl Iterator<Item = Vec<u8>> {
+        let mut random = Random::new(1);
+        (0..4_000).flat_map(move |_| {
+            let sheet = dress::any(64, &mut random);
+            let bytes = writer::bytes(&sheet);
+            let cut = bytes[..random.below(bytes.len())].to_vec();
+            [damage::aimed(&sheet, &mut random), damage::changed(&bytes, &mut random), cut, bytes]
+        })
+    }
+
+    /// Compares a call's number and lent space with what they must be.
+    fn same<T: Item>(bytes: &[u8], answer: &Result<Vec<T>, Rule>, call: impl Fn(&[u8], &mut [T]) -> i32) {
+        let mut space = Space::new(4_000, &mut Random::new(2));
+        let wanted = space.expected(answer);
+        let number = call(bytes, space.lent());
+        assert_eq!((number, space.cells()), (wanted.0, &wanted.1[..]), "{bytes:02x?}");
+    }
+
+    #[test]
+    fn as_the_reference() {
+        for bytes in sheets() {
+            let found = Found::of(&bytes);
+            same(&bytes, &interface::rewrite(&bytes), super::sheet::rewrite);
+            same(&bytes, &interface::over(&bytes), super::over::over);
+            same(&bytes, &found.plan(), super::plan::plan);
+            same(&bytes, &found.report(), super::report::report);
+            let verdict = found.verdict().map_or_else(|rule| -i32::from(rule), i32::from);
+            assert_eq!(super::plan::verdict(&bytes), verdict);
+        }
+    }
+}

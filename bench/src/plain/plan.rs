@@ -1,0 +1,155 @@
+//! The engine's plan and the verdict, by links between elements.
+//!
+//! Two elements are linked if a living cluster holds both. On a sheet that is not over two living clusters share at
+//! most one element, so a cluster takes part in an open merge if and only if an element outside it is linked to two of
+//! its own.
+
+use super::over;
+use super::sheet::{Sheet, read};
+
+/// The most clusters of a sheet that is not over: 125 constraints and 62 steps.
+const MOST_CLUSTERS: usize = 187;
+/// The most steps of a plan.
+const MOST_STEPS: usize = 62;
+
+/// A step: its parts ascending, and the joint.
+#[derive(Clone, Copy)]
+pub struct Step {
+    pub parts: [usize; 3],
+    pub joint: u64,
+}
+
+/// The clusters of a sheet while they are merged, and the steps so far.
+pub struct Merging {
+    /// The elements of each cluster; 0 where it was merged away.
+    sets: [u64; MOST_CLUSTERS],
+    /// How many clusters have a number.
+    made: usize,
+    /// For each element those that are linked to it, and itself.
+    links: [u64; 64],
+    steps: [Step; MOST_STEPS],
+    count: usize,
+}
+
+impl Merging {
+    /// The initial clusters of a sheet that is not over.
+    fn initial(sheet: &Sheet) -> Merging {
+        let none = Step { parts: [0; 3], joint: 0 };
+        let mut merging =
+            Merging { sets: [0; MOST_CLUSTERS], made: sheet.e, links: [0; 64], steps: [none; MOST_STEPS], count: 0 };
+        for (set, c) in merging.sets.iter_mut().zip(&sheet.constraints[..sheet.e]) {
+            *set = 1 << c.first | 1 << c.second;
+            merging.links[usize::from(c.first & 63)] |= *set;
+            merging.links[usize::from(c.second & 63)] |= *set;
+        }
+        merging
+    }
+
+    /// The elements outside a set that are linked to two of its own.
+    fn outside(&self, set: u64) -> u64 {
+        let (mut once, mut twice, mut rest) = (0, 0, set);
+        while rest != 0 {
+            let links = self.links[rest.trailing_zeros() as usize & 63];
+            twice |= once & links;
+            once |= links;
+            rest &= rest - 1;
+        }
+        twice & !set
+    }
+
+    /// The lowest cluster from `from` on that meets both sets.
+    fn lowest_meeting(&self, from: usize, a: u64, b: u64) -> Option<usize> {
+        (from..self.made).find(|&i| self.sets[i] & a != 0 && self.sets[i] & b != 0)
+    }
+
+    /// The first open merge, where below `from` only clusters that meet `last` take part in any.
+    fn first_open(&self, from: usize, last: u64) -> Option<[usize; 3]> {
+        let may = |&i: &usize| i >= from || self.sets[i] & last != 0;
+        let i = (0..self.made).filter(may).find(|&i| self.outside(self.sets[i]) != 0)?;
+        let a = self.sets[i];
+        let j = self.lowest_meeting(i + 1, a, self.outside(a))?;
+        let b = self.sets[j];
+        let k = self.lowest_meeting(j + 1, a & !b, b & !a)?;
+        Some([i, j, k])
+    }
+
+    /// Makes an open merge; the union.
+    fn merge(&mut self, parts: [usize; 3]) -> u64 {
+        let [a, b, c] = parts.map(|i| std::mem::take(&mut self.sets[i]));
+        let union = a | b | c;
+        let mut rest = union;
+        while rest != 0 {
+            self.links[rest.trailing_zeros() as usize & 63] |= union;
+            rest &= rest - 1;
+        }
+        self.sets[self.made] = union;
+        self.steps[self.count] = Step { parts, joint: a & b | a & c | b & c };
+        self.made += 1;
+        self.count += 1;
+        union
+    }
+
+    /// The steps made.
+    pub fn steps(&self) -> &[Step] {
+        &self.steps[..self.count]
+    }
+
+    /// The clusters by number; 0 where one was merged away.
+    pub fn sets(&self) -> &[u64] {
+        &self.sets[..self.made]
+    }
+}
+
+/// Takes the first open merge until there is none.
+pub fn merge_all(sheet: &Sheet) -> Merging {
+    let mut merging = Merging::initial(sheet);
+    let (mut from, mut last) = (0, 0);
+    while let Some(parts) = merging.first_open(from, last) {
+        last = merging.merge(parts);
+        from = parts[0];
+    }
+    merging
+}
+
+/// The verdict's number: 0 over, 1 angle, 2 well, 3 stuck, 4 under.
+pub fn verdict_of(sheet: &Sheet, merging: &Merging) -> i32 {
+    let angle = merging.steps().iter().any(|step| step.joint & !sheet.lines == 0);
+    let left = sheet.e - 2 * merging.count;
+    match (angle, sheet.e == 2 * sheet.n - 3, left) {
+        (true, _, _) => 1,
+        (_, true, 1) => 2,
+        (_, true, _) => 3,
+        _ => 4,
+    }
+}
+
+/// The verdict on a sheet's bytes, or minus the rule.
+pub fn verdict(bytes: &[u8]) -> i32 {
+    let mut sheet = Sheet::blank();
+    if let Err(rule) = read(bytes, &mut sheet) {
+        return -i32::from(rule);
+    }
+    match over::find(&sheet) {
+        Some(_) => 0,
+        None => verdict_of(&sheet, &merge_all(&sheet)),
+    }
+}
+
+/// The engine's plan into lent space: the count of numbers, or minus the rule.
+pub fn plan(bytes: &[u8], out: &mut [u16]) -> i32 {
+    let mut sheet = Sheet::blank();
+    if let Err(rule) = read(bytes, &mut sheet) {
+        return -i32::from(rule);
+    }
+    if over::find(&sheet).is_some() {
+        return 0;
+    }
+    let merging = merge_all(&sheet);
+    let Some(space) = out.get_mut(..3 * merging.count) else {
+        return -17;
+    };
+    for (numbers, step) in space.chunks_exact_mut(3).zip(merging.steps()) {
+        numbers.copy_from_slice(&step.parts.map(|part| part as u16));
+    }
+    space.len() as i32
+}

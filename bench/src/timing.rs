@@ -1,0 +1,57 @@
+//! Time a call, in nanoseconds.
+
+use std::hint::black_box;
+use std::time::Instant;
+
+/// How often each contender has its turn; the lowest of its medians counts.
+pub const TURNS: usize = 6;
+/// Samples a turn; their median counts.
+pub const SAMPLES: usize = 41;
+/// The least time of a sample.
+const SAMPLE_NS: f64 = 50_000.0;
+
+/// A call to be timed on each sheet of a pool.
+pub type Call = Box<dyn FnMut(&[u8]) -> i32>;
+
+/// Who is timed.
+pub struct Contender {
+    pub name: &'static str,
+    pub call: Call,
+}
+
+impl Contender {
+    /// A contender by its name and what it calls.
+    pub fn new(name: &'static str, call: impl FnMut(&[u8]) -> i32 + 'static) -> Contender {
+        Contender { name, call: Box::new(call) }
+    }
+}
+
+/// For each contender the lowest of its medians; they take turns, so that all meet the same machine.
+pub fn lowest_medians(contenders: &mut [Contender], pool: &[Vec<u8>]) -> Vec<f64> {
+    let mut lowest = vec![f64::INFINITY; contenders.len()];
+    for _ in 0..TURNS {
+        for (contender, lowest) in contenders.iter_mut().zip(&mut lowest) {
+            *lowest = lowest.min(median(&mut contender.call, pool));
+        }
+    }
+    lowest
+}
+
+/// The median time of a call over some samples, each of several passes over the pool.
+fn median(call: &mut Call, pool: &[Vec<u8>]) -> f64 {
+    let passes = (SAMPLE_NS / sample(call, pool, 1)).ceil() as usize;
+    let mut times: Vec<f64> = (0..SAMPLES).map(|_| sample(call, pool, passes)).collect();
+    times.sort_by(f64::total_cmp);
+    times[SAMPLES / 2] / (pool.len() * passes) as f64
+}
+
+/// The time of some passes over the pool.
+fn sample(call: &mut Call, pool: &[Vec<u8>], passes: usize) -> f64 {
+    let start = Instant::now();
+    for _ in 0..passes {
+        for bytes in pool {
+            black_box(call(black_box(bytes)));
+        }
+    }
+    (start.elapsed().as_nanos() as f64).max(1.0)
+}

@@ -1,0 +1,101 @@
+//! Every function on random, damaged and structured inputs, a million calls.
+
+use std::process::ExitCode;
+
+use pattern_tests::facts::{Columns, MOST_ELEMENTS};
+use pattern_tests::interface::Found;
+use pattern_tests::random::Random;
+use pattern_tests::run::Run;
+use pattern_tests::{calls, damage, dress, reader, writer};
+
+const CALLS: u64 = 1_000_000;
+
+fn main() -> ExitCode {
+    let mut run = Run::start("fuzz", 50_463_035);
+    while run.calls() < CALLS {
+        let bytes = sheet(&mut run.random);
+        let found = Found::of(&bytes);
+        calls::rewrite(&mut run, &bytes);
+        calls::over(&mut run, &bytes);
+        calls::plan(&mut run, &bytes, &found);
+        calls::report(&mut run, &bytes, &found);
+        let saved = found.plan().unwrap_or_default();
+        let plan = plan(&saved, &mut run.random);
+        calls::check_plan(&mut run, &bytes, &plan);
+        let constraint = constraint(&bytes, &mut run.random);
+        calls::add(&mut run, &bytes, &constraint);
+        let facts = facts(&bytes, &mut run.random);
+        calls::write(&mut run, &facts);
+    }
+    run.finish()
+}
+
+/// A sheet's bytes with anything from no damage to noise alone.
+fn sheet(random: &mut Random) -> Vec<u8> {
+    let most = random.pick(&[4, 8, 8, 16, 16, 24, MOST_ELEMENTS]);
+    let sheet = dress::any(most, random);
+    let mut bytes = writer::bytes(&sheet);
+    match random.below(10) {
+        0 => damage::noise(random),
+        1 => damage::appended(&bytes, random),
+        2 => {
+            bytes.truncate(random.below(bytes.len() + 1));
+            bytes
+        }
+        3 => damage::aimed(&sheet, random),
+        4 => (0..random.between(1, 5)).fold(bytes, |bytes, _| damage::changed(&bytes, random)),
+        5 => spliced(bytes, &writer::bytes(&dress::any(most, random)), random),
+        _ => bytes,
+    }
+}
+
+/// The start of one sheet with the end of another.
+fn spliced(mut bytes: Vec<u8>, other: &[u8], random: &mut Random) -> Vec<u8> {
+    bytes.truncate(random.below(bytes.len() + 1));
+    bytes.extend_from_slice(&other[random.below(other.len())..]);
+    bytes
+}
+
+/// A plan: the engine's, that with faults, or random numbers.
+fn plan(saved: &[u16], random: &mut Random) -> Vec<u16> {
+    match random.below(4) {
+        0 => saved.to_vec(),
+        1 => (0..random.below(12)).map(|_| random.below(20) as u16).collect(),
+        2 => (0..random.between(1, 3)).fold(saved.to_vec(), |plan, _| damage::plan(&plan, random)),
+        _ => damage::plan(saved, random),
+    }
+}
+
+/// A constraint's bytes for a sheet: sound, damaged or random.
+fn constraint(sheet: &[u8], random: &mut Random) -> Vec<u8> {
+    let random_bytes = |random: &mut Random| (0..random.below(12)).map(|_| random.byte() >> random.below(8)).collect();
+    let Ok(sheet) = reader::read(sheet) else {
+        return random_bytes(random);
+    };
+    let sound = writer::constraint_bytes(&dress::next(&sheet.kinds, random));
+    match random.below(4) {
+        0 => random_bytes(random),
+        1 => damage::changed(&sound, random),
+        2 => damage::appended(&sound, random),
+        _ => sound,
+    }
+}
+
+/// Facts: a sheet's with faults, or random lists.
+fn facts(sheet: &[u8], random: &mut Random) -> Columns {
+    if let Ok(sheet) = reader::read(sheet) {
+        return damage::facts(&sheet, random);
+    }
+    let mut length = || random.below(8);
+    let lengths = [length(), length(), length(), length(), length()];
+    Columns {
+        n: random.below(80),
+        e: random.below(6),
+        lines: random.bits(),
+        firsts: (0..lengths[0]).map(|_| random.byte() % 4).collect(),
+        seconds: (0..lengths[1]).map(|_| random.byte() % 8).collect(),
+        maps: (0..lengths[2]).map(|_| random.byte() % 4).collect(),
+        sizes: (0..lengths[3]).map(|_| random.bits() as i32 >> random.below(32)).collect(),
+        tags: (0..lengths[4]).map(|_| random.bits() as u16).collect(),
+    }
+}

@@ -1,0 +1,58 @@
+//! The engine beside the reference: `pattern_verdict`, `pattern_plan` and `pattern_clusters`.
+
+use std::process::ExitCode;
+
+use pattern_tests::facts::{MOST_ELEMENTS, Sheet};
+use pattern_tests::interface::Found;
+use pattern_tests::merging::Merges;
+use pattern_tests::run::{Hex, Run, rules};
+use pattern_tests::set::Set;
+use pattern_tests::verdict::{Judged, verdict};
+use pattern_tests::{calls, damage, dress, writer};
+
+const ROUNDS: usize = 20_000;
+
+fn main() -> ExitCode {
+    let mut run = Run::start("plan", 50_463_033);
+    for round in 0..ROUNDS {
+        let most = if round % 4 == 0 { MOST_ELEMENTS } else { 20 };
+        let sheet = dress::any(most, &mut run.random);
+        let bytes = writer::bytes(&sheet);
+        let found = Found::of(&bytes);
+        calls::plan(&mut run, &bytes, &found);
+        if let Ok((sheet, judged)) = found.accepted() {
+            run.count("sheets", verdict(sheet, judged).name());
+            orders(&mut run, sheet, judged);
+        }
+        let damaged = damage::aimed(&sheet, &mut run.random);
+        calls::plan(&mut run, &damaged, &Found::of(&damaged));
+    }
+    for verdict in ["over", "angle", "well", "stuck", "under"] {
+        run.must("sheets", verdict, 500);
+    }
+    for function in ["pattern_verdict", "pattern_plan", "pattern_clusters"] {
+        rules(1..=10).for_each(|rule| run.must(function, &rule, 100));
+    }
+    rules([17]).for_each(|rule| run.must("pattern_plan", &rule, 100));
+    run.finish()
+}
+
+/// Compares, in the reference, the engine's plan with merging in a random order: every order of merging gives
+/// the same final clusters, joints, steps and verdict.
+fn orders(run: &mut Run, sheet: &Sheet, judged: &Judged) {
+    if let Judged::Merged(engine) = judged {
+        let other = Merges::random(sheet, &mut run.random);
+        let input = Hex(&writer::bytes(sheet)).to_string();
+        run.same("reference", &input, sorted(&other), sorted(engine));
+        run.same("reference", &input, verdict(sheet, &Judged::Merged(other)), verdict(sheet, judged));
+    }
+}
+
+/// The final clusters and the joints of a list of merges, each as a sorted list of sets.
+fn sorted(merges: &Merges) -> (Vec<Set>, Vec<Set>) {
+    let mut finals: Vec<Set> = merges.finals.iter().map(|&(_, set)| set).collect();
+    let mut joints: Vec<Set> = merges.steps.iter().map(|step| step.joint).collect();
+    finals.sort_unstable();
+    joints.sort_unstable();
+    (finals, joints)
+}

@@ -1,0 +1,42 @@
+//! Reader and writer beside the reference: `pattern_rewrite` and `pattern_write`.
+
+use std::process::ExitCode;
+
+use pattern_tests::calls::{rewrite, write};
+use pattern_tests::facts::{Columns, MOST_ELEMENTS};
+use pattern_tests::run::{INPUTS, Run, rules};
+use pattern_tests::{damage, dress, writer};
+
+const ROUNDS: usize = 30_000;
+/// Every so many rounds a sheet is cut at every byte.
+const CUT: usize = 200;
+
+fn main() -> ExitCode {
+    let mut run = Run::start("sheet", 50_463_031);
+    for round in 0..ROUNDS {
+        let sheet = dress::any(MOST_ELEMENTS, &mut run.random);
+        let bytes = writer::bytes(&sheet);
+        rewrite(&mut run, &bytes);
+        for _ in 0..2 {
+            let aimed = damage::aimed(&sheet, &mut run.random);
+            rewrite(&mut run, &aimed);
+            let changed = damage::changed(&bytes, &mut run.random);
+            rewrite(&mut run, &changed);
+        }
+        let appended = damage::appended(&bytes, &mut run.random);
+        rewrite(&mut run, &appended);
+        let noise = damage::noise(&mut run.random);
+        rewrite(&mut run, &noise);
+        if round % CUT == 0 {
+            (0..bytes.len()).for_each(|length| rewrite(&mut run, &bytes[..length]));
+        }
+        write(&mut run, &Columns::of(&sheet));
+        let facts = damage::facts(&sheet, &mut run.random);
+        write(&mut run, &facts);
+    }
+    run.must("pattern_rewrite", INPUTS, 200_000);
+    run.must("pattern_write", INPUTS, 50_000);
+    rules(1..=10).for_each(|rule| run.must("pattern_rewrite", &rule, 1_000));
+    rules([3, 5, 6, 7, 8, 9, 17]).for_each(|rule| run.must("pattern_write", &rule, 500));
+    run.finish()
+}

@@ -1,0 +1,77 @@
+//! What each function of the C interface must answer: items for the lent space, or the rule that refuses.
+//! Rule 17 is `space`'s.
+
+use crate::facts::{Rule, Sheet};
+use crate::matching::by_matching;
+use crate::reader::read;
+use crate::verdict::{Judged, judge};
+use crate::{plans, report, sketch, verdict, writer};
+
+/// `pattern_rewrite`: the sheet read and written again.
+pub fn rewrite(bytes: &[u8]) -> Result<Vec<u8>, Rule> {
+    Ok(writer::bytes(&read(bytes)?))
+}
+
+/// `pattern_over`: first and set of an over sheet, nothing else.
+pub fn over(bytes: &[u8]) -> Result<Vec<u64>, Rule> {
+    let over = by_matching(&read(bytes)?);
+    Ok(over.map_or(Vec::new(), |over| vec![over.first as u64, over.set]))
+}
+
+/// `pattern_add`: the sheet with one more constraint.
+pub fn add(bytes: &[u8], constraint: &[u8]) -> Result<Vec<u8>, Rule> {
+    Ok(writer::bytes(&sketch::add(&read(bytes)?, constraint)?))
+}
+
+/// `pattern_check_plan`: the report for a saved plan.
+pub fn check_plan(bytes: &[u8], plan: &[u16]) -> Result<Vec<u8>, Rule> {
+    let sheet = read(bytes)?;
+    let merges = plans::check(&sheet, plan)?;
+    Ok(report::report(&sheet, &Judged::Merged(merges)).into_bytes())
+}
+
+/// What the engine finds of a sheet's bytes.
+pub struct Found(Result<(Sheet, Judged), Rule>);
+
+impl Found {
+    /// Reads and judges a sheet.
+    pub fn of(bytes: &[u8]) -> Found {
+        Found(read(bytes).map(|sheet| {
+            let judged = judge(&sheet);
+            (sheet, judged)
+        }))
+    }
+
+    /// What is found of an accepted sheet.
+    pub fn accepted(&self) -> Result<&(Sheet, Judged), Rule> {
+        self.0.as_ref().map_err(|&rule| rule)
+    }
+
+    /// `pattern_verdict`: the verdict's number.
+    pub fn verdict(&self) -> Result<u8, Rule> {
+        let (sheet, judged) = self.accepted()?;
+        Ok(verdict::verdict(sheet, judged) as u8)
+    }
+
+    /// `pattern_plan`: the engine's plan, three numbers a step.
+    pub fn plan(&self) -> Result<Vec<u16>, Rule> {
+        Ok(match &self.accepted()?.1 {
+            Judged::Over(_) => Vec::new(),
+            Judged::Merged(merges) => merges.numbers(),
+        })
+    }
+
+    /// `pattern_clusters`: the final clusters by number.
+    pub fn clusters(&self) -> Result<Vec<u64>, Rule> {
+        Ok(match &self.accepted()?.1 {
+            Judged::Over(_) => Vec::new(),
+            Judged::Merged(merges) => merges.finals.iter().map(|&(_, set)| set).collect(),
+        })
+    }
+
+    /// `pattern_report`.
+    pub fn report(&self) -> Result<Vec<u8>, Rule> {
+        let (sheet, judged) = self.accepted()?;
+        Ok(report::report(sheet, judged).into_bytes())
+    }
+}
