@@ -12,7 +12,8 @@ use Rattle.theory.specs.Set.{_∩_, _∪_, at, _⊑_}
 use Rattle.theory.specs.Set.Laws.{at-le, at-zero, both, in-either, or-left, or-right}
 use Rattle.theory.specs.Constraints.{Pairs, NotOver}
 use Rattle.theory.specs.Merge.{slot, Merge, merge, Three, three, OpenAt, union, joint, cleared, put, Part, Valid, final, Ended, joints}
-use Rattle.theory.specs.Merge.Numbered.{Distinct, Place, new, old, place, part-dec, alive-lt, length-put, put-new, put-old, cleared-other, good-final, start-good, start-distinct}
+use Rattle.theory.specs.Merge.Family.{Distinct}
+use Rattle.theory.specs.Merge.Numbered.{Place, new, old, place, part-dec, alive-lt, length-put, put-new, put-old, cleared-other, good-final, start-good, start-distinct}
 use Rattle.theory.specs.Merge.Threes.{part-a, part-b, part-c}
 use Rattle.theory.specs.Merge.Family.Invariant.{share}
 use Rattle.theory.specs.Plan.{NotAfter, ascending, First}
