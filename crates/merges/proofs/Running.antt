@@ -1,16 +1,16 @@
 -- A run of merges in arrays, from the constraints on until none is open. Assumes nothing.
 use mathlib.Core.Path.{_≡_, refl, sym, ap, ap₂, _∙_, subst}
-use mathlib.Core.List.{List, [], _∷_, _++_, append-assoc}
+use mathlib.Core.List.{List, [], _∷_, _++_, map, append-assoc}
 use mathlib.Core.Option.{Option, none, some}
 use Prim.Native.Nat.{ℕ, zero, suc, _+_, _*_, _≤_, _<_}
 use native.Mathlib.Omega.{arith}
-use lib.ListN.{length, set, take, replicate, length-append}
+use lib.ListN.{length, set, take, replicate, length-append, length-map}
 use Rattle.theory.specs.Constraints.{Pairs, NotOver}
 use Rattle.theory.specs.Merge.{slot, Merge, merge, three, OpenAt, joint, put, Valid, final, Ended, joints}
 use Rattle.theory.specs.Merge.Count.{steps-left}
-use Rattle.theory.specs.Plan.{firstOf, planOf, First, IsPlan}
+use Rattle.theory.specs.Plan.{ascending, firstOf, planOf, First, IsPlan}
 use Rattle.theory.specs.Plan.Search.{Found, found, nothing, first-found}
-use Rattle.theory.specs.Plan.Laws.{plan-of-one}
+use Rattle.theory.specs.Plan.Laws.{ascending-same, plan-of-one}
 use Rattle.merges.specs.Links.{Links, Ready}
 use Rattle.merges.specs.Search.{Merging}
 use Rattle.merges.specs.Held.{padded, flat, Held, Since}
@@ -43,13 +43,23 @@ firsts-plan : (p : List Merge) (s : List ℕ) → Firsts s p → Ended (final s 
 firsts-plan [] s f e = e
 firsts-plan (r ∷ p) s f e = (f .0, firsts-plan p (put s r) (f .1) e)
 
+-- one merge more, its numbers ascending
+flat-ascending : (p : List Merge) (m : Merge) → m .i < m .j → m .j < m .k
+    → flat (map ascending (p ++ (m ∷ []))) ≡ flat (map ascending p) ++ (m .i ∷ m .j ∷ m .k ∷ [])
+flat-ascending p m a b =
+    ap flat (map-append p (m ∷ []) ∙ ap (λ (r : Merge). map ascending p ++ (r ∷ [])) (ascending-same m a b)) ∙ flat-snoc (map ascending p) m
+  where
+    map-append : (p q : List Merge) → map ascending (p ++ q) ≡ map ascending p ++ map ascending q
+    map-append [] q = refl
+    map-append (r ∷ p) q = ap (λ (l : List Merge). ascending r ∷ l) (map-append p q)
+
 -- ---- the run
 
 pub record Running (cs : List ℕ) (e : ℕ) (slots links parts knots : List ℕ) (steps from last : ℕ) : Type 0 where
   pub p : List Merge
   pub held : Held cs p slots links (e + steps)
   pub count : steps ≡ length p
-  pub parts-are : parts ≡ padded 192 (flat p)
+  pub parts-are : parts ≡ padded 192 (flat (map ascending p))
   pub knots-are : knots ≡ padded 64 (joints cs p)
   pub firsts : NotOver cs → Firsts cs p
   pub since : NotOver cs → Since (final cs p) from last
@@ -133,8 +143,8 @@ module _ (cs : List ℕ) (e : ℕ) (pairs : Pairs cs) (size : length cs ≡ e) (
             count = omega (arith, w .count, length-append p (x ∷ []));
             parts-are = noted .parts-are
                 ∙ ap (λ (a : List ℕ). set (set (set a (3 * steps) i) (3 * steps + 1) j) (3 * steps + 2) k) (w .parts-are)
-                ∙ store-three 192 (flat p) (3 * steps) i j k (omega (arith, length-flat p, w .count)) (omega (arith, steps-fewer))
-                ∙ ap (padded 192) (sym (flat-snoc p x));
+                ∙ store-three 192 (flat (map ascending p)) (3 * steps) i j k (omega (arith, length-flat (map ascending p), length-map p ascending, w .count)) (omega (arith, steps-fewer))
+                ∙ ap (padded 192) (sym (flat-ascending p x l m));
             knots-are = noted .knots-are
                 ∙ ap₂ (λ (a : List ℕ) (n : ℕ). set a n (joint (three slots x))) (w .knots-are) (w .count ∙ sym (length-joints p cs))
                 ∙ store-padded 64 (joints cs p) (joint (three slots x)) (omega (arith, length-joints p cs, w .count, steps-fewer))
@@ -158,10 +168,12 @@ module _ (cs : List ℕ) (e : ℕ) (pairs : Pairs cs) (size : length cs ≡ e) (
         → Ran cs r
     running-end last r a b c d = record {
       p = w .p;
-      valid = w .held .valid;
-      steps-are = a ∙ w .count;
-      parts-are = b ∙ w .parts-are;
-      joints-are = c ∙ w .knots-are;
-      slots-are = d ∙ w .held .are;
+      holding = record {
+        valid = w .held .valid;
+        steps-are = a ∙ w .count;
+        parts-are = b ∙ w .parts-are;
+        joints-are = c ∙ w .knots-are;
+        slots-are = d ∙ w .held .are;
+      };
       plan = λ fine. sym (plan-of-one cs pairs (w .p) (firsts-plan (w .p) cs (w .firsts fine) (ended-there fine (last (run-ready fine)))));
     }

@@ -1,11 +1,11 @@
 -- What a run of merges answers. Assumes nothing.
 use mathlib.Core.Path.{_≡_}
-use mathlib.Core.List.{List, [], _∷_}
+use mathlib.Core.List.{List, map}
 use Prim.Native.Nat.{ℕ, _+_, _*_, _≤_}
 use lib.ListN.{length, take, set}
 use Rattle.theory.specs.Constraints.{Pairs, NotOver}
 use Rattle.theory.specs.Merge.{Merge, three, joint, Valid, final, joints}
-use Rattle.theory.specs.Plan.{planOf}
+use Rattle.theory.specs.Plan.{ascending, planOf}
 use Rattle.merges.specs.Held.{padded, flat}
 use Rattle.merges.specs.declared.Run.{Run}
 
@@ -21,12 +21,16 @@ pub record Noted (parts knots slots : List ℕ) (n : ℕ) (m : Merge) (parts′ 
   pub parts-are : parts′ ≡ set (set (set parts (3 * n) (m .i)) (3 * n + 1) (m .j)) (3 * n + 2) (m .k)
   pub knots-are : knots′ ≡ set knots n (joint (three slots m))
 
--- the arrays hold a list of merges of the constraints cs; where these are not over, it is the engine's plan
-pub record Ran (cs : List ℕ) (r : Run) : Type 0 where
-  pub p : List Merge
+-- the arrays hold the list of merges p of the constraints cs, the parts of each ascending
+pub record Holding (cs : List ℕ) (p : List Merge) (r : Run) : Type 0 where
   pub valid : Valid cs p
   pub steps-are : r .steps ≡ length p
-  pub parts-are : r .parts ≡ padded 192 (flat p)
+  pub parts-are : r .parts ≡ padded 192 (flat (map ascending p))
   pub joints-are : r .joints ≡ padded 64 (joints cs p)
   pub slots-are : r .slots ≡ padded 192 (final cs p)
+
+-- they hold a list of merges of the constraints cs; where these are not over, it is the engine's plan
+pub record Ran (cs : List ℕ) (r : Run) : Type 0 where
+  pub p : List Merge
+  pub holding : Holding cs p r
   pub plan : NotOver cs → p ≡ planOf cs
