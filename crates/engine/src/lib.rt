@@ -1,0 +1,76 @@
+// The engine: the verdict of a list of merges, and its steps with their kinds and placements. Contracts cite theory's definitions in the terms of
+// `answer`, and this crate's specs.
+ghost use mathlib.Core.Path.{_≡_};
+ghost use Prim.Native.Nat.{_+_, _-_, _*_, _≤_, _<_};
+ghost use lib.ListN.{length, take};
+ghost use lib.IntN.{natAbs};
+ghost use Rattle.theory.specs.Verdict.{angled as someLines, judged};
+ghost use Rattle.theory.specs.Placement.{jointKind, against as comparison, triangle as triangleWays, strip as stripWays, stripOf, placed};
+ghost use Rattle.answer.specs.Answer.{asVerdict, asKind, asWays};
+use answer::JointKind;
+use answer::Verdict;
+use answer::Ways;
+
+// Is some joint three lines?
+pub fn angled(joints: &[u64; 64], steps: usize, lines: u64) -> bool
+    requires { ⌜ (steps ≤ 64) × (length (now joints) ≡ 64) ⌝ }
+    ensures { λ r. ⌜ r ≡ someLines lines (take steps (now (joints .entry))) ⌝ }
+{
+    let mut i: usize = 0;
+    while i < steps {
+        let j = joints[i];
+        if j & lines == j {
+            return true;
+        }
+        i += 1;
+    }
+    false
+}
+
+// The verdict of a list of merges, after "over": e constraints less two a step are the clusters left.
+pub fn settle(joints: &[u64; 64], steps: usize, n: usize, e: usize, lines: u64) -> Verdict
+    requires { ⌜ (steps ≤ 64) × (2 * steps ≤ e) × (n ≤ 64) × (e ≤ 200) × (length (now joints) ≡ 64) ⌝ }
+    ensures { λ r. ⌜ r ≡ asVerdict (judged lines n e (take steps (now (joints .entry))) (e - 2 * steps)) ⌝ }
+{
+    if angled(joints, steps, lines) {
+        return Verdict::Angle;
+    }
+    if e + 3 != 2 * n {
+        return Verdict::Under;
+    }
+    if e - 2 * steps == 1 {
+        Verdict::Well
+    } else {
+        Verdict::Stuck
+    }
+}
+
+// The kind of a joint.
+pub fn joint_kind(joint: u64, lines: u64) -> JointKind
+    ensures { λ r. ⌜ r ≡ asKind (jointKind lines joint) ⌝ }
+{
+    match u64::count_ones(joint & lines) {
+        0 => JointKind::Ppp,
+        1 => JointKind::Ppl,
+        2 => JointKind::Pll,
+        _ => JointKind::Lll,
+    }
+}
+
+// 0 where x is above y, 1 where they are equal, 2 where x is below.
+fn against(x: u64, y: u64) -> u8
+    ensures { λ r. ⌜ r ≡ comparison x y ⌝ }
+{
+    if y < x {
+        return 0;
+    }
+    if x < y { 2 } else { 1 }
+}
+
+// The absolute value.
+fn magnitude(z: i64) -> u64
+    requires { ⌜ natAbs z < 4294967296 ⌝ }
+    ensures { λ r. ⌜ r ≡ natAbs z ⌝ }
+{
+    if z < 0 { (0 - z) as u64 } else { z as u64 }
+}
