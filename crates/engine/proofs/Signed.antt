@@ -8,7 +8,8 @@ use lib.IntN.{ℤ, pos, negsuc, negℤ, subℕ, _+ℤ_, _-ℤ_, natAbs}
 use lib.Signed.{mag, ltZ, nonNeg}
 use borrow.Author.Tests.{ltb-true}
 use mir.Syntax.{w32, w64}
-use mir.Val.{SFits}
+use mir.Val.{SFits, toZ, ofZ}
+use mir.Facts.{toZ-ofZ, sfits-widen}
 
 mag-sub : (a b : ℕ) → mag (subℕ a b) ≤ a + b
 mag-sub a b = go (ltb a b)
@@ -47,3 +48,11 @@ abs-mag (negsuc n) = omega arith
 pub not-negative : (z : ℤ) → ltZ z (pos 0) ≡ false → T (nonNeg z)
 not-negative (pos n) h = tt
 not-negative (negsuc n) h = absurd (let z : _≡_ {A = ℕ} 0 1 = cc in omega arith)
+
+-- a 32-bit number taken for a 64-bit one
+module _ (z : ℤ) (f : SFits w32 z) where
+  pub wide : SFits w64 (toZ w32 (ofZ w32 z))
+  wide = subst (SFits w64) (sym (toZ-ofZ f)) (sfits-widen tt f)
+
+  pub widened : toZ w64 (ofZ w64 (toZ w32 (ofZ w32 z))) ≡ z
+  widened = toZ-ofZ wide ∙ toZ-ofZ f

@@ -1,1 +1,2 @@
 -- What the engine answers.
+pub mod Kinds

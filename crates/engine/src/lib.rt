@@ -3,10 +3,11 @@
 ghost use mathlib.Core.Path.{_≡_};
 ghost use Prim.Native.Nat.{_+_, _-_, _*_, _≤_, _<_};
 ghost use lib.ListN.{length, take};
-ghost use lib.IntN.{natAbs};
+ghost use lib.IntN.{natAbs, _-ℤ_};
 ghost use Rattle.theory.specs.Verdict.{angled as someLines, judged};
-ghost use Rattle.theory.specs.Placement.{jointKind, against as comparison, triangle as triangleWays, strip as stripWays, stripOf, placed};
+ghost use Rattle.theory.specs.Placement.{jointKind, against as comparison, triangle as triangleWays, stripOf, placed};
 ghost use Rattle.answer.specs.Answer.{asVerdict, asKind, asWays};
+ghost use Rattle.engine.specs.Kinds.{kindOf};
 use answer::JointKind;
 use answer::Verdict;
 use answer::Ways;
@@ -69,8 +70,59 @@ fn against(x: u64, y: u64) -> u8
 
 // The absolute value.
 fn magnitude(z: i64) -> u64
-    requires { ⌜ natAbs z < 4294967296 ⌝ }
+    requires { ⌜ natAbs z < 8589934592 ⌝ }
     ensures { λ r. ⌜ r ≡ natAbs z ⌝ }
 {
     if z < 0 { (0 - z) as u64 } else { z as u64 }
+}
+
+// The absolute value of a size.
+fn size_of(z: i32) -> u64
+    ensures { λ r. ⌜ (r ≡ natAbs z) × (r < 4294967296) ⌝ }
+{
+    magnitude(z as i64)
+}
+
+// How far apart two sizes are.
+fn apart(x: i32, y: i32) -> u64
+    ensures { λ r. ⌜ r ≡ natAbs (y -ℤ x) ⌝ }
+{
+    magnitude(y as i64 - x as i64)
+}
+
+// The placements of three points: the longest distance against the sum of the other two.
+fn triangle(x: u64, y: u64, z: u64) -> u8
+    requires { ⌜ (x < 4294967296) × (y < 4294967296) × (z < 4294967296) ⌝ }
+    ensures { λ r. ⌜ r ≡ triangleWays x y z ⌝ }
+{
+    let a = if x < y { y } else { x };
+    let b = if a < z { z } else { a };
+    against(b, x + y + z - b)
+}
+
+// The placements of two points and a line, from the three constraints a, b and a third, and their sizes: the distance between the points against
+// the difference of their distances to the line.
+fn strip_of(lines: u64, a: u64, b: u64, x: i32, y: i32, z: i32) -> u8
+    ensures { λ r. ⌜ r ≡ stripOf lines a b x y z ⌝ }
+{
+    if a & lines == 0 {
+        return against(apart(y, z), size_of(x));
+    }
+    if b & lines == 0 {
+        against(apart(x, z), size_of(y))
+    } else {
+        against(apart(x, y), size_of(z))
+    }
+}
+
+// The placements of three initial clusters, of which a and b are the first two, with their sizes.
+fn placements(lines: u64, kind: JointKind, a: u64, b: u64, x: i32, y: i32, z: i32) -> Ways
+    ensures { λ r. ⌜ r ≡ asWays (placed lines (kindOf kind) a b x y z) ⌝ }
+{
+    match kind {
+        JointKind::Ppp => Ways::Known(triangle(size_of(x), size_of(y), size_of(z))),
+        JointKind::Ppl => Ways::Known(strip_of(lines, a, b, x, y, z)),
+        JointKind::Pll => Ways::Known(1),
+        JointKind::Lll => Ways::Unknown,
+    }
 }
