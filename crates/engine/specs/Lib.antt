@@ -1,2 +1,2 @@
 -- What the engine answers.
-pub mod Kinds
+pub mod Steps

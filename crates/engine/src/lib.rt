@@ -7,7 +7,8 @@ ghost use lib.IntN.{natAbs, _-ℤ_};
 ghost use Rattle.theory.specs.Verdict.{angled as someLines, judged};
 ghost use Rattle.theory.specs.Placement.{jointKind, against as comparison, triangle as triangleWays, stripOf, placed};
 ghost use Rattle.answer.specs.Answer.{asVerdict, asKind, asWays};
-ghost use Rattle.engine.specs.Kinds.{kindOf};
+ghost use Rattle.theory.specs.Merge.{merge as numbers};
+ghost use Rattle.engine.specs.Steps.{kindOf, waysBy};
 use answer::JointKind;
 use answer::Verdict;
 use answer::Ways;
@@ -125,4 +126,38 @@ fn placements(lines: u64, kind: JointKind, a: u64, b: u64, x: i32, y: i32, z: i3
         JointKind::Pll => Ways::Known(1),
         JointKind::Lll => Ways::Unknown,
     }
+}
+
+// The placements of a step of the given kind with the parts i, j and k: known only if all three are initial clusters.
+fn ways_of(
+    lines: u64,
+    kind: JointKind,
+    e: usize,
+    start: &[u64; 192],
+    sizes: &[i32; 200],
+    i: usize,
+    j: usize,
+    k: usize,
+) -> Ways
+    requires { ⌜ e ≤ 192 ⌝ }
+    ensures { λ r. ⌜ r ≡ asWays (waysBy lines (kindOf kind) e (now (sizes .entry)) (now (start .entry)) (numbers i j k)) ⌝ }
+{
+    if e <= i {
+        return Ways::Unknown;
+    }
+    if e <= j {
+        return Ways::Unknown;
+    }
+    if e <= k {
+        return Ways::Unknown;
+    }
+    placements(
+        lines,
+        kind,
+        start[i],
+        start[j],
+        sizes[i],
+        sizes[j],
+        sizes[k],
+    )
 }
