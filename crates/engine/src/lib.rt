@@ -2,16 +2,18 @@
 // `answer`, and this crate's specs.
 ghost use mathlib.Core.Path.{_≡_};
 ghost use Prim.Native.Nat.{_+_, _-_, _*_, _≤_, _<_};
-ghost use lib.ListN.{length, take};
+ghost use lib.ListN.{length, take, replicate};
 ghost use lib.IntN.{natAbs, _-ℤ_};
 ghost use Rattle.theory.specs.Verdict.{angled as someLines, judged};
 ghost use Rattle.theory.specs.Placement.{jointKind, against as comparison, triangle as triangleWays, stripOf, placed};
 ghost use Rattle.answer.specs.Answer.{asVerdict, asKind, asWays};
 ghost use Rattle.theory.specs.Merge.{merge as numbers};
-ghost use Rattle.engine.specs.Steps.{kindOf, waysBy};
+ghost use Rattle.engine.specs.Steps.{kindOf, waysBy, stepAt, blankStep, Stepped};
 use answer::JointKind;
+use answer::Step;
 use answer::Verdict;
 use answer::Ways;
+use merges::Run;
 
 // Is some joint three lines?
 pub fn angled(joints: &[u64; 64], steps: usize, lines: u64) -> bool
@@ -160,4 +162,79 @@ fn ways_of(
         sizes[j],
         sizes[k],
     )
+}
+
+// A number of a cluster as a place.
+fn wide(x: u16) -> usize
+    ensures { λ r. ⌜ r ≡ x ⌝ }
+{
+    x as usize
+}
+
+// Step t of a list of merges, from its parts and joints.
+fn step_at(
+    parts: &[u16; 192],
+    joints: &[u64; 64],
+    start: &[u64; 192],
+    sizes: &[i32; 200],
+    lines: u64,
+    e: usize,
+    t: usize,
+) -> Step
+    requires { ⌜ (e ≤ 125) × (t < 62) ⌝ }
+    ensures { λ r. ⌜ r ≡ stepAt lines e (now (sizes .entry)) (now (start .entry)) (now (parts .entry)) (now (joints .entry)) t ⌝ }
+{
+    let i = wide(parts[3 * t]);
+    let j = wide(parts[3 * t + 1]);
+    let k = wide(parts[3 * t + 2]);
+    let joint = joints[t];
+    let kind = joint_kind(joint, lines);
+    let ways = ways_of(lines, kind, e, start, sizes, i, j, k);
+    Step {
+        made: e + t,
+        i,
+        j,
+        k,
+        joint,
+        kind,
+        ways,
+    }
+}
+
+fn no_steps() -> [Step; 62]
+    ensures { λ r. ⌜ r ≡ replicate 62 blankStep ⌝ }
+{
+    let blank = Step {
+        made: 0,
+        i: 0,
+        j: 0,
+        k: 0,
+        joint: 0,
+        kind: JointKind::Ppp,
+        ways: Ways::Unknown,
+    };
+    [blank; 62]
+}
+
+// The steps of a list of merges of the constraints whose sets are the first e of `start`, 0 for the size of one without. Blank beyond.
+pub fn steps_of(
+    run: Run,
+    start: &[u64; 192],
+    sizes: &[i32; 200],
+    lines: u64,
+    e: usize,
+) -> [Step; 62]
+    requires { ⌜ (e ≤ 125) × (run .steps ≤ 62) ⌝ }
+    ensures { λ r. ⌜ Stepped lines e (now (sizes .entry)) (now (start .entry)) run r ⌝ }
+{
+    let count = run.steps;
+    let parts = run.parts;
+    let joints = run.joints;
+    let mut steps = no_steps();
+    let mut t: usize = 0;
+    while t < count {
+        steps[t] = step_at(&parts, &joints, start, sizes, lines, e, t);
+        t += 1;
+    }
+    steps
 }
