@@ -15,6 +15,7 @@ use Rattle.answer.specs.declared.JointKind.the-variants.{Ppp, Ppl, Pll, Lll}
 use Rattle.answer.specs.declared.Ways.the-variants.{Unknown}
 use Rattle.answer.specs.declared.Step.{Step}
 use Rattle.merges.specs.declared.Run.{Run}
+pub mod Laws
 
 -- theory's kind of a joint, by the code's
 abbrev pub kindOf : JointKind → placement.JointKind
@@ -31,10 +32,10 @@ waysBy lines kind e sizes cs m =
       | false ↦ placement.unknown
     ]
 
--- step t, from the parts and joints of a list of merges
-unfoldable pub stepAt : ℕ → ℕ → List ℤ → List ℕ → List ℕ → List ℕ → ℕ → Step
-stepAt lines e sizes cs parts joints t = record {
-  made = e + t;
+-- step t, from the parts and joints of a list of merges; the first makes cluster `made`
+unfoldable pub stepFrom : ℕ → ℕ → List ℤ → List ℕ → ℕ → List ℕ → List ℕ → ℕ → Step
+stepFrom lines e sizes cs made parts joints t = record {
+  made = made + t;
   i = getD parts (3 * t) 0;
   j = getD parts (3 * t + 1) 0;
   k = getD parts (3 * t + 2) 0;
@@ -42,6 +43,9 @@ stepAt lines e sizes cs parts joints t = record {
   kind = asKind (jointKind lines (getD joints t 0));
   ways = asWays (waysBy lines (jointKind lines (getD joints t 0)) e sizes cs (merge (getD parts (3 * t) 0) (getD parts (3 * t + 1) 0) (getD parts (3 * t + 2) 0)));
 }
+
+abbrev pub stepAt : ℕ → ℕ → List ℤ → List ℕ → List ℕ → List ℕ → ℕ → Step
+stepAt lines e sizes cs parts joints t = stepFrom lines e sizes cs e parts joints t
 
 abbrev pub blankStep : Step
 blankStep = record { made = 0; i = 0; j = 0; k = 0; joint = 0; kind = Ppp; ways = Unknown }

@@ -7,7 +7,7 @@ use Rattle.theory.specs.Placement as placement
 use Rattle.theory.specs.Placement.{jointKind}
 use Rattle.answer.specs.Answer.{asKind, asWays}
 use Rattle.answer.specs.declared.JointKind.{JointKind}
-use Rattle.engine.specs.Steps.{kindOf, waysBy, stepAt}
+use Rattle.engine.specs.Steps.{kindOf, waysBy, stepFrom}
 use borrow.Author.Needs.{needs}
 use Rattle.engine.proofs.step_at.Statement.{statement}
 use Rattle.engine.proofs.step_at.Tie as tie
@@ -80,7 +80,7 @@ add-t15 : tie.Need-add-t15
 add-t15 c = search needs
 
 returns : tie.Need-returns
-unfolding stepAt
+unfolding stepFrom
 returns c =
     let a = c .before .before .before .before .before .before .before .before .before .args in
     let i = c .before .before .before .before .before .before .before .wide .ensures in
