@@ -7,4 +7,5 @@ pub mod Triangle
 pub mod First
 pub mod Padded
 pub mod State
+pub mod Going
 pub mod Running

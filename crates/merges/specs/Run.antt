@@ -21,16 +21,18 @@ pub record Noted (parts knots slots : List ℕ) (n : ℕ) (m : Merge) (parts′ 
   pub parts-are : parts′ ≡ set (set (set parts (3 * n) (m .i)) (3 * n + 1) (m .j)) (3 * n + 2) (m .k)
   pub knots-are : knots′ ≡ set knots n (joint (three slots m))
 
--- the arrays hold the list of merges p of the constraints cs, the parts of each ascending
-pub record Holding (cs : List ℕ) (p : List Merge) (r : Run) : Type 0 where
-  pub valid : Valid cs p
-  pub steps-are : r .steps ≡ length p
-  pub parts-are : r .parts ≡ padded 192 (flat (map ascending p))
-  pub joints-are : r .joints ≡ padded 64 (joints cs p)
-  pub slots-are : r .slots ≡ padded 192 (final cs p)
+-- the list of merges p of the constraints cs in arrays, the parts of each ascending
+unfoldable pub runOf : List ℕ → List Merge → Run
+runOf cs p = record {
+  steps = length p;
+  parts = padded 192 (flat (map ascending p));
+  joints = padded 64 (joints cs p);
+  slots = padded 192 (final cs p);
+}
 
--- they hold a list of merges of the constraints cs; where these are not over, it is the engine's plan
+-- r holds a list of merges of the constraints cs; where these are not over, it is the engine's plan
 pub record Ran (cs : List ℕ) (r : Run) : Type 0 where
   pub p : List Merge
-  pub holding : Holding cs p r
+  pub valid : Valid cs p
+  pub is : r ≡ runOf cs p
   pub plan : NotOver cs → p ≡ planOf cs

@@ -183,7 +183,7 @@ pub fn link_all(slots: &[u64; 192], e: usize) -> [u64; 64]
 }
 
 // Notes step `steps`, which merges i, j and k: its parts and its joint.
-fn note(
+pub fn note(
     parts: &mut [u16; 192],
     joints: &mut [u64; 64],
     slots: &[u64; 192],
@@ -204,13 +204,15 @@ fn note(
     parts[3 * steps + 2] = k as u16;
 }
 
-fn no_parts() -> [u16; 192]
+// No parts noted.
+pub fn no_parts() -> [u16; 192]
     ensures { λ r. ⌜ r ≡ replicate 192 0 ⌝ }
 {
     [0u16; 192]
 }
 
-fn no_joints() -> [u64; 64]
+// No joints noted.
+pub fn no_joints() -> [u64; 64]
     ensures { λ r. ⌜ r ≡ replicate 64 0 ⌝ }
 {
     [0u64; 64]

@@ -19,7 +19,7 @@ use Rattle.theory.specs.Placement.{placed, jointKind, ways}
 use Rattle.answer.specs.Answer.{asKind, asWays, stepOf, stepsOf}
 use Rattle.answer.specs.declared.Step.{Step}
 use Rattle.merges.specs.Held.{padded, flat}
-use Rattle.merges.specs.Run.{Holding}
+use Rattle.merges.specs.Run.{runOf}
 use Rattle.merges.specs.declared.Run.{Run}
 use Rattle.merges.proofs.Padded.{slot-padded}
 use Rattle.engine.specs.Steps.{waysBy, stepFrom, blankStep, Stepped}
@@ -136,17 +136,21 @@ read-lists lines e sizes cs parts knots t =
 
 -- the steps that the arrays of a run give are those of its list of merges
 pub stepped-are : (lines e : ℕ) (sizes : List ℤ) (cs : List ℕ) (p : List Merge) (run : Run) (start : List ℕ) (steps : List Step)
-    → Holding cs p run → length cs ≡ e → start ≡ padded 192 cs → length p ≤ 62 → Stepped lines e sizes start run steps
+    → Valid cs p → run ≡ runOf cs p → length cs ≡ e → start ≡ padded 192 cs → length p ≤ 62 → Stepped lines e sizes start run steps
     → take (run .steps) steps ≡ stepsOf lines e sizes cs p
-stepped-are lines e sizes cs p run start steps h c b f w =
+unfolding runOf
+stepped-are lines e sizes cs p run start steps v h c b f w =
     ext-getD blankStep (take (run .steps) steps) (stepsOf lines e sizes cs p)
-    (length-take (run .steps) steps ∙ omega (arith, w .long, h .steps-are, f) ∙ sym (length-steps lines e sizes p cs))
-    (λ t l. each t (omega (arith, length-take (run .steps) steps, h .steps-are)))
+    (length-take (run .steps) steps ∙ omega (arith, w .long, ap count h, f) ∙ sym (length-steps lines e sizes p cs))
+    (λ t l. each t (omega (arith, length-take (run .steps) steps, ap count h)))
   where
+    count : Run → ℕ
+    count r = r .steps
+
     each : (t : ℕ) → t < length p → getD (take (run .steps) steps) t blankStep ≡ getD (stepsOf lines e sizes cs p) t blankStep
     each t l =
-        let q : t < run .steps = omega (arith, h .steps-are) in
+        let q : t < run .steps = omega (arith, ap count h) in
         getD-take (run .steps) steps t blankStep q ∙ w .each t q
-        ∙ (λ z. stepFrom lines e sizes (b z) e (h .parts-are z) (h .joints-are z) t)
+        ∙ (λ z. stepFrom lines e sizes (b z) e (h z .parts) (h z .joints) t)
         ∙ read-lists lines e sizes cs (flat (map ascending p)) (joints cs p) t
-        ∙ steps-from lines e sizes cs p cs e t (h .valid) (λ n m z. refl) (omega arith) (sym c) l
+        ∙ steps-from lines e sizes cs p cs e t v (λ n m z. refl) (omega arith) (sym c) l

@@ -8,7 +8,8 @@ use lib.ListN.{length, take, replicate}
 use Rattle.merges.specs.Search.{Sound, told}
 use Rattle.merges.specs.declared.Found.the-variants.{At}
 use Rattle.merges.proofs.Padded.{length-padded}
-use Rattle.merges.proofs.Running.{Running, running-start, steps-few, steps-fewer, running-next, running-end}
+use Rattle.merges.proofs.Going.{steps-few, steps-fewer}
+use Rattle.merges.proofs.Running.{Running, running-start, running-next, running-end}
 use Rattle.merges.proofs.merge_all.Statement.{statement}
 use Rattle.merges.proofs.merge_all.Tie as tie
 
@@ -26,7 +27,7 @@ few c =
     let a = c .before .before .before .before .before .args in
     let b = c .before .before .before .before .before .pre in
     let l = c .loop in
-    steps-few (take (a .e) (a .start)) (a .e) (b .pairs) (b .count) (b .few) (l .slots) (l .links) (l .parts) (l .joints) (l .steps) (l .from) (l .last) (l .inv)
+    steps-few (take (a .e) (a .start)) (a .e) (b .pairs) (b .count) (b .few) (l .inv .p) (l .slots) (l .links) (l .parts) (l .joints) (l .steps) (l .inv .going)
 
 -- what is found is open
 sound : (c : tie.After-found Inv-loop μ-loop)
@@ -41,7 +42,7 @@ room c =
     let l = c .before .before .before .before .before .loop in
     let o = sound c in
     let m = c .found .given .0 in
-    steps-fewer (take (a .e) (a .start)) (a .e) (b .pairs) (b .count) (b .few) (l .slots) (l .links) (l .parts) (l .joints) (l .steps) (l .from) (l .last) (l .inv) (m .0) (m .1 .0)
+    steps-fewer (take (a .e) (a .start)) (a .e) (b .pairs) (b .count) (b .few) (l .inv .p) (l .slots) (l .links) (l .parts) (l .joints) (l .steps) (l .inv .going) (m .0) (m .1 .0)
     (m .1 .1 .0) (o .0) (o .1) (o .2) (o .3)
 
 link-all-requires : tie.Need-link-all-requires Inv-loop μ-loop
@@ -98,7 +99,7 @@ merge-requires c κs =
     let o = sound d in
     let f = few (c .before .before .before .before .before .before .before .before .before .before .before .before) in
     let b = c .before .before .before .before .before .before .before .before .before .before .before .before .before .before .before .before .before .pre in
-    (omega (arith, o .0, o .1, o .2), omega (arith, o .1, o .2), o .2, omega (arith, room d, b .few), c .before .before .before .before .before .before .before .before .before .before .before .before .loop .inv .held .room)
+    (omega (arith, o .0, o .1, o .2), omega (arith, o .1, o .2), o .2, omega (arith, room d, b .few), c .before .before .before .before .before .before .before .before .before .before .before .before .loop .inv .going .held .room)
 
 add-steps : tie.Need-add-steps Inv-loop μ-loop
 add-steps c = omega (arith, room (c .before .before .before .before .before .before .before .before))
