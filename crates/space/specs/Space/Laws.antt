@@ -65,9 +65,15 @@ pub put-refused : (items space : List ℕ) → length space < length items → (
 unfolding answer after
 put-refused items space h = rw (lt-ltb _ _ h) (refl, refl)
 
+pub long-answer : (items space : List ℕ) → length items ≤ length space → answer items space ≡ Done (length items)
+unfolding answer
+long-answer items space h = rw (le-ltb _ _ h)
+
 -- items that have room are put from the front
+pub put-after : {items space left : List ℕ} {next : ℕ} → length items ≤ length space → Put space 0 items next left → left ≡ after items space
+unfolding after
+put-after {items} {space} h p = rw (le-ltb _ _ h) (p .after-is (omega arith) ∙ sets-front items space h)
+
 pub put-done : {items space left : List ℕ} {next : ℕ} → length items ≤ length space → Put space 0 items next left
     → (Done next ≡ answer items space) × (left ≡ after items space)
-unfolding answer after
-put-done {items} {space} h p =
-    rw (le-ltb _ _ h) (ap Done (p .next-is ∙ zero-add _), p .after-is (omega arith) ∙ sets-front items space h)
+put-done h p = (ap Done (p .next-is ∙ zero-add _) ∙ sym (long-answer _ _ h), put-after h p)
