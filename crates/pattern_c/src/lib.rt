@@ -1,15 +1,12 @@
 // The entry points for C: numbers and slices alone, each slice a pointer and a length. include/pattern.h declares them. An answer is the count of
 // items written, or minus the number of the rule that refuses; specs/ says it.
 ghost use mathlib.Core.Path.{_≡_};
-ghost use mathlib.Core.Bool.{true};
-ghost use Prim.Native.Nat.{_≤_};
 ghost use lib.ListN.{getD};
 ghost use Rattle.pattern.specs.Sheets.{rewriteAnswer, rewriteAfter};
 ghost use Rattle.writer.specs.Write.{writeAnswer, writeAfter};
 ghost use Rattle.pattern_c.specs.Numbers.{asCount};
 ghost use Rattle.pattern_c.specs.Columns.{sizeIn, tagIn, constraintIn, constraintsIn, sheetIn};
 use sheet::Constraint;
-use sheet::Element;
 use sheet::Sheet;
 use sheet::Size;
 use sheet::Tag;
@@ -20,13 +17,12 @@ fn count(w: Written) -> i32
     ensures { λ r. ⌜ r ≡ asCount w ⌝ }
 {
     match w {
-        Written::Done(n) => {
-            if n < 2147483648 { n as i32 } else { 2147483647 }
-        }
+        Written::Done(n) => { if n < 2147483648 { n as i32 } else { 2147483647 } }
         Written::Refused(k) => 0 - (k as i32),
     }
 }
 
+// A sheet read and written again: its own bytes, or the rule of 1 to 10 and 17 that refuses it.
 #[no_mangle]
 pub extern "C" fn pattern_rewrite(sheet: &[u8], out: &mut [u8]) -> i32
     ensures { λ r. ⌜ (r ≡ asCount (rewriteAnswer (now (sheet .entry)) (now (out .entry)))) × (now (out .exit) ≡ rewriteAfter (now (sheet .entry)) (now (out .entry))) ⌝ }
@@ -41,6 +37,7 @@ fn byte_at(list: &[u8], i: usize) -> u8
     if i < list.len() { list[i] } else { 0 }
 }
 
+// The size at a place of the columns.
 fn size_at(maps: &[u8], sizes: &[i32], i: usize) -> Size
     ensures { λ r. ⌜ r ≡ sizeIn (now (maps .entry)) (now (sizes .entry)) i ⌝ }
 {
@@ -52,6 +49,7 @@ fn size_at(maps: &[u8], sizes: &[i32], i: usize) -> Size
     Size::Missing
 }
 
+// The tag at a place of the columns.
 fn tag_at(maps: &[u8], tags: &[u16], i: usize) -> Tag
     ensures { λ r. ⌜ r ≡ tagIn (now (maps .entry)) (now (tags .entry)) i ⌝ }
 {
@@ -64,7 +62,14 @@ fn tag_at(maps: &[u8], tags: &[u16], i: usize) -> Tag
 }
 
 // The constraint at a place of the columns.
-fn constraint_at(firsts: &[u8], seconds: &[u8], maps: &[u8], sizes: &[i32], tags: &[u16], i: usize) -> Constraint
+fn constraint_at(
+    firsts: &[u8],
+    seconds: &[u8],
+    maps: &[u8],
+    sizes: &[i32],
+    tags: &[u16],
+    i: usize,
+) -> Constraint
     ensures { λ r. ⌜ r ≡ constraintIn (now (firsts .entry)) (now (seconds .entry)) (now (maps .entry)) (now (sizes .entry)) (now (tags .entry)) i ⌝ }
 {
     let size = size_at(maps, sizes, i);
@@ -78,7 +83,13 @@ fn constraint_at(firsts: &[u8], seconds: &[u8], maps: &[u8], sizes: &[i32], tags
 }
 
 // The block of 200 constraints in the columns.
-fn constraints_in(firsts: &[u8], seconds: &[u8], maps: &[u8], sizes: &[i32], tags: &[u16]) -> [Constraint; 200]
+fn constraints_in(
+    firsts: &[u8],
+    seconds: &[u8],
+    maps: &[u8],
+    sizes: &[i32],
+    tags: &[u16],
+) -> [Constraint; 200]
     ensures { λ r. ⌜ r ≡ constraintsIn (now (firsts .entry)) (now (seconds .entry)) (now (maps .entry)) (now (sizes .entry)) (now (tags .entry)) 200 ⌝ }
 {
     let none = Constraint {
@@ -96,6 +107,7 @@ fn constraints_in(firsts: &[u8], seconds: &[u8], maps: &[u8], sizes: &[i32], tag
     cs
 }
 
+// A sheet's facts, the constraints in columns, as bytes in lent space, or the rule of 3, 5 to 9 and 17 that refuses them.
 #[no_mangle]
 pub extern "C" fn pattern_write(
     n: usize,
@@ -108,8 +120,7 @@ pub extern "C" fn pattern_write(
     tags: &[u16],
     out: &mut [u8],
 ) -> i32
-    ensures { λ r. ⌜ r ≡ asCount (writeAnswer (sheetIn n e lines (now (firsts .entry)) (now (seconds .entry)) (now (maps .entry)) (now (sizes .entry)) (now (tags .entry))) (now (out .entry))) ⌝ }
-    ensures { λ r. ⌜ now (out .exit) ≡ writeAfter (sheetIn n e lines (now (firsts .entry)) (now (seconds .entry)) (now (maps .entry)) (now (sizes .entry)) (now (tags .entry))) (now (out .entry)) ⌝ }
+    ensures { λ r. ⌜ (r ≡ asCount (writeAnswer (sheetIn n e lines (now (firsts .entry)) (now (seconds .entry)) (now (maps .entry)) (now (sizes .entry)) (now (tags .entry))) (now (out .entry)))) × (now (out .exit) ≡ writeAfter (sheetIn n e lines (now (firsts .entry)) (now (seconds .entry)) (now (maps .entry)) (now (sizes .entry)) (now (tags .entry))) (now (out .entry))) ⌝ }
 {
     let elements = sheet::elements_of(64, lines);
     let constraints = constraints_in(firsts, seconds, maps, sizes, tags);

@@ -43,9 +43,10 @@ returns-2 c =
     let r = c .before .before .before .before .before .before .before .read-sheet in
     let f = facts-read (a .bytes .now) (r .result) (r .ensures) (c .before .before .before .before .before .enum-told .given .1) in
     let all : Bytes (a .bytes .now) = record { each = λ i. c .before .before .before .before .before .before .before .before .before .shared-slice-known .given i .fits } in
-    let w = c .before .before .write-sheet .ensures in
-    (w .0 ∙ ap (λ (s : Sheet). writeAnswer s (a .out .now)) (f .sheet-is) ∙ rewrite-answer (a .bytes .now) (f .facts) (f .rest) (a .out .now) all (f .reads),
-    w .1 ∙ ap (λ (s : Sheet). writeAfter s (a .out .now)) (f .sheet-is) ∙ rewrite-after (a .bytes .now) (f .facts) (f .rest) (a .out .now) all (f .reads))
+    let w = c .before .before .write-sheet .ensures in (
+      w .0 ∙ ap (λ (s : Sheet). writeAnswer s (a .out .now)) (f .sheet-is) ∙ rewrite-answer (a .bytes .now) (f .facts) (f .rest) (a .out .now) all (f .reads),
+      w .1 ∙ ap (λ (s : Sheet). writeAfter s (a .out .now)) (f .sheet-is) ∙ rewrite-after (a .bytes .now) (f .facts) (f .rest) (a .out .now) all (f .reads),
+    )
 
 pub rewrite-spec : {M : Type 1} → statement M
 rewrite-spec =
