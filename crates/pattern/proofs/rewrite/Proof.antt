@@ -41,8 +41,8 @@ returns-2 : tie.Need-returns-2
 returns-2 c =
     let a = c .before .before .before .before .before .before .before .before .before .before .args in
     let r = c .before .before .before .before .before .before .before .read-sheet in
-    let f = facts-read (a .bytes .now) (r .result) (r .ensures) (c .before .before .before .before .before .enum-told .given .1) in
     let all : Bytes (a .bytes .now) = record { each = λ i. c .before .before .before .before .before .before .before .before .before .shared-slice-known .given i .fits } in
+    let f = facts-read (a .bytes .now) (r .result) all (r .ensures) (c .before .before .before .before .before .enum-told .given .1) in
     let w = c .before .before .write-sheet .ensures in (
       w .0 ∙ ap (λ (s : Sheet). writeAnswer s (a .out .now)) (f .sheet-is) ∙ rewrite-answer (a .bytes .now) (f .facts) (f .rest) (a .out .now) all (f .reads),
       w .1 ∙ ap (λ (s : Sheet). writeAfter s (a .out .now)) (f .sheet-is) ∙ rewrite-after (a .bytes .now) (f .facts) (f .rest) (a .out .now) all (f .reads),

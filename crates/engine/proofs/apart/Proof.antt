@@ -1,0 +1,43 @@
+-- `engine::apart` meets its contract. Assumes nothing.
+use mathlib.Core.Path.{_≡_, sym, ap, ap₂, _∙_, subst}
+use Prim.Native.Nat.{ℕ, _<_}
+use native.Mathlib.Omega.{arith}
+use lib.IntN.{ℤ, natAbs, _-ℤ_}
+use mir.Syntax.{w32, w64}
+use mir.Val.{SFits, toZ, ofZ}
+use mir.Facts.{toZ-ofZ}
+use Rattle.engine.proofs.Signed.{abs-mag, mag-difference, difference-fits, wide, widened}
+use Rattle.engine.proofs.apart.Statement.{statement}
+use Rattle.engine.proofs.apart.Tie as tie
+
+-- the difference of the two numbers as they are
+difference : (c : tie.Start) → toZ w64 (ofZ w64 (toZ w32 (ofZ w32 (c .args .y)))) -ℤ toZ w64 (ofZ w64 (toZ w32 (ofZ w32 (c .args .x)))) ≡ c .args .y -ℤ c .args .x
+difference c = ap₂ _-ℤ_ (widened (c .args .y) (c .fits .y)) (widened (c .args .x) (c .fits .x))
+
+fits : (c : tie.Start) → SFits w64 (c .args .y -ℤ c .args .x)
+fits c = difference-fits (c .args .y) (c .args .x) (c .fits .y) (c .fits .x)
+
+taken : (c : tie.Start)
+    → toZ w64 (ofZ w64 (toZ w64 (ofZ w64 (toZ w32 (ofZ w32 (c .args .y)))) -ℤ toZ w64 (ofZ w64 (toZ w32 (ofZ w32 (c .args .x)))))) ≡ c .args .y -ℤ c .args .x
+taken c = ap (λ (z : ℤ). toZ w64 (ofZ w64 z)) (difference c) ∙ toZ-ofZ (fits c)
+
+cast-magnitude : tie.Need-cast-magnitude
+cast-magnitude c = wide (c .args .y) (c .fits .y)
+
+cast-magnitude-2 : tie.Need-cast-magnitude-2
+cast-magnitude-2 c = wide (c .args .x) (c .fits .x)
+
+sub-magnitude : tie.Need-sub-magnitude
+sub-magnitude c = subst (SFits w64) (sym (difference c)) (fits c)
+
+magnitude-requires : tie.Need-magnitude-requires
+magnitude-requires c κs =
+    subst (λ (z : ℤ). natAbs z < 8589934592) (sym (taken c))
+    (omega (arith, abs-mag (c .args .y -ℤ c .args .x), mag-difference (c .args .y) (c .args .x) (c .fits .y) (c .fits .x)))
+
+returns : tie.Need-returns
+returns c = c .magnitude .ensures ∙ ap natAbs (taken (c .before))
+
+pub apart-spec : {M : Type 1} → statement M
+apart-spec =
+    tie.close (tie.spec cast-magnitude cast-magnitude-2 sub-magnitude magnitude-requires returns)

@@ -1,0 +1,103 @@
+-- `engine::steps_of` meets its contract: the steps passed stand, and the rest is blank. Assumes nothing.
+use mathlib.Core.Path.{_≡_, refl, sym, ap, _∙_, subst}
+use mathlib.Core.List.{List}
+use Prim.Native.Nat.{ℕ, zero, suc, _+_, _-_, _≤_, _<_}
+use native.Mathlib.Omega.{arith}
+use native.Mathlib.Decide.{ℕ-discrete}
+use borrow.Author.Needs.{needs}
+use lib.IntN.{ℤ}
+use lib.ListN.{length, getD, set, replicate, length-set}
+use lib.Seq.{getD-set-same, getD-set-other}
+use Rattle.answer.specs.declared.Step.{Step}
+use Rattle.engine.specs.Steps.{stepAt, blankStep}
+use Rattle.engine.proofs.steps_of.Statement.{statement}
+use Rattle.engine.proofs.steps_of.Tie as tie
+
+-- the first t steps stand, and the rest is blank
+record Standing (lines e : ℕ) (sizes : List ℤ) (cs parts joints : List ℕ) (count t : ℕ) (steps : List Step) : Type 0 where
+  few : t ≤ count
+  long : length steps ≡ 62
+  each : (k : ℕ) → k < t → getD steps k blankStep ≡ stepAt lines e sizes cs parts joints k
+  blank : (k : ℕ) → t ≤ k → getD steps k blankStep ≡ blankStep
+
+all-blank : (n k : ℕ) → getD (replicate n blankStep) k blankStep ≡ blankStep
+all-blank zero k = refl
+all-blank (suc n) zero = refl
+all-blank (suc n) (suc k) = all-blank n k
+
+module _ (lines e : ℕ) (sizes : List ℤ) (cs parts joints : List ℕ) (count t : ℕ) (steps : List Step) where
+  one-more : Standing lines e sizes cs parts joints count t steps → t < count → count ≤ 62 → (v : Step) → v ≡ stepAt lines e sizes cs parts joints t
+      → Standing lines e sizes cs parts joints count (t + 1) (set steps t v)
+  one-more w l m v is = record {
+    few = omega arith;
+    long = length-set steps t v ∙ w .long;
+    each = λ k h. at-each k h (ℕ-discrete k t);
+    blank = λ k h. getD-set-other steps t k v blankStep (λ z. omega arith) ∙ w .blank k (omega arith);
+  }
+    where
+      at-each : (k : ℕ) → k < t + 1 → Dec (k ≡ t) → getD (set steps t v) k blankStep ≡ stepAt lines e sizes cs parts joints k
+      at-each k h (yes z) =
+          ap (λ (n : ℕ). getD (set steps t v) n blankStep) z ∙ getD-set-same steps t v blankStep (omega (arith, w .long)) ∙ is
+          ∙ ap (stepAt lines e sizes cs parts joints) (sym z)
+      at-each k h (no n) = getD-set-other steps t k v blankStep n ∙ w .each k (omega arith)
+
+abbrev Inv-loop : tie.InvT-loop
+Inv-loop start sizes lines e count parts joints steps₀ t₀ steps t = Standing lines e sizes start parts joints count t steps
+
+abbrev μ-loop : tie.MeasureT-loop
+μ-loop start sizes lines e count parts joints steps₀ t₀ steps t = count - t
+
+no-steps-requires : tie.Need-no-steps-requires Inv-loop μ-loop
+no-steps-requires c κs = search needs
+
+loop-holds : tie.Need-loop-holds Inv-loop μ-loop
+loop-holds c =
+    let e = c .no-steps .ensures in record {
+      few = omega arith;
+      long = ap length e;
+      each = λ k h. absurd (omega arith);
+      blank = λ k h. ap (λ (l : List Step). getD l k blankStep) e ∙ all-blank 62 k;
+    }
+
+step-at-requires : tie.Need-step-at-requires Inv-loop μ-loop
+step-at-requires c κs = search needs
+
+mul-steps : tie.Need-mul-steps Inv-loop μ-loop
+mul-steps c = search needs
+
+array-set-from-steps : tie.Need-array-set-from-steps Inv-loop μ-loop
+array-set-from-steps c = search needs
+
+add-t : tie.Need-add-t Inv-loop μ-loop
+add-t c = search needs
+
+loop-less : tie.Need-loop-less Inv-loop μ-loop
+loop-less c = search needs
+
+loop-again : tie.Need-loop-again Inv-loop μ-loop
+loop-again c =
+    let a = c .before .before .before .before .before .before .before .before .args in
+    let l = c .before .before .before .before .loop in
+    one-more (a .lines) (a .e) (a .sizes .now) (a .start .now) (a .run .parts) (a .run .joints) (a .run .steps) (l .t) (l .steps) (l .inv) (search needs) (search needs)
+    (c .step-at .result) (c .step-at .ensures)
+
+returns : tie.Need-returns Inv-loop μ-loop
+returns c =
+    let l = c .before .loop in
+    record { long = l .inv .long; each = λ k h. l .inv .each k (omega (arith, c .loop-test .left)); blank = λ k h. l .inv .blank k (omega (arith, l .inv .few)) }
+
+pub steps-of-spec : {M : Type 1} → statement M
+steps-of-spec =
+    tie.close
+    (tie.spec
+    Inv-loop
+    μ-loop
+    no-steps-requires
+    loop-holds
+    step-at-requires
+    mul-steps
+    array-set-from-steps
+    add-t
+    loop-less
+    loop-again
+    returns)

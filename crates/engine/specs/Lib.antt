@@ -1,0 +1,2 @@
+-- What the engine answers.
+pub mod Steps

@@ -1,0 +1,57 @@
+-- The steps of a list of merges, from what the arrays hold. Assumes nothing.
+use mathlib.Core.Path.{_≡_}
+use mathlib.Core.Bool.{true, false, _&&_}
+use mathlib.Core.List.{List}
+use Prim.Native.Nat.{ℕ, _+_, _*_, _≤_, _<_}
+use lib.Dec.{ltb}
+use lib.IntN.{ℤ, pos}
+use lib.ListN.{length, getD}
+use Rattle.theory.specs.Merge.{Merge, merge, slot}
+use Rattle.theory.specs.Placement as placement
+use Rattle.theory.specs.Placement.{placed, jointKind}
+use Rattle.answer.specs.Answer.{asKind, asWays}
+use Rattle.answer.specs.declared.JointKind.{JointKind}
+use Rattle.answer.specs.declared.JointKind.the-variants.{Ppp, Ppl, Pll, Lll}
+use Rattle.answer.specs.declared.Ways.the-variants.{Unknown}
+use Rattle.answer.specs.declared.Step.{Step}
+use Rattle.merges.specs.declared.Run.{Run}
+pub mod Laws
+
+-- theory's kind of a joint, by the code's
+abbrev pub kindOf : JointKind → placement.JointKind
+kindOf Ppp = placement.ppp
+kindOf Ppl = placement.ppl
+kindOf Pll = placement.pll
+kindOf Lll = placement.lll
+
+-- the placements of a step m of the given kind, from the initial clusters
+unfoldable pub waysBy : ℕ → placement.JointKind → ℕ → List ℤ → List ℕ → Merge → placement.Ways
+waysBy lines kind e sizes cs m =
+    elim (ltb (m .i) e && (ltb (m .j) e && ltb (m .k) e)) [
+      | true ↦ placed lines kind (slot cs (m .i)) (slot cs (m .j)) (getD sizes (m .i) (pos 0)) (getD sizes (m .j) (pos 0)) (getD sizes (m .k) (pos 0))
+      | false ↦ placement.unknown
+    ]
+
+-- step t, from the parts and joints of a list of merges; the first makes cluster `made`
+unfoldable pub stepFrom : ℕ → ℕ → List ℤ → List ℕ → ℕ → List ℕ → List ℕ → ℕ → Step
+stepFrom lines e sizes cs made parts joints t = record {
+  made = made + t;
+  i = getD parts (3 * t) 0;
+  j = getD parts (3 * t + 1) 0;
+  k = getD parts (3 * t + 2) 0;
+  joint = getD joints t 0;
+  kind = asKind (jointKind lines (getD joints t 0));
+  ways = asWays (waysBy lines (jointKind lines (getD joints t 0)) e sizes cs (merge (getD parts (3 * t) 0) (getD parts (3 * t + 1) 0) (getD parts (3 * t + 2) 0)));
+}
+
+abbrev pub stepAt : ℕ → ℕ → List ℤ → List ℕ → List ℕ → List ℕ → ℕ → Step
+stepAt lines e sizes cs parts joints t = stepFrom lines e sizes cs e parts joints t
+
+abbrev pub blankStep : Step
+blankStep = record { made = 0; i = 0; j = 0; k = 0; joint = 0; kind = Ppp; ways = Unknown }
+
+-- the steps of a run, blank beyond them
+pub record Stepped (lines e : ℕ) (sizes : List ℤ) (cs : List ℕ) (run : Run) (steps : List Step) : Type 0 where
+  pub long : length steps ≡ 62
+  pub each : (t : ℕ) → t < run .steps → getD steps t blankStep ≡ stepAt lines e sizes cs (run .parts) (run .joints) t
+  pub blank : (t : ℕ) → run .steps ≤ t → getD steps t blankStep ≡ blankStep

@@ -1,0 +1,156 @@
+-- The steps that the arrays give are those of the list of merges they hold. Assumes nothing.
+use mathlib.Core.Path.{_≡_, refl, sym, ap, ap₂, _∙_, subst}
+use mathlib.Core.Logic.{_≢_}
+use mathlib.Core.Bool.{Bool, true, false, _&&_}
+use mathlib.Core.List.{List, [], _∷_, _++_, map}
+use Prim.Native.Nat.{ℕ, zero, suc, _+_, _*_, _≤_, _<_, min}
+use native.Mathlib.Omega.{arith}
+use lib.Dec.{ltb}
+use lib.IntN.{ℤ, pos}
+use lib.ListN.{length, getD, take, length-take}
+use lib.Seq.{ext-getD, getD-take}
+use borrow.Author.Tests.{ltb-true}
+use Rattle.theory.specs.Merge.{slot, Merge, merge, three, joint, OpenAt, put, Valid, final, joints}
+use Rattle.theory.specs.Merge.Numbered.{Place, new, old, place, length-put}
+use Rattle.theory.specs.Plan.{ascending}
+use Rattle.theory.specs.Plan.Order.{open-ascending, joint-ascending}
+use Rattle.theory.specs.Placement as placement
+use Rattle.theory.specs.Placement.{placed, jointKind, ways}
+use Rattle.answer.specs.Answer.{asKind, asWays, stepOf, stepsOf}
+use Rattle.answer.specs.declared.Step.{Step}
+use Rattle.merges.specs.Held.{padded, flat}
+use Rattle.merges.specs.Run.{runOf}
+use Rattle.merges.specs.declared.Run.{Run}
+use Rattle.merges.proofs.Padded.{slot-padded}
+use Rattle.engine.specs.Steps.{waysBy, stepFrom, blankStep, Stepped}
+
+-- ---- placements go by initial clusters only
+
+-- the clusters below e are those of cs as long as they live
+abbrev pub Initial : ℕ → List ℕ → List ℕ → Type 0
+Initial e cs s = (n : ℕ) → n < e → slot s n ≢ 0 → slot s n ≡ slot cs n
+
+initial-put : (e : ℕ) (cs s : List ℕ) (m : Merge) → e ≤ length s → Initial e cs s → Initial e cs (put s m)
+initial-put e cs s m h k n l z = go (place s m n z)
+  where
+    go : Place s m n → slot (put s m) n ≡ slot cs n
+    go (new q f) = absurd (omega arith)
+    go (old q f) = f ∙ k n l (λ y. z (f ∙ y))
+
+module _ (lines e : ℕ) (sizes : List ℤ) (cs s : List ℕ) (k : Initial e cs s) where
+  ways-same : (kind : placement.JointKind) (m : Merge) → slot s (m .i) ≢ 0 → slot s (m .j) ≢ 0
+      → waysBy lines kind e sizes cs m
+      ≡ elim (ltb (m .i) e && (ltb (m .j) e && ltb (m .k) e)) [
+        | true ↦ placed lines kind (slot s (m .i)) (slot s (m .j)) (getD sizes (m .i) (pos 0)) (getD sizes (m .j) (pos 0)) (getD sizes (m .k) (pos 0))
+        | false ↦ placement.unknown
+      ]
+  unfolding waysBy
+  ways-same kind m li lj = go (ltb (m .i) e) refl (ltb (m .j) e) refl (ltb (m .k) e)
+    where
+      at : ℕ → ℕ → placement.Ways
+      at a b = placed lines kind a b (getD sizes (m .i) (pos 0)) (getD sizes (m .j) (pos 0)) (getD sizes (m .k) (pos 0))
+
+      go : (a : Bool) → ltb (m .i) e ≡ a → (b : Bool) → ltb (m .j) e ≡ b → (c : Bool)
+          → _≡_ {A = placement.Ways} (elim (a && (b && c)) [ true ↦ at (slot cs (m .i)) (slot cs (m .j)) | false ↦ placement.unknown ])
+          (elim (a && (b && c)) [ true ↦ at (slot s (m .i)) (slot s (m .j)) | false ↦ placement.unknown ])
+      go false p b q c = refl
+      go true p false q c = refl
+      go true p true q false = refl
+      go true p true q true = ap₂ at (sym (k (m .i) (ltb-true (m .i) e p) li)) (sym (k (m .j) (ltb-true (m .j) e q) lj))
+
+  -- one step
+  step-same : (m : Merge) → OpenAt s m → (base : ℕ) (parts knots : List ℕ) → base ≡ length s
+      → stepFrom lines e sizes cs base (ascending m .i ∷ ascending m .j ∷ ascending m .k ∷ parts) (joint (three s m) ∷ knots) 0 ≡ stepOf lines e sizes s m
+  unfolding stepFrom stepOf ways
+  step-same m o base parts knots b =
+      let a = open-ascending s m o in
+      let j : joint (three s m) ≡ joint (three s (ascending m)) = sym (joint-ascending s m) in
+      let made : base + 0 ≡ length s = omega arith in
+      let w = ap (λ (x : ℕ). asWays (waysBy lines (jointKind lines x) e sizes cs (ascending m))) j
+      ∙ ap asWays (ways-same (jointKind lines (joint (three s (ascending m)))) (ascending m) (a .livei) (a .livej)) in
+      λ z. record {
+        made = made z;
+        i = ascending m .i;
+        j = ascending m .j;
+        k = ascending m .k;
+        joint = j z;
+        kind = asKind (jointKind lines (j z));
+        ways = w z;
+      }
+
+-- ---- all steps
+
+-- a later step is a step of the rest
+later : (lines e : ℕ) (sizes : List ℤ) (cs : List ℕ) (made x i j k : ℕ) (parts knots : List ℕ) (t : ℕ)
+    → stepFrom lines e sizes cs made (i ∷ j ∷ k ∷ parts) (x ∷ knots) (suc t) ≡ stepFrom lines e sizes cs (suc made) parts knots t
+unfolding stepFrom
+later lines e sizes cs made x i j k parts knots t =
+    let p0 : 3 * suc t ≡ suc (suc (suc (3 * t))) = omega arith in
+    let p1 : 3 * suc t + 1 ≡ suc (suc (suc (3 * t + 1))) = omega arith in
+    let p2 : 3 * suc t + 2 ≡ suc (suc (suc (3 * t + 2))) = omega arith in
+    let l = i ∷ j ∷ k ∷ parts in
+    let m : made + suc t ≡ suc made + t = omega arith in
+    λ z. record {
+      made = m z;
+      i = getD l (p0 z) 0;
+      j = getD l (p1 z) 0;
+      k = getD l (p2 z) 0;
+      joint = getD knots t 0;
+      kind = asKind (jointKind lines (getD knots t 0));
+      ways = asWays (waysBy lines (jointKind lines (getD knots t 0)) e sizes cs (merge (getD l (p0 z) 0) (getD l (p1 z) 0) (getD l (p2 z) 0)));
+    }
+
+steps-from : (lines e : ℕ) (sizes : List ℤ) (cs : List ℕ) (p : List Merge) (s : List ℕ) (base t : ℕ) → Valid s p → Initial e cs s → e ≤ length s → base ≡ length s → t < length p
+    → stepFrom lines e sizes cs base (flat (map ascending p)) (joints s p) t ≡ getD (stepsOf lines e sizes s p) t blankStep
+unfolding flat joints stepsOf
+steps-from lines e sizes cs [] s base t v k h b l = absurd (omega arith)
+steps-from lines e sizes cs (m ∷ p) s base zero v k h b l =
+    step-same lines e sizes cs s k m (v .0) base (flat (map ascending p)) (joints (put s m) p) b
+steps-from lines e sizes cs (m ∷ p) s base (suc t) v k h b l =
+    later lines e sizes cs base (joint (three s m)) (ascending m .i) (ascending m .j) (ascending m .k) (flat (map ascending p)) (joints (put s m) p) t
+    ∙ steps-from lines e sizes cs p (put s m) (suc base) t (v .1) (initial-put e cs s m h k) (omega (arith, length-put s m)) (omega (arith, length-put s m)) (omega arith)
+
+length-steps : (lines e : ℕ) (sizes : List ℤ) (p : List Merge) (s : List ℕ) → length (stepsOf lines e sizes s p) ≡ length p
+unfolding stepsOf
+length-steps lines e sizes [] s = refl
+length-steps lines e sizes (m ∷ p) s = ap suc (length-steps lines e sizes p (put s m))
+
+-- reading the arrays is reading the lists
+read-lists : (lines e : ℕ) (sizes : List ℤ) (cs parts knots : List ℕ) (t : ℕ)
+    → stepFrom lines e sizes (padded 192 cs) e (padded 192 parts) (padded 64 knots) t ≡ stepFrom lines e sizes cs e parts knots t
+unfolding stepFrom waysBy
+read-lists lines e sizes cs parts knots t =
+    let i = slot-padded 192 parts (3 * t) in
+    let j = slot-padded 192 parts (3 * t + 1) in
+    let k = slot-padded 192 parts (3 * t + 2) in
+    let x = slot-padded 64 knots t in
+    let m = merge (slot parts (3 * t)) (slot parts (3 * t + 1)) (slot parts (3 * t + 2)) in
+    let w : waysBy lines (jointKind lines (slot (padded 64 knots) t)) e sizes (padded 192 cs) (merge (slot (padded 192 parts) (3 * t)) (slot (padded 192 parts) (3 * t + 1)) (slot (padded 192 parts) (3 * t + 2)))
+    ≡ waysBy lines (jointKind lines (slot knots t)) e sizes cs m =
+    (λ z. waysBy lines (jointKind lines (x z)) e sizes (padded 192 cs) (merge (i z) (j z) (k z)))
+    ∙ (λ z. elim (ltb (m .i) e && (ltb (m .j) e && ltb (m .k) e)) [
+      | true ↦ placed lines (jointKind lines (slot knots t)) (slot-padded 192 cs (m .i) z) (slot-padded 192 cs (m .j) z) (getD sizes (m .i) (pos 0)) (getD sizes (m .j) (pos 0)) (getD sizes (m .k) (pos 0))
+      | false ↦ placement.unknown
+    ]) in
+    λ z. record { made = e + t; i = i z; j = j z; k = k z; joint = x z; kind = asKind (jointKind lines (x z)); ways = asWays (w z) }
+
+-- the steps that the arrays of a run give are those of its list of merges
+pub stepped-are : (lines e : ℕ) (sizes : List ℤ) (cs : List ℕ) (p : List Merge) (run : Run) (start : List ℕ) (steps : List Step)
+    → Valid cs p → run ≡ runOf cs p → length cs ≡ e → start ≡ padded 192 cs → length p ≤ 62 → Stepped lines e sizes start run steps
+    → take (run .steps) steps ≡ stepsOf lines e sizes cs p
+unfolding runOf
+stepped-are lines e sizes cs p run start steps v h c b f w =
+    ext-getD blankStep (take (run .steps) steps) (stepsOf lines e sizes cs p)
+    (length-take (run .steps) steps ∙ omega (arith, w .long, ap count h, f) ∙ sym (length-steps lines e sizes p cs))
+    (λ t l. each t (omega (arith, length-take (run .steps) steps, ap count h)))
+  where
+    count : Run → ℕ
+    count r = r .steps
+
+    each : (t : ℕ) → t < length p → getD (take (run .steps) steps) t blankStep ≡ getD (stepsOf lines e sizes cs p) t blankStep
+    each t l =
+        let q : t < run .steps = omega (arith, ap count h) in
+        getD-take (run .steps) steps t blankStep q ∙ w .each t q
+        ∙ (λ z. stepFrom lines e sizes (b z) e (h z .parts) (h z .joints) t)
+        ∙ read-lists lines e sizes cs (flat (map ascending p)) (joints cs p) t
+        ∙ steps-from lines e sizes cs p cs e t v (λ n m z. refl) (omega arith) (sym c) l

@@ -1,0 +1,187 @@
+-- Where two living clusters share at most one element, the clusters that take part in an open merge are those that reach an element. Assumes
+-- nothing.
+use mathlib.Core.Path.{_≡_, refl, sym, ap, _∙_, subst}
+use mathlib.Core.Logic.{_≢_, _⊎_, inl, inr, Ne·symm}
+use mathlib.Core.List.{List}
+use Prim.Native.Nat.{ℕ, zero, suc, _≤_, _<_}
+use native.Mathlib.Omega.{arith}
+use native.Mathlib.Decide.{ℕ-discrete}
+use lib.Count.{ones}
+use Rattle.theory.specs.Set.{_∩_, at, _⊑_}
+use Rattle.theory.specs.Set.Laws.{at-le, at-zero, size-eq, size-zero, some, two-in, both, in-both, singles-apart}
+use Rattle.theory.specs.Merge.{slot, merge, OpenAt}
+use Rattle.merges.specs.Links.{Links, Reached}
+
+-- ---- a set and its elements
+
+pub filled : (a p : ℕ) → at p a ≡ 1 → a ≢ 0
+filled a p e z = omega (arith, ap (at p) z, at-zero p)
+
+pub element : (a : ℕ) → a ≢ 0 → (p : ℕ) × (at p a ≡ 1)
+element a n = go (ones a) refl
+  where
+    go : (k : ℕ) → ones a ≡ k → (p : ℕ) × (at p a ≡ 1)
+    go zero e = absurd (n (sym (size-eq a 0 (record { le = λ x. omega (arith, at-zero x) }) (omega (arith, size-zero)))))
+    go (suc k) e = some a (omega arith)
+
+counted : (a p : ℕ) → at p a ≡ 1 → 1 ≤ ones a
+counted a p e = go (ones a) refl
+  where
+    go : (k : ℕ) → ones a ≡ k → 1 ≤ ones a
+    go zero z = absurd (filled a p e (sym (size-eq a 0 (record { le = λ x. omega (arith, at-zero x) }) (omega (arith, size-zero)))))
+    go (suc k) z = omega arith
+
+-- two single sets with an element in common are one
+same-single : (a b p : ℕ) → ones a ≡ 1 → ones b ≡ 1 → at p a ≡ 1 → at p b ≡ 1 → a ≡ b
+same-single a b p ea eb ia ib = go (ℕ-discrete a b)
+  where
+    go : Dec (a ≡ b) → a ≡ b
+    go (yes e) = e
+    go (no n) = absurd (omega (arith, singles-apart a b ea eb n, counted (a ∩ b) p (both p a b ia ib)))
+
+-- ---- clusters that share at most one element
+
+module _ (s : List ℕ) (apart : (i j : ℕ) → i ≢ j → slot s i ≢ 0 → slot s j ≢ 0 → ones (slot s i ∩ slot s j) ≤ 1) where
+  -- one element in common
+  pub one-shared : (i j p : ℕ) → i ≢ j → at p (slot s i) ≡ 1 → at p (slot s j) ≡ 1 → ones (slot s i ∩ slot s j) ≡ 1
+  one-shared i j p n a b =
+      omega (arith, apart i j n (filled (slot s i) p a) (filled (slot s j) p b), counted (slot s i ∩ slot s j) p (both p (slot s i) (slot s j) a b))
+
+  -- and no second
+  pub same-shared : (i j p q : ℕ) → i ≢ j → at p (slot s i) ≡ 1 → at p (slot s j) ≡ 1 → at q (slot s i) ≡ 1 → at q (slot s j) ≡ 1 → p ≡ q
+  same-shared i j p q n a b d e = go (ℕ-discrete p q)
+    where
+      go : Dec (p ≡ q) → p ≡ q
+      go (yes h) = h
+      go (no h) =
+          absurd (omega (
+            arith,
+            apart i j n (filled (slot s i) p a) (filled (slot s j) p b),
+            two-in (slot s i ∩ slot s j) p q (both p (slot s i) (slot s j) a b) (both q (slot s i) (slot s j) d e) h,
+          ))
+
+  -- three clusters that meet in three different elements make an open merge
+  pub triangle : (i j k p q r : ℕ) → i ≢ j → j ≢ k → i ≢ k → p ≢ q → p ≢ r → q ≢ r → at p (slot s i) ≡ 1 → at p (slot s j) ≡ 1
+      → at q (slot s i) ≡ 1 → at q (slot s k) ≡ 1 → at r (slot s j) ≡ 1 → at r (slot s k) ≡ 1 → OpenAt s (merge i j k)
+  triangle i j k p q r ij jk ik pq pr qr pi pj qi qk rj rk = record {
+    i≢j = ij;
+    j≢k = jk;
+    i≢k = ik;
+    livei = filled (slot s i) p pi;
+    livej = filled (slot s j) p pj;
+    livek = filled (slot s k) q qk;
+    open3 = record {
+      ab = one-shared i j p ij pi pj;
+      bc = one-shared j k r jk rj rk;
+      ac = one-shared i k q ik qi qk;
+      ab≢bc = λ e. pr (same-shared j k p r jk pj (in-both p (slot s j) (slot s k) (subst (λ (z : ℕ). at p z ≡ 1) e (both p (slot s i) (slot s j) pi pj)) .1) rj rk);
+      bc≢ac = λ e. qr (same-shared i k q r ik qi qk (in-both r (slot s i) (slot s k) (subst (λ (z : ℕ). at r z ≡ 1) e (both r (slot s j) (slot s k) rj rk)) .0) rk);
+      ab≢ac = λ e. pq (same-shared i k p q ik pi (in-both p (slot s i) (slot s k) (subst (λ (z : ℕ). at p z ≡ 1) e (both p (slot s i) (slot s j) pi pj)) .1) qi qk);
+    };
+  }
+
+-- the three elements of an open merge
+pub record Corners (s : List ℕ) (i j k : ℕ) : Type 0 where
+  pub p : ℕ
+  pub q : ℕ
+  pub r : ℕ
+  pub p-i : at p (slot s i) ≡ 1
+  pub p-j : at p (slot s j) ≡ 1
+  pub p-k : at p (slot s k) ≡ 0
+  pub q-i : at q (slot s i) ≡ 1
+  pub q-k : at q (slot s k) ≡ 1
+  pub q-j : at q (slot s j) ≡ 0
+  pub r-j : at r (slot s j) ≡ 1
+  pub r-k : at r (slot s k) ≡ 1
+  pub r-i : at r (slot s i) ≡ 0
+
+-- an element not in a set
+out : (p a : ℕ) → (at p a ≡ 1 → ⊥) → at p a ≡ 0
+out p a n = go (ℕ-discrete (at p a) 1)
+  where
+    go : Dec (at p a ≡ 1) → at p a ≡ 0
+    go (yes e) = absurd (n e)
+    go (no m) = omega (arith, at-le p a)
+
+pub corners : (s : List ℕ) (i j k : ℕ) → OpenAt s (merge i j k) → Corners s i j k
+corners s i j k o =
+    let x = slot s i in
+    let y = slot s j in
+    let z = slot s k in
+    let a = o .open3 in
+    let P = some (x ∩ y) (omega (arith, a .ab)) in
+    let Q = some (x ∩ z) (omega (arith, a .ac)) in
+    let R = some (y ∩ z) (omega (arith, a .bc)) in
+    let ip = in-both (P .0) x y (P .1) in
+    let iq = in-both (Q .0) x z (Q .1) in
+    let ir = in-both (R .0) y z (R .1) in
+    record {
+      p = P .0;
+      q = Q .0;
+      r = R .0;
+      p-i = ip .0;
+      p-j = ip .1;
+      p-k = out (P .0) z (λ e. a .ab≢bc (same-single (x ∩ y) (y ∩ z) (P .0) (a .ab) (a .bc) (P .1) (both (P .0) y z (ip .1) e)));
+      q-i = iq .0;
+      q-k = iq .1;
+      q-j = out (Q .0) y (λ e. a .ab≢ac (same-single (x ∩ y) (x ∩ z) (Q .0) (a .ab) (a .ac) (both (Q .0) x y (iq .0) e) (Q .1)));
+      r-j = ir .0;
+      r-k = ir .1;
+      r-i = out (R .0) x (λ e. a .ab≢bc (same-single (x ∩ y) (y ∩ z) (R .0) (a .ab) (a .bc) (both (R .0) x y e (ir .0)) (R .1)));
+    }
+
+-- ---- open merges and what a cluster reaches
+
+module _ (s links : List ℕ) (ls : Links s links) where
+  -- a cluster of an open merge reaches the element that the other two share
+  pub open-reached : (i j k : ℕ) → OpenAt s (merge i j k) → (r : ℕ) × Reached links (slot s i) r × (at r (slot s j) ≡ 1)
+  open-reached i j k o =
+      let c = corners s i j k o in (
+        c .r,
+        record {
+          p = c .p;
+          q = c .q;
+          differ = λ e. omega (arith, c .p-j, c .q-j, ap (λ (z : ℕ). at z (slot s j)) e);
+          p-in = c .p-i;
+          q-in = c .q-i;
+          by-p = ls .every j (c .p) (c .r) (c .p-j) (c .r-j);
+          by-q = ls .every k (c .q) (c .r) (c .q-k) (c .r-k);
+          out = c .r-i;
+        },
+        c .r-j,
+      )
+
+  module _ (apart : (i j : ℕ) → i ≢ j → slot s i ≢ 0 → slot s j ≢ 0 → ones (slot s i ∩ slot s j) ≤ 1) where
+    -- in and out
+    apart-by : (c d r : ℕ) → at r (slot s c) ≡ 1 → at r (slot s d) ≡ 0 → c ≢ d
+    apart-by c d r a b e = omega (arith, ap (λ (z : ℕ). at r (slot s z)) e)
+
+    other : (x p r : ℕ) → at p x ≡ 1 → at r x ≡ 0 → p ≢ r
+    other x p r a b e = omega (arith, ap (λ (z : ℕ). at z x) e)
+
+    -- a cluster j that shares p with i, and an element r that i reaches: a third cluster closes the merge, and holds r
+    pub closed : (i j p r : ℕ) → at p (slot s i) ≡ 1 → at p (slot s j) ≡ 1 → at r (slot s j) ≡ 1 → Reached links (slot s i) r
+        → (k : ℕ) × OpenAt s (merge i j k) × (at r (slot s k) ≡ 1)
+    closed i j p r pi pj rj h = go (ℕ-discrete p (h .p))
+      where
+        i≢j : i ≢ j
+        i≢j = Ne·symm (apart-by j i r rj (h .out))
+
+        by : (q : ℕ) → p ≢ q → at q (slot s i) ≡ 1 → (k : ℕ) × (at q (slot s k) ≡ 1) × (at r (slot s k) ≡ 1)
+            → (k : ℕ) × OpenAt s (merge i j k) × (at r (slot s k) ≡ 1)
+        by q n qi (k, qk, rk) = (
+          k,
+          triangle s apart i j k p q r i≢j (λ e. n (same-shared s apart i j p q i≢j pi pj qi (subst (λ (z : ℕ). at q (slot s z) ≡ 1) (sym e) qk)))
+              (Ne·symm (apart-by k i r rk (h .out))) n (other (slot s i) p r pi (h .out)) (other (slot s i) q r qi (h .out)) pi pj qi qk rj rk,
+          rk,
+        )
+
+        go : Dec (p ≡ h .p) → (k : ℕ) × OpenAt s (merge i j k) × (at r (slot s k) ≡ 1)
+        go (yes e) = by (h .q) (λ f. h .differ (sym e ∙ f)) (h .q-in) (ls .only (h .q) r (h .by-q))
+        go (no n) = by (h .p) n (h .p-in) (ls .only (h .p) r (h .by-p))
+
+    -- a cluster that reaches an element takes part in an open merge
+    pub reached-open : (i r : ℕ) → Reached links (slot s i) r → (j : ℕ) × (k : ℕ) × OpenAt s (merge i j k) × (at r (slot s j) ≡ 1)
+    reached-open i r h =
+        let a = ls .only (h .p) r (h .by-p) in
+        let b = closed i (a .0) (h .p) r (h .p-in) (a .1) (a .2) h in (a .0, b .0, b .1, a .2)

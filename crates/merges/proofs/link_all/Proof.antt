@@ -1,0 +1,71 @@
+-- `merges::link_all` meets its contract: the links of the clusters passed. Assumes nothing.
+use mathlib.Core.Path.{_≡_, refl, sym, ap, subst, _∙_}
+use mathlib.Core.List.{List}
+use Prim.Native.Nat.{ℕ, _-_, _≤_, _<_}
+use native.Mathlib.Omega.{arith}
+use native.Mathlib.Numerals.{add-one}
+use borrow.Author.Needs.{needs}
+use lib.ListN.{length, take, getD}
+use lib.Seq.{take-suc}
+use Rattle.merges.specs.Links.{Links}
+use Rattle.merges.proofs.State.{links-none, links-add}
+use Rattle.merges.proofs.link_all.Statement.{statement}
+use Rattle.merges.proofs.link_all.Tie as tie
+
+abbrev Inv-loop : tie.InvT-loop
+Inv-loop slots e links₀ i₀ links i = (i ≤ e) × Links (take i slots) links × (length links ≡ 64)
+
+abbrev μ-loop : tie.MeasureT-loop
+μ-loop slots e links₀ i₀ links i = e - i
+
+loop-holds : tie.Need-loop-holds Inv-loop μ-loop
+loop-holds c = (search needs, links-none 64, refl)
+
+mul-link : tie.Need-mul-link Inv-loop μ-loop
+mul-link c = search needs
+
+element-copy-out-link : tie.Need-element-copy-out-link Inv-loop μ-loop
+element-copy-out-link c = search needs
+
+link-requires : tie.Need-link-requires Inv-loop μ-loop
+link-requires c κs = search needs
+
+add-i : tie.Need-add-i Inv-loop μ-loop
+add-i c = search needs
+
+loop-less : tie.Need-loop-less Inv-loop μ-loop
+loop-less c = search needs
+
+loop-again : tie.Need-loop-again Inv-loop μ-loop
+loop-again c =
+    let a = c .before .before .before .before .before .args in
+    let l = c .before .before .before .before .loop in
+    let e = c .link .ensures in
+    let h : l .i < length (a .slots .now) = search needs in (
+      search needs,
+      subst (λ (s : List ℕ). Links s (c .link .last .0)) (sym (ap (λ (n : ℕ). take n (a .slots .now)) (add-one (l .i)) ∙ take-suc (a .slots .now) (l .i) 0 h))
+          (links-add (take (l .i) (a .slots .now)) (l .links) (c .link .last .0) (getD (a .slots .now) (l .i) 0) (l .inv .1) e),
+      e .long ∙ l .inv .2,
+    )
+
+returns : tie.Need-returns Inv-loop μ-loop
+returns c =
+    let a = c .before .before .args in
+    let l = c .before .loop in
+    let h : l .i ≡ a .e = omega (arith, l .inv .0, c .loop-test .left) in
+    (subst (λ (n : ℕ). Links (take n (a .slots .now)) (l .links)) h (l .inv .1), l .inv .2)
+
+pub link-all-spec : {M : Type 1} → statement M
+link-all-spec =
+    tie.close
+    (tie.spec
+    Inv-loop
+    μ-loop
+    loop-holds
+    mul-link
+    element-copy-out-link
+    link-requires
+    add-i
+    loop-less
+    loop-again
+    returns)

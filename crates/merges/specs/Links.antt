@@ -1,0 +1,69 @@
+-- Which elements share a living cluster, and which elements a cluster reaches by two of its own. Clusters by number, a dead one 0, as in
+-- `theory`. Assumes nothing.
+use mathlib.Core.Path.{_≡_}
+use mathlib.Core.Logic.{_≢_}
+use mathlib.Core.List.{List}
+use Prim.Native.Nat.{ℕ, _≤_, _<_}
+use lib.Bits.{bitAnd, bitXor}
+use lib.Count.{ones}
+use lib.ListN.{length, getD}
+use Rattle.theory.specs.Set.{_∩_, _∪_, at}
+use Rattle.theory.specs.Merge.{slot, merge, OpenAt}
+
+-- the elements linked to p
+abbrev pub linked : List ℕ → ℕ → ℕ
+linked links p = getD links p 0
+
+-- two elements are linked where a living cluster holds both
+pub record Links (s links : List ℕ) : Type 0 where
+  pub only : (p r : ℕ) → at r (linked links p) ≡ 1 → (c : ℕ) × (at p (slot s c) ≡ 1) × (at r (slot s c) ≡ 1)
+  pub every : (c p r : ℕ) → at p (slot s c) ≡ 1 → at r (slot s c) ≡ 1 → at r (linked links p) ≡ 1
+
+-- the links with the elements of u linked to each other
+pub record Linking (links : List ℕ) (u : ℕ) (next : List ℕ) : Type 0 where
+  pub long : length next ≡ length links
+  pub inside : (p : ℕ) → at p u ≡ 1 → linked next p ≡ linked links p ∪ u
+  pub outside : (p : ℕ) → at p u ≡ 0 → linked next p ≡ linked links p
+
+-- r lies outside x and is linked to two elements of x
+pub record Reached (links : List ℕ) (x r : ℕ) : Type 0 where
+  pub p : ℕ
+  pub q : ℕ
+  pub differ : p ≢ q
+  pub p-in : at p x ≡ 1
+  pub q-in : at q x ≡ 1
+  pub by-p : at r (linked links p) ≡ 1
+  pub by-q : at r (linked links q) ≡ 1
+  pub out : at r x ≡ 0
+
+-- o is the set of the elements that x reaches
+pub record Outs (links : List ℕ) (x o : ℕ) : Type 0 where
+  pub only : (r : ℕ) → at r o ≡ 1 → Reached links x r
+  pub every : (r : ℕ) → Reached links x r → at r o ≡ 1
+
+-- what a has beyond b
+abbrev pub beyond : ℕ → ℕ → ℕ
+beyond a b = bitXor a (bitAnd a b)
+
+-- the least number from lo on that has the property, or hi if none below hi has it
+pub record Lowest (P : ℕ → Type 0) (lo hi r : ℕ) : Type 0 where
+  pub low : lo ≤ r
+  pub high : r ≤ hi
+  pub here : r < hi → P r
+  pub none : (c : ℕ) → lo ≤ c → c < r → P c → ⊥
+
+-- cluster c reaches an element, and meets `last` if it stands below `from`
+abbrev pub Reaching : List ℕ → List ℕ → ℕ → ℕ → ℕ → Type 0
+Reaching s links from last c = (c < from → slot s c ∩ last ≢ 0) × ((r : ℕ) × Reached links (slot s c) r)
+
+-- cluster c meets both a and b
+abbrev pub Meeting : List ℕ → ℕ → ℕ → ℕ → Type 0
+Meeting s a b c = (slot s c ∩ a ≢ 0) × (slot s c ∩ b ≢ 0)
+
+-- what the search for the first open merge relies on: two living clusters share at most one element; the links are those of the living
+-- clusters; none lives from `used` on; and a cluster below `from` that takes part in an open merge meets `last`
+pub record Ready (s links : List ℕ) (used from last : ℕ) : Type 0 where
+  pub apart : (i j : ℕ) → i ≢ j → slot s i ≢ 0 → slot s j ≢ 0 → ones (slot s i ∩ slot s j) ≤ 1
+  pub linking : Links s links
+  pub beyond : (n : ℕ) → used ≤ n → slot s n ≡ 0
+  pub since : (i j k : ℕ) → OpenAt s (merge i j k) → i < from → slot s i ∩ last ≢ 0
