@@ -1,6 +1,7 @@
--- A sheet's facts given as columns, one list for each field of the constraints. A place that a list lacks is blank.
+-- The facts that the writer takes, size and tag given or missing (document 01, "Refused"), in columns: one list for each field of the constraints.
+-- A place that a list lacks is blank.
 use Prim.Native.Nat.{ℕ, zero, suc, _/_, _%_}
-use mathlib.Core.Bool.{Bool, true, false, _&&_}
+use mathlib.Core.Bool.{_&&_}
 use mathlib.Core.List.{List, [], _∷_, _++_}
 use lib.Dec.{eqb, ltb}
 use lib.IntN.{ℤ, pos}
@@ -11,7 +12,8 @@ use Rattle.sheet.specs.declared.Tag.{Tag}
 use Rattle.sheet.specs.declared.Tag.the-variants.{Given as TagGiven, Missing as NoTag}
 use Rattle.sheet.specs.declared.Constraint.{Constraint}
 use Rattle.sheet.specs.declared.Sheet.{Sheet}
-use Rattle.sheet.specs.Facts.{elementsOf, block, blankElement, pick}
+use Rattle.sheet.specs.Facts.{elementsOf, pick}
+pub mod Laws
 
 -- bit 0 of the map: the size is given
 abbrev pub sizeIn : List ℕ → List ℤ → ℕ → Size
@@ -35,6 +37,6 @@ unfoldable pub sheetIn : ℕ → ℕ → ℕ → List ℕ → List ℕ → List 
 sheetIn n e lines firsts seconds maps sizes tags = record {
   n = n;
   e = e;
-  elements = block 64 blankElement (elementsOf 64 lines);
+  elements = elementsOf 64 lines;
   constraints = constraintsIn firsts seconds maps sizes tags 200;
 }

@@ -1,14 +1,14 @@
 -- An answer as one number: the count of items written, or minus the number of the rule that refuses.
-use Prim.Native.Nat.{ℕ, zero, suc}
+use Prim.Native.Nat.{ℕ}
 use lib.Dec.{ltb}
-use lib.IntN.{ℤ, pos, negsuc}
+use lib.IntN.{ℤ, pos, negℤ}
 use Rattle.sheet.specs.Facts.{pick}
 use Rattle.space.specs.declared.Written.{Written}
 use Rattle.space.specs.declared.Written.the-variants.{Done, Refused}
+pub mod Laws
 
 abbrev pub minus : ℕ → ℤ
-minus zero = pos zero
-minus (suc k) = negsuc k
+minus k = negℤ (pos k)
 
 -- no answer has 2^31 items: a sheet or report has some thousand bytes, a list at most some hundred items
 abbrev pub asCount : Written → ℤ

@@ -1,15 +1,12 @@
 // The entry points for C: numbers and slices alone, each slice a pointer and a length. include/pattern.h declares them. An answer is the count of
 // items written, or minus the number of the rule that refuses; specs/ says it.
 ghost use mathlib.Core.Path.{_≡_};
-ghost use mathlib.Core.Bool.{true};
-ghost use Prim.Native.Nat.{_≤_};
 ghost use lib.ListN.{getD};
-ghost use Rattle.pattern.specs.Sheets.{rewriteAnswer, rewriteAfter};
+ghost use Rattle.pattern.specs.Sheets.{rewriteAnswer, rewriteAfter, itemsAnswer, itemsAfter, overOfFacts};
 ghost use Rattle.writer.specs.Write.{writeAnswer, writeAfter};
 ghost use Rattle.pattern_c.specs.Numbers.{asCount};
 ghost use Rattle.pattern_c.specs.Columns.{sizeIn, tagIn, constraintIn, constraintsIn, sheetIn};
 use sheet::Constraint;
-use sheet::Element;
 use sheet::Sheet;
 use sheet::Size;
 use sheet::Tag;
@@ -25,6 +22,7 @@ fn count(w: Written) -> i32
     }
 }
 
+// A sheet read and written again: its own bytes, or the rule of 1 to 10 and 17 that refuses it.
 #[no_mangle]
 pub extern "C" fn pattern_rewrite(sheet: &[u8], out: &mut [u8]) -> i32
     ensures { λ r. ⌜ (r ≡ asCount (rewriteAnswer (now (sheet .entry)) (now (out .entry)))) × (now (out .exit) ≡ rewriteAfter (now (sheet .entry)) (now (out .entry))) ⌝ }
@@ -39,6 +37,7 @@ fn byte_at(list: &[u8], i: usize) -> u8
     if i < list.len() { list[i] } else { 0 }
 }
 
+// The size at a place of the columns.
 fn size_at(maps: &[u8], sizes: &[i32], i: usize) -> Size
     ensures { λ r. ⌜ r ≡ sizeIn (now (maps .entry)) (now (sizes .entry)) i ⌝ }
 {
@@ -50,6 +49,7 @@ fn size_at(maps: &[u8], sizes: &[i32], i: usize) -> Size
     Size::Missing
 }
 
+// The tag at a place of the columns.
 fn tag_at(maps: &[u8], tags: &[u16], i: usize) -> Tag
     ensures { λ r. ⌜ r ≡ tagIn (now (maps .entry)) (now (tags .entry)) i ⌝ }
 {
@@ -107,6 +107,7 @@ fn constraints_in(
     cs
 }
 
+// A sheet's facts, the constraints in columns, as bytes in lent space, or the rule of 3, 5 to 9 and 17 that refuses them.
 #[no_mangle]
 pub extern "C" fn pattern_write(
     n: usize,
@@ -119,8 +120,7 @@ pub extern "C" fn pattern_write(
     tags: &[u16],
     out: &mut [u8],
 ) -> i32
-    ensures { λ r. ⌜ r ≡ asCount (writeAnswer (sheetIn n e lines (now (firsts .entry)) (now (seconds .entry)) (now (maps .entry)) (now (sizes .entry)) (now (tags .entry))) (now (out .entry))) ⌝ }
-    ensures { λ r. ⌜ now (out .exit) ≡ writeAfter (sheetIn n e lines (now (firsts .entry)) (now (seconds .entry)) (now (maps .entry)) (now (sizes .entry)) (now (tags .entry))) (now (out .entry)) ⌝ }
+    ensures { λ r. ⌜ (r ≡ asCount (writeAnswer (sheetIn n e lines (now (firsts .entry)) (now (seconds .entry)) (now (maps .entry)) (now (sizes .entry)) (now (tags .entry))) (now (out .entry)))) × (now (out .exit) ≡ writeAfter (sheetIn n e lines (now (firsts .entry)) (now (seconds .entry)) (now (maps .entry)) (now (sizes .entry)) (now (tags .entry))) (now (out .entry))) ⌝ }
 {
     let elements = sheet::elements_of(64, lines);
     let constraints = constraints_in(firsts, seconds, maps, sizes, tags);
@@ -131,4 +131,12 @@ pub extern "C" fn pattern_write(
         constraints,
     };
     count(pattern::write(facts, out))
+}
+
+// Whether a sheet is over: the number of the first constraint that makes it so and the smallest set, element i as bit i; no item where it is not over.
+#[no_mangle]
+pub extern "C" fn pattern_over(sheet: &[u8], out: &mut [u64]) -> i32
+    ensures { λ r. ⌜ (r ≡ asCount (itemsAnswer overOfFacts (now (sheet .entry)) (now (out .entry)))) × (now (out .exit) ≡ itemsAfter overOfFacts (now (sheet .entry)) (now (out .entry))) ⌝ }
+{
+    count(pattern::over(sheet, out))
 }
