@@ -5,8 +5,7 @@ ghost use mathlib.Core.Path.{_≡_};
 ghost use mathlib.Core.List.{List, [], _∷_};
 ghost use Prim.Native.Nat.{ℕ, _≤_, _<_, _-_, _^_};
 ghost use lib.ListN.{length, drop};
-ghost use Rattle.sheet.specs.declared.Tag.the-variants.{Given as TagGiven, Missing as NoTag};
-ghost use Rattle.sheet.specs.Facts.{pick, elementsOf, linesOf};
+ghost use Rattle.sheet.specs.Facts.{elementsOf, linesOf};
 ghost use Rattle.sheet.specs.Field.{refused, byte, field, signed32, openingBytes, begins};
 ghost use Rattle.sheet.specs.Decode.{opening, size, tag, dimension, constraint, constraints, readKinds, readConstraints, readSheet};
 ghost use Rattle.sheet.specs.Noted.{Noted};
@@ -214,31 +213,19 @@ fn signed(u: u64) -> i32
     }
 }
 
-// The cursor after a field that stands, or before one that does not.
-fn past(stands: bool, after: Cursor, before: Cursor) -> Cursor
-    ensures { λ r. ⌜ r ≡ pick stands after before ⌝ }
-{
-    if stands { after } else { before }
-}
-
-fn tag_of(stands: bool, t: u16) -> Tag
-    ensures { λ r. ⌜ r ≡ pick stands (TagGiven t) NoTag ⌝ }
-{
-    if stands { Tag::Given(t) } else { Tag::Missing }
-}
-
-// The tag, where bit 1 of the map stands. Two bytes are read ahead, so that the way does not part at the bit.
+// The tag, where bit 1 of the map stands.
 fn read_tag(s: &[u8], c: Cursor, stands: bool) -> TagRead
     ensures { λ r. ⌜ asTag (now (s .entry)) r ≡ tag stands (drop (c .at) (now (s .entry))) ⌝ }
 {
-    let number = read_number(s, c, 2);
-    let NumberRead::Value(u, after) = number else {
-        if stands {
+    if stands {
+        let number = read_number(s, c, 2);
+        let NumberRead::Value(u, after) = number else {
             return TagRead::Refused(number.refusal());
-        }
-        return TagRead::Value(Tag::Missing, c);
-    };
-    TagRead::Value(tag_of(stands, u as u16), past(stands, after, c))
+        };
+        TagRead::Value(Tag::Given(u as u16), after)
+    } else {
+        TagRead::Value(Tag::Missing, c)
+    }
 }
 
 // The size, where bit 0 of the map stands: rule 9.
