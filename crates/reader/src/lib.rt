@@ -355,8 +355,8 @@ fn read_constraints(s: &[u8], start: Cursor, n: usize, lines: u64, e: usize) -> 
         c = after;
         i += 1;
     }
-    let at = c.at;
-    if at < s.len() {
+    let end = c.at;
+    if end < s.len() {
         return refuse(10);
     }
     let elements = sheet::elements_of(n, lines);
