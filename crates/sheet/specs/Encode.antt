@@ -10,6 +10,7 @@ use Rattle.sheet.specs.declared.Constraint.{Constraint}
 use Rattle.sheet.specs.Facts.{Facts, linesOf}
 use Rattle.sheet.specs.Field.{digits, unsigned32, openingBytes}
 use Rattle.sheet.specs.Decode.{kindBytes}
+pub mod Laws
 
 abbrev pub sizeBit : Size → ℕ
 sizeBit (Given z) = 1

@@ -13,6 +13,7 @@ use lib.ListN.{length, take, drop, getD, length-append, length-take, take-append
 use lib.Seq.{take-at, drop-at, length-take-le, getD-take, getD-drop}
 use lib.Signed.{mag}
 use Rattle.sheet.specs.Facts.{pick}
+use Rattle.sheet.specs.Rules.Laws.{and-true}
 use Rattle.sheet.specs.Field.{Field, value, refused, next, demand, number, digits, field, byte, signed32, unsigned32, begins, Bytes}
 
 -- ---- numbers and their bytes
@@ -131,15 +132,11 @@ byte-front (x ∷ s) {b} {t} h e =
 
 -- ---- the opening
 
-pub and-both : (a b : Bool) → a && b ≡ true → (a ≡ true) × (b ≡ true)
-and-both true b e = (refl, e)
-and-both false b e = let z : _≡_ {A = ℕ} 0 1 = cc in absurd (omega arith)
-
 pub begins-front : (p s : List ℕ) → begins p s ≡ true → s ≡ p ++ drop (length p) s
 begins-front [] s e = refl
 begins-front (a ∷ p) [] e = let z : _≡_ {A = ℕ} 0 1 = cc in absurd (omega arith)
 begins-front (a ∷ p) (b ∷ s) e =
-    let both = and-both (eqb b a) (begins p s) e in
+    let both = and-true (eqb b a) (begins p s) e in
     let same : b ≡ a = eqb-true b a (both .0) in rw same (ap (λ (l : List ℕ). a ∷ l) (begins-front p s (both .1)))
 
 -- ---- two's complement

@@ -17,7 +17,8 @@ use Rattle.sheet.specs.declared.Constraint.{Constraint}
 use Rattle.sheet.specs.Facts.{Facts, pick, linesOf, elementsOf, blankConstraint}
 use Rattle.sheet.specs.Facts.Laws.{elementsOf-length, linesOf-elementsOf}
 use Rattle.sheet.specs.Field.{Field, value, refused, next, demand, digits, field, byte, signed32, unsigned32, openingBytes, begins, Bytes}
-use Rattle.sheet.specs.Field.Laws.{next-value, demand-value, value-with, refused-value, field-front, byte-front, begins-front, bytes-drop, unsigned32-signed32, and-both}
+use Rattle.sheet.specs.Field.Laws.{next-value, demand-value, value-with, refused-value, field-front, byte-front, begins-front, bytes-drop, unsigned32-signed32}
+use Rattle.sheet.specs.Rules.Laws.{and-true}
 use Rattle.sheet.specs.Rules.{elementCount, kindBits, constraintCount, ends, stands, pairAt, optional, bitMap, sizeRange, sizeFault, constraintFault, or-else, constraintsFault}
 use Rattle.sheet.specs.Decode.{kindBytes, opening, size, tag, dimension, constraint, constraints, readConstraints, readKinds, readSheet}
 use Rattle.sheet.specs.Encode.{sizeBit, tagBit, sizeBytes, tagBytes, constraintBytes, constraintsBytes, sheetBytes}
@@ -83,7 +84,7 @@ dimension-front a b p s h e =
     next-value (byte s) _ e (λ map s1 was e1.
     let m = byte-front s h was in
     demand-value (bitMap p map) 8 _ e1 (λ ok e2.
-    let both = and-both (ltb map 4) (eqb (map % 2) 1 || optional p) ok in
+    let both = and-true (ltb map 4) (eqb (map % 2) 1 || optional p) ok in
     next-value (size p (eqb (map % 2) 1) s1) _ e2 (λ z s2 was2 e3.
     let f = size-front p (eqb (map % 2) 1) s1 (m .rest) (both .1) was2 in
     next-value (tag (eqb (map / 2) 1) s2) _ e3 (λ v s3 was3 e4.

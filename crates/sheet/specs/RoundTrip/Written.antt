@@ -22,7 +22,8 @@ use Rattle.sheet.specs.declared.Constraint.{Constraint}
 use Rattle.sheet.specs.Facts.{Facts, pick, linesOf, elementsOf, blankConstraint}
 use Rattle.sheet.specs.Facts.Laws.{linesOf-below, elementsOf-linesOf}
 use Rattle.sheet.specs.Field.{Field, value, number, digits, field, signed32, unsigned32}
-use Rattle.sheet.specs.Field.Laws.{field-digits, unsigned32-below, signed32-unsigned32, and-both}
+use Rattle.sheet.specs.Field.Laws.{field-digits, unsigned32-below, signed32-unsigned32}
+use Rattle.sheet.specs.Rules.Laws.{and-true}
 use Rattle.sheet.specs.Rules.{ends, stands, pairAt, optional, bitMap, within, sizeRange, sizeFault, constraintFault, or-else, constraintsFault, elementCount, constraintCount}
 use Rattle.sheet.specs.Decode.{kindBytes, size, tag, dimension, constraint, constraints, readConstraints, readKinds, readSheet}
 use Rattle.sheet.specs.Encode.{sizeBit, tagBit, sizeBytes, tagBytes, constraintBytes, constraintsBytes, sheetBytes}
@@ -47,12 +48,12 @@ fault-none true false x e = (refl, refl, e)
 fault-none false r x e = absurd (omega arith)
 
 within-pos : (n k : ℕ) (z : ℤ) → k < 2 ^ 31 → within (pos n) (pos k) z ≡ true → mag z < 2 ^ 31
-within-pos n k (pos m) h e = omega (arith, leb-true m k (and-both (leZ (pos n) (pos m)) (leZ (pos m) (pos k)) e .1))
+within-pos n k (pos m) h e = omega (arith, leb-true m k (and-true (leZ (pos n) (pos m)) (leZ (pos m) (pos k)) e .1))
 within-pos n k (negsuc m) h e = false-true e
 
 within-neg : (n k : ℕ) (z : ℤ) → n < 2 ^ 31 → within (negsuc n) (negsuc k) z ≡ true → mag z < 2 ^ 31
 within-neg n k (pos m) h e = false-true e
-within-neg n k (negsuc m) h e = omega (arith, leb-true m n (and-both (leZ (negsuc n) (negsuc m)) (leZ (negsuc m) (negsuc k)) e .0))
+within-neg n k (negsuc m) h e = omega (arith, leb-true m n (and-true (leZ (negsuc n) (negsuc m)) (leZ (negsuc m) (negsuc k)) e .0))
 
 either : {A : Type 0} (a b : Bool) → a || b ≡ true → (a ≡ true → A) → (b ≡ true → A) → A
 either true b e f g = f refl

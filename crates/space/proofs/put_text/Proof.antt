@@ -23,7 +23,7 @@ add-next : tie.Need-add-next Inv-loop μ-loop
 add-next c = search needs
 
 returns : tie.Need-returns Inv-loop μ-loop
-returns c = put-short (c .if1 .taken)
+returns c = put-short refl (c .if1 .taken)
 
 loop-holds : tie.Need-loop-holds Inv-loop μ-loop
 loop-holds c = (search needs, refl, rw add-zero)
@@ -54,7 +54,7 @@ same-length : tie.Need-same-length Inv-loop μ-loop
 same-length c = c .before .loop .inv .1
 
 returns-2 : tie.Need-returns-2 Inv-loop μ-loop
-returns-2 c = put-all (sym (c .before .loop .inv .2 ∙ rw (drop-of-length-le (c .before .before .before .args .text .now) (c .loop-test .left))))
+returns-2 c = put-all refl (sym (c .before .loop .inv .2 ∙ rw (drop-of-length-le (c .before .before .before .args .text .now) (c .loop-test .left))))
 
 pub put-text-spec : {M : Type 1} → statement M
 put-text-spec =

@@ -43,18 +43,18 @@ _then_ {space} {s1} {s2} {xs} {ys} {at} {a1} {a2} p q =
           ∙ rw (p .next-is, p .after-is (omega arith)) (sym (sets-append xs ys space at));
     }
 
--- stores that are all made where they have room
-pub put-all : {space items after : List ℕ} {at : ℕ} → after ≡ sets space at items → Put space at items (at + length items) after
-put-all {space} {items} {after} {at} e =
-    record { next-is = refl; length-is = ap length e ∙ length-sets space at items; after-is = λ h. e }
+-- the stores are made
+pub put-all : {space items after : List ℕ} {at next : ℕ} → next ≡ at + length items → after ≡ sets space at items → Put space at items next after
+put-all {space} {items} {after} {at} n e =
+    record { next-is = n; length-is = ap length e ∙ length-sets space at items; after-is = λ h. e }
 
 -- one item
 pub put-one : {space after : List ℕ} {at x : ℕ} → after ≡ set space at x → Put space at (x ∷ []) (at + 1) after
-put-one e = put-all e
+put-one e = put-all refl e
 
 -- no store where there is no room
-pub put-short : {space items : List ℕ} {at : ℕ} → length space < at + length items → Put space at items (at + length items) space
-put-short h = record { next-is = refl; length-is = refl; after-is = λ room. absurd (omega arith) }
+pub put-short : {space items : List ℕ} {at next : ℕ} → next ≡ at + length items → length space < next → Put space at items next space
+put-short n h = record { next-is = n; length-is = refl; after-is = λ room. absurd (omega arith) }
 
 -- ---- measured, then written
 

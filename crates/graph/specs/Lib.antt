@@ -1,0 +1,2 @@
+-- A sheet's constraints as lists of numbers.
+pub mod Arrays

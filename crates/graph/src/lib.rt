@@ -1,0 +1,82 @@
+// The constraint graph of a sheet in arrays of numbers, as the search for an over set and the merging take it. Contracts cite the sheet's Graph and
+// this crate's specs/Arrays.antt.
+ghost use mathlib.Core.Path.{_≡_};
+ghost use mathlib.Core.List.{List, map};
+ghost use Prim.Native.Nat.{_<_, _≤_};
+ghost use Rattle.theory.specs.Constraints.{pair};
+ghost use lib.IntN.{pos};
+ghost use lib.ListN.{take};
+ghost use Rattle.sheet.specs.Facts.{block};
+ghost use Rattle.sheet.specs.Graph.{sizeOf};
+ghost use Rattle.graph.specs.Arrays.{endAt, constraintSize, endPair, EndsBelow64};
+use sheet::Constraint;
+use sheet::Size;
+
+// An end of a constraint, the second or the first.
+fn end_of(c: Constraint, second: bool) -> u8
+    ensures { λ r. ⌜ r ≡ endAt second c ⌝ }
+{
+    if second { c.second } else { c.first }
+}
+
+// The second or the first ends of the first e constraints, 0 beyond them.
+pub fn ends_of(cs: [Constraint; 200], e: usize, second: bool) -> [u8; 200]
+    requires { ⌜ e ≤ 200 ⌝ }
+    ensures { λ r. ⌜ r ≡ block 200 0 (map (endAt second) (take e cs)) ⌝ }
+{
+    let mut ends = [0u8; 200];
+    let mut i: usize = 0;
+    while i < e {
+        let c = cs[i];
+        ends[i] = end_of(c, second);
+        i += 1;
+    }
+    ends
+}
+
+fn size_of(size: Size) -> i32
+    ensures { λ r. ⌜ r ≡ sizeOf size ⌝ }
+{
+    match size {
+        Size::Given(z) => z,
+        Size::Missing => 0,
+    }
+}
+
+// The sizes of the first e constraints, 0 for a missing one and beyond them.
+pub fn sizes_of(cs: [Constraint; 200], e: usize) -> [i32; 200]
+    requires { ⌜ e ≤ 200 ⌝ }
+    ensures { λ r. ⌜ r ≡ block 200 (pos 0) (map constraintSize (take e cs)) ⌝ }
+{
+    let mut sizes = [0i32; 200];
+    let mut i: usize = 0;
+    while i < e {
+        let c = cs[i];
+        let z = c.size;
+        sizes[i] = size_of(z);
+        i += 1;
+    }
+    sizes
+}
+
+fn pair_of(a: u8, b: u8) -> u64
+    requires { ⌜ (a < 64) × (b < 64) ⌝ }
+    ensures { λ r. ⌜ r ≡ pair a b ⌝ }
+{
+    (1 << a) | (1 << b)
+}
+
+// The initial clusters: the sets of two ends of the first e constraints, 0 beyond them.
+pub fn slots_of(cs: [Constraint; 200], e: usize) -> [u64; 192]
+    requires { ⌜ (e ≤ 192) × EndsBelow64 (take e cs) ⌝ }
+    ensures { λ r. ⌜ r ≡ block 192 0 (map endPair (take e cs)) ⌝ }
+{
+    let mut slots = [0u64; 192];
+    let mut i: usize = 0;
+    while i < e {
+        let c = cs[i];
+        slots[i] = pair_of(c.first, c.second);
+        i += 1;
+    }
+    slots
+}

@@ -1,0 +1,2 @@
+-- The judgement of an accepted sheet.
+pub mod Listing

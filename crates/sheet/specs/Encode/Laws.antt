@@ -1,0 +1,57 @@
+-- Laws of the bytes of a constraint: how many there are, and those of a list. Assumes nothing.
+use Prim.Native.Nat.{ℕ, _+_, _*_, _≤_}
+use native.Mathlib.Numerals.{add-one}
+use native.Mathlib.Omega.{arith}
+use mathlib.Core.Path.{_≡_, refl, ap, _∙_}
+use mathlib.Core.List.{List, [], _∷_, _++_, append-nil, append-assoc}
+use lib.ListN.{length, take, getD, length-append}
+use lib.Seq.{take-suc}
+use Rattle.sheet.specs.declared.Size.{Size}
+use Rattle.sheet.specs.declared.Size.the-variants.{Given, Missing}
+use Rattle.sheet.specs.declared.Tag.{Tag}
+use Rattle.sheet.specs.declared.Tag.the-variants.{Given as TagGiven, Missing as NoTag}
+use Rattle.sheet.specs.declared.Constraint.{Constraint}
+use Rattle.sheet.specs.Field.{unsigned32}
+use Rattle.sheet.specs.Field.Laws.{length-digits}
+use Rattle.sheet.specs.Encode.{sizeBit, tagBit, sizeBytes, tagBytes, constraintBytes, constraintsBytes}
+
+pub sizeBit-le : (z : Size) → sizeBit z ≤ 1
+sizeBit-le (Given z) = omega arith
+sizeBit-le Missing = omega arith
+
+pub tagBit-le : (t : Tag) → tagBit t ≤ 1
+tagBit-le (TagGiven t) = omega arith
+tagBit-le NoTag = omega arith
+
+pub size-length : (z : Size) → length (sizeBytes z) ≤ 4
+unfolding sizeBytes
+size-length (Given z) = omega (arith, length-digits 4 (unsigned32 z))
+size-length Missing = omega arith
+
+pub tag-length : (t : Tag) → length (tagBytes t) ≤ 2
+unfolding tagBytes
+tag-length (TagGiven t) = omega (arith, length-digits 2 t)
+tag-length NoTag = omega arith
+
+pub constraint-length : (c : Constraint) → length (constraintBytes c) ≤ 9
+unfolding constraintBytes
+constraint-length c =
+    omega (arith, size-length (c .size), tag-length (c .tag), length-append (sizeBytes (c .size)) (tagBytes (c .tag)))
+
+pub constraints-length : (cs : List Constraint) → length (constraintsBytes cs) ≤ 9 * length cs
+unfolding constraintsBytes
+constraints-length [] = omega arith
+constraints-length (c ∷ cs) = rw length-append (omega (arith, constraint-length c, constraints-length cs))
+
+-- ---- one constraint more
+
+pub constraints-append : (cs ds : List Constraint) → constraintsBytes (cs ++ ds) ≡ constraintsBytes cs ++ constraintsBytes ds
+unfolding constraintsBytes
+constraints-append [] ds = refl
+constraints-append (c ∷ cs) ds = rw (constraints-append cs ds, append-assoc)
+
+pub constraints-more : (cs : List Constraint) (i : ℕ) (d : Constraint) → i + 1 ≤ length cs
+    → constraintsBytes (take (i + 1) cs) ≡ constraintsBytes (take i cs) ++ constraintBytes (getD cs i d)
+unfolding constraintsBytes
+constraints-more cs i d h =
+    rw (add-one, take-suc cs i d (omega arith), constraints-append (take i cs) (getD cs i d ∷ []), append-nil)

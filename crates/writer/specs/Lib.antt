@@ -1,0 +1,2 @@
+-- What the writer answers, and what it leaves in the lent space.
+pub mod Write

@@ -1,0 +1,155 @@
+// The writer of a sheet: document 01, "The sheet in bytes" and "Refused". Each function puts its bytes from a place on and answers the place after
+// them; a call over no space measures. Contracts cite the encoding of the crate `sheet`, `Put` of `space`, and specs/Write.antt.
+ghost use mathlib.Core.Path.{_≡_};
+ghost use mathlib.Core.List.{[], _∷_};
+ghost use Prim.Native.Nat.{_+_, _≤_, _<_, _^_};
+ghost use Rattle.sheet.specs.Facts.{linesOf, factsOf};
+ghost use Rattle.sheet.specs.Field.{digits, unsigned32};
+ghost use Rattle.sheet.specs.Encode.{sizeBit, tagBit, sizeBytes, tagBytes, constraintBytes, sheetBytes};
+ghost use Rattle.space.specs.Space.{Put};
+ghost use Rattle.writer.specs.Write.{writeAnswer, writeAfter};
+use sheet::Constraint;
+use sheet::Element;
+use sheet::Sheet;
+use sheet::Size;
+use sheet::Tag;
+use space::Written;
+
+// A number of k bytes, lowest first.
+fn put_number(out: &mut [u8], at: usize, k: usize, u: u64) -> usize
+    requires { ⌜ at + k < 2 ^ 64 ⌝ }
+    ensures { λ r. ⌜ Put (now (out .entry)) at (digits k u) r (now (out .exit)) ⌝ }
+{
+    let next = at + k;
+    if out.len() < next {
+        return next;
+    }
+    let mut left = u;
+    let mut i = at;
+    while i < next {
+        out[i] = (left % 256) as u8;
+        left = left / 256;
+        i += 1;
+    }
+    next
+}
+
+// Two's complement of 32 bits.
+fn unsigned(z: i32) -> u32
+    ensures { λ r. ⌜ r ≡ unsigned32 z ⌝ }
+{
+    if z < 0 {
+        4294967295 - ((-1 - z) as u32)
+    } else {
+        z as u32
+    }
+}
+
+fn size_bit(size: Size) -> u8
+    ensures { λ r. ⌜ r ≡ sizeBit size ⌝ }
+{
+    match size {
+        Size::Given(_) => 1,
+        Size::Missing => 0,
+    }
+}
+
+fn tag_bit(tag: Tag) -> u8
+    ensures { λ r. ⌜ r ≡ tagBit tag ⌝ }
+{
+    match tag {
+        Tag::Given(_) => 1,
+        Tag::Missing => 0,
+    }
+}
+
+// First end, second end, bit map.
+fn put_head(out: &mut [u8], at: usize, a: u8, b: u8, map: u8) -> usize
+    requires { ⌜ at + 3 < 2 ^ 64 ⌝ }
+    ensures { λ r. ⌜ Put (now (out .entry)) at (a ∷ b ∷ map ∷ []) r (now (out .exit)) ⌝ }
+{
+    let next = at + 3;
+    if out.len() < next {
+        return next;
+    }
+    out[at] = a;
+    out[at + 1] = b;
+    out[at + 2] = map;
+    next
+}
+
+fn put_size(out: &mut [u8], at: usize, size: Size) -> usize
+    requires { ⌜ at + 4 < 2 ^ 64 ⌝ }
+    ensures { λ r. ⌜ Put (now (out .entry)) at (sizeBytes size) r (now (out .exit)) ⌝ }
+{
+    match size {
+        Size::Given(z) => put_number(out, at, 4, unsigned(z) as u64),
+        Size::Missing => at,
+    }
+}
+
+fn put_tag(out: &mut [u8], at: usize, tag: Tag) -> usize
+    requires { ⌜ at + 2 < 2 ^ 64 ⌝ }
+    ensures { λ r. ⌜ Put (now (out .entry)) at (tagBytes tag) r (now (out .exit)) ⌝ }
+{
+    match tag {
+        Tag::Given(t) => put_number(out, at, 2, t as u64),
+        Tag::Missing => at,
+    }
+}
+
+fn put_constraint(out: &mut [u8], at: usize, c: Constraint) -> usize
+    requires { ⌜ at + 9 < 2 ^ 64 ⌝ }
+    ensures { λ r. ⌜ Put (now (out .entry)) at (constraintBytes c) r (now (out .exit)) ⌝ }
+{
+    let size = c.size;
+    let tag = c.tag;
+    let a1 = put_head(
+        out,
+        at,
+        c.first,
+        c.second,
+        size_bit(size) + 2 * tag_bit(tag),
+    );
+    let a2 = put_size(out, a1, size);
+    put_tag(out, a2, tag)
+}
+
+// The sheet's bytes from the front, by the number of its kinds.
+fn put_sheet(out: &mut [u8], s: Sheet, lines: u64) -> usize
+    requires { ⌜ (s .n ≤ 64) × (s .e ≤ 200) × (lines ≡ linesOf (factsOf s .elements)) ⌝ }
+    ensures { λ r. ⌜ Put (now (out .entry)) 0 (sheetBytes (factsOf s)) r (now (out .exit)) ⌝ }
+{
+    let n = s.n;
+    let e = s.e;
+    let opening = sheet::OPENING;
+    let a1 = space::put_text(out, 0, &opening);
+    let a2 = space::put_byte(out, a1, n as u8);
+    let a3 = put_number(out, a2, (n + 7) / 8, lines);
+    let mut at = space::put_byte(out, a3, e as u8);
+    let mut i: usize = 0;
+    while i < e {
+        let c = s.constraints[i];
+        at = put_constraint(out, at, c);
+        i += 1;
+    }
+    at
+}
+
+// The facts in their blocks as bytes, or the first rule that refuses them.
+pub fn write_sheet(s: Sheet, out: &mut [u8]) -> Written
+    ensures { λ r. ⌜ (r ≡ writeAnswer s (now (out .entry))) × (now (out .exit) ≡ writeAfter s (now (out .entry))) ⌝ }
+{
+    let fault = sheet::sheet_fault(s);
+    if fault != 0 {
+        return Written::Refused(fault);
+    }
+    let elements = s.elements;
+    let lines = sheet::lines_of(elements, s.n);
+    let needed = put_sheet(&mut out[..0], s, lines);
+    if out.len() < needed {
+        return Written::Refused(17);
+    }
+    let written = put_sheet(out, s, lines);
+    Written::Done(written)
+}
