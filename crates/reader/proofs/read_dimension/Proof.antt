@@ -1,6 +1,11 @@
 -- `reader::read_dimension` meets its contract. Assumes nothing.
-use borrow.Author.Tests.{not-true, not-false}
+use Prim.Native.Nat.{_<_}
+use native.Mathlib.Omega.{arith}
+use mathlib.Core.Path.{sym, _∙_}
+use borrow.Author.Tests.{ltb-true, not-true, not-false}
 use borrow.Author.Needs.{needs}
+use lib.Dec.{ltb}
+use Rattle.sheet.specs.Rules.Laws.{and-true}
 use Rattle.sheet.specs.Decode.{dimension}
 use Rattle.reader.proofs.read_dimension.Statement.{statement}
 use Rattle.reader.proofs.read_dimension.Tie as tie
@@ -48,7 +53,10 @@ returns-3 c =
     rw (← c .before .before .before .before .before .before .before .before .before .read-byte .ensures, c .before .before .before .before .before .before .before .third .given .1, ← c .before .before .before .before .before .bit-map .ensures, not-false (c .before .before .before .before .before .bit-map .result) (c .before .before .before .before .if1 .left), ← c .before .before .before .read-size .ensures, c .refusal2 .ensures, c .before .enum-told2 .given .1)
 
 read-tag-requires : tie.Need-read-tag-requires
-read-tag-requires c κs = search needs
+read-tag-requires c κs =
+    let h = and-true (ltb (c .before .before .before .before .before .before .before .third .given .0 .0) 4) _ (sym (c .before .before .before .before .before .bit-map .ensures) ∙ not-false (c .before .before .before .before .before .bit-map .result) (c .before .before .before .before .if1 .left)) in
+    let l : c .before .before .before .before .before .before .before .third .given .0 .0 < 4 = ltb-true _ _ (h .0) in
+    omega arith
 
 enum-known-tagged : tie.Need-enum-known-tagged
 enum-known-tagged c = search needs
