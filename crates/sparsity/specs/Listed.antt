@@ -1,5 +1,4 @@
 -- Constraints in two lists of ends, as they stand in a sheet. Document 01, "Refused", rules 5 to 7. Assumes nothing.
-use mathlib.Core.Path.{_≡_}
 use mathlib.Core.Logic.{_≢_}
 use mathlib.Core.List.{List, [], _∷_, _++_}
 use Prim.Native.Nat.{ℕ, zero, suc, _≤_, _<_}

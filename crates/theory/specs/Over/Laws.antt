@@ -1,21 +1,21 @@
 -- Laws of "over". Among the sets that hold both ends of a constraint and carry exactly 2m-3 there is exactly one smallest, which lies within every
 -- other; what is found is determined; the tests find it; elements that no constraint names change nothing. Assumes nothing.
 use mathlib.Core.Path.{_≡_, refl, sym, ap, ap₂, _∙_, subst}
-use mathlib.Core.Logic.{_⊎_, inl, inr, ⊎-elim}
+use mathlib.Core.Logic.{_⊎_, inl, inr}
 use mathlib.Core.Bool.{Bool, true, false, _&&_}
 use mathlib.Core.List.{List, [], _∷_, _++_}
 use Prim.Native.Nat.{ℕ, zero, suc, _+_, _*_, _^_, _≤_, _<_}
-use native.Mathlib.Nat.{le-antisymm, le-refl, le-step, lt-suc-self, lt-of-not-le, zero-lt-suc, pow-le-pow-right, lt-of-lt-of-le}
+use native.Mathlib.Nat.{le-antisymm, le-refl, le-step, lt-suc-self}
 use native.Mathlib.Omega.{arith}
-use native.Mathlib.Decide.{ℕ-discrete, decLe, decLt, le-ind}
+use native.Mathlib.Decide.{ℕ-discrete, decLe, decLt}
 use lib.Dec.{T, leb, ltb, eqb, leb→le, le→leb, ltb→lt, lt→ltb, eqb→eq, eqb-refl}
 use lib.Count.{ones}
 use lib.ListN.{length, take, getD}
 use lib.Seq.{take-suc, take-length}
 use Rattle.theory.specs.Set.{_∩_, _∪_, _⊑_, full}
-use Rattle.theory.specs.Set.Laws.{size-zero, size-or, size-le, size-eq, size-full, sub-refl, sub-trans, and-l, and-r, and-most, or-l, cut-below, below-full}
+use Rattle.theory.specs.Set.Laws.{size-zero, size-or, size-le, size-eq, size-full, and-l, and-r, and-most, or-l, cut-below, below-full}
 use Rattle.theory.specs.Constraints.{has, carried, NotOver, NotOverIn, Among, Pairs, Below}
-use Rattle.theory.specs.Constraints.Laws.{inside, Has, outside, has-dec, has-in, has-le, carried-two, carried-full, carried-cut, not-over-in}
+use Rattle.theory.specs.Constraints.Laws.{inside, Has, outside, has-dec, has-in, carried-two, carried-full, carried-cut, not-over-in}
 use Rattle.theory.specs.Over.{IsOver, Tight, Smallest, FirstOver, Finding, fine, first, Finds, heavy, anyBelow, isOver, isTight, smaller, fewestBelow, smallestSet, next, overUpTo, overOf}
 
 -- ---- a list and one constraint more
