@@ -1,7 +1,7 @@
 -- `find_over` meets its contract. Assumes nothing.
 use mathlib.Core.Path.{subst}
-use Rattle.sparsity.specs.Core.{Core}
-use Rattle.sparsity.specs.Core.Peeling.{core-none}
+use Rattle.peeling.specs.Core.{Core}
+use Rattle.peeling.specs.Core.Peeling.{core-none}
 use Rattle.sparsity.specs.Answer.Laws.{answer-not}
 use borrow.Author.Needs.{needs}
 use Rattle.sparsity.proofs.find_over.Statement.{statement}

@@ -5,7 +5,7 @@ use Prim.Native.Nat.{ℕ, _-_}
 use borrow.Author.Needs.{needs}
 use native.Mathlib.Omega.{arith}
 use Rattle.theory.specs.Constraints.{NotOver}
-use Rattle.sparsity.specs.Listed.{masks}
+use Rattle.theory.specs.Over.Listed.{masks}
 use Rattle.sparsity.specs.Reach.{Lent}
 use Rattle.sparsity.specs.Reach.Laws.{lent-by}
 use Rattle.sparsity.specs.Answer.{Kept, Ready}

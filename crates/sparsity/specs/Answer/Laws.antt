@@ -16,15 +16,15 @@ use Rattle.theory.specs.Constraints.{pair, has, carried, NotOver, Below}
 use Rattle.theory.specs.Constraints.Laws.{Has, inside, outside, has-dec, at-end}
 use Rattle.theory.specs.Over.{IsOver, Tight, Smallest, FirstOver, Finding, fine, first, overOf}
 use Rattle.theory.specs.Over.Laws.{tight-over, within-smallest, finds-overOf}
-use Rattle.sparsity.specs.Less.{sub-below, less-sub, size-less}
-use Rattle.sparsity.specs.Listed.{ends, masks, Listed}
-use Rattle.sparsity.specs.Listed.Laws.{carried-more, length-masks, take-masks, masks-at, masks-pairs, carried-none, pair-in, pair-ends, has-not, has-other, pair-comm}
+use Rattle.peeling.specs.Less.{sub-below, less-sub, size-less}
+use Rattle.theory.specs.Over.Listed.{ends, masks, Listed}
+use Rattle.theory.specs.Over.Listed.Laws.{carried-more, length-masks, take-masks, masks-at, masks-pairs, carried-none, pair-in, pair-ends, has-not, has-other, pair-comm}
 use Rattle.sparsity.specs.Freedoms.{free, frees, Table, Balanced, Closed, FreeBelow}
 use Rattle.sparsity.specs.Freedoms.Laws.{free-table, free-closed, free-balanced, balanced-outside, balanced-placed, stored-table, stored-closed, kept-le, closed-kept, kept-closed, frees-two, frees-less, frees-only}
 use Rattle.sparsity.specs.Reach.{Found, Gathered, Placed}
 use Rattle.sparsity.specs.Reach.Laws.{found-first, found-second, found-closed, found-none, stuck-none, seen-within}
-use Rattle.sparsity.specs.Core.{Few, Core}
-use Rattle.sparsity.specs.Core.Laws.{few-none, few-other, few-outside, few-more}
+use Rattle.peeling.specs.Core.{Few, Core}
+use Rattle.peeling.specs.Core.Laws.{few-none, few-other, few-outside, few-more}
 use Rattle.sparsity.specs.declared.Over.the-variants.{Not, First}
 use Rattle.sparsity.specs.Answer.{asOver, Kept, Ready}
 

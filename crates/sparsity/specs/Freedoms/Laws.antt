@@ -13,7 +13,7 @@ use Rattle.theory.specs.Set.{_⊑_, at}
 use Rattle.theory.specs.Set.Laws.{at-le, bit, size-sum}
 use Rattle.theory.specs.Sum.Laws.{sum-le, sum-eq, sum-zero, sum-mul, sum-two, sum-change, sum-change₂, sum-tight}
 use Rattle.theory.specs.Constraints.{has, carried}
-use Rattle.sparsity.specs.Less.{at-below, less-same, less-other}
+use Rattle.peeling.specs.Less.{at-below, less-same, less-other}
 use Rattle.sparsity.specs.Freedoms.{entry, stored, same, free, over, frees, kept, Table, Balanced, Closed, FreeBelow}
 
 -- ---- same

@@ -2,13 +2,13 @@
 use Prim.Native.Nat.{_-_}
 use native.Mathlib.Omega.{arith}
 use lib.ListN.{getD}
-use Rattle.sparsity.specs.Core.{Light, Peeled, whole}
-use Rattle.sparsity.specs.Core.Peeling.{peel-room, todo-room, peel-less, peel-next, light-next}
+use Rattle.peeling.specs.Core.{Light, Peeled, whole}
+use Rattle.peeling.specs.Core.Peeling.{peel-room, todo-room, peel-less, peel-next, light-next}
 use Rattle.theory.specs.Set.{_∩_, full}
 use Rattle.theory.specs.Set.Laws.{and-r}
 use borrow.Author.Needs.{needs}
-use Rattle.sparsity.proofs.peel.Statement.{statement}
-use Rattle.sparsity.proofs.peel.Tie as tie
+use Rattle.peeling.proofs.peel.Statement.{statement}
+use Rattle.peeling.proofs.peel.Tie as tie
 
 abbrev Inv-loop : tie.InvT-loop
 Inv-loop near low left₀ todo₀ left todo = Peeled near left × Light near left todo

@@ -6,8 +6,8 @@ use native.Mathlib.Omega.{arith}
 use Rattle.theory.specs.Set.{_⊑_, at}
 use Rattle.theory.specs.Constraints.{has, carried}
 use Rattle.theory.specs.Constraints.Laws.{Has, inside, outside, has-dec, has-in, has-le}
-use Rattle.sparsity.specs.Less.{sub-less}
-use Rattle.sparsity.specs.Core.{Few}
+use Rattle.peeling.specs.Less.{sub-less}
+use Rattle.peeling.specs.Core.{Few}
 
 -- ---- how many constraints an element has
 

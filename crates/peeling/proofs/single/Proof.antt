@@ -5,8 +5,8 @@ use native.Mathlib.Nat.{one-mul, lt-suc-self}
 use native.Mathlib.Omega.{arith}
 use lib.Pow.{shl-exact}
 use borrow.Author.Needs.{needs}
-use Rattle.sparsity.proofs.single.Statement.{statement}
-use Rattle.sparsity.proofs.single.Tie as tie
+use Rattle.peeling.proofs.single.Statement.{statement}
+use Rattle.peeling.proofs.single.Tie as tie
 
 cast-result : tie.Need-cast-result
 cast-result c = search needs

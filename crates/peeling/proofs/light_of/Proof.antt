@@ -8,12 +8,12 @@ use lib.ListN.{getD}
 use lib.Pow.{pow-pos}
 use Rattle.theory.specs.Set.{_⊑_}
 use Rattle.theory.specs.Set.Laws.{at-le, sub-trans}
-use Rattle.sparsity.specs.Less.{at-room, less-sub}
-use Rattle.sparsity.specs.Core.{Light}
-use Rattle.sparsity.specs.Core.Peeling.{light-none, light-code, light-same, two-most}
+use Rattle.peeling.specs.Less.{at-room, less-sub}
+use Rattle.peeling.specs.Core.{Light}
+use Rattle.peeling.specs.Core.Peeling.{light-none, light-code, light-same, two-most}
 use borrow.Author.Needs.{needs}
-use Rattle.sparsity.proofs.light_of.Statement.{statement}
-use Rattle.sparsity.proofs.light_of.Tie as tie
+use Rattle.peeling.proofs.light_of.Statement.{statement}
+use Rattle.peeling.proofs.light_of.Tie as tie
 
 abbrev Inv-loop : tie.InvT-loop
 Inv-loop near left who todo₀ m₀ todo m = (m ⊑ left) × Light near left todo

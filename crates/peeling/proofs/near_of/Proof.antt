@@ -2,11 +2,11 @@
 use mathlib.Core.Path.{subst}
 use Prim.Native.Nat.{ℕ, _-_, _≤_}
 use native.Mathlib.Omega.{arith}
-use Rattle.sparsity.specs.Core.{Near}
-use Rattle.sparsity.specs.Core.Peeling.{near-none, near-code}
+use Rattle.peeling.specs.Core.{Near}
+use Rattle.peeling.specs.Core.Peeling.{near-none, near-code}
 use borrow.Author.Needs.{needs}
-use Rattle.sparsity.proofs.near_of.Statement.{statement}
-use Rattle.sparsity.proofs.near_of.Tie as tie
+use Rattle.peeling.proofs.near_of.Statement.{statement}
+use Rattle.peeling.proofs.near_of.Tie as tie
 
 abbrev Inv-loop : tie.InvT-loop
 Inv-loop firsts seconds e near₀ c₀ near c = (c ≤ e) × Near firsts seconds c near

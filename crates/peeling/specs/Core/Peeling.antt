@@ -17,10 +17,10 @@ use Rattle.theory.specs.Set.{_∩_, _∪_, _⊑_, at, full}
 use Rattle.theory.specs.Set.Laws.{at-and, at-or, at-le, at-zero, at-same, at-other, bit, ext, size-zero, size-le, size-add, sub-refl, sub-trans, and-l, and-r, and-mono, below-full}
 use Rattle.theory.specs.Constraints.{pair, has, carried, NotOver, NotOverIn}
 use Rattle.theory.specs.Constraints.Laws.{Has, inside, outside, has-dec, has-in, has-le, has-mono, at-pair, carried-cut, not-over-in}
-use Rattle.sparsity.specs.Less.{at-below, at-room, less-same, less-other, less-sub, size-less, sub-less}
-use Rattle.sparsity.specs.Listed.{ends, masks, Listed}
-use Rattle.sparsity.specs.Listed.Laws.{carried-more, masks-pairs, masks-below, carried-one, listed-part, pair-ends, pair-comm}
-use Rattle.sparsity.specs.Core.{Few, Core, Near, Light, Peeled, whole, less}
+use Rattle.peeling.specs.Less.{at-below, at-room, less-same, less-other, less-sub, size-less, sub-less}
+use Rattle.theory.specs.Over.Listed.{ends, masks, Listed}
+use Rattle.theory.specs.Over.Listed.Laws.{carried-more, masks-pairs, masks-below, carried-one, listed-part, pair-ends, pair-comm}
+use Rattle.peeling.specs.Core.{Few, Core, Near, Light, Peeled, whole, less}
 
 -- ---- neighbours
 

@@ -1,9 +1,9 @@
 -- `lowest` meets its contract. Assumes nothing.
 use native.Mathlib.Omega.{arith}
 use lib.Count.{trailingZeros, trailing-le}
-use Rattle.sparsity.specs.Less.{trailing-at, at-below}
-use Rattle.sparsity.proofs.lowest.Statement.{statement}
-use Rattle.sparsity.proofs.lowest.Tie as tie
+use Rattle.peeling.specs.Less.{trailing-at, at-below}
+use Rattle.peeling.proofs.lowest.Statement.{statement}
+use Rattle.peeling.proofs.lowest.Tie as tie
 
 cast-result : tie.Need-cast-result
 cast-result c = omega (arith, trailing-le 64 (c .args .m))

@@ -3,10 +3,10 @@ use mathlib.Core.Path.{ap}
 use native.Mathlib.Omega.{arith}
 use lib.Count.{ones}
 use Rattle.theory.specs.Set.Laws.{size-zero}
-use Rattle.sparsity.specs.Less.{drop-low}
+use Rattle.peeling.specs.Less.{drop-low}
 use borrow.Author.Needs.{needs}
-use Rattle.sparsity.proofs.drop_low.Statement.{statement}
-use Rattle.sparsity.proofs.drop_low.Tie as tie
+use Rattle.peeling.proofs.drop_low.Statement.{statement}
+use Rattle.peeling.proofs.drop_low.Tie as tie
 
 sub-result : tie.Need-sub-result
 sub-result c = search needs

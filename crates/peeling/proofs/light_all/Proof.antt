@@ -4,11 +4,11 @@ use Prim.Native.Nat.{_-_, _≤_}
 use native.Mathlib.Omega.{arith}
 use lib.ListN.{getD}
 use Rattle.theory.specs.Set.{full}
-use Rattle.sparsity.specs.Core.{Light}
-use Rattle.sparsity.specs.Core.Peeling.{light-none, light-all-code, light-same, two-most}
+use Rattle.peeling.specs.Core.{Light}
+use Rattle.peeling.specs.Core.Peeling.{light-none, light-all-code, light-same, two-most}
 use borrow.Author.Needs.{needs}
-use Rattle.sparsity.proofs.light_all.Statement.{statement}
-use Rattle.sparsity.proofs.light_all.Tie as tie
+use Rattle.peeling.proofs.light_all.Statement.{statement}
+use Rattle.peeling.proofs.light_all.Tie as tie
 
 abbrev Inv-loop : tie.InvT-loop
 Inv-loop near todo₀ x₀ todo x = (x ≤ 64) × Light near (full 64) todo

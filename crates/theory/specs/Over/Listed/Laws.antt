@@ -10,12 +10,12 @@ use lib.Count.{ones}
 use lib.ListN.{length, take, getD, length-append}
 use lib.Seq.{take-append-le, take-all, getD-at, ext-getD}
 use lib.ListN as list
 use Rattle.theory.specs.Set.{_⊑_, at}
 use Rattle.theory.specs.Set.Laws.{at-le, bit, size-eq, or-comm}
 use Rattle.theory.specs.Constraints.{pair, has, carried, Among, Pairs, Below}
 use Rattle.theory.specs.Constraints.Laws.{size-pair, pair-below, at-pair, at-end, Has, inside, outside, has-dec, has-in}
 use Rattle.theory.specs.Over.Laws.{carried-append}
-use Rattle.sparsity.specs.Listed.{ends, masks, Listed}
+use Rattle.theory.specs.Over.Listed.{ends, masks, Listed}
 
 pub carried-more : (us vs : List ℕ) (c x : ℕ) → carried (masks us vs (suc c)) x ≡ carried (masks us vs c) x + has (ends us vs c) x
 unfolding masks carried

@@ -1,8 +1,8 @@
 -- `core_of` meets its contract. Assumes nothing.
-use Rattle.sparsity.specs.Core.Peeling.{core-peeled}
+use Rattle.peeling.specs.Core.Peeling.{core-peeled}
 use borrow.Author.Needs.{needs}
-use Rattle.sparsity.proofs.core_of.Statement.{statement}
-use Rattle.sparsity.proofs.core_of.Tie as tie
+use Rattle.peeling.proofs.core_of.Statement.{statement}
+use Rattle.peeling.proofs.core_of.Tie as tie
 
 near-of-requires : tie.Need-near-of-requires
 near-of-requires c κs = search needs
