@@ -189,7 +189,7 @@ pub pairs-perm : {l k : List ℕ} → Perm l k → Pairs l → Pairs k
 unfolding Pairs
 pairs-perm p h x i = h x (among-perm p x .1 i)
 
-pub length-perm : {l k : List ℕ} → Perm l k → length l ≡ length k
+pub length-perm : {A : Type 0} {l k : List A} → Perm l k → length l ≡ length k
 length-perm same = refl
 length-perm (skip x p) = ap suc (length-perm p)
 length-perm (swap x y) = refl
@@ -198,6 +198,12 @@ length-perm (then p q) = length-perm p ∙ length-perm q
 pub fine-perm : {l k : List ℕ} → Perm l k → NotOver l → NotOver k
 unfolding NotOver
 fine-perm p h x b = omega (arith, h x b, carried-perm p x)
+
+pub sound-perm : (n : ℕ) {l k : List Ends} → Perm l k → Sound n l → Sound n k
+sound-perm n same s = s
+sound-perm n (skip x p) s = (s .0, s .1, sound-perm n p (s .2))
+sound-perm n (swap x y) s = (s .2 .0, s .2 .1, (s .0, s .1, s .2 .2))
+sound-perm n (then p q) s = sound-perm n q (sound-perm n p s)
 
 -- ---- the pairs of a sheet
 

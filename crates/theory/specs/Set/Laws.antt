@@ -122,6 +122,10 @@ size-eq =
     let same : a / 2 ≡ b / 2 = ih (a / 2) (halves h) half in
     omega (arith, ones-step a, ones-step b, ap ones same))
 
+-- only the empty set has no element
+pub size-none : (a : ℕ) → ones a ≡ zero → a ≡ zero
+size-none a e = sym (size-eq a zero (record { le = λ x. omega (arith, at-zero x) }) (omega arith))
+
 -- the size as a sum of digits
 pub size-sum : (n a : ℕ) → a < 2 ^ n → ones a ≡ sum n (λ x. at x a)
 unfolding sum at

@@ -1,0 +1,20 @@
+use borrow.Author.Needs.{needs}
+use borrow.Author.Tests.{lt-ltb, le-ltb, eq-eqb, ne-eqb}
+use Rattle.sheet.proofs.bit_map.Statement.{statement}
+use Rattle.sheet.proofs.bit_map.Tie as tie
+
+size-optional-requires : tie.Need-size-optional-requires
+size-optional-requires c κs = search needs
+
+returns : tie.Need-returns
+returns c = rw (lt-ltb _ _ (c .before .if1 .taken), eq-eqb _ _ (c .if2 .taken))
+
+returns-2 : tie.Need-returns-2
+returns-2 c =
+    rw (lt-ltb _ _ (c .before .before .if1 .taken), ne-eqb _ _ (c .before .if2 .left)) (c .size-optional .ensures)
+
+returns-3 : tie.Need-returns-3
+returns-3 c = rw (le-ltb _ _ (c .if1 .left))
+
+pub bit-map-spec : {M : Type 1} → statement M
+bit-map-spec = tie.close (tie.spec size-optional-requires returns returns-2 returns-3)

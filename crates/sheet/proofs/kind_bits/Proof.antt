@@ -1,0 +1,27 @@
+use borrow.Author.Needs.{needs}
+use borrow.Author.Tests.{lt-ltb}
+use Prim.Native.Nat.{ℕ, _^_, _<_, _≤_}
+use mathlib.Core.Path.{_≡_, sym, subst}
+use native.Mathlib.Nat.{one-mul, mod-eq-of-lt}
+use native.Mathlib.Omega.{arith}
+use lib.Pow.{pow-lt}
+use Rattle.sheet.proofs.kind_bits.Statement.{statement}
+use Rattle.sheet.proofs.kind_bits.Tie as tie
+
+shl-result : tie.Need-shl-result
+shl-result c = search needs
+
+returns : tie.Need-returns
+returns c =
+    let h : 2 ^ c .before .args .n < 2 ^ 64 = pow-lt (c .if1 .taken) in rw (one-mul, mod-eq-of-lt h)
+
+-- 64 bits have none from 64 on
+all : (n m : ℕ) → n ≤ 64 → 64 ≤ n → m < 2 ^ 64 → m < 2 ^ n
+all n m a b h = let e : 64 ≡ n = omega arith in subst (λ (k : ℕ). m < 2 ^ k) e h
+
+returns-2 : tie.Need-returns-2
+returns-2 c =
+    sym (lt-ltb _ _ (all (c .before .args .n) (c .before .args .m) (c .before .pre) (c .if1 .left) (c .before .fits .m .fits)))
+
+pub kind-bits-spec : {M : Type 1} → statement M
+kind-bits-spec = tie.close (tie.spec shl-result returns returns-2)

@@ -1,0 +1,10 @@
+-- The facts of a pattern sheet, the rules that refuse them, and the bytes that stand for them.
+pub mod Facts
+pub mod Field
+pub mod Rules
+pub mod Decode
+pub mod Encode
+pub mod Noted
+pub mod Accepted
+pub mod RoundTrip
+pub mod Graph

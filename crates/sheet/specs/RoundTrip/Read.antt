@@ -1,0 +1,223 @@
+-- Bytes that the reader takes are those of the facts it reads, and no rule refuses these. Assumes nothing.
+use Prim.Native.Nat.{ℕ, zero, suc, _+_, _*_, _/_, _%_, _^_, _<_}
+use native.Mathlib.Omega.{arith}
+use borrow.Author.Tests.{ltb-true, not-true}
+use mathlib.Core.Path.{_≡_, refl, sym, ap, _∙_}
+use mathlib.Core.Bool.{Bool, true, false, not, _&&_, _||_}
+use mathlib.Core.List.{List, [], _∷_, _++_, append-nil, append-assoc}
+use lib.Dec.{eqb, ltb}
+use lib.ListN.{length, drop, getD}
+use Rattle.sheet.specs.declared.Element.{Element}
+use Rattle.sheet.specs.declared.PairKind.{PairKind}
+use Rattle.sheet.specs.declared.Size.{Size}
+use Rattle.sheet.specs.declared.Size.the-variants.{Given, Missing}
+use Rattle.sheet.specs.declared.Tag.{Tag}
+use Rattle.sheet.specs.declared.Tag.the-variants.{Given as TagGiven, Missing as NoTag}
+use Rattle.sheet.specs.declared.Constraint.{Constraint}
+use Rattle.sheet.specs.Facts.{Facts, pick, linesOf, elementsOf, blankConstraint}
+use Rattle.sheet.specs.Facts.Laws.{elementsOf-length, linesOf-elementsOf}
+use Rattle.sheet.specs.Field.{Field, value, refused, next, demand, digits, field, byte, signed32, unsigned32, openingBytes, begins, Bytes}
+use Rattle.sheet.specs.Field.Laws.{next-value, demand-value, value-with, refused-value, field-front, byte-front, begins-front, bytes-drop, unsigned32-signed32, and-both}
+use Rattle.sheet.specs.Rules.{elementCount, kindBits, constraintCount, ends, stands, pairAt, optional, bitMap, sizeRange, sizeFault, constraintFault, or-else, constraintsFault}
+use Rattle.sheet.specs.Decode.{kindBytes, opening, size, tag, dimension, constraint, constraints, readConstraints, readKinds, readSheet}
+use Rattle.sheet.specs.Encode.{sizeBit, tagBit, sizeBytes, tagBytes, constraintBytes, constraintsBytes, sheetBytes}
+use Rattle.sheet.specs.Accepted.{tagNumber, Accepted}
+
+abbrev bit : Bool → ℕ
+bit true = 1
+bit false = 0
+
+-- ---- size and tag
+
+record SizeFront (p : PairKind) (q : Bool) (s : List ℕ) (z : Size) (t : List ℕ) : Type 0 where
+  front : s ≡ sizeBytes z ++ t
+  given : sizeBit z ≡ bit q
+  taken : sizeFault p z ≡ 0
+  rest : Bytes t
+
+size-front : (p : PairKind) (q : Bool) (s : List ℕ) {z : Size} {t : List ℕ} → Bytes s → q || optional p ≡ true → size p q s ≡ value z t → SizeFront p q s z t
+unfolding size sizeBytes
+size-front p false s {z} {t} h o e =
+    value-with (SizeFront p false s) e (record { front = refl; given = refl; taken = rw o; rest = h })
+size-front p true s h o e =
+    next-value (field 4 s) _ e (λ u s1 was e1.
+    let f = field-front 4 s h was in
+    demand-value (sizeRange p (signed32 u)) 9 _ e1 (λ range e2.
+    value-with (SizeFront p true s) e2
+    (record { front = rw (unsigned32-signed32 u (f .below)) (f .front); given = refl; taken = rw range; rest = f .rest })))
+
+record TagFront (q : Bool) (s : List ℕ) (v : Tag) (t : List ℕ) : Type 0 where
+  front : s ≡ tagBytes v ++ t
+  given : tagBit v ≡ bit q
+  below : tagNumber v < 2 ^ 16
+  rest : Bytes t
+
+tag-front : (q : Bool) (s : List ℕ) {v : Tag} {t : List ℕ} → Bytes s → tag q s ≡ value v t → TagFront q s v t
+unfolding tag tagBytes
+tag-front false s {v} {t} h e =
+    value-with (TagFront false s) e (record { front = refl; given = refl; below = omega arith; rest = h })
+tag-front true s h e =
+    next-value (field 2 s) _ e (λ u s1 was e1.
+    let f = field-front 2 s h was in
+    value-with (TagFront true s) e1 (record { front = f .front; given = refl; below = f .below; rest = f .rest }))
+
+map-bits : (m : ℕ) → m < 4 → m ≡ bit (eqb (m % 2) 1) + 2 * bit (eqb (m / 2) 1)
+map-bits zero h = refl
+map-bits (suc zero) h = refl
+map-bits (suc (suc zero)) h = refl
+map-bits (suc (suc (suc zero))) h = refl
+map-bits (suc (suc (suc (suc m)))) h = absurd (omega arith)
+
+-- ---- one constraint
+
+record DimensionFront (a b : ℕ) (p : PairKind) (s : List ℕ) (c : Constraint) (t : List ℕ) : Type 0 where
+  ends-are : (c .first ≡ a) × (c .second ≡ b)
+  front : s ≡ (sizeBit (c .size) + 2 * tagBit (c .tag)) ∷ (sizeBytes (c .size) ++ tagBytes (c .tag)) ++ t
+  taken : sizeFault p (c .size) ≡ 0
+  below : tagNumber (c .tag) < 2 ^ 16
+  rest : Bytes t
+
+dimension-front : (a b : ℕ) (p : PairKind) (s : List ℕ) {c : Constraint} {t : List ℕ} → Bytes s → dimension a b p s ≡ value c t → DimensionFront a b p s c t
+unfolding dimension
+dimension-front a b p s h e =
+    next-value (byte s) _ e (λ map s1 was e1.
+    let m = byte-front s h was in
+    demand-value (bitMap p map) 8 _ e1 (λ ok e2.
+    let both = and-both (ltb map 4) (eqb (map % 2) 1 || optional p) ok in
+    next-value (size p (eqb (map % 2) 1) s1) _ e2 (λ z s2 was2 e3.
+    let f = size-front p (eqb (map % 2) 1) s1 (m .rest) (both .1) was2 in
+    next-value (tag (eqb (map / 2) 1) s2) _ e3 (λ v s3 was3 e4.
+    let g = tag-front (eqb (map / 2) 1) s2 (f .rest) was3 in
+    let bits : map ≡ sizeBit z + 2 * tagBit v = map-bits map (ltb-true map 4 (both .0)) ∙ rw (f .given, g .given) in
+    value-with (DimensionFront a b p s) e4
+    (record {
+      ends-are = (refl, refl);
+      front = m .front ∙ rw (← bits, append-assoc, ← g .front, ← f .front);
+      taken = f .taken;
+      below = g .below;
+      rest = g .rest;
+    })))))
+
+record ConstraintFront (elements : List Element) (done : List Constraint) (s : List ℕ) (c : Constraint) (t : List ℕ) : Type 0 where
+  front : s ≡ constraintBytes c ++ t
+  taken : constraintFault elements done c ≡ 0
+  below : tagNumber (c .tag) < 2 ^ 16
+  rest : Bytes t
+
+constraint-front : (elements : List Element) (done : List Constraint) (s : List ℕ) {c : Constraint} {t : List ℕ} → Bytes s
+    → constraint elements done s ≡ value c t → ConstraintFront elements done s c t
+unfolding constraint constraintBytes constraintFault
+constraint-front elements done s {c} h e =
+    next-value (byte s) _ e (λ a s1 was e1.
+    let fa = byte-front s h was in
+    next-value (byte s1) _ e1 (λ b s2 was2 e2.
+    let fb = byte-front s1 (fa .rest) was2 in
+    demand-value (ends (length elements) a b) 6 _ e2 (λ ascend e3.
+    demand-value (not (stands done a b)) 7 _ e3 (λ new e4.
+    let f = dimension-front a b (pairAt elements a b) s2 (fb .rest) e4 in
+    record {
+      front = fa .front ∙ rw (fb .front, f .front, ← f .ends-are .0, ← f .ends-are .1);
+      taken = rw (f .ends-are .0, f .ends-are .1, ascend, not-true (stands done a b) new, f .taken);
+      below = f .below;
+      rest = f .rest;
+    }))))
+
+-- ---- all constraints
+
+record ConstraintsFront (elements : List Element) (k : ℕ) (done : List Constraint) (s : List ℕ) (all : List Constraint) (t : List ℕ) : Type 0 where
+  new : List Constraint
+  all-are : all ≡ done ++ new
+  count : length new ≡ k
+  front : s ≡ constraintsBytes new
+  spent : t ≡ []
+  taken : constraintsFault elements done new ≡ 0
+  below : (i : ℕ) → tagNumber (getD new i blankConstraint .tag) < 2 ^ 16
+
+tags-cons : (c : Constraint) (cs : List Constraint) → tagNumber (c .tag) < 2 ^ 16 → ((i : ℕ) → tagNumber (getD cs i blankConstraint .tag) < 2 ^ 16)
+    → (i : ℕ) → tagNumber (getD (c ∷ cs) i blankConstraint .tag) < 2 ^ 16
+tags-cons c cs h hs zero = h
+tags-cons c cs h hs (suc i) = hs i
+
+constraints-front : (elements : List Element) (k : ℕ) (done : List Constraint) (s : List ℕ) {all : List Constraint} {t : List ℕ} → Bytes s
+    → constraints elements k done s ≡ value all t → ConstraintsFront elements k done s all t
+unfolding constraints constraintsBytes constraintsFault
+constraints-front elements zero done [] h e =
+    value-with (ConstraintsFront elements zero done []) e
+    (record { new = []; all-are = rw append-nil; count = refl; front = refl; spent = refl; taken = refl; below = λ i. omega arith })
+constraints-front elements zero done (b ∷ s) h e = refused-value e
+constraints-front elements (suc k) done s h e =
+    next-value (constraint elements done s) _ e (λ c s1 was e1.
+    let f = constraint-front elements done s h was in
+    let r = constraints-front elements k (done ++ c ∷ []) s1 (f .rest) e1 in
+    record {
+      new = c ∷ r .new;
+      all-are = r .all-are ∙ rw append-assoc;
+      count = ap suc (r .count);
+      front = f .front ∙ ap (λ (l : List ℕ). constraintBytes c ++ l) (r .front);
+      spent = r .spent;
+      taken = rw (f .taken, r .taken);
+      below = tags-cons c (r .new) (f .below) (r .below);
+    })
+
+-- ---- the sheet
+
+record KindsFront (n : ℕ) (s : List ℕ) (elements : List Element) (t : List ℕ) : Type 0 where
+  count : length elements ≡ n
+  front : s ≡ digits (kindBytes n) (linesOf elements) ++ t
+  rest : Bytes t
+
+kinds-front : (n : ℕ) (s : List ℕ) {elements : List Element} {t : List ℕ} → Bytes s → readKinds n s ≡ value elements t → KindsFront n s elements t
+unfolding readKinds
+kinds-front n s h e =
+    next-value (field (kindBytes n) s) _ e (λ m s1 was e1.
+    let f = field-front (kindBytes n) s h was in
+    demand-value (kindBits n m) 4 _ e1 (λ ok e2.
+    value-with (KindsFront n s) e2
+    (record { count = elementsOf-length n m; front = rw (linesOf-elementsOf n m (ltb-true m (2 ^ n) ok)) (f .front); rest = f .rest })))
+
+opening-front : (s : List ℕ) {o t : List ℕ} → opening s ≡ value o t → s ≡ openingBytes ++ t
+opening-front s e = go (begins openingBytes s) refl e
+  where
+    go : (q : Bool) → begins openingBytes s ≡ q → {o t : List ℕ} → pick q (value openingBytes (drop 4 s)) (refused 1) ≡ value o t → s ≡ openingBytes ++ t
+    go true b e = value-with (λ o t. s ≡ openingBytes ++ t) e (begins-front openingBytes s b)
+    go false b e = refused-value e
+
+-- what is shown of bytes that were read as facts: they are spent, they are the facts' own bytes, and no rule refuses the facts
+pub record Read (s : List ℕ) (f : Facts) (t : List ℕ) : Type 0 where
+  pub spent : t ≡ []
+  pub same : sheetBytes f ≡ s
+  pub accepted : Accepted f
+
+-- the fields of a sheet, one after the other
+module _ {s s1 s2 s3 s4 t : List ℕ} {n k : ℕ} {elements : List Element} {cs new : List Constraint} where
+  assembled : s ≡ openingBytes ++ s1 → s1 ≡ n ∷ s2 → s2 ≡ digits (kindBytes n) (linesOf elements) ++ s3 → s3 ≡ k ∷ s4 → s4 ≡ constraintsBytes new
+      → cs ≡ new → length elements ≡ n → length new ≡ k → elementCount n ≡ true → constraintCount k ≡ true → constraintsFault elements [] new ≡ 0
+      → ((i : ℕ) → tagNumber (getD new i blankConstraint .tag) < 2 ^ 16) → t ≡ []
+      → Read s (record { elements = elements; constraints = cs }) t
+  unfolding sheetBytes
+  assembled a b c d e is n-is k-is n-ok k-ok taken tags spent =
+      rw is
+      (record {
+        spent = spent;
+        same = sym (a ∙ rw (b, c, d, e, n-is, k-is));
+        accepted = record { element-count = rw n-is n-ok; constraint-count = rw k-is k-ok; no-fault = taken; tags = tags };
+      })
+
+pub sheet-read : (s : List ℕ) {f : Facts} {t : List ℕ} → Bytes s → readSheet s ≡ value f t → Read s f t
+unfolding readSheet readConstraints
+sheet-read s h e =
+    next-value (opening s) _ e (λ o s1 was e1.
+    let a = opening-front s was in
+    let h1 : Bytes s1 = bytes-drop 4 (openingBytes ++ s1) (rw a at h) in
+    next-value (byte s1) _ e1 (λ n s2 was2 e2.
+    let b = byte-front s1 h1 was2 in
+    demand-value (elementCount n) 3 _ e2 (λ n-ok e3.
+    next-value (readKinds n s2) _ e3 (λ elements s3 was4 e4.
+    let c = kinds-front n s2 (b .rest) was4 in
+    next-value (byte s3) _ e4 (λ k s4 was5 e5.
+    let d = byte-front s3 (c .rest) was5 in
+    demand-value (constraintCount k) 5 _ e5 (λ k-ok e6.
+    next-value (constraints elements k [] s4) _ e6 (λ cs s5 was7 e7.
+    let r = constraints-front elements k [] s4 (d .rest) was7 in
+    value-with (Read s) e7
+    (assembled a (b .front) (c .front) (d .front) (r .front) (r .all-are) (c .count) (r .count) n-ok k-ok (r .taken) (r .below) (r .spent)))))))))

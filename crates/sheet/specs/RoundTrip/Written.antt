@@ -1,0 +1,158 @@
+-- The bytes of accepted facts, read field by field, give the facts. Assumes nothing.
+use Prim.Native.Nat.{ℕ, zero, suc, _+_, _*_, _-_, _/_, _%_, _^_, _<_, _≤_}
+use native.Mathlib.Nat.{pow-le-pow-right, lt-of-lt-of-le, pow-succ', pow-zero}
+use native.Mathlib.Omega.{arith}
+use borrow.Author.Tests.{lt-ltb, leb-true}
+use mathlib.Core.Path.{_≡_, refl, sym, ap, _∙_}
+use mathlib.Core.Bool.{Bool, true, false, not, _&&_, _||_}
+use mathlib.Core.List.{List, [], _∷_, _++_, append-nil, append-assoc}
+use lib.Dec.{eqb}
+use lib.IntN.{ℤ, pos, negsuc}
+use lib.ListN.{length, getD}
+use lib.Pow.{pow-add}
+use lib.Signed.{mag, leZ}
+use Rattle.sheet.specs.declared.Element.{Element}
+use Rattle.sheet.specs.declared.PairKind.{PairKind}
+use Rattle.sheet.specs.declared.PairKind.the-variants.{Points, PointLine, Lines}
+use Rattle.sheet.specs.declared.Size.{Size}
+use Rattle.sheet.specs.declared.Size.the-variants.{Given, Missing}
+use Rattle.sheet.specs.declared.Tag.{Tag}
+use Rattle.sheet.specs.declared.Tag.the-variants.{Given as TagGiven, Missing as NoTag}
+use Rattle.sheet.specs.declared.Constraint.{Constraint}
+use Rattle.sheet.specs.Facts.{Facts, pick, linesOf, elementsOf, blankConstraint}
+use Rattle.sheet.specs.Facts.Laws.{linesOf-below, elementsOf-linesOf}
+use Rattle.sheet.specs.Field.{Field, value, number, digits, field, signed32, unsigned32}
+use Rattle.sheet.specs.Field.Laws.{field-digits, unsigned32-below, signed32-unsigned32, and-both}
+use Rattle.sheet.specs.Rules.{ends, stands, pairAt, optional, bitMap, within, sizeRange, sizeFault, constraintFault, or-else, constraintsFault, elementCount, constraintCount}
+use Rattle.sheet.specs.Decode.{kindBytes, size, tag, dimension, constraint, constraints, readConstraints, readKinds, readSheet}
+use Rattle.sheet.specs.Encode.{sizeBit, tagBit, sizeBytes, tagBytes, constraintBytes, constraintsBytes, sheetBytes}
+use Rattle.sheet.specs.Accepted.{tagNumber, Accepted}
+
+-- ---- what a rule that takes a fact says of it
+
+false-true : {A : Type 0} → false ≡ true → A
+false-true e = let z : _≡_ {A = ℕ} 0 1 = cc in absurd (omega arith)
+
+or-else-none : (x y : ℕ) → or-else x y ≡ 0 → (x ≡ 0) × (y ≡ 0)
+or-else-none zero y e = (refl, e)
+or-else-none (suc x) y e = absurd (omega arith)
+
+pick-none : (q : Bool) (k : ℕ) → pick q 0 (suc k) ≡ 0 → q ≡ true
+pick-none true k e = refl
+pick-none false k e = absurd (omega arith)
+
+fault-none : (q r : Bool) (x : ℕ) → pick q (pick r 7 x) 6 ≡ 0 → (q ≡ true) × (r ≡ false) × (x ≡ 0)
+fault-none true true x e = absurd (omega arith)
+fault-none true false x e = (refl, refl, e)
+fault-none false r x e = absurd (omega arith)
+
+within-pos : (n k : ℕ) (z : ℤ) → k < 2 ^ 31 → within (pos n) (pos k) z ≡ true → mag z < 2 ^ 31
+within-pos n k (pos m) h e = omega (arith, leb-true m k (and-both (leZ (pos n) (pos m)) (leZ (pos m) (pos k)) e .1))
+within-pos n k (negsuc m) h e = false-true e
+
+within-neg : (n k : ℕ) (z : ℤ) → n < 2 ^ 31 → within (negsuc n) (negsuc k) z ≡ true → mag z < 2 ^ 31
+within-neg n k (pos m) h e = false-true e
+within-neg n k (negsuc m) h e = omega (arith, leb-true m n (and-both (leZ (negsuc n) (negsuc m)) (leZ (negsuc m) (negsuc k)) e .0))
+
+either : {A : Type 0} (a b : Bool) → a || b ≡ true → (a ≡ true → A) → (b ≡ true → A) → A
+either true b e f g = f refl
+either false b e f g = g e
+
+-- a size in its range is a signed number of 32 bits
+size-mag : (p : PairKind) (z : ℤ) → sizeRange p z ≡ true → mag z < 2 ^ 31
+size-mag Points z e = within-pos 1 40000 z (omega arith) e
+size-mag PointLine z e = either _ _ e (within-neg 39999 0 z (omega arith)) (within-pos 1 40000 z (omega arith))
+size-mag Lines z e = either _ _ e (within-neg 17998 0 z (omega arith)) (within-pos 1 17999 z (omega arith))
+
+-- ---- one constraint
+
+module _ (p : PairKind) where
+  size-back : (z : Size) (s : List ℕ) → sizeFault p z ≡ 0 → size p (eqb (sizeBit z) 1) (sizeBytes z ++ s) ≡ value z s
+  unfolding size sizeBytes
+  size-back Missing s h = refl
+  size-back (Given z) s h =
+      let range : sizeRange p z ≡ true = pick-none _ 8 h in
+      let m : mag z < 2 ^ 31 = size-mag p z range in
+      rw (field-digits 4 (unsigned32 z) s (unsigned32-below z m), signed32-unsigned32 z m, range)
+
+  map-back : (z : Size) (t : Tag) → sizeFault p z ≡ 0 → bitMap p (sizeBit z + 2 * tagBit t) ≡ true
+  map-back Missing (TagGiven t) h = pick-none (optional p) 7 h
+  map-back Missing NoTag h = pick-none (optional p) 7 h
+  map-back (Given z) (TagGiven t) h = refl
+  map-back (Given z) NoTag h = refl
+
+tag-back : (t : Tag) (s : List ℕ) → tagNumber t < 2 ^ 16 → tag (eqb (tagBit t) 1) (tagBytes t ++ s) ≡ value t s
+unfolding tag tagBytes
+tag-back NoTag s h = refl
+tag-back (TagGiven t) s h = rw (field-digits 2 t s h)
+
+bits : (z : Size) (t : Tag) → ((sizeBit z + 2 * tagBit t) % 2 ≡ sizeBit z) × ((sizeBit z + 2 * tagBit t) / 2 ≡ tagBit t)
+bits Missing (TagGiven t) = (refl, refl)
+bits Missing NoTag = (refl, refl)
+bits (Given z) (TagGiven t) = (refl, refl)
+bits (Given z) NoTag = (refl, refl)
+
+module _ (elements : List Element) (done : List Constraint) (c : Constraint) where
+  fault : constraintFault elements done c ≡ 0
+      → (ends (length elements) (c .first) (c .second) ≡ true) × (stands done (c .first) (c .second) ≡ false) × (sizeFault (pairAt elements (c .first) (c .second)) (c .size) ≡ 0)
+  unfolding constraintFault
+  fault e = fault-none _ _ _ e
+
+  pub constraint-back : (s : List ℕ) → constraintFault elements done c ≡ 0 → tagNumber (c .tag) < 2 ^ 16
+      → constraint elements done (constraintBytes c ++ s) ≡ value c s
+  unfolding constraint dimension constraintBytes
+  constraint-back s h t =
+      let f = fault h in
+      let p = pairAt elements (c .first) (c .second) in
+      rw (
+        f .0,
+        f .1,
+        map-back p (c .size) (c .tag) (f .2),
+        bits (c .size) (c .tag) .0,
+        bits (c .size) (c .tag) .1,
+        append-assoc,
+        size-back p (c .size) (tagBytes (c .tag) ++ s) (f .2),
+        tag-back (c .tag) s t,
+      )
+
+-- ---- all constraints
+
+pub constraints-back : (elements : List Element) (cs done : List Constraint) → constraintsFault elements done cs ≡ 0
+    → ((i : ℕ) → tagNumber (getD cs i blankConstraint .tag) < 2 ^ 16)
+    → constraints elements (length cs) done (constraintsBytes cs) ≡ value (done ++ cs) []
+unfolding constraintsFault constraints constraintsBytes
+constraints-back elements [] done h t = rw append-nil
+constraints-back elements (c ∷ cs) done h t =
+    let f = or-else-none (constraintFault elements done c) (constraintsFault elements (done ++ c ∷ []) cs) h in
+    rw (constraint-back elements done c (constraintsBytes cs) (f .0) (t 0))
+    (constraints-back elements cs (done ++ c ∷ []) (f .1) (λ i. t (suc i)) ∙ rw append-assoc)
+
+-- ---- kinds
+
+pow-256 : (k : ℕ) → 2 ^ (8 * k) ≡ 256 ^ k
+pow-256 zero = refl
+pow-256 (suc k) =
+    let e : 8 * suc k ≡ 8 + 8 * k = omega arith in
+    rw (e, pow-add 2 8 (8 * k), pow-256 k, pow-succ' 256 k)
+
+-- n bits fit in n/8 bytes rounded up
+pub kinds-fit : (elements : List Element) → linesOf elements < 256 ^ kindBytes (length elements)
+kinds-fit elements =
+    let n = length elements in
+    let up : n ≤ 8 * kindBytes n = omega arith in
+    rw pow-256 at (lt-of-lt-of-le (linesOf-below elements) (pow-le-pow-right (omega arith) up))
+
+-- ---- the sheet
+
+pub sheet-back : (f : Facts) → Accepted f → readSheet (sheetBytes f) ≡ value f []
+unfolding readSheet readKinds readConstraints sheetBytes
+sheet-back f h =
+    let es = f .elements in
+    rw (
+      h .element-count,
+      field-digits (kindBytes (length es)) (linesOf es) (length (f .constraints) ∷ constraintsBytes (f .constraints)) (kinds-fit es),
+      lt-ltb _ _ (linesOf-below es),
+      elementsOf-linesOf es,
+      h .constraint-count,
+      constraints-back es (f .constraints) [] (h .no-fault) (h .tags),
+    )

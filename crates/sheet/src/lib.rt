@@ -1,0 +1,275 @@
+// The facts of a pattern sheet, and the rules that refuse them: document 01, "The sheet in bytes" and "Refused".
+// Reader, writer and sketch share the rules here; contracts cite the definitions of specs/Rules.antt.
+ghost use mathlib.Core.Path.{_≡_};
+ghost use mathlib.Core.List.{List, [], _∷_, _++_};
+ghost use Prim.Native.Nat.{_/_, _%_, _^_, _<_, _≤_};
+ghost use lib.Dec.{eqb};
+ghost use lib.ListN.{length, take};
+ghost use Rattle.sheet.specs.Facts.{kindOf, lineBit, block, elementsOf, linesOf, blankElement};
+ghost use Rattle.sheet.specs.Rules.{elementCount, kindBits, constraintCount, ends, stands, pairOf, optional, bitMap, within as liesWithin, sizeRange, sizeFault, constraintFault, sheetFault};
+ghost use Rattle.sheet.specs.Noted.{Noted};
+
+// The four bytes that open every sheet.
+pub const OPENING: [u8; 4] = *b"PF01";
+
+pub enum Kind {
+    Point,
+    Line,
+}
+
+pub struct Element {
+    pub kind: Kind,
+}
+
+pub enum Size {
+    Given(i32),
+    Missing,
+}
+
+pub enum Tag {
+    Given(u16),
+    Missing,
+}
+
+pub struct Constraint {
+    pub first: u8,
+    pub second: u8,
+    pub size: Size,
+    pub tag: Tag,
+}
+
+// Places beyond the counts n and e have no influence.
+pub struct Sheet {
+    pub n: usize,
+    pub e: usize,
+    pub elements: [Element; 64],
+    pub constraints: [Constraint; 200],
+}
+
+// The kinds of a constraint's two ends.
+pub enum PairKind {
+    Points,
+    PointLine,
+    Lines,
+}
+
+// Rule 3.
+pub fn element_count(n: usize) -> bool
+    ensures { λ r. ⌜ r ≡ elementCount n ⌝ }
+{
+    if 2 <= n { n <= 64 } else { false }
+}
+
+// Rule 4: the number of the kinds has no bit from n on.
+pub fn kind_bits(n: usize, m: u64) -> bool
+    requires { ⌜ n ≤ 64 ⌝ }
+    ensures { λ r. ⌜ r ≡ kindBits n m ⌝ }
+{
+    if n < 64 { m < 1 << n } else { true }
+}
+
+// Rule 5.
+pub fn constraint_count(e: usize) -> bool
+    ensures { λ r. ⌜ r ≡ constraintCount e ⌝ }
+{
+    e <= 200
+}
+
+// Rule 6.
+pub fn ends_ascend(n: usize, a: u8, b: u8) -> bool
+    ensures { λ r. ⌜ r ≡ ends n a b ⌝ }
+{
+    if a < b { (b as usize) < n } else { false }
+}
+
+pub fn pair_of(a: Kind, b: Kind) -> PairKind
+    ensures { λ r. ⌜ r ≡ pairOf a b ⌝ }
+{
+    match a {
+        Kind::Point => match b {
+            Kind::Point => PairKind::Points,
+            Kind::Line => PairKind::PointLine,
+        },
+        Kind::Line => match b {
+            Kind::Point => PairKind::PointLine,
+            Kind::Line => PairKind::Lines,
+        },
+    }
+}
+
+fn size_optional(p: PairKind) -> bool
+    ensures { λ r. ⌜ r ≡ optional p ⌝ }
+{
+    match p {
+        PairKind::Points => false,
+        PairKind::PointLine => true,
+        PairKind::Lines => false,
+    }
+}
+
+// Rule 8, of a bit map.
+pub fn bit_map(p: PairKind, map: u8) -> bool
+    ensures { λ r. ⌜ r ≡ bitMap p map ⌝ }
+{
+    if map < 4 {
+        if map % 2 == 1 { true } else { size_optional(p) }
+    } else {
+        false
+    }
+}
+
+fn within(low: i32, high: i32, z: i32) -> bool
+    ensures { λ r. ⌜ r ≡ liesWithin low high z ⌝ }
+{
+    if low <= z { z <= high } else { false }
+}
+
+// Rule 9.
+pub fn size_range(p: PairKind, z: i32) -> bool
+    ensures { λ r. ⌜ r ≡ sizeRange p z ⌝ }
+{
+    match p {
+        PairKind::Points => within(1, 40000, z),
+        PairKind::PointLine => {
+            if within(-40000, -1, z) {
+                return true;
+            }
+            within(1, 40000, z)
+        }
+        PairKind::Lines => {
+            if within(-17999, -1, z) {
+                return true;
+            }
+            within(1, 17999, z)
+        }
+    }
+}
+
+// Rules 8 and 9 of a size that is given or missing: the rule's number, or 0.
+pub fn size_fault(p: PairKind, size: Size) -> u8
+    ensures { λ r. ⌜ r ≡ sizeFault p size ⌝ }
+{
+    match size {
+        Size::Given(z) => { if size_range(p, z) { 0 } else { 9 } }
+        Size::Missing => { if size_optional(p) { 0 } else { 8 } }
+    }
+}
+
+// The kind of element i, by the number of the kinds.
+pub fn kind_at(lines: u64, i: u8) -> Kind
+    requires { ⌜ i < 64 ⌝ }
+    ensures { λ r. ⌜ r ≡ kindOf (eqb (lines / 2 ^ i % 2) 1) ⌝ }
+{
+    if (lines >> i) % 2 == 1 {
+        Kind::Line
+    } else {
+        Kind::Point
+    }
+}
+
+// The elements by the number of their kinds.
+pub fn elements_of(n: usize, lines: u64) -> [Element; 64]
+    requires { ⌜ n ≤ 64 ⌝ }
+    ensures { λ r. ⌜ r ≡ block 64 blankElement (elementsOf n lines) ⌝ }
+{
+    let blank = Element { kind: Kind::Point };
+    let mut elements = [blank; 64];
+    let mut left = lines;
+    let mut i: usize = 0;
+    while i < n {
+        let k = kind_at(left, 0);
+        elements[i] = Element { kind: k };
+        left = left / 2;
+        i += 1;
+    }
+    elements
+}
+
+fn line_bit(k: Kind) -> u64
+    ensures { λ r. ⌜ r ≡ lineBit k ⌝ }
+{
+    match k {
+        Kind::Point => 0,
+        Kind::Line => 1,
+    }
+}
+
+// The number of the kinds of the first n elements.
+pub fn lines_of(elements: [Element; 64], n: usize) -> u64
+    requires { ⌜ n ≤ 64 ⌝ }
+    ensures { λ r. ⌜ r ≡ linesOf (take n elements) ⌝ }
+{
+    let mut lines: u64 = 0;
+    let mut i = n;
+    while 0 < i {
+        i -= 1;
+        let x = elements[i];
+        let k = x.kind;
+        lines = 2 * lines + line_bit(k);
+    }
+    lines
+}
+
+// Rule 7: whether the pair is noted. pairs[a] has bit b for each noted pair (a, b).
+pub fn pair_stands(pairs: &[u64; 64], a: u8, b: u8) -> bool
+    requires { ⌜ (a < 64) × (b < 64) ⌝ }
+    ensures { λ r. ⌜ ((cs : List Constraint) → Noted (now (pairs .entry)) cs → r ≡ stands cs a b) ⌝ }
+{
+    let i = a as usize;
+    (pairs[i] >> b) % 2 == 1
+}
+
+// Notes the pair of a constraint.
+pub fn note_pair(pairs: &mut [u64; 64], a: u8, b: u8)
+    requires { ⌜ (a < 64) × (b < 64) ⌝ }
+    ensures { λ r. ⌜ ((cs : List Constraint) (c : Constraint) → c .first ≡ a → c .second ≡ b → Noted (now (pairs .entry)) cs → Noted (now (pairs .exit)) (cs ++ c ∷ [])) ⌝ }
+{
+    let i = a as usize;
+    pairs[i] = pairs[i] | (1 << b);
+}
+
+// Rules 6 to 9 of one constraint after those noted: the rule's number, or 0.
+pub fn constraint_fault(pairs: &[u64; 64], n: usize, lines: u64, c: Constraint) -> u8
+    requires { ⌜ n ≤ 64 ⌝ }
+    ensures { λ r. ⌜ ((es : List Element) (cs : List Constraint) → n ≡ length es → lines ≡ linesOf es → Noted (now (pairs .entry)) cs → r ≡ constraintFault es cs c) ⌝ }
+{
+    let a = c.first;
+    let b = c.second;
+    if !ends_ascend(n, a, b) {
+        return 6;
+    }
+    if pair_stands(pairs, a, b) {
+        return 7;
+    }
+    let z = c.size;
+    size_fault(pair_of(kind_at(lines, a), kind_at(lines, b)), z)
+}
+
+// The first rule of 3, 5 and 6 to 9 that refuses a sheet's facts, or 0.
+pub fn sheet_fault(s: Sheet) -> u8
+    ensures { λ r. ⌜ r ≡ sheetFault s ⌝ }
+{
+    let n = s.n;
+    let e = s.e;
+    if !element_count(n) {
+        return 3;
+    }
+    if !constraint_count(e) {
+        return 5;
+    }
+    let elements = s.elements;
+    let cs = s.constraints;
+    let lines = lines_of(elements, n);
+    let mut pairs = [0u64; 64];
+    let mut i: usize = 0;
+    while i < e {
+        let c = cs[i];
+        let k = constraint_fault(&pairs, n, lines, c);
+        if k != 0 {
+            return k;
+        }
+        note_pair(&mut pairs, c.first, c.second);
+        i += 1;
+    }
+    0
+}

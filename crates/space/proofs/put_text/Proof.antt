@@ -1,0 +1,75 @@
+-- `space::put_text` meets its contract. The loop's invariant: what is left of the text, put from the place reached, makes the space that the whole
+-- text makes. Assumes nothing.
+use borrow.Author.Needs.{needs}
+use Prim.Native.Nat.{ℕ, _+_, _-_, _≤_}
+use native.Mathlib.Nat.{add-zero, add-suc}
+use native.Mathlib.Numerals.{add-one}
+use native.Mathlib.Omega.{arith}
+use mathlib.Core.Path.{_≡_, refl, sym, ap, _∙_}
+use lib.ListN.{length, drop, length-set, drop-of-length-le}
+use lib.Seq.{sets, drop-cons}
+use Rattle.space.specs.Space.Laws.{put-all, put-short}
+use Rattle.space.proofs.put_text.Statement.{statement}
+use Rattle.space.proofs.put_text.Tie as tie
+
+abbrev Inv-loop : tie.InvT-loop
+Inv-loop out₀ at text next i₀ out i =
+    (i ≤ length text) × (length out ≡ length out₀) × (sets out₀ at text ≡ sets out (at + i) (drop i text))
+
+abbrev μ-loop : tie.MeasureT-loop
+μ-loop out₀ at text next i₀ out i = length text - i
+
+add-next : tie.Need-add-next Inv-loop μ-loop
+add-next c = search needs
+
+returns : tie.Need-returns Inv-loop μ-loop
+returns c = put-short (c .if1 .taken)
+
+loop-holds : tie.Need-loop-holds Inv-loop μ-loop
+loop-holds c = (search needs, refl, rw add-zero)
+
+shared-slice-read-out : tie.Need-shared-slice-read-out Inv-loop μ-loop
+shared-slice-read-out c = search needs
+
+add-out : tie.Need-add-out Inv-loop μ-loop
+add-out c = search needs
+
+slice-write-out : tie.Need-slice-write-out Inv-loop μ-loop
+slice-write-out c = search needs
+
+add-i : tie.Need-add-i Inv-loop μ-loop
+add-i c = search needs
+
+loop-less : tie.Need-loop-less Inv-loop μ-loop
+loop-less c = search needs
+
+loop-again : tie.Need-loop-again Inv-loop μ-loop
+loop-again c =
+    let a = c .before .before .loop in
+    let text = c .before .before .before .before .args .text .now in
+    let h = c .before .loop-test .taken in
+    (omega arith, simp length-set (a .inv .1), a .inv .2 ∙ rw (drop-cons text (a .i) 0 h, add-one, add-suc))
+
+same-length : tie.Need-same-length Inv-loop μ-loop
+same-length c = c .before .loop .inv .1
+
+returns-2 : tie.Need-returns-2 Inv-loop μ-loop
+returns-2 c = put-all (sym (c .before .loop .inv .2 ∙ rw (drop-of-length-le (c .before .before .before .args .text .now) (c .loop-test .left))))
+
+pub put-text-spec : {M : Type 1} → statement M
+put-text-spec =
+    tie.close
+    (tie.spec
+    Inv-loop
+    μ-loop
+    add-next
+    returns
+    loop-holds
+    shared-slice-read-out
+    add-out
+    slice-write-out
+    add-i
+    loop-less
+    loop-again
+    same-length
+    returns-2)

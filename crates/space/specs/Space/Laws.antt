@@ -1,0 +1,80 @@
+-- Laws of writing into lent space: one piece of writing after another is the writing of both, and what is put from the front, measured first, gives
+-- `answer` and `after`. Assumes nothing.
+use Prim.Native.Nat.{ℕ, suc, _+_, _≤_, _<_}
+use native.Mathlib.Nat.{add-zero, zero-add, add-suc, suc-add}
+use native.Mathlib.Numerals.{add-one}
+use native.Mathlib.Omega.{arith}
+use borrow.Author.Tests.{lt-ltb, le-ltb}
+use mathlib.Core.Path.{_≡_, refl, sym, ap, _∙_}
+use mathlib.Core.Logic.{_⊎_, ⊎-elim}
+use mathlib.Core.List.{List, [], _∷_, _++_}
+use lib.ListN.{length, drop, set, length-append, length-set}
+use lib.Seq.{sets, sets-eq, set-out, length-sets}
+use Rattle.space.specs.declared.Written.{Written}
+use Rattle.space.specs.declared.Written.the-variants.{Done, Refused}
+use Rattle.space.specs.Space.{Put, answer, after}
+
+-- ---- runs of stores
+
+pub sets-append : (xs ys l : List ℕ) (i : ℕ) → sets l i (xs ++ ys) ≡ sets (sets l i xs) (i + length xs) ys
+sets-append [] ys l i = rw add-zero
+sets-append (x ∷ xs) ys l i = sets-append xs ys (set l i x) (suc i) ∙ rw (add-suc, suc-add)
+
+pub sets-front : (xs l : List ℕ) → length xs ≤ length l → sets l 0 xs ≡ xs ++ drop (length xs) l
+sets-front xs l h = sets-eq xs l 0 (omega arith) ∙ rw zero-add
+
+-- ---- pieces of writing
+
+pub put-none : (space : List ℕ) (at : ℕ) → Put space at [] at space
+put-none space at = record { next-is = rw add-zero; length-is = refl; after-is = λ h. refl }
+
+pub put-as : {space s1 xs ys : List ℕ} {at next : ℕ} → xs ≡ ys → Put space at xs next s1 → Put space at ys next s1
+put-as e p = rw e at p
+
+infixl 5 _then_
+pub _then_ : {space s1 s2 xs ys : List ℕ} {at a1 a2 : ℕ} → Put space at xs a1 s1 → Put s1 a1 ys a2 s2 → Put space at (xs ++ ys) a2 s2
+_then_ {space} {s1} {s2} {xs} {ys} {at} {a1} {a2} p q =
+    record {
+      next-is = rw length-append (omega (arith, p .next-is, q .next-is));
+      length-is = q .length-is ∙ p .length-is;
+      after-is = λ h.
+          let long : length (xs ++ ys) ≡ length xs + length ys = length-append xs ys in
+          q .after-is (omega (arith, p .next-is, p .length-is))
+          ∙ rw (p .next-is, p .after-is (omega arith)) (sym (sets-append xs ys space at));
+    }
+
+-- stores that are all made where they have room
+pub put-all : {space items after : List ℕ} {at : ℕ} → after ≡ sets space at items → Put space at items (at + length items) after
+put-all {space} {items} {after} {at} e =
+    record { next-is = refl; length-is = ap length e ∙ length-sets space at items; after-is = λ h. e }
+
+-- one item
+pub put-one : {space after : List ℕ} {at x : ℕ} → after ≡ set space at x → Put space at (x ∷ []) (at + 1) after
+put-one e = put-all e
+
+-- no store where there is no room
+pub put-short : {space items : List ℕ} {at : ℕ} → length space < at + length items → Put space at items (at + length items) space
+put-short h = record { next-is = refl; length-is = refl; after-is = λ room. absurd (omega arith) }
+
+-- ---- measured, then written
+
+-- the writing over no space leaves it
+pub none-left : {items after : List ℕ} {at next : ℕ} → Put [] at items next after → after ≡ []
+none-left {after = []} p = refl
+none-left {after = x ∷ xs} p = absurd (omega (arith, p .length-is))
+
+pub short-answer : (items space : List ℕ) → length space < length items → answer items space ≡ Refused 17
+unfolding answer
+short-answer items space h = rw (lt-ltb _ _ h)
+
+pub short-after : (items space : List ℕ) → length space < length items → after items space ≡ space
+unfolding after
+short-after items space h = rw (lt-ltb _ _ h)
+
+pub long-answer : (items space : List ℕ) → length items ≤ length space → answer items space ≡ Done (length items)
+unfolding answer
+long-answer items space h = rw (le-ltb _ _ h)
+
+pub put-after : {items space left : List ℕ} {next : ℕ} → length items ≤ length space → Put space 0 items next left → left ≡ after items space
+unfolding after
+put-after {items} {space} h p = rw (le-ltb _ _ h) (p .after-is (omega arith) ∙ sets-front items space h)

@@ -1,0 +1,31 @@
+//! A plain Rust implementation of document 01, written by its definitions, and what is needed to run the
+//! proved library beside it: random sheets, damage, lent space with guards, counts.
+//!
+//! The reference: `facts`, `rules`, `reader`, `writer`, `over`, `matching`, `merging`, `verdict`, `placements`,
+//! `report`, `plans`, `sketch`, and `interface`, which gives the answers the C interface must give.
+//! The runs: `random`, `graph`, `shapes`, `dress`, `damage`, `space`, `run`, and `ffi`, the only unsafe code.
+
+pub mod damage;
+#[cfg(test)]
+mod document_01;
+pub mod dress;
+pub mod facts;
+pub mod ffi;
+pub mod graph;
+pub mod interface;
+pub mod matching;
+pub mod merging;
+pub mod over;
+pub mod placements;
+pub mod plans;
+pub mod random;
+pub mod reader;
+pub mod report;
+pub mod rules;
+pub mod run;
+pub mod set;
+pub mod shapes;
+pub mod sketch;
+pub mod space;
+pub mod verdict;
+pub mod writer;

@@ -1,0 +1,32 @@
+//! The check of a saved plan (document 01, rules 11 to 16).
+
+use crate::facts::{Rule, Sheet};
+use crate::matching::by_matching;
+use crate::merging::{Clusters, Merges, Three, joint};
+use crate::rules::refuse;
+use crate::set::size;
+
+/// The merges of a saved plan, three numbers a step, or the rule that refuses it.
+pub fn check(sheet: &Sheet, plan: &[u16]) -> Result<Merges, Rule> {
+    refuse(by_matching(sheet).is_some(), 11)?;
+    refuse(!plan.len().is_multiple_of(3), 12)?;
+    let mut clusters = Clusters::initial(sheet);
+    let mut steps = Vec::new();
+    for numbers in plan.chunks(3) {
+        let three = [numbers[0], numbers[1], numbers[2]].map(usize::from);
+        check_step(&clusters, three)?;
+        steps.push(clusters.merge(three));
+    }
+    refuse(clusters.first_open().is_some(), 16)?;
+    Ok(Merges { steps, finals: clusters.all_living() })
+}
+
+/// Rules 13 to 15 of one step.
+fn check_step(clusters: &Clusters, three: Three) -> Result<(), Rule> {
+    let [p, q, r] = three;
+    let living = |number| clusters.living(number).ok_or(13);
+    let (a, b, c) = (living(p)?, living(q)?, living(r)?);
+    refuse(p == q || p == r || q == r, 13)?;
+    refuse(size(a & b) > 1 || size(a & c) > 1 || size(b & c) > 1, 14)?;
+    refuse(joint(a, b, c).is_none(), 15)
+}

@@ -1,0 +1,62 @@
+//! The verdict (document 01, "Verdict names").
+
+use crate::facts::Sheet;
+use crate::matching::by_matching;
+use crate::merging::Merges;
+use crate::over::Over;
+use crate::set::within;
+
+/// A verdict's name; its number is the C interface's.
+#[derive(Clone, Copy, PartialEq, Eq, PartialOrd, Ord, Debug)]
+pub enum Verdict {
+    Over,
+    Angle,
+    Well,
+    Stuck,
+    Under,
+}
+
+impl Verdict {
+    /// The name as the report prints it.
+    pub fn name(self) -> &'static str {
+        match self {
+            Verdict::Over => "over",
+            Verdict::Angle => "angle",
+            Verdict::Well => "well",
+            Verdict::Stuck => "stuck",
+            Verdict::Under => "under",
+        }
+    }
+}
+
+/// What is found of a sheet: it is over, or merges were made until none is open.
+#[derive(Clone, PartialEq, Eq, Debug)]
+pub enum Judged {
+    Over(Over),
+    Merged(Merges),
+}
+
+/// What the engine finds of a sheet.
+pub fn judge(sheet: &Sheet) -> Judged {
+    match by_matching(sheet) {
+        Some(over) => Judged::Over(over),
+        None => Judged::Merged(Merges::engine(sheet)),
+    }
+}
+
+/// The verdict on what was found: the first name that is met.
+pub fn verdict(sheet: &Sheet, judged: &Judged) -> Verdict {
+    let Judged::Merged(merges) = judged else {
+        return Verdict::Over;
+    };
+    let full = sheet.e() == 2 * sheet.n() - 3;
+    if merges.steps.iter().any(|step| within(step.joint, sheet.lines())) {
+        Verdict::Angle
+    } else if full && merges.finals.len() == 1 {
+        Verdict::Well
+    } else if full {
+        Verdict::Stuck
+    } else {
+        Verdict::Under
+    }
+}
