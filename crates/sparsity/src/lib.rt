@@ -3,10 +3,8 @@
 // other end of the constraint that uses it. The contracts cite theory's `Over` and this crate's specs.
 ghost use mathlib.Core.Path.{_≡_};
 ghost use mathlib.Core.Logic.{_≢_};
-ghost use mathlib.Core.List.{[]};
-ghost use Prim.Native.Nat.{ℕ, _+_, _-_, _^_, _≤_, _<_};
+ghost use Prim.Native.Nat.{ℕ, _+_, _≤_, _<_};
 ghost use lib.Count.{ones};
-ghost use lib.ListN.{getD, set};
 ghost use Rattle.theory.specs.Constraints.{pair, Below};
 ghost use Rattle.theory.specs.Over.{overOf};
 ghost use Rattle.theory.specs.Over.Listed.{masks, Listed};
