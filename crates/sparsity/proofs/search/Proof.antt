@@ -1,25 +1,17 @@
 -- `search` meets its contract. The loop's invariant: the constraints before c use freedoms and are not over. Assumes nothing.
-use mathlib.Core.Path.{_≡_, refl, sym, ap, ap₂, _∙_, subst}
+use mathlib.Core.Path.{refl, sym, _∙_, subst}
 use mathlib.Core.Logic.{⊎-elim}
-use Prim.Native.Nat.{ℕ, suc, _+_, _-_, _<_}
+use Prim.Native.Nat.{ℕ, _-_}
 use borrow.Author.Needs.{needs}
 use native.Mathlib.Omega.{arith}
 use Rattle.theory.specs.Constraints.{NotOver}
-use Rattle.sparsity.specs.Listed.{masks}
+use Rattle.theory.specs.Over.Listed.{masks}
 use Rattle.sparsity.specs.Reach.{Lent}
 use Rattle.sparsity.specs.Reach.Laws.{lent-by}
 use Rattle.sparsity.specs.Answer.{Kept, Ready}
 use Rattle.sparsity.specs.Answer.Laws.{kept-start, la, lb, apart, told-in, told-out, ready-lone, ready-four, over-here, kept-by, kept-marks, kept-skip, kept-placed, answer-not, answer-first}
 use Rattle.sparsity.proofs.search.Statement.{statement}
 use Rattle.sparsity.proofs.search.Tie as tie
-use Rattle.sparsity.proofs.search.Reads as reads
-use Rattle.sparsity.proofs.search.Lts as lts
-use Rattle.sparsity.proofs.all_free.Reads as all-free-reads
-use Rattle.sparsity.proofs.free_ends.Reads as free-ends-reads
-use Rattle.sparsity.proofs.gather.Reads as gather-reads
-use Rattle.sparsity.proofs.pair_of.Reads as pair-of-reads
-use Rattle.sparsity.proofs.place.Reads as place-reads
-use Rattle.sparsity.proofs.seek.Reads as seek-reads
 
 abbrev Inv-loop : tie.InvT-loop
 Inv-loop firsts seconds e core own₀ queue₀ from₀ once₀ twice₀ c₀ own queue from once twice c = Kept firsts seconds e core c own once twice × Lent queue from
@@ -27,11 +19,9 @@ Inv-loop firsts seconds e core own₀ queue₀ from₀ once₀ twice₀ c₀ own
 abbrev μ-loop : tie.MeasureT-loop
 μ-loop firsts seconds e core own₀ queue₀ from₀ once₀ twice₀ c₀ own queue from once twice c = e - c
 
--- src/lib.rt:230:9
 all-free-requires : tie.Need-all-free-requires Inv-loop μ-loop
 all-free-requires c κs = search needs
 
--- src/lib.rt:236:5
 loop-holds : tie.Need-loop-holds Inv-loop μ-loop
 loop-holds c =
     let s = c .before in (
@@ -39,15 +29,12 @@ loop-holds c =
       record { places = refl; places′ = refl },
     )
 
--- src/lib.rt:237:17
 element-copy-out-a : tie.Need-element-copy-out-a Inv-loop μ-loop
 element-copy-out-a c = omega (arith, c .loop-test .taken, c .before .before .before .pre .0 .few)
 
--- src/lib.rt:238:17
 element-copy-out-b : tie.Need-element-copy-out-b Inv-loop μ-loop
 element-copy-out-b c = omega (arith, c .before .loop-test .taken, c .before .before .before .before .pre .0 .few)
 
--- src/lib.rt:239:13
 pair-of-requires : tie.Need-pair-of-requires Inv-loop μ-loop
 pair-of-requires c κs =
     let s = c .before .before .before .before .before in
@@ -57,7 +44,6 @@ pair-of-requires c κs =
     let h = c .before .before .loop-test .taken in
     (la us vs (s .args .e) (s .args .core) (s .pre .0) (s .pre .1) (l .c) h, lb us vs (s .args .e) (s .args .core) (s .pre .0) (s .pre .1) (l .c) h)
 
--- src/lib.rt:242:21
 gather-requires : tie.Need-gather-requires Inv-loop μ-loop
 gather-requires c κs =
     let s = c .before .before .before .before .before .before .before .before .before .before in
@@ -67,7 +53,6 @@ gather-requires c κs =
     let h = c .before .before .before .before .before .before .before .loop-test .taken in
     (l .inv .0 .table, la us vs (s .args .e) (s .args .core) (s .pre .0) (s .pre .1) (l .c) h, lb us vs (s .args .e) (s .args .core) (s .pre .0) (s .pre .1) (l .c) h, apart us vs (s .args .e) (s .args .core) (s .pre .0) (s .pre .1) (l .c) h, l .inv .1)
 
--- src/lib.rt:243:20
 free-ends-requires : tie.Need-free-ends-requires Inv-loop μ-loop
 free-ends-requires c κs =
     let s = c .before .before .before .before .before .before .before .before .before .before .before in
@@ -77,7 +62,6 @@ free-ends-requires c κs =
     let h = c .before .before .before .before .before .before .before .before .loop-test .taken in
     (la us vs (s .args .e) (s .args .core) (s .pre .0) (s .pre .1) (l .c) h, lb us vs (s .args .e) (s .args .core) (s .pre .0) (s .pre .1) (l .c) h)
 
--- src/lib.rt:244:25
 seek-requires : tie.Need-seek-requires Inv-loop μ-loop
 seek-requires c κs =
     let s = c .before .before .before .before .before .before .before .before .before .before .before .before .before .before .before in
@@ -87,7 +71,6 @@ seek-requires c κs =
     let h = c .before .before .before .before .before .before .before .before .before .before .before .before .loop-test .taken in
     (c .before .before .before .before .gather .ensures .0 .again .table, la us vs (s .args .e) (s .args .core) (s .pre .0) (s .pre .1) (l .c) h, lb us vs (s .args .e) (s .args .core) (s .pre .0) (s .pre .1) (l .c) h, apart us vs (s .args .e) (s .args .core) (s .pre .0) (s .pre .1) (l .c) h, c .before .before .before .before .gather .ensures .1)
 
--- src/lib.rt:245:21
 returns : tie.Need-returns Inv-loop μ-loop
 returns c =
     let s = c .before .before .before .before .before .before .before .before .before .before .before .before .before .before .before .before in
@@ -102,7 +85,6 @@ returns c =
     (over-here us vs (s .args .e) (s .args .core) (s .pre .0) (s .pre .1) (l .c) h (l .own) (l .once) (l .twice) (l .inv .0) i (g .result) (g .ensures .0)
     (omega (arith, c .before .before .before .before .free-ends .ensures, c .before .before .before .if3 .taken)) (c .seek .ensures))
 
--- src/lib.rt:249:17
 place-requires : tie.Need-place-requires Inv-loop μ-loop
 place-requires c κs =
     let s = c .before .before .before .before .before .before .before .before in
@@ -121,15 +103,12 @@ place-requires c κs =
     (c .if2 .came) in
     (r .table, la us vs (s .args .e) (s .args .core) (s .pre .0) (s .pre .1) (l .c) h, lb us vs (s .args .e) (s .args .core) (s .pre .0) (s .pre .1) (l .c) h, r .open-end)
 
--- src/lib.rt:254:13
 add-c : tie.Need-add-c Inv-loop μ-loop
 add-c c = omega (arith, c .before .before .before .before .loop-test .taken)
 
--- src/lib.rt:236:5
 loop-less : tie.Need-loop-less Inv-loop μ-loop
 loop-less c = omega (arith, c .before .before .before .before .loop-test .taken)
 
--- src/lib.rt:236:5
 loop-again : tie.Need-loop-again Inv-loop μ-loop
 loop-again c =
     let s = c .before .before .before .before .before .before .before in
@@ -157,7 +136,6 @@ loop-again c =
     ))
     (c .if1 .came)
 
--- src/lib.rt:226:1
 returns-2 : tie.Need-returns-2 Inv-loop μ-loop
 returns-2 c =
     let s = c .before .before .before in

@@ -1,31 +1,30 @@
 -- Laws of the answer: the search from its start, a constraint that does not lie in u, one that uses a freedom, and one that finds none. Assumes nothing.
 use mathlib.Core.Path.{_≡_, refl, sym, ap, ap₂, _∙_, subst}
 use mathlib.Core.Logic.{_≢_, _⊎_, inl, inr, ⊎-elim}
-use mathlib.Core.List.{List, []}
-use Prim.Native.Nat.{ℕ, zero, suc, _+_, _*_, _-_, _^_, _≤_, _<_}
-use native.Mathlib.Nat.{le-refl, le-step, lt-trans, zero-lt-suc, ne-of-lt}
+use mathlib.Core.List.{List}
+use Prim.Native.Nat.{ℕ, suc, _+_, _*_, _-_, _^_, _≤_, _<_}
+use native.Mathlib.Nat.{le-refl, lt-trans, ne-of-lt}
 use native.Mathlib.Decide.{decLe}
 use native.Mathlib.Numerals.{add-one}
 use native.Mathlib.Omega.{arith}
 use lib.Bits.{bitAnd, bitOr}
 use lib.Count.{ones}
-use lib.ListN.{length, take, getD}
+use lib.ListN.{getD}
 use Rattle.theory.specs.Set.{_∩_, _∪_, _⊑_, at}
-use Rattle.theory.specs.Set.Laws.{at-and, at-or, at-le, bit, size-le, sub-refl, sub-trans, and-l, and-r, and-sub, sub-and, two-in}
+use Rattle.theory.specs.Set.Laws.{at-and, at-or, at-le, bit, sub-refl, sub-trans, and-l, and-r, and-sub, sub-and, two-in}
 use Rattle.theory.specs.Constraints.{pair, has, carried, NotOver, Below}
-use Rattle.theory.specs.Constraints.Laws.{Has, inside, outside, has-dec, has-in, has-le, at-pair, at-end}
-use Rattle.theory.specs.Over.{IsOver, Tight, Smallest, FirstOver, Finding, fine, first, Finds, overOf}
+use Rattle.theory.specs.Constraints.Laws.{Has, inside, outside, has-dec, at-end}
+use Rattle.theory.specs.Over.{IsOver, Tight, Smallest, FirstOver, Finding, fine, first, overOf}
 use Rattle.theory.specs.Over.Laws.{tight-over, within-smallest, finds-overOf}
-use Rattle.sparsity.specs.Less.{at-below, sub-below, at-room, less-same, less-sub, size-less}
-use Rattle.sparsity.specs.Listed.{ends, masks, Listed}
-use Rattle.sparsity.specs.Listed.Laws.{carried-more, length-masks, take-masks, masks-at, ends-two, ends-below, masks-pairs, masks-below, carried-none, pair-in, pair-ends, has-not, has-other, pair-comm}
-use Rattle.sparsity.specs.Freedoms.{entry, stored, free, frees, kept, Table, Balanced, Closed, FreeBelow}
+use Rattle.peeling.specs.Less.{sub-below, less-sub, size-less}
+use Rattle.theory.specs.Over.Listed.{ends, masks, Listed}
+use Rattle.theory.specs.Over.Listed.Laws.{carried-more, length-masks, take-masks, masks-at, masks-pairs, carried-none, pair-in, pair-ends, has-not, has-other, pair-comm}
+use Rattle.sparsity.specs.Freedoms.{free, frees, Table, Balanced, Closed, FreeBelow}
 use Rattle.sparsity.specs.Freedoms.Laws.{free-table, free-closed, free-balanced, balanced-outside, balanced-placed, stored-table, stored-closed, kept-le, closed-kept, kept-closed, frees-two, frees-less, frees-only}
-use Rattle.sparsity.specs.Reach.{Found, Stuck, Gathered, Placed}
+use Rattle.sparsity.specs.Reach.{Found, Gathered, Placed}
 use Rattle.sparsity.specs.Reach.Laws.{found-first, found-second, found-closed, found-none, stuck-none, seen-within}
-use Rattle.sparsity.specs.Core.{Few, Core}
-use Rattle.sparsity.specs.Core.Laws.{few-none, few-other, few-outside, few-more}
-use Rattle.sparsity.specs.declared.Over.{Over}
+use Rattle.peeling.specs.Core.{Few, Core}
+use Rattle.peeling.specs.Core.Laws.{few-none, few-other, few-outside, few-more}
 use Rattle.sparsity.specs.declared.Over.the-variants.{Not, First}
 use Rattle.sparsity.specs.Answer.{asOver, Kept, Ready}
 
@@ -337,3 +336,14 @@ module _ (us vs : List ℕ) (e : ℕ) (l : Listed us vs e) (n : ℕ) (below : Be
   pub answer-first : (c x : ℕ) → FirstOver (masks us vs e) c x → First c x ≡ asOver (overOf n (masks us vs e))
   unfolding asOver
   answer-first c x f = ap asOver (finds-overOf n (masks us vs e) (masks-pairs us vs e l) below (first c x) f)
+
+-- what a caller learns from the answer
+pub not-told : (f : Finding) → Not ≡ asOver f → f ≡ fine
+unfolding asOver
+not-told fine q = refl
+not-told (first c x) q = cc
+
+pub first-told : (f : Finding) (c x : ℕ) → First c x ≡ asOver f → f ≡ first c x
+unfolding asOver
+first-told fine c x q = cc
+first-told (first d y) c x q = cc

@@ -3,7 +3,7 @@ use mathlib.Core.Path.{_≡_, refl, sym, ap, ap₂, _∙_, subst}
 use mathlib.Core.Logic.{_≢_, _⊎_, inl, inr, ⊎-elim}
 use mathlib.Core.List.{List, [], _∷_}
 use Prim.Native.Nat.{ℕ, zero, suc, _+_, _*_, _-_, _^_, _≤_, _<_}
-use native.Mathlib.Nat.{zero-add, zero-mul, one-mul, mul-zero, zero-lt-suc, not-suc-le-zero, le-of-suc-le-suc, ne-of-gt, ne-of-lt, le-refl}
+use native.Mathlib.Nat.{zero-add, zero-mul, one-mul, zero-lt-suc, not-suc-le-zero, le-of-suc-le-suc, le-refl}
 use native.Mathlib.Omega.{arith}
 use native.Mathlib.Decide.{ℕ-discrete}
 use lib.Count.{ones}
@@ -11,10 +11,9 @@ use lib.ListN.{length, getD, set, length-set, replicate, length-replicate, getD-
 use lib.Seq.{getD-set-same, getD-set-other}
 use Rattle.theory.specs.Set.{_⊑_, at}
 use Rattle.theory.specs.Set.Laws.{at-le, bit, size-sum}
-use Rattle.theory.specs.Sum.{sum}
 use Rattle.theory.specs.Sum.Laws.{sum-le, sum-eq, sum-zero, sum-mul, sum-two, sum-change, sum-change₂, sum-tight}
 use Rattle.theory.specs.Constraints.{has, carried}
-use Rattle.sparsity.specs.Less.{at-below, less-same, less-other}
+use Rattle.peeling.specs.Less.{at-below, less-same, less-other}
 use Rattle.sparsity.specs.Freedoms.{entry, stored, same, free, over, frees, kept, Table, Balanced, Closed, FreeBelow}
 
 -- ---- same
@@ -42,10 +41,6 @@ same-eq y x h = omega arith
 pub free-sum : (own : List (List ℕ)) (x i p q : ℕ) → i ≡ x → p ≡ same (entry own i 0) x → q ≡ same (entry own i 1) x → p + q ≡ free own x
 unfolding free
 free-sum own x i p q e ep eq = ap₂ _+_ (ep ∙ ap (λ (j : ℕ). same (entry own j 0) x) e) (eq ∙ ap (λ (j : ℕ). same (entry own j 1) x) e)
-
-pub free-le : (own : List (List ℕ)) (x : ℕ) → free own x ≤ 2
-unfolding free
-free-le own x = omega (arith, same-le (entry own x 0) x, same-le (entry own x 1) x)
 
 -- ---- sums over a set's elements
 

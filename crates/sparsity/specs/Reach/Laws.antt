@@ -1,22 +1,20 @@
 -- Laws of what the search reaches: a visit, a whole search, the way back, and what is gathered. Assumes nothing.
 use mathlib.Core.Path.{_≡_, refl, sym, ap, ap₂, _∙_, subst}
-use mathlib.Core.Logic.{_≢_, _⊎_, inl, inr, ⊎-elim}
+use mathlib.Core.Logic.{_≢_, ⊎-elim}
 use mathlib.Core.List.{List}
-use Prim.Native.Nat.{ℕ, zero, suc, _+_, _*_, _^_, _≤_, _<_}
-use native.Mathlib.Nat.{lt-of-lt-of-le, lt-trans, lt-suc-self, zero-lt-suc, le-refl, ne-of-lt, ne-of-gt, not-suc-le-zero, le-of-suc-le-suc, eq-or-lt-of-le}
+use Prim.Native.Nat.{ℕ, zero, suc, _+_, _^_, _≤_, _<_}
+use native.Mathlib.Nat.{lt-of-lt-of-le, lt-trans, lt-suc-self, zero-lt-suc, le-refl, ne-of-lt, not-suc-le-zero, le-of-suc-le-suc, eq-or-lt-of-le}
 use native.Mathlib.Decide.{ℕ-discrete, decLt}
 use native.Mathlib.Omega.{arith}
 use lib.Bits.{bitOr, or-lt}
 use lib.Count.{ones, ones-le}
-use lib.ListN.{length, getD, set, length-set}
+use lib.ListN.{length, set, length-set}
 use lib.Pow.{pow-lt}
 use lib.Seq.{getD-set-same, getD-set-other}
 use Rattle.theory.specs.Set.{_∪_, _⊑_, at}
 use Rattle.theory.specs.Set.Laws.{at-or, at-le, at-same, at-other, bit, size-add, size-pow, or-comm}
-use Rattle.sparsity.specs.Less.{at-below}
-use Rattle.sparsity.specs.Freedoms.{entry, stored, free, same, Table, Balanced, Closed}
-use Rattle.sparsity.specs.Freedoms.Laws.{same-refl, same-ne, same-eq, same-le, same-bit, free-row}
-use Rattle.sparsity.specs.Reach.{item, Visit, known, fresh, Lent, Reached, Longer, Scanned, Found, Rebalanced, Way, Walked, Gained, Stuck, Gathered, Placed}
+use Rattle.sparsity.specs.Freedoms.{entry, free, same, Table, Closed}
+use Rattle.sparsity.specs.Reach.{item, Visit, known, fresh, Lent, Reached, Longer, Scanned, Found, Stuck}
 
 -- ---- a visit
 
@@ -223,9 +221,6 @@ module _ {own : List (List ℕ)} {a b : ℕ} {queue from : List ℕ} {seen count
     (p : ℕ) (lp : p < count) {i : ℕ} (ei : i ≡ item queue p) where
   entry-is : (s : ℕ) → entry own i s ≡ entry own (item queue p) s
   entry-is s = ap (λ (x : ℕ). entry own x s) ei
-
-  pub place-fits : p < 64
-  place-fits = omega (arith, reached-most r)
 
   pub scan-fits : i < 64
   scan-fits = omega (arith, r .inside p lp)

@@ -1,22 +1,14 @@
 -- `peel` meets its contract. The loop's invariant: elements are taken away down to left, and todo are light there. Assumes nothing.
-use mathlib.Core.Path.{_≡_, refl, sym, ap, ap₂, _∙_, subst}
-use mathlib.Core.Logic.{⊎-elim}
-use Prim.Native.Nat.{ℕ, suc, _+_, _-_, _^_, _≤_, _<_}
+use Prim.Native.Nat.{_-_}
 use native.Mathlib.Omega.{arith}
 use lib.ListN.{getD}
-use Rattle.sparsity.specs.Core.{Light, Peeled, whole}
-use Rattle.sparsity.specs.Core.Peeling.{peel-room, todo-room, peel-less, peel-next, light-next}
+use Rattle.peeling.specs.Core.{Light, Peeled, whole}
+use Rattle.peeling.specs.Core.Peeling.{peel-room, todo-room, peel-less, peel-next, light-next}
 use Rattle.theory.specs.Set.{_∩_, full}
 use Rattle.theory.specs.Set.Laws.{and-r}
 use borrow.Author.Needs.{needs}
-use Rattle.sparsity.proofs.peel.Statement.{statement}
-use Rattle.sparsity.proofs.peel.Tie as tie
-use Rattle.sparsity.proofs.peel.Reads as reads
-use Rattle.sparsity.proofs.peel.Lts as lts
-use Rattle.sparsity.proofs.light_of.Reads as light-of-reads
-use Rattle.sparsity.proofs.lowest.Reads as lowest-reads
-use Rattle.sparsity.proofs.single.Reads as single-reads
-use Rattle.sparsity.proofs.wide.Reads as wide-reads
+use Rattle.peeling.proofs.peel.Statement.{statement}
+use Rattle.peeling.proofs.peel.Tie as tie
 
 abbrev Inv-loop : tie.InvT-loop
 Inv-loop near low left₀ todo₀ left todo = Peeled near left × Light near left todo
@@ -24,46 +16,37 @@ Inv-loop near low left₀ todo₀ left todo = Peeled near left × Light near lef
 abbrev μ-loop : tie.MeasureT-loop
 μ-loop near low left₀ todo₀ left todo = left
 
--- src/lib.rt:340:5
 loop-holds : tie.Need-loop-holds Inv-loop μ-loop
 unfolding full
 loop-holds c = (whole, c .pre)
 
--- src/lib.rt:341:13
 lowest-requires : tie.Need-lowest-requires Inv-loop μ-loop
 lowest-requires c κs = search needs
 
--- src/lib.rt:342:13
 wide-requires : tie.Need-wide-requires Inv-loop μ-loop
 wide-requires c κs = search needs
 
--- src/lib.rt:343:13
 single-requires : tie.Need-single-requires Inv-loop μ-loop
 single-requires c κs = c .before .lowest .ensures .0
 
--- src/lib.rt:344:16
 sub-left : tie.Need-sub-left Inv-loop μ-loop
 sub-left c =
     let s = c .before .before .before .before .before in
     let l = c .before .before .before .before .loop in
     peel-room (s .args .near .now) (l .left) (l .todo) (c .before .before .lowest .result) (c .single .result) (l .inv .0) (l .inv .1) (c .before .before .lowest .ensures .1) (c .single .ensures)
 
--- src/lib.rt:345:17
 sub-todo : tie.Need-sub-todo Inv-loop μ-loop
 sub-todo c =
     let s = c .before .before .before .before .before in
     let l = c .before .before .before .before .loop in
     todo-room (s .args .near .now) (l .left) (l .todo) (c .before .before .lowest .result) (c .single .result) (l .inv .0) (l .inv .1) (c .before .before .lowest .ensures .1) (c .single .ensures)
 
--- src/lib.rt:345:52
 mul-light-of : tie.Need-mul-light-of Inv-loop μ-loop
 mul-light-of c = omega (arith, c .before .wide .ensures, c .before .before .lowest .ensures .0)
 
--- src/lib.rt:345:52
 element-copy-out-light-of : tie.Need-element-copy-out-light-of Inv-loop μ-loop
 element-copy-out-light-of c = omega (arith, c .before .wide .ensures, c .before .before .lowest .ensures .0)
 
--- src/lib.rt:345:31
 light-of-requires : tie.Need-light-of-requires Inv-loop μ-loop
 unfolding _∩_
 light-of-requires c κs =
@@ -71,14 +54,12 @@ light-of-requires c κs =
     let l = c .before .before .before .before .before .loop in
     and-r (getD (s .args .near .now) (c .before .before .wide .result) 0) (l .left - c .before .single .result)
 
--- src/lib.rt:340:5
 loop-less : tie.Need-loop-less Inv-loop μ-loop
 loop-less c =
     let s = c .before .before .before .before .before .before .before in
     let l = c .before .before .before .before .before .before .loop in
     peel-less (s .args .near .now) (l .left) (l .todo) (c .before .before .before .before .lowest .result) (c .before .before .single .result) (l .inv .0) (l .inv .1) (c .before .before .before .before .lowest .ensures .1) (c .before .before .single .ensures)
 
--- src/lib.rt:340:5
 loop-again : tie.Need-loop-again Inv-loop μ-loop
 loop-again c =
     let s = c .before .before .before .before .before .before .before in
@@ -90,7 +71,6 @@ loop-again c =
           (c .light-of .ensures),
     )
 
--- src/lib.rt:334:1
 returns : tie.Need-returns Inv-loop μ-loop
 returns c = c .before .loop .inv .0
 

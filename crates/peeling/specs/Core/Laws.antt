@@ -1,17 +1,13 @@
 -- Laws of the core. Assumes nothing.
-use mathlib.Core.Path.{_≡_, refl, sym, ap, _∙_, subst}
-use mathlib.Core.Logic.{_≢_, _⊎_, inl, inr, ⊎-elim}
+use mathlib.Core.Path.{_≡_}
 use mathlib.Core.List.{List, []}
-use Prim.Native.Nat.{ℕ, zero, suc, _+_, _*_, _-_, _^_, _≤_, _<_}
+use Prim.Native.Nat.{ℕ, _+_, _-_, _^_, _≤_}
 use native.Mathlib.Omega.{arith}
-use lib.Count.{ones}
-use Rattle.theory.specs.Set.{_∩_, _⊑_, at}
-use Rattle.theory.specs.Set.Laws.{at-le, bit, size-le, sub-trans}
-use Rattle.theory.specs.Constraints.{has, carried, NotOver}
-use Rattle.theory.specs.Constraints.Laws.{Has, inside, outside, has-dec, has-in, has-le, carried-mono}
-use Rattle.sparsity.specs.Less.{less-sub, sub-less}
-use Rattle.sparsity.specs.Listed.{masks}
-use Rattle.sparsity.specs.Core.{Few, Core}
+use Rattle.theory.specs.Set.{_⊑_, at}
+use Rattle.theory.specs.Constraints.{has, carried}
+use Rattle.theory.specs.Constraints.Laws.{Has, inside, outside, has-dec, has-in, has-le}
+use Rattle.peeling.specs.Less.{sub-less}
+use Rattle.peeling.specs.Core.{Few}
 
 -- ---- how many constraints an element has
 

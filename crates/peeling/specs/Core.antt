@@ -6,7 +6,7 @@ use lib.Count.{ones}
 use lib.ListN.{length, getD}
 use Rattle.theory.specs.Set.{_∩_, _⊑_, at, full}
 use Rattle.theory.specs.Constraints.{pair, carried, NotOver}
-use Rattle.sparsity.specs.Listed.{ends, masks}
+use Rattle.theory.specs.Over.Listed.{ends, masks}
 pub mod Laws
 pub mod Peeling
 

@@ -1,7 +1,7 @@
 -- Laws of sets as masks with one element taken out, `a - 2 ^ x`, and of the lowest element. Assumes nothing.
 use mathlib.Core.Path.{_≡_, refl, sym, ap, _∙_, subst}
 use mathlib.Core.Logic.{_≢_, ⊎-elim}
-use Prim.Native.Nat.{ℕ, zero, suc, _+_, _*_, _-_, _/_, _%_, _^_, _≤_, _<_}
+use Prim.Native.Nat.{ℕ, zero, suc, _-_, _/_, _%_, _^_, _≤_, _<_}
 use native.Mathlib.Nat.{div-eq-of-lt, lt-of-lt-of-le, zero-mod, pow-le-pow-right, zero-lt-suc, pow-succ'}
 use native.Mathlib.Omega.{arith}
 use native.Mathlib.Decide.{ℕ-discrete, decLt}
@@ -9,7 +9,7 @@ use lib.Arith.{bin-ind}
 use lib.Bits.{bitAnd, and-step, and-self, and-le-r}
 use lib.Count.{ones, ones-step, under, trailingZeros}
 use Rattle.theory.specs.Set.{_∩_, _∪_, _⊑_, at}
-use Rattle.theory.specs.Set.Laws.{at-and, at-or, at-le, at-zero, at-div, at-same, at-other, zero-ext, ext, size-add, size-zero, bit, sub-and}
+use Rattle.theory.specs.Set.Laws.{at-and, at-or, at-le, at-zero, at-div, at-same, at-other, zero-ext, ext, size-add, bit, sub-and}
 
 -- an element of a set below 2 ^ n is below n
 pub at-below : (n x a : ℕ) → a < 2 ^ n → at x a ≡ 1 → x < n

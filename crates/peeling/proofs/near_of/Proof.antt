@@ -1,17 +1,12 @@
 -- `near_of` meets its contract. The loop's invariant: near tells of the constraints before c. Assumes nothing.
-use mathlib.Core.Path.{_≡_, refl, sym, ap, ap₂, _∙_, subst}
-use mathlib.Core.Logic.{⊎-elim}
-use Prim.Native.Nat.{ℕ, suc, _+_, _-_, _^_, _≤_, _<_}
+use mathlib.Core.Path.{subst}
+use Prim.Native.Nat.{ℕ, _-_, _≤_}
 use native.Mathlib.Omega.{arith}
-use Rattle.sparsity.specs.Core.{Near}
-use Rattle.sparsity.specs.Core.Peeling.{near-none, near-code}
+use Rattle.peeling.specs.Core.{Near}
+use Rattle.peeling.specs.Core.Peeling.{near-none, near-code}
 use borrow.Author.Needs.{needs}
-use Rattle.sparsity.proofs.near_of.Statement.{statement}
-use Rattle.sparsity.proofs.near_of.Tie as tie
-use Rattle.sparsity.proofs.near_of.Reads as reads
-use Rattle.sparsity.proofs.near_of.Lts as lts
-use Rattle.sparsity.proofs.single.Reads as single-reads
-use Rattle.sparsity.proofs.wide.Reads as wide-reads
+use Rattle.peeling.proofs.near_of.Statement.{statement}
+use Rattle.peeling.proofs.near_of.Tie as tie
 
 abbrev Inv-loop : tie.InvT-loop
 Inv-loop firsts seconds e near₀ c₀ near c = (c ≤ e) × Near firsts seconds c near
@@ -19,75 +14,57 @@ Inv-loop firsts seconds e near₀ c₀ near c = (c ≤ e) × Near firsts seconds
 abbrev μ-loop : tie.MeasureT-loop
 μ-loop firsts seconds e near₀ c₀ near c = e - c
 
--- src/lib.rt:269:5
 loop-holds : tie.Need-loop-holds Inv-loop μ-loop
 loop-holds c = (omega arith, near-none (c .args .firsts .now) (c .args .seconds .now))
 
--- src/lib.rt:270:17
 element-copy-out-a : tie.Need-element-copy-out-a Inv-loop μ-loop
 element-copy-out-a c = omega (arith, c .before .before .pre .few)
 
--- src/lib.rt:271:17
 element-copy-out-b : tie.Need-element-copy-out-b Inv-loop μ-loop
 element-copy-out-b c = omega (arith, c .before .before .before .pre .few)
 
--- src/lib.rt:272:13
 wide-requires : tie.Need-wide-requires Inv-loop μ-loop
 wide-requires c κs = search needs
 
--- src/lib.rt:273:13
 wide-requires-2 : tie.Need-wide-requires-2 Inv-loop μ-loop
 wide-requires-2 c κs = search needs
 
--- src/lib.rt:274:17
 mul-p : tie.Need-mul-p Inv-loop μ-loop
 mul-p c = omega (arith, c .before .wide .ensures, c .before .before .before .before .before .before .pre .ascend (c .before .before .before .before .before .loop .c) (c .before .before .before .before .loop-test .taken), c .before .before .before .before .before .before .pre .below (c .before .before .before .before .before .loop .c) (c .before .before .before .before .loop-test .taken))
 
--- src/lib.rt:274:17
 array-read-p : tie.Need-array-read-p Inv-loop μ-loop
 array-read-p c = omega (arith, c .before .wide .ensures, c .before .before .before .before .before .before .pre .ascend (c .before .before .before .before .before .loop .c) (c .before .before .before .before .loop-test .taken), c .before .before .before .before .before .before .pre .below (c .before .before .before .before .before .loop .c) (c .before .before .before .before .loop-test .taken))
 
--- src/lib.rt:274:27
 single-requires : tie.Need-single-requires Inv-loop μ-loop
 single-requires c κs = omega (arith, c .before .before .before .before .before .before .pre .below (c .before .before .before .before .before .loop .c) (c .before .before .before .before .loop-test .taken))
 
--- src/lib.rt:275:17
 mul-q : tie.Need-mul-q Inv-loop μ-loop
 mul-q c = omega (arith, c .before .wide2 .ensures, c .before .before .before .before .before .before .before .pre .below (c .before .before .before .before .before .before .loop .c) (c .before .before .before .before .before .loop-test .taken))
 
--- src/lib.rt:275:17
 array-read-q : tie.Need-array-read-q Inv-loop μ-loop
 array-read-q c = omega (arith, c .before .wide2 .ensures, c .before .before .before .before .before .before .before .pre .below (c .before .before .before .before .before .before .loop .c) (c .before .before .before .before .before .loop-test .taken))
 
--- src/lib.rt:275:27
 single-requires-2 : tie.Need-single-requires-2 Inv-loop μ-loop
 single-requires-2 c κs = omega (arith, c .before .before .before .before .before .before .before .pre .ascend (c .before .before .before .before .before .before .loop .c) (c .before .before .before .before .before .loop-test .taken), c .before .before .before .before .before .before .before .pre .below (c .before .before .before .before .before .before .loop .c) (c .before .before .before .before .before .loop-test .taken))
 
--- src/lib.rt:276:9
 mul-near : tie.Need-mul-near Inv-loop μ-loop
 mul-near c = omega (arith, c .before .before .before .wide .ensures, c .before .before .before .before .before .before .before .before .pre .ascend (c .before .before .before .before .before .before .before .loop .c) (c .before .before .before .before .before .before .loop-test .taken), c .before .before .before .before .before .before .before .before .pre .below (c .before .before .before .before .before .before .before .loop .c) (c .before .before .before .before .before .before .loop-test .taken))
 
--- src/lib.rt:276:9
 array-write-near : tie.Need-array-write-near Inv-loop μ-loop
 array-write-near c = omega (arith, c .before .before .before .wide .ensures, c .before .before .before .before .before .before .before .before .pre .ascend (c .before .before .before .before .before .before .before .loop .c) (c .before .before .before .before .before .before .loop-test .taken), c .before .before .before .before .before .before .before .before .pre .below (c .before .before .before .before .before .before .before .loop .c) (c .before .before .before .before .before .before .loop-test .taken))
 
--- src/lib.rt:277:9
 mul-near-2 : tie.Need-mul-near-2 Inv-loop μ-loop
 mul-near-2 c = omega (arith, c .before .before .wide2 .ensures, c .before .before .before .before .before .before .before .before .pre .below (c .before .before .before .before .before .before .before .loop .c) (c .before .before .before .before .before .before .loop-test .taken))
 
--- src/lib.rt:277:9
 array-write-near-2 : tie.Need-array-write-near-2 Inv-loop μ-loop
 array-write-near-2 c = omega (arith, c .before .before .wide2 .ensures, c .before .before .before .before .before .before .before .before .pre .below (c .before .before .before .before .before .before .before .loop .c) (c .before .before .before .before .before .before .loop-test .taken))
 
--- src/lib.rt:278:13
 add-c : tie.Need-add-c Inv-loop μ-loop
 add-c c = omega (arith, c .before .before .before .before .before .before .loop-test .taken)
 
--- src/lib.rt:269:5
 loop-less : tie.Need-loop-less Inv-loop μ-loop
 loop-less c = omega (arith, c .before .before .before .before .before .before .loop-test .taken)
 
--- src/lib.rt:269:5
 loop-again : tie.Need-loop-again Inv-loop μ-loop
 loop-again c =
     let s = c .before .before .before .before .before .before .before .before in
@@ -98,7 +75,6 @@ loop-again c =
           (c .single2 .ensures) (c .before .single .ensures),
     )
 
--- src/lib.rt:263:1
 returns : tie.Need-returns Inv-loop μ-loop
 returns c =
     let s = c .before .before in

@@ -1,8 +1,8 @@
 -- Elements with at most two constraints are taken away one by one: what is left is a core. A least over set has three constraints at each element, so
 -- none loses any. Assumes nothing.
-use mathlib.Core.Path.{_≡_, refl, sym, ap, ap₂, _∙_, subst}
+use mathlib.Core.Path.{_≡_, refl, sym, ap, _∙_, subst}
 use mathlib.Core.Logic.{_≢_, _⊎_, inl, inr, ⊎-elim}
-use mathlib.Core.List.{List, []}
+use mathlib.Core.List.{List}
 use Prim.Native.Nat.{ℕ, zero, suc, _+_, _*_, _-_, _^_, _≤_, _<_}
 use native.Mathlib.Nat.{le-refl, le-step, lt-trans, lt-suc-self, ne-of-lt}
 use native.Mathlib.Decide.{ℕ-discrete, decLe, le-ind}
@@ -10,17 +10,17 @@ use native.Mathlib.Numerals.{add-one}
 use native.Mathlib.Omega.{arith}
 use lib.Bits.{bitAnd, bitOr}
 use lib.Count.{ones}
-use lib.ListN.{length, getD, set, length-set, replicate, length-replicate}
+use lib.ListN.{getD, set, length-set, replicate, length-replicate}
 use lib.Seq.{getD-set-same, getD-set-other}
 use lib.Pow.{pow-lt, pow-pos}
 use Rattle.theory.specs.Set.{_∩_, _∪_, _⊑_, at, full}
 use Rattle.theory.specs.Set.Laws.{at-and, at-or, at-le, at-zero, at-same, at-other, bit, ext, size-zero, size-le, size-add, sub-refl, sub-trans, and-l, and-r, and-mono, below-full}
-use Rattle.theory.specs.Constraints.{pair, has, carried, NotOver, NotOverIn, Pairs, Below}
-use Rattle.theory.specs.Constraints.Laws.{Has, inside, outside, has-dec, has-in, has-le, has-mono, at-pair, at-end, carried-cut, not-over-in}
-use Rattle.sparsity.specs.Less.{at-below, at-room, less-same, less-other, less-sub, size-less, sub-less}
-use Rattle.sparsity.specs.Listed.{ends, masks, Listed}
-use Rattle.sparsity.specs.Listed.Laws.{carried-more, masks-pairs, masks-below, carried-one, listed-part, pair-ends, has-not, pair-comm}
-use Rattle.sparsity.specs.Core.{Few, Core, Near, Light, Peeled, whole, less}
+use Rattle.theory.specs.Constraints.{pair, has, carried, NotOver, NotOverIn}
+use Rattle.theory.specs.Constraints.Laws.{Has, inside, outside, has-dec, has-in, has-le, has-mono, at-pair, carried-cut, not-over-in}
+use Rattle.peeling.specs.Less.{at-below, at-room, less-same, less-other, less-sub, size-less, sub-less}
+use Rattle.theory.specs.Over.Listed.{ends, masks, Listed}
+use Rattle.theory.specs.Over.Listed.Laws.{carried-more, masks-pairs, masks-below, carried-one, listed-part, pair-ends, pair-comm}
+use Rattle.peeling.specs.Core.{Few, Core, Near, Light, Peeled, whole, less}
 
 -- ---- neighbours
 

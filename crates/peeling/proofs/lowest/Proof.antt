@@ -1,17 +1,13 @@
 -- `lowest` meets its contract. Assumes nothing.
 use native.Mathlib.Omega.{arith}
 use lib.Count.{trailingZeros, trailing-le}
-use Rattle.sparsity.specs.Less.{trailing-at, at-below}
-use Rattle.sparsity.proofs.lowest.Statement.{statement}
-use Rattle.sparsity.proofs.lowest.Tie as tie
-use Rattle.sparsity.proofs.lowest.Reads as reads
-use Rattle.sparsity.proofs.lowest.Lts as lts
+use Rattle.peeling.specs.Less.{trailing-at, at-below}
+use Rattle.peeling.proofs.lowest.Statement.{statement}
+use Rattle.peeling.proofs.lowest.Tie as tie
 
--- src/lib.rt:295:5
 cast-result : tie.Need-cast-result
 cast-result c = omega (arith, trailing-le 64 (c .args .m))
 
--- src/lib.rt:291:1
 returns : tie.Need-returns
 returns c =
     let l = trailing-at 64 (c .args .m) (c .pre) (omega arith) in

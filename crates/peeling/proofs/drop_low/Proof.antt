@@ -3,22 +3,17 @@ use mathlib.Core.Path.{ap}
 use native.Mathlib.Omega.{arith}
 use lib.Count.{ones}
 use Rattle.theory.specs.Set.Laws.{size-zero}
-use Rattle.sparsity.specs.Less.{drop-low}
+use Rattle.peeling.specs.Less.{drop-low}
 use borrow.Author.Needs.{needs}
-use Rattle.sparsity.proofs.drop_low.Statement.{statement}
-use Rattle.sparsity.proofs.drop_low.Tie as tie
-use Rattle.sparsity.proofs.drop_low.Reads as reads
-use Rattle.sparsity.proofs.drop_low.Lts as lts
+use Rattle.peeling.proofs.drop_low.Statement.{statement}
+use Rattle.peeling.proofs.drop_low.Tie as tie
 
--- src/lib.rt:287:33
 sub-result : tie.Need-sub-result
 sub-result c = search needs
 
--- src/lib.rt:284:1
 returns : tie.Need-returns
 returns c = omega (arith, size-zero, ap ones (c .if1 .taken))
 
--- src/lib.rt:284:1
 returns-2 : tie.Need-returns-2
 returns-2 c = omega (arith, drop-low (c .before .args .m) (omega arith))
 

@@ -1,10 +1,9 @@
 -- Constraints in two lists of ends, as they stand in a sheet. Document 01, "Refused", rules 5 to 7. Assumes nothing.
-use mathlib.Core.Path.{_≡_}
 use mathlib.Core.Logic.{_≢_}
 use mathlib.Core.List.{List, [], _∷_, _++_}
 use Prim.Native.Nat.{ℕ, zero, suc, _≤_, _<_}
 use lib.ListN.{getD}
 use Rattle.theory.specs.Constraints.{pair}
 pub mod Laws
 
 -- constraint c, the set of its two ends

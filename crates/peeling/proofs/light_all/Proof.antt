@@ -1,20 +1,14 @@
 -- `light_all` meets its contract. The loop's invariant: the elements found are light. Assumes nothing.
-use mathlib.Core.Path.{_≡_, refl, sym, ap, ap₂, _∙_, subst}
 use mathlib.Core.Logic.{⊎-elim}
-use Prim.Native.Nat.{ℕ, suc, _+_, _-_, _^_, _≤_, _<_}
+use Prim.Native.Nat.{_-_, _≤_}
 use native.Mathlib.Omega.{arith}
 use lib.ListN.{getD}
 use Rattle.theory.specs.Set.{full}
-use Rattle.sparsity.specs.Core.{Light}
-use Rattle.sparsity.specs.Core.Peeling.{light-none, light-all-code, light-same, two-most}
+use Rattle.peeling.specs.Core.{Light}
+use Rattle.peeling.specs.Core.Peeling.{light-none, light-all-code, light-same, two-most}
 use borrow.Author.Needs.{needs}
-use Rattle.sparsity.proofs.light_all.Statement.{statement}
-use Rattle.sparsity.proofs.light_all.Tie as tie
-use Rattle.sparsity.proofs.light_all.Reads as reads
-use Rattle.sparsity.proofs.light_all.Lts as lts
-use Rattle.sparsity.proofs.drop_low.Reads as drop-low-reads
-use Rattle.sparsity.proofs.single.Reads as single-reads
-use Rattle.sparsity.proofs.wide.Reads as wide-reads
+use Rattle.peeling.proofs.light_all.Statement.{statement}
+use Rattle.peeling.proofs.light_all.Tie as tie
 
 abbrev Inv-loop : tie.InvT-loop
 Inv-loop near todo₀ x₀ todo x = (x ≤ 64) × Light near (full 64) todo
@@ -22,43 +16,33 @@ Inv-loop near todo₀ x₀ todo x = (x ≤ 64) × Light near (full 64) todo
 abbrev μ-loop : tie.MeasureT-loop
 μ-loop near todo₀ x₀ todo x = 64 - x
 
--- src/lib.rt:304:5
 loop-holds : tie.Need-loop-holds Inv-loop μ-loop
 loop-holds c = (omega arith, light-none (c .args .near .now) (full 64))
 
--- src/lib.rt:305:13
 wide-requires : tie.Need-wide-requires Inv-loop μ-loop
 wide-requires c κs = search needs
 
--- src/lib.rt:306:30
 mul-drop-low : tie.Need-mul-drop-low Inv-loop μ-loop
 mul-drop-low c = omega (arith, c .wide .ensures)
 
--- src/lib.rt:306:30
 element-copy-out-drop-low : tie.Need-element-copy-out-drop-low Inv-loop μ-loop
 element-copy-out-drop-low c = omega (arith, c .wide .ensures)
 
--- src/lib.rt:306:21
 drop-low-requires : tie.Need-drop-low-requires Inv-loop μ-loop
 drop-low-requires c κs = search needs
 
--- src/lib.rt:306:12
 drop-low-requires-2 : tie.Need-drop-low-requires-2 Inv-loop μ-loop
 drop-low-requires-2 c κs = search needs
 
--- src/lib.rt:307:27
 single-requires : tie.Need-single-requires Inv-loop μ-loop
 single-requires c κs = search needs
 
--- src/lib.rt:309:13
 add-x : tie.Need-add-x Inv-loop μ-loop
 add-x c = omega arith
 
--- src/lib.rt:304:5
 loop-less : tie.Need-loop-less Inv-loop μ-loop
 loop-less c = omega arith
 
--- src/lib.rt:304:5
 loop-again : tie.Need-loop-again Inv-loop μ-loop
 loop-again c =
     let near = c .before .before .before .before .before .before .before .args .near .now in
@@ -73,7 +57,6 @@ loop-again c =
           (λ w. light-same near (full 64) (w .1) (l .inv .1)) (c .if1 .came),
     )
 
--- src/lib.rt:299:1
 returns : tie.Need-returns Inv-loop μ-loop
 returns c = c .before .loop .inv .1
 

@@ -1,21 +1,21 @@
 -- Laws of constraints in two lists. Assumes nothing.
 use mathlib.Core.Path.{_≡_, refl, sym, ap, _∙_, subst}
-use mathlib.Core.Logic.{_≢_, _⊎_, inl, inr, ⊎-elim}
+use mathlib.Core.Logic.{_⊎_, inl, inr, ⊎-elim}
 use mathlib.Core.List.{List, [], _∷_, _++_}
-use Prim.Native.Nat.{ℕ, zero, suc, _+_, _*_, _^_, _≤_, _<_}
+use Prim.Native.Nat.{ℕ, zero, suc, _+_, _^_, _≤_, _<_}
 use native.Mathlib.Nat.{lt-suc-self, lt-of-lt-of-le, le-step, le-refl, lt-trans}
 use native.Mathlib.Decide.{le-ind}
 use native.Mathlib.Omega.{arith}
 use lib.Count.{ones}
 use lib.ListN.{length, take, getD, length-append}
-use lib.Seq.{take-append-le, take-all, getD-at}
+use lib.Seq.{take-append-le, take-all, getD-at, ext-getD}
 use lib.ListN as list
 use Rattle.theory.specs.Set.{_⊑_, at}
 use Rattle.theory.specs.Set.Laws.{at-le, bit, size-eq, or-comm}
 use Rattle.theory.specs.Constraints.{pair, has, carried, Among, Pairs, Below}
 use Rattle.theory.specs.Constraints.Laws.{size-pair, pair-below, at-pair, at-end, Has, inside, outside, has-dec, has-in}
 use Rattle.theory.specs.Over.Laws.{carried-append}
-use Rattle.sparsity.specs.Listed.{ends, masks, Listed}
+use Rattle.theory.specs.Over.Listed.{ends, masks, Listed}
 
 pub carried-more : (us vs : List ℕ) (c x : ℕ) → carried (masks us vs (suc c)) x ≡ carried (masks us vs c) x + has (ends us vs c) x
 unfolding masks carried
@@ -38,6 +38,12 @@ masks-at us vs c e h =
     le-ind (λ (k : ℕ). getD (masks us vs k) c 0 ≡ ends us vs c) (getD-at (masks us vs c) (ends us vs c) [] 0 c (length-masks us vs c))
     (λ k l r. list.List·getD-append (masks us vs k) (ends us vs k ∷ []) 0 c (omega (arith, length-masks us vs k)) ∙ r) e h
 
+-- a list of sets that the two lists tell one by one
+pub masks-are : (us vs cs : List ℕ) → ((c : ℕ) → c < length cs → getD cs c 0 ≡ ends us vs c) → masks us vs (length cs) ≡ cs
+masks-are us vs cs h =
+    ext-getD 0 (masks us vs (length cs)) cs (length-masks us vs (length cs))
+    (λ c l. let k : c < length cs = subst (λ (n : ℕ). c < n) (length-masks us vs (length cs)) l in masks-at us vs c (length cs) k ∙ sym (h c k))
+
 among-append : (x : ℕ) (cs ds : List ℕ) → Among x (cs ++ ds) → Among x cs ⊎ Among x ds
 among-append x [] ds h = inr h
 among-append x (m ∷ cs) ds (inl e) = inl (inl e)
@@ -55,16 +61,20 @@ module _ (us vs : List ℕ) (e : ℕ) (l : Listed us vs e) where
   pub ends-two : (c : ℕ) → c < e → ones (ends us vs c) ≡ 2
   ends-two c h = size-pair (getD us c 0) (getD vs c 0) (l .ascend c h)
 
-  pub ends-below : (c : ℕ) → c < e → ends us vs c < 2 ^ 64
-  ends-below c h = pair-below 64 (getD us c 0) (getD vs c 0) (lt-trans (l .ascend c h) (l .below c h)) (l .below c h)
-
   pub masks-pairs : Pairs (masks us vs e)
   unfolding Pairs
   masks-pairs x h = let r = among-masks us vs e x h in ap ones (r .2) ∙ ends-two (r .0) (r .1)
 
+  pub masks-below-n : (n : ℕ) → ((c : ℕ) → c < e → getD vs c 0 < n) → Below n (masks us vs e)
+  unfolding Below
+  masks-below-n n low x h =
+      let r = among-masks us vs e x h in
+      subst (λ (z : ℕ). z < 2 ^ n) (sym (r .2))
+      (pair-below n (getD us (r .0) 0) (getD vs (r .0) 0) (lt-trans (l .ascend (r .0) (r .1)) (low (r .0) (r .1))) (low (r .0) (r .1)))
+
   pub masks-below : Below 64 (masks us vs e)
   unfolding Below
-  masks-below x h = let r = among-masks us vs e x h in subst (λ (z : ℕ). z < 2 ^ 64) (sym (r .2)) (ends-below (r .0) (r .1))
+  masks-below = masks-below-n 64 (l .below)
 
   -- a set of two elements carries no constraint before the one that it is
   pub carried-none : (c d : ℕ) → d < e → c ≤ d → (x : ℕ) → ones x ≡ 2 → ends us vs d ⊑ x → carried (masks us vs c) x ≡ 0
