@@ -79,8 +79,8 @@ waysWords w = others (waysName w ∷ [])
 unfoldable pub stepLine : Step → List ℕ
 stepLine s =
     line (
-      ascii "step" ∷ decimal (s .made) ∷ ascii "from" ∷ decimal (s .i) ∷ decimal (s .j) ∷ decimal (s .k)
-      ∷ ascii "joint" ∷ listed (s .joint) ++ (ascii "kind" ∷ kindName (s .kind) ∷ ascii "ways" ∷ waysName (s .ways) ∷ [])
+    ascii "step" ∷ decimal (s .made) ∷ ascii "from" ∷ decimal (s .i) ∷ decimal (s .j) ∷ decimal (s .k)
+    ∷ ascii "joint" ∷ listed (s .joint) ++ (ascii "kind" ∷ kindName (s .kind) ∷ ascii "ways" ∷ waysName (s .ways) ∷ [])
     )
 
 -- a final cluster's number and its elements

@@ -8,8 +8,13 @@ ghost use Rattle.space.specs.Space.{Put};
 ghost use Rattle.space.specs.Text.{ascii, decimal};
 ghost use Rattle.report.specs.Elements.{elements};
 ghost use Rattle.report.specs.Report.{numbers, partsWords, kindWords, waysWords, verdictLine, elementsLine, stepLine, stepLines, slotLine, clusterLines, Small, AllSmall, report, overReport};
-use answer::{JointKind, Step, Verdict, Ways};
-use space::{put_byte, put_decimal, put_text};
+use answer::JointKind;
+use answer::Step;
+use answer::Verdict;
+use answer::Ways;
+use space::put_byte;
+use space::put_decimal;
+use space::put_text;
 
 // A space and a number.
 fn put_number(out: &mut [u8], at: usize, n: usize) -> usize

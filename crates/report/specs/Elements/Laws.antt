@@ -1,4 +1,4 @@
--- Laws of a set's elements, listed: the lowest comes first, and those of the set without it follow; they are as many as the set's size. Assumes nothing.
+-- Laws of a set's elements, listed: the lowest comes first, and those of the set without it follow; they are not more than the set's size, and not more than 64. Assumes nothing.
 use Prim.Native.Nat.{ℕ, zero, suc, _+_, _-_, _*_, _/_, _%_, _^_, _≤_, _<_}
 use native.Mathlib.Omega.{arith}
 use mathlib.Core.Path.{_≡_, refl, sym, ap, _∙_}
@@ -8,7 +8,7 @@ use lib.Bits.{bitAnd, and-step, and-self}
 use lib.Count.{ones, ones-step, trailingZeros, under}
 use lib.ListN.{length, length-map}
 use Rattle.theory.specs.Set.{at}
-use Rattle.theory.specs.Set.Laws.{at-zero, at-le, size-zero}
+use Rattle.theory.specs.Set.Laws.{at-zero, at-le}
 use Rattle.report.specs.Elements.{member, among, elements}
 
 -- ---- one digit after another
@@ -69,19 +69,16 @@ length-member zero x xs l = omega arith
 length-member (suc zero) x xs l = omega arith
 length-member (suc (suc d)) x xs l = absurd (omega arith)
 
-size : (k a : ℕ) → a < 2 ^ k → length (among k 0 a) ≡ ones a
+size : (k a : ℕ) → length (among k 0 a) ≤ ones a
 unfolding among
-size zero a l = omega (arith, ap ones z, size-zero)
-  where
-    z : a ≡ 0
-    z = omega arith
-size (suc k) a l =
-    ap length (among-digit k a (a % 2) (a / 2) refl refl)
-    ∙ omega (arith, length-member (a % 2) 0 (map suc (among k 0 (a / 2))) (omega arith), length-map (among k 0 (a / 2)) suc, size k (a / 2) (omega arith), ones-step a)
+size zero a = omega arith
+size (suc k) a =
+    rw (among-digit k a (a % 2) (a / 2) refl refl)
+    (omega (arith, length-member (a % 2) 0 (map suc (among k 0 (a / 2))) (omega arith), length-map (among k 0 (a / 2)) suc, size k (a / 2), ones-step a))
 
-pub elements-size : (a : ℕ) → a < 2 ^ 64 → length (elements a) ≡ ones a
+pub elements-size : (a : ℕ) → length (elements a) ≤ ones a
 unfolding elements
-elements-size a l = size 64 a l
+elements-size a = size 64 a
 
 most : (k x a : ℕ) → length (among k x a) ≤ k
 unfolding among

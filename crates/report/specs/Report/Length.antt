@@ -20,7 +20,7 @@ use Rattle.answer.specs.declared.Ways.the-variants.{Known, Unknown}
 use Rattle.answer.specs.declared.Step.{Step}
 use Rattle.report.specs.Elements.{member, among, elements}
 use Rattle.report.specs.Elements.Laws.{elements-most, elements-size}
-use Rattle.report.specs.Report.{waysName, numbers, partsWords, kindWords, waysWords, verdictLine, elementsLine, stepLine, slotLine, stepLines, clusterLines, report, overReport}
+use Rattle.report.specs.Report.{kindName, waysName, numbers, partsWords, kindWords, waysWords, verdictLine, elementsLine, stepLine, slotLine, stepLines, clusterLines, report, overReport}
 use Rattle.report.specs.Report.Laws.{step-pieces, slot-dead, slot-living, over-pieces}
 
 -- ---- numbers and sets
@@ -59,7 +59,7 @@ set-length a = among-length 64 0 a (omega arith)
 
 -- ---- lines
 
-verdict-length : (v : Verdict) → length (verdictLine v) ≤ 14
+pub verdict-length : (v : Verdict) → length (verdictLine v) ≤ 14
 verdict-length Over = omega arith
 verdict-length Angle = omega arith
 verdict-length Well = omega arith
@@ -69,7 +69,7 @@ verdict-length Under = omega arith
 elements-length : (n e : ℕ) → length (elementsLine n e) ≡ 23 + (length (decimal n) + length (decimal e))
 elements-length n e = simp length-append (omega arith)
 
-kind-length : (k : JointKind) → length (kindWords k) ≡ 14
+kind-length : (k : JointKind) → length (kindName k) ≡ 3
 kind-length Ppp = refl
 kind-length Ppl = refl
 kind-length Pll = refl
@@ -80,7 +80,51 @@ ways-length (Known w) = decimal-length w
 ways-length Unknown = omega arith
 
 step-length : (s : Step) → length (stepLine s) ≤ 47 + (length (waysName (s .ways)) + 3 * length (elements (s .joint)))
-step-length s = ?
+step-length s =
+    rw step-pieces
+    (simp length-append
+    (omega (arith, decimal-length (s .made), decimal-length (s .i), decimal-length (s .j), decimal-length (s .k), set-length (s .joint), kind-length (s .kind))))
 
-slot-length : (c a : ℕ) → length (slotLine c a) ≤ 18 + 3 * length (elements a)
-slot-length c a = ?
+slot-length : (c a : ℕ) → length (slotLine c a) ≤ living a * (18 + 3 * length (elements a))
+slot-length c zero = rw (slot-dead c zero refl) (omega arith)
+slot-length c (suc a) =
+    rw (slot-living c (suc a) (λ e. omega arith)) (simp length-append (omega (arith, decimal-length c, set-length (suc a))))
+
+-- ---- any report
+
+steps-long : (steps : List Step) → length (stepLines steps) ≤ 242 * length steps
+unfolding stepLines
+steps-long [] = omega arith
+steps-long (s ∷ steps) =
+    omega (arith, length-append (stepLine s) (stepLines steps), step-length s, ways-length (s .ways), elements-most (s .joint), steps-long steps)
+
+clusters-long : (c : ℕ) (slots : List ℕ) → length (clusterLines c slots) ≤ 210 * length slots
+unfolding clusterLines
+clusters-long c [] = omega arith
+clusters-long c (a ∷ slots) =
+    omega (arith, length-append (slotLine c a) (clusterLines (suc c) slots), slot-long a, clusters-long (suc c) slots)
+  where
+    slot-long : (a : ℕ) → length (slotLine c a) ≤ 210
+    slot-long zero = omega (arith, slot-length c zero)
+    slot-long (suc a) = omega (arith, slot-length c (suc a), elements-most (suc a))
+
+pub report-long : (n e : ℕ) (v : Verdict) (steps : List Step) (slots : List ℕ)
+    → length (report n e v steps slots) ≤ 43 + 242 * length steps + 210 * length slots
+unfolding report
+report-long n e v steps slots =
+    let rest = stepLines steps ++ clusterLines 0 slots in
+    omega (
+      arith,
+      length-append (verdictLine v) (elementsLine n e ++ rest),
+      length-append (elementsLine n e) rest,
+      length-append (stepLines steps) (clusterLines 0 slots),
+      verdict-length v,
+      elements-length n e,
+      decimal-length n,
+      decimal-length e,
+      steps-long steps,
+      clusters-long 0 slots,
+    )
+
+pub over-long : (n e first set : ℕ) → length (overReport n e first set) ≤ 249
+over-long n e first set = rw over-pieces (simp length-append (omega (arith, decimal-length n, decimal-length e, decimal-length first, set-length set, elements-most set)))
