@@ -15,6 +15,8 @@ use Rattle.answer.specs.declared.Step.{Step}
 use Rattle.report.specs.Elements.{elements}
 pub mod Laws
 pub mod Length
+pub mod Bound
+pub mod Examples
 
 -- ---- words and lines
 

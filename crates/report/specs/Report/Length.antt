@@ -9,7 +9,7 @@ use lib.Dec.{ltb, eqb}
 use lib.Count.{ones}
 use lib.ListN.{length, length-append}
 use Rattle.theory.specs.Set.{at}
-use Rattle.theory.specs.Merge.{total, living, left, weight, weights}
+use Rattle.theory.specs.Merge.{living}
 use Rattle.space.specs.Text.{ascii, digit, decimal}
 use Rattle.answer.specs.declared.Verdict.{Verdict}
 use Rattle.answer.specs.declared.Verdict.the-variants.{Over, Angle, Well, Stuck, Under}
@@ -34,7 +34,7 @@ decimal-length n = go (ltb n 10) (ltb n 100)
     go false true = omega arith
     go false false = omega arith
 
-decimal-two : (n : ℕ) → n < 100 → length (decimal n) ≤ 2
+pub decimal-two : (n : ℕ) → n < 100 → length (decimal n) ≤ 2
 unfolding decimal
 decimal-two n h = rw (lt-ltb n 100 h) (go (ltb n 10))
   where
@@ -66,7 +66,7 @@ verdict-length Well = omega arith
 verdict-length Stuck = omega arith
 verdict-length Under = omega arith
 
-elements-length : (n e : ℕ) → length (elementsLine n e) ≡ 23 + (length (decimal n) + length (decimal e))
+pub elements-length : (n e : ℕ) → length (elementsLine n e) ≡ 23 + (length (decimal n) + length (decimal e))
 elements-length n e = simp length-append (omega arith)
 
 kind-length : (k : JointKind) → length (kindName k) ≡ 3
@@ -79,13 +79,13 @@ ways-length : (w : Ways) → length (waysName w) ≤ 3
 ways-length (Known w) = decimal-length w
 ways-length Unknown = omega arith
 
-step-length : (s : Step) → length (stepLine s) ≤ 47 + (length (waysName (s .ways)) + 3 * length (elements (s .joint)))
+pub step-length : (s : Step) → length (stepLine s) ≤ 47 + (length (waysName (s .ways)) + 3 * length (elements (s .joint)))
 step-length s =
     rw step-pieces
     (simp length-append
     (omega (arith, decimal-length (s .made), decimal-length (s .i), decimal-length (s .j), decimal-length (s .k), set-length (s .joint), kind-length (s .kind))))
 
-slot-length : (c a : ℕ) → length (slotLine c a) ≤ living a * (18 + 3 * length (elements a))
+pub slot-length : (c a : ℕ) → length (slotLine c a) ≤ living a * (18 + 3 * length (elements a))
 slot-length c zero = rw (slot-dead c zero refl) (omega arith)
 slot-length c (suc a) =
     rw (slot-living c (suc a) (λ e. omega arith)) (simp length-append (omega (arith, decimal-length c, set-length (suc a))))
