@@ -7,7 +7,7 @@ use native.Mathlib.Omega.{arith}
 use Rattle.theory.specs.Constraints.{NotOver}
 use Rattle.theory.specs.Over.Listed.{masks}
 use Rattle.sparsity.specs.Reach.{Lent}
-use Rattle.sparsity.specs.Reach.Laws.{lent-by}
+use Rattle.sparsity.specs.Reach.Visits.{lent-by}
 use Rattle.sparsity.specs.Answer.{Kept, Ready}
 use Rattle.sparsity.specs.Answer.Laws.{kept-start, la, lb, apart, told-in, told-out, ready-lone, ready-four, over-here, kept-by, kept-marks, kept-skip, kept-placed, answer-not, answer-first}
 use Rattle.sparsity.proofs.search.Statement.{statement}

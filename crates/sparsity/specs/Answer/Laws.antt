@@ -20,7 +20,8 @@ use Rattle.peeling.specs.Less.{sub-below, less-sub, size-less}
 use Rattle.theory.specs.Over.Listed.{ends, masks, Listed}
 use Rattle.theory.specs.Over.Listed.Laws.{carried-more, length-masks, take-masks, masks-at, masks-pairs, carried-none, pair-in, pair-ends, has-not, has-other, pair-comm}
 use Rattle.sparsity.specs.Freedoms.{free, frees, Table, Balanced, Closed, FreeBelow}
-use Rattle.sparsity.specs.Freedoms.Laws.{free-table, free-closed, free-balanced, balanced-outside, balanced-placed, stored-table, stored-closed, kept-le, closed-kept, kept-closed, frees-two, frees-less, frees-only}
+use Rattle.sparsity.specs.Freedoms.Laws.{free-table, free-closed, free-balanced, kept-le, closed-kept, kept-closed, frees-two, frees-less, frees-only}
+use Rattle.sparsity.specs.Freedoms.Stores.{balanced-outside, balanced-placed, stored-table, stored-closed}
 use Rattle.sparsity.specs.Reach.{Found, Gathered, Placed}
 use Rattle.sparsity.specs.Reach.Laws.{found-first, found-second, found-closed, found-none, stuck-none, seen-within}
 use Rattle.peeling.specs.Core.{Few, Core}
