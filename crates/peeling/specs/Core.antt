@@ -8,6 +8,7 @@ use Rattle.theory.specs.Set.{_∩_, _⊑_, at, full}
 use Rattle.theory.specs.Constraints.{pair, carried, NotOver}
 use Rattle.theory.specs.Over.Listed.{ends, masks}
 pub mod Laws
+pub mod Neighbours
 pub mod Peeling
 
 -- within u, element x has at most k constraints

@@ -7,6 +7,8 @@ use lib.ListN.{length, getD, set}
 use Rattle.theory.specs.Set.{_⊑_, at}
 use Rattle.theory.specs.Sum.{sum}
 use Rattle.theory.specs.Constraints.{carried}
+pub mod Sums
+pub mod Stores
 pub mod Laws
 
 -- what entry s of element x holds

@@ -8,7 +8,7 @@ ghost use lib.Count.{ones};
 ghost use Rattle.theory.specs.Constraints.{pair, Below};
 ghost use Rattle.theory.specs.Over.{overOf};
 ghost use Rattle.theory.specs.Over.Listed.{masks, Listed};
-ghost use Rattle.sparsity.specs.Freedoms.{same, free, entry, Table, FreeBelow};
+ghost use Rattle.sparsity.specs.Freedoms.{same, free, Table, FreeBelow};
 ghost use Rattle.sparsity.specs.Reach.{item, Visit, Lent, Found, Way, Gained, Gathered, Placed};
 ghost use Rattle.peeling.specs.Core.{Core};
 ghost use Rattle.sparsity.specs.Answer.{asOver};

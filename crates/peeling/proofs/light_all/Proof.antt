@@ -5,7 +5,7 @@ use native.Mathlib.Omega.{arith}
 use lib.ListN.{getD}
 use Rattle.theory.specs.Set.{full}
 use Rattle.peeling.specs.Core.{Light}
-use Rattle.peeling.specs.Core.Peeling.{light-none, light-all-code, light-same, two-most}
+use Rattle.peeling.specs.Core.Neighbours.{light-none, light-all-code, light-same, two-most}
 use borrow.Author.Needs.{needs}
 use Rattle.peeling.proofs.light_all.Statement.{statement}
 use Rattle.peeling.proofs.light_all.Tie as tie

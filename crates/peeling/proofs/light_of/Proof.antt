@@ -10,7 +10,7 @@ use Rattle.theory.specs.Set.{_⊑_}
 use Rattle.theory.specs.Set.Laws.{at-le, sub-trans}
 use Rattle.peeling.specs.Less.{at-room, less-sub}
 use Rattle.peeling.specs.Core.{Light}
-use Rattle.peeling.specs.Core.Peeling.{light-none, light-code, light-same, two-most}
+use Rattle.peeling.specs.Core.Neighbours.{light-none, light-code, light-same, two-most}
 use borrow.Author.Needs.{needs}
 use Rattle.peeling.proofs.light_of.Statement.{statement}
 use Rattle.peeling.proofs.light_of.Tie as tie

@@ -3,7 +3,7 @@ use mathlib.Core.Path.{subst}
 use Prim.Native.Nat.{ℕ, _-_, _≤_}
 use native.Mathlib.Omega.{arith}
 use Rattle.peeling.specs.Core.{Near}
-use Rattle.peeling.specs.Core.Peeling.{near-none, near-code}
+use Rattle.peeling.specs.Core.Neighbours.{near-none, near-code}
 use borrow.Author.Needs.{needs}
 use Rattle.peeling.proofs.near_of.Statement.{statement}
 use Rattle.peeling.proofs.near_of.Tie as tie

@@ -16,7 +16,7 @@ returns c =
     let us = s .args .firsts .now in
     let vs = s .args .seconds .now in
     λ n below.
-    answer-not us vs (s .args .e) (s .pre) n below
+    answer-not (s .pre) n below
     (core-none us vs (s .args .e) (subst (Core us vs (s .args .e)) (c .if1 .taken) (c .before .core-of .ensures)))
 
 search-requires : tie.Need-search-requires

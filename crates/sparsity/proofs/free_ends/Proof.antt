@@ -2,7 +2,7 @@
 use mathlib.Core.Path.{ap₂}
 use Prim.Native.Nat.{_+_}
 use native.Mathlib.Omega.{arith}
-use Rattle.sparsity.specs.Freedoms.Laws.{same-bit, free-sum}
+use Rattle.sparsity.specs.Freedoms.Sums.{same-bit, free-sum}
 use borrow.Author.Needs.{needs}
 use Rattle.sparsity.proofs.free_ends.Statement.{statement}
 use Rattle.sparsity.proofs.free_ends.Tie as tie

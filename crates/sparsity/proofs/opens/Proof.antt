@@ -1,6 +1,6 @@
 -- `opens` meets its contract. Assumes nothing.
 use native.Mathlib.Omega.{arith}
-use Rattle.sparsity.specs.Freedoms.Laws.{same-bit}
+use Rattle.sparsity.specs.Freedoms.Sums.{same-bit}
 use borrow.Author.Needs.{needs}
 use Rattle.sparsity.proofs.opens.Statement.{statement}
 use Rattle.sparsity.proofs.opens.Tie as tie

@@ -4,7 +4,7 @@ use Prim.Native.Nat.{ℕ}
 use borrow.Author.Needs.{needs}
 use native.Mathlib.Omega.{arith}
 use Rattle.sparsity.specs.Freedoms.{entry, stored, same}
-use Rattle.sparsity.specs.Freedoms.Laws.{same-bit}
+use Rattle.sparsity.specs.Freedoms.Sums.{same-bit}
 use Rattle.sparsity.specs.Reach.{Walked}
 use Rattle.sparsity.specs.Reach.Back.{walk-start, walk-step, walk-end, j-less, x-fits, y-fits}
 use Rattle.sparsity.proofs.release.Statement.{statement}

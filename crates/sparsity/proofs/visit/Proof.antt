@@ -8,7 +8,7 @@ use lib.ListN.{set}
 use Rattle.theory.specs.Set.{_∪_}
 use Rattle.peeling.specs.Less.{meets-at, misses-at}
 use Rattle.sparsity.specs.Reach.{Visit, known, fresh}
-use Rattle.sparsity.specs.Reach.Laws.{visit-room}
+use Rattle.sparsity.specs.Reach.Visits.{visit-room}
 use Rattle.sparsity.proofs.visit.Statement.{statement}
 use Rattle.sparsity.proofs.visit.Tie as tie
 

@@ -9,7 +9,8 @@ use native.Mathlib.Omega.{arith}
 use Rattle.theory.specs.Set.{at}
 use Rattle.theory.specs.Set.Laws.{bit}
 use Rattle.sparsity.specs.Freedoms.{entry, stored, free, same, Table}
-use Rattle.sparsity.specs.Freedoms.Laws.{same-refl, same-ne, same-eq, same-bit, turned-table, turned-closed, turned-balanced, turned-gains, turned-other}
+use Rattle.sparsity.specs.Freedoms.Sums.{same-refl, same-ne, same-eq, same-bit}
+use Rattle.sparsity.specs.Freedoms.Stores.{turned-table, turned-closed, turned-balanced, turned-gains, turned-other}
 use Rattle.sparsity.specs.Reach.{item, Found, Rebalanced, Way, Walked, Gained, Placed}
 use Rattle.sparsity.specs.Reach.Laws.{linked-within, reached-most}
 
