@@ -1,13 +1,14 @@
 // The report's bytes into lent space, line by line. Each function puts its bytes from a place on and answers the place after them; a call over no
 // space measures. Contracts cite specs/Report.antt.
 ghost use mathlib.Core.Path.{_≡_};
-ghost use mathlib.Core.List.{[], _∷_, _++_};
-ghost use Prim.Native.Nat.{ℕ, _+_, _<_, _≤_, _^_};
-ghost use lib.ListN.{length, take, getD};
+ghost use mathlib.Core.List.{_∷_};
+ghost use Prim.Native.Nat.{_+_, _<_, _≤_, _^_};
+ghost use lib.ListN.{length, take};
 ghost use Rattle.space.specs.Space.{Put, answer, after};
-ghost use Rattle.space.specs.Text.{ascii, decimal};
+ghost use Rattle.space.specs.Text.{decimal};
 ghost use Rattle.report.specs.Elements.{elements};
-ghost use Rattle.report.specs.Report.{numbers, partsWords, kindWords, waysWords, verdictLine, elementsLine, stepLine, stepLines, slotLine, clusterLines, Small, AllSmall, report, overReport};
+ghost use Rattle.report.specs.Report.{verdictLine, elementsLine, stepLine, stepLines, slotLine, clusterLines, report, overReport};
+ghost use Rattle.report.specs.Pieces.{numbers, partsWords, kindWords, waysWords, Small, AllSmall};
 use answer::JointKind;
 use answer::Step;
 use answer::Verdict;

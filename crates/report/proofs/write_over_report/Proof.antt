@@ -13,7 +13,10 @@ put-over-report-requires : tie.Need-put-over-report-requires
 put-over-report-requires c κs = search needs
 
 returns : tie.Need-returns
-returns c = buffered-short (c .before .before .put-over-report .ensures) (c .before .before .before .before .before .args .out .now) (c .if1 .taken)
+returns c =
+    let at-over-report = c .before .before in
+    let entry = at-over-report .before .before .before in
+    buffered-short (at-over-report .put-over-report .ensures) (entry .args .out .now) (c .if1 .taken)
 
 sub-put-text : tie.Need-sub-put-text
 sub-put-text c = search needs

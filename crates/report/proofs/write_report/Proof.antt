@@ -1,6 +1,5 @@
 -- `report::write_report` meets its contract: the buffer has room for the report. Assumes nothing.
 use borrow.Author.Needs.{needs}
-use native.Mathlib.Omega.{arith}
 use Rattle.report.proofs.Buffered.{buffered, buffered-short}
 use Rattle.report.proofs.write_report.Statement.{statement}
 use Rattle.report.proofs.write_report.Tie as tie
@@ -12,7 +11,10 @@ put-report-requires : tie.Need-put-report-requires
 put-report-requires c κs = search needs
 
 returns : tie.Need-returns
-returns c = buffered-short (c .before .before .put-report .ensures) (c .before .before .before .before .before .args .out .now) (c .if1 .taken)
+returns c =
+    let at-report = c .before .before in
+    let entry = at-report .before .before .before in
+    buffered-short (at-report .put-report .ensures) (entry .args .out .now) (c .if1 .taken)
 
 sub-put-text : tie.Need-sub-put-text
 sub-put-text c = search needs
@@ -30,7 +32,12 @@ same-length : tie.Need-same-length
 same-length c = search needs
 
 returns-2 : tie.Need-returns-2
-returns-2 c = buffered (c .before .before .before .before .before .before .before .before .put-report .ensures) (c .before .before .before .before .before .before .before .before .before .before .before .pre .1) (c .before .before .before .before .before .before .if1 .left) (c .before .before .put-text .ensures)
+returns-2 c =
+    let at-text = c .before .before in
+    let at-if1 = at-text .before .before .before .before in
+    let at-report = at-if1 .before .before in
+    let entry = at-report .before .before .before in
+    buffered (at-report .put-report .ensures) (entry .pre .1) (at-if1 .if1 .left) (at-text .put-text .ensures)
 
 pub write-report-spec : {M : Type 1} → statement M
 write-report-spec =

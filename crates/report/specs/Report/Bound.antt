@@ -3,7 +3,6 @@
 -- Assumes nothing.
 use Prim.Native.Nat.{ℕ, zero, suc, _+_, _*_, _≤_, _<_}
 use native.Mathlib.Omega.{arith}
-use borrow.Author.Tests.{lt-ltb}
 use mathlib.Core.Path.{_≡_, refl}
 use mathlib.Core.Bool.{Bool, true, false}
 use mathlib.Core.List.{List, [], _∷_, _++_}
@@ -27,9 +26,9 @@ use Rattle.space.specs.Text.Laws.{decimal-1}
 use Rattle.answer.specs.Answer.{asWays, stepOf, stepsOf}
 use Rattle.answer.specs.declared.Verdict.{Verdict}
 use Rattle.answer.specs.declared.Step.{Step}
-use Rattle.report.specs.Elements.{elements}
 use Rattle.report.specs.Elements.Laws.{elements-size}
-use Rattle.report.specs.Report.{waysName, verdictLine, elementsLine, stepLine, slotLine, stepLines, clusterLines, Small, AllSmall, report}
+use Rattle.report.specs.Report.{waysName, verdictLine, elementsLine, stepLine, slotLine, stepLines, clusterLines, report}
+use Rattle.report.specs.Pieces.{Small, AllSmall}
 use Rattle.report.specs.Report.Length.{decimal-length, decimal-two, verdict-length, elements-length, step-length, slot-length}
 
 -- ---- step lines
