@@ -4,7 +4,6 @@ use native.Mathlib.Omega.{arith}
 use mathlib.Core.Path.{_≡_, refl}
 use mathlib.Core.List.{List, [], _++_}
 use lib.ListN.{length, length-append}
-use lib.Seq.{sets}
 use Rattle.space.specs.Space.{Put}
 use Rattle.space.specs.Space.Laws.{put-none, put-all, _then_}
 

@@ -1,6 +1,6 @@
 -- The report, in ASCII. Document 01, "The report": the first line gives the verdict, the second n and e; then the steps in plan order, then the
 -- final clusters by number; for "over" two lines follow the second, and none after them. Assumes nothing.
-use Prim.Native.Nat.{ℕ, suc, _<_}
+use Prim.Native.Nat.{ℕ, suc}
 use mathlib.Core.Bool.{cond}
 use mathlib.Core.List.{List, [], _∷_, _++_, map}
 use lib.Dec.{eqb}
@@ -53,11 +53,6 @@ waysName Unknown = ascii "?"
 abbrev pub listed : ℕ → List (List ℕ)
 listed a = map decimal (elements a)
 
--- the same in bytes, a space before each
-unfoldable pub numbers : List ℕ → List ℕ
-numbers [] = []
-numbers (x ∷ xs) = 32 ∷ decimal x ++ numbers xs
-
 -- ---- the lines
 
 abbrev pub verdictLine : Verdict → List ℕ
@@ -65,17 +60,6 @@ verdictLine v = line (ascii "verdict" ∷ verdictName v ∷ [])
 
 abbrev pub elementsLine : ℕ → ℕ → List ℕ
 elementsLine n e = line (ascii "elements" ∷ decimal n ∷ ascii "constraints" ∷ decimal e ∷ [])
-
--- parts of a step's line
-abbrev pub partsWords : ℕ → ℕ → ℕ → ℕ → List ℕ
-partsWords made i j k =
-    ascii "step" ++ (32 ∷ decimal made ++ (ascii " from" ++ (32 ∷ decimal i ++ (32 ∷ decimal j ++ 32 ∷ decimal k))))
-
-abbrev pub kindWords : JointKind → List ℕ
-kindWords k = ascii " kind " ++ (kindName k ++ ascii " ways")
-
-abbrev pub waysWords : Ways → List ℕ
-waysWords w = others (waysName w ∷ [])
 
 -- the cluster made, its parts, the joint, the kind and the placements
 unfoldable pub stepLine : Step → List ℕ
@@ -101,17 +85,6 @@ slotLine c a = cond (eqb a 0) [] (clusterLine c a)
 unfoldable pub clusterLines : ℕ → List ℕ → List ℕ
 clusterLines c [] = []
 clusterLines c (a ∷ slots) = slotLine c a ++ clusterLines (suc c) slots
-
--- the numbers of a step, and of each of several, are below 1,000
-pub record Small (s : Step) : Type 0 where
-  pub made-small : s .made < 1000
-  pub i-small : s .i < 1000
-  pub j-small : s .j < 1000
-  pub k-small : s .k < 1000
-
-abbrev pub AllSmall : List Step → Type 0
-AllSmall [] = Unit {0}
-AllSmall (s ∷ steps) = Small s × AllSmall steps
 
 -- ---- the report
 

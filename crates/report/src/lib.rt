@@ -1,17 +1,19 @@
 // The report's bytes into lent space, line by line. Each function puts its bytes from a place on and answers the place after them; a call over no
 // space measures. Contracts cite specs/Report.antt.
 ghost use mathlib.Core.Path.{_≡_};
-ghost use mathlib.Core.List.{[], _∷_, _++_};
-ghost use Prim.Native.Nat.{ℕ, _+_, _<_, _≤_, _^_};
-ghost use lib.ListN.{length, take, getD};
-ghost use Rattle.space.specs.Space.{Put};
-ghost use Rattle.space.specs.Text.{ascii, decimal};
+ghost use mathlib.Core.List.{_∷_};
+ghost use Prim.Native.Nat.{_+_, _<_, _≤_, _^_};
+ghost use lib.ListN.{length, take};
+ghost use Rattle.space.specs.Space.{Put, answer, after};
+ghost use Rattle.space.specs.Text.{decimal};
 ghost use Rattle.report.specs.Elements.{elements};
-ghost use Rattle.report.specs.Report.{numbers, partsWords, kindWords, waysWords, verdictLine, elementsLine, stepLine, stepLines, slotLine, clusterLines, Small, AllSmall, report, overReport};
+ghost use Rattle.report.specs.Report.{verdictLine, elementsLine, stepLine, stepLines, slotLine, clusterLines, report, overReport};
+ghost use Rattle.report.specs.Pieces.{numbers, partsWords, kindWords, waysWords, Small, AllSmall};
 use answer::JointKind;
 use answer::Step;
 use answer::Verdict;
 use answer::Ways;
+use space::Written;
 use space::put_byte;
 use space::put_decimal;
 use space::put_text;
@@ -196,4 +198,50 @@ pub fn put_over_report(out: &mut [u8], n: usize, e: usize, first: usize, set: u6
     let a5 = put_text(out, a4, b"\nset");
     let a6 = put_set(out, a5, set);
     put_byte(out, a6, b'\n')
+}
+
+// The longest report of a sheet that is not over.
+const LONGEST: usize = 3786;
+
+// The report of a sheet that is not over, into space that takes it whole or not at all.
+pub fn write_report(
+    out: &mut [u8],
+    n: usize,
+    e: usize,
+    verdict: Verdict,
+    steps: [Step; 62],
+    count: usize,
+    slots: &[u64; 192],
+    used: usize,
+) -> Written
+    requires { ⌜ (n < 1000) × (e < 1000) × (count ≤ 62) × (used ≤ 192) × (length (now slots) ≡ 192) × AllSmall (take count steps) ⌝ }
+    requires { ⌜ length (report n e verdict (take count steps) (take used (now slots))) ≤ 3786 ⌝ }
+    ensures answers { λ r. ⌜ r ≡ answer (report n e verdict (take count steps) (take used (now (slots .entry)))) (now (out .entry)) ⌝ }
+    ensures leaves { λ r. ⌜ now (out .exit) ≡ after (report n e verdict (take count steps) (take used (now (slots .entry)))) (now (out .entry)) ⌝ }
+{
+    let mut whole: [u8; LONGEST] = [0; LONGEST];
+    let length = put_report(&mut whole, n, e, verdict, steps, count, slots, used);
+    if out.len() < length {
+        return Written::Refused(17);
+    }
+    put_text(out, 0, &whole[0..length]);
+    Written::Done(length)
+}
+
+// The longest report of an over sheet.
+const LONGEST_OVER: usize = 249;
+
+// The report of an over sheet, into space that takes it whole or not at all.
+pub fn write_over_report(out: &mut [u8], n: usize, e: usize, first: usize, set: u64) -> Written
+    requires { ⌜ (n < 1000) × (e < 1000) × (first < 1000) ⌝ }
+    ensures answers { λ r. ⌜ r ≡ answer (overReport n e first set) (now (out .entry)) ⌝ }
+    ensures leaves { λ r. ⌜ now (out .exit) ≡ after (overReport n e first set) (now (out .entry)) ⌝ }
+{
+    let mut lines: [u8; LONGEST_OVER] = [0; LONGEST_OVER];
+    let end = put_over_report(&mut lines, n, e, first, set);
+    if out.len() < end {
+        return Written::Refused(17);
+    }
+    put_text(out, 0, &lines[0..end]);
+    Written::Done(end)
 }

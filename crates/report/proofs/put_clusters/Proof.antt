@@ -50,10 +50,14 @@ loop-again c =
     )
 
 same-length : tie.Need-same-length Inv-loop μ-loop
-same-length c = done (as-rest (clusters-none (c .before .before .before .args .slots .now) (c .before .before .before .args .used) (c .before .loop .c) (c .loop-test .left)) (c .before .loop .inv .1)) .length-is
+same-length c =
+    let entry = c .before .before .before in
+    done (as-rest (clusters-none (entry .args .slots .now) (entry .args .used) (c .before .loop .c) (c .loop-test .left)) (c .before .loop .inv .1)) .length-is
 
 returns : tie.Need-returns Inv-loop μ-loop
-returns c = done (as-rest (clusters-none (c .before .before .before .args .slots .now) (c .before .before .before .args .used) (c .before .loop .c) (c .loop-test .left)) (c .before .loop .inv .1))
+returns c =
+    let entry = c .before .before .before in
+    done (as-rest (clusters-none (entry .args .slots .now) (entry .args .used) (c .before .loop .c) (c .loop-test .left)) (c .before .loop .inv .1))
 
 pub put-clusters-spec : {M : Type 1} → statement M
 put-clusters-spec =

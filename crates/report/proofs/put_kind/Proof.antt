@@ -4,7 +4,7 @@ use native.Mathlib.Omega.{arith}
 use mathlib.Core.Path.{sym, ap}
 use lib.ListN.{length}
 use Rattle.space.specs.Space.Laws.{put-as}
-use Rattle.report.specs.Report.{kindWords}
+use Rattle.report.specs.Pieces.{kindWords}
 use Rattle.report.proofs.put_kind.Statement.{statement}
 use Rattle.report.proofs.put_kind.Tie as tie
 
@@ -48,25 +48,37 @@ same-length : tie.Need-same-length
 same-length c = search needs
 
 returns : tie.Need-returns
-returns c = put-as (sym (ap kindWords (c .before .before .before .before .before .enum-told .given .1))) (c .before .before .put-text .ensures)
+returns c =
+    let at-text = c .before .before in
+    let at-enum-told = at-text .before .before .before in
+    put-as (sym (ap kindWords (at-enum-told .enum-told .given .1))) (at-text .put-text .ensures)
 
 same-length-2 : tie.Need-same-length-2
 same-length-2 c = search needs
 
 returns-2 : tie.Need-returns-2
-returns-2 c = put-as (sym (ap kindWords (c .before .before .before .before .before .enum-told2 .given .1))) (c .before .before .put-text2 .ensures)
+returns-2 c =
+    let at-text2 = c .before .before in
+    let at-enum-told2 = at-text2 .before .before .before in
+    put-as (sym (ap kindWords (at-enum-told2 .enum-told2 .given .1))) (at-text2 .put-text2 .ensures)
 
 same-length-3 : tie.Need-same-length-3
 same-length-3 c = search needs
 
 returns-3 : tie.Need-returns-3
-returns-3 c = put-as (sym (ap kindWords (c .before .before .before .before .before .enum-told3 .given .1))) (c .before .before .put-text3 .ensures)
+returns-3 c =
+    let at-text3 = c .before .before in
+    let at-enum-told3 = at-text3 .before .before .before in
+    put-as (sym (ap kindWords (at-enum-told3 .enum-told3 .given .1))) (at-text3 .put-text3 .ensures)
 
 same-length-4 : tie.Need-same-length-4
 same-length-4 c = search needs
 
 returns-4 : tie.Need-returns-4
-returns-4 c = put-as (sym (ap kindWords (c .before .before .before .before .before .enum-told4 .given .1))) (c .before .before .put-text4 .ensures)
+returns-4 c =
+    let at-text4 = c .before .before in
+    let at-enum-told4 = at-text4 .before .before .before in
+    put-as (sym (ap kindWords (at-enum-told4 .enum-told4 .given .1))) (at-text4 .put-text4 .ensures)
 
 pub put-kind-spec : {M : Type 1} → statement M
 put-kind-spec =

@@ -14,7 +14,10 @@ same-length : tie.Need-same-length
 same-length c = search needs
 
 returns : tie.Need-returns
-returns c = c .before .before .before .before .before .before .put-byte .ensures then c .before .before .put-decimal .ensures
+returns c =
+    let at-decimal = c .before .before in
+    let at-byte = at-decimal .before .before .before .before in
+    at-byte .put-byte .ensures then at-decimal .put-decimal .ensures
 
 pub put-number-spec : {M : Type 1} → statement M
 put-number-spec = tie.close (tie.spec put-byte-requires put-decimal-requires same-length returns)

@@ -6,7 +6,8 @@ use mathlib.Core.List.{_∷_}
 use lib.ListN.{length}
 use Rattle.space.specs.Text.{ascii, decimal}
 use Rattle.report.specs.Elements.{elements}
-use Rattle.report.specs.Report.{numbers, elementsLine, overReport}
+use Rattle.report.specs.Report.{elementsLine, overReport}
+use Rattle.report.specs.Pieces.{numbers}
 use Rattle.report.specs.Report.Laws.{over-pieces}
 use Rattle.report.specs.Report.Length.{over-long}
 use Rattle.report.proofs.Going.{start, _step_, as-rest, fits, ends}
@@ -20,34 +21,76 @@ put-verdict-line-requires : tie.Need-put-verdict-line-requires
 put-verdict-line-requires c κs = search needs
 
 put-elements-line-requires : tie.Need-put-elements-line-requires
-put-elements-line-requires c κs = (c .before .before .before .before .before .before .pre .0, c .before .before .before .before .before .before .pre .1, fits (elementsLine _ _) _ (as-rest (over-pieces (c .before .before .before .before .before .before .args .n) (c .before .before .before .before .before .before .args .e) (c .before .before .before .before .before .before .args .first) (c .before .before .before .before .before .before .args .set)) (start _) step c .before .before .before .put-verdict-line .ensures) (short (c .before .before .before .before .before .before)))
+put-elements-line-requires c κs =
+    let at-verdict = c .before .before .before in
+    let entry = at-verdict .before .before .before in
+    (entry .pre .0, entry .pre .1, fits (elementsLine _ _) _ (as-rest (over-pieces (entry .args .n) (entry .args .e) (entry .args .first) (entry .args .set)) (start _) step at-verdict .put-verdict-line .ensures) (short entry))
 
 slice-aggregate-put-text : tie.Need-slice-aggregate-put-text
 slice-aggregate-put-text c = search needs
 
 put-text-requires : tie.Need-put-text-requires
-put-text-requires c κs = fits (ascii "first") _ (as-rest (over-pieces (c .before .before .before .before .before .before .before .before .before .before .before .args .n) (c .before .before .before .before .before .before .before .before .before .before .before .args .e) (c .before .before .before .before .before .before .before .before .before .before .before .args .first) (c .before .before .before .before .before .before .before .before .before .before .before .args .set)) (start _) step c .before .before .before .before .before .before .before .before .put-verdict-line .ensures step c .before .before .before .before .put-elements-line .ensures) (short (c .before .before .before .before .before .before .before .before .before .before .before))
+put-text-requires c κs =
+    let at-elements = c .before .before .before .before in
+    let at-verdict = at-elements .before .before .before .before in
+    let entry = at-verdict .before .before .before in
+    fits (ascii "first") _ (as-rest (over-pieces (entry .args .n) (entry .args .e) (entry .args .first) (entry .args .set)) (start _) step at-verdict .put-verdict-line .ensures step at-elements .put-elements-line .ensures) (short entry)
 
 put-number-requires : tie.Need-put-number-requires
-put-number-requires c κs = (c .before .before .before .before .before .before .before .before .before .before .before .before .before .before .before .pre .2, fits (32 ∷ decimal _) _ (as-rest (over-pieces (c .before .before .before .before .before .before .before .before .before .before .before .before .before .before .before .args .n) (c .before .before .before .before .before .before .before .before .before .before .before .before .before .before .before .args .e) (c .before .before .before .before .before .before .before .before .before .before .before .before .before .before .before .args .first) (c .before .before .before .before .before .before .before .before .before .before .before .before .before .before .before .args .set)) (start _) step c .before .before .before .before .before .before .before .before .before .before .before .before .put-verdict-line .ensures step c .before .before .before .before .before .before .before .before .put-elements-line .ensures step c .before .before .before .put-text .ensures) (short (c .before .before .before .before .before .before .before .before .before .before .before .before .before .before .before)))
+put-number-requires c κs =
+    let at-text = c .before .before .before in
+    let at-elements = at-text .before .before .before .before .before in
+    let at-verdict = at-elements .before .before .before .before in
+    let entry = at-verdict .before .before .before in
+    (entry .pre .2, fits (32 ∷ decimal _) _ (as-rest (over-pieces (entry .args .n) (entry .args .e) (entry .args .first) (entry .args .set)) (start _) step at-verdict .put-verdict-line .ensures step at-elements .put-elements-line .ensures step at-text .put-text .ensures) (short entry))
 
 slice-aggregate-put-text-2 : tie.Need-slice-aggregate-put-text-2
 slice-aggregate-put-text-2 c = search needs
 
 put-text-requires-2 : tie.Need-put-text-requires-2
-put-text-requires-2 c κs = fits (ascii "\nset") _ (as-rest (over-pieces (c .before .before .before .before .before .before .before .before .before .before .before .before .before .before .before .before .before .before .before .before .args .n) (c .before .before .before .before .before .before .before .before .before .before .before .before .before .before .before .before .before .before .before .before .args .e) (c .before .before .before .before .before .before .before .before .before .before .before .before .before .before .before .before .before .before .before .before .args .first) (c .before .before .before .before .before .before .before .before .before .before .before .before .before .before .before .before .before .before .before .before .args .set)) (start _) step c .before .before .before .before .before .before .before .before .before .before .before .before .before .before .before .before .before .put-verdict-line .ensures step c .before .before .before .before .before .before .before .before .before .before .before .before .before .put-elements-line .ensures step c .before .before .before .before .before .before .before .before .put-text .ensures step c .before .before .before .before .put-number .ensures) (short (c .before .before .before .before .before .before .before .before .before .before .before .before .before .before .before .before .before .before .before .before))
+put-text-requires-2 c κs =
+    let at-number = c .before .before .before .before in
+    let at-text = at-number .before .before .before .before in
+    let at-elements = at-text .before .before .before .before .before in
+    let at-verdict = at-elements .before .before .before .before in
+    let entry = at-verdict .before .before .before in
+    fits (ascii "\nset") _ (as-rest (over-pieces (entry .args .n) (entry .args .e) (entry .args .first) (entry .args .set)) (start _) step at-verdict .put-verdict-line .ensures step at-elements .put-elements-line .ensures step at-text .put-text .ensures step at-number .put-number .ensures) (short entry)
 
 put-set-requires : tie.Need-put-set-requires
-put-set-requires c κs = fits (numbers (elements _)) _ (as-rest (over-pieces (c .before .before .before .before .before .before .before .before .before .before .before .before .before .before .before .before .before .before .before .before .before .before .before .before .args .n) (c .before .before .before .before .before .before .before .before .before .before .before .before .before .before .before .before .before .before .before .before .before .before .before .before .args .e) (c .before .before .before .before .before .before .before .before .before .before .before .before .before .before .before .before .before .before .before .before .before .before .before .before .args .first) (c .before .before .before .before .before .before .before .before .before .before .before .before .before .before .before .before .before .before .before .before .before .before .before .before .args .set)) (start _) step c .before .before .before .before .before .before .before .before .before .before .before .before .before .before .before .before .before .before .before .before .before .put-verdict-line .ensures step c .before .before .before .before .before .before .before .before .before .before .before .before .before .before .before .before .before .put-elements-line .ensures step c .before .before .before .before .before .before .before .before .before .before .before .before .put-text .ensures step c .before .before .before .before .before .before .before .before .put-number .ensures step c .before .before .before .put-text2 .ensures) (short (c .before .before .before .before .before .before .before .before .before .before .before .before .before .before .before .before .before .before .before .before .before .before .before .before))
+put-set-requires c κs =
+    let at-text2 = c .before .before .before in
+    let at-number = at-text2 .before .before .before .before .before in
+    let at-text = at-number .before .before .before .before in
+    let at-elements = at-text .before .before .before .before .before in
+    let at-verdict = at-elements .before .before .before .before in
+    let entry = at-verdict .before .before .before in
+    fits (numbers (elements _)) _ (as-rest (over-pieces (entry .args .n) (entry .args .e) (entry .args .first) (entry .args .set)) (start _) step at-verdict .put-verdict-line .ensures step at-elements .put-elements-line .ensures step at-text .put-text .ensures step at-number .put-number .ensures step at-text2 .put-text2 .ensures) (short entry)
 
 put-byte-requires : tie.Need-put-byte-requires
-put-byte-requires c κs = ends (as-rest (over-pieces (c .before .before .before .before .before .before .before .before .before .before .before .before .before .before .before .before .before .before .before .before .before .before .before .before .before .before .before .before .args .n) (c .before .before .before .before .before .before .before .before .before .before .before .before .before .before .before .before .before .before .before .before .before .before .before .before .before .before .before .before .args .e) (c .before .before .before .before .before .before .before .before .before .before .before .before .before .before .before .before .before .before .before .before .before .before .before .before .before .before .before .before .args .first) (c .before .before .before .before .before .before .before .before .before .before .before .before .before .before .before .before .before .before .before .before .before .before .before .before .before .before .before .before .args .set)) (start _) step c .before .before .before .before .before .before .before .before .before .before .before .before .before .before .before .before .before .before .before .before .before .before .before .before .before .put-verdict-line .ensures step c .before .before .before .before .before .before .before .before .before .before .before .before .before .before .before .before .before .before .before .before .before .put-elements-line .ensures step c .before .before .before .before .before .before .before .before .before .before .before .before .before .before .before .before .put-text .ensures step c .before .before .before .before .before .before .before .before .before .before .before .before .put-number .ensures step c .before .before .before .before .before .before .before .put-text2 .ensures step c .before .before .before .put-set .ensures) (short (c .before .before .before .before .before .before .before .before .before .before .before .before .before .before .before .before .before .before .before .before .before .before .before .before .before .before .before .before))
+put-byte-requires c κs =
+    let at-set = c .before .before .before in
+    let at-text2 = at-set .before .before .before .before in
+    let at-number = at-text2 .before .before .before .before .before in
+    let at-text = at-number .before .before .before .before in
+    let at-elements = at-text .before .before .before .before .before in
+    let at-verdict = at-elements .before .before .before .before in
+    let entry = at-verdict .before .before .before in
+    ends (as-rest (over-pieces (entry .args .n) (entry .args .e) (entry .args .first) (entry .args .set)) (start _) step at-verdict .put-verdict-line .ensures step at-elements .put-elements-line .ensures step at-text .put-text .ensures step at-number .put-number .ensures step at-text2 .put-text2 .ensures step at-set .put-set .ensures) (short entry)
 
 same-length : tie.Need-same-length
 same-length c = search needs
 
 returns : tie.Need-returns
-returns c = (as-rest (over-pieces (c .before .before .before .before .before .before .before .before .before .before .before .before .before .before .before .before .before .before .before .before .before .before .before .before .before .before .before .before .before .before .before .args .n) (c .before .before .before .before .before .before .before .before .before .before .before .before .before .before .before .before .before .before .before .before .before .before .before .before .before .before .before .before .before .before .before .args .e) (c .before .before .before .before .before .before .before .before .before .before .before .before .before .before .before .before .before .before .before .before .before .before .before .before .before .before .before .before .before .before .before .args .first) (c .before .before .before .before .before .before .before .before .before .before .before .before .before .before .before .before .before .before .before .before .before .before .before .before .before .before .before .before .before .before .before .args .set)) (start _) step c .before .before .before .before .before .before .before .before .before .before .before .before .before .before .before .before .before .before .before .before .before .before .before .before .before .before .before .before .put-verdict-line .ensures step c .before .before .before .before .before .before .before .before .before .before .before .before .before .before .before .before .before .before .before .before .before .before .before .before .put-elements-line .ensures step c .before .before .before .before .before .before .before .before .before .before .before .before .before .before .before .before .before .before .before .put-text .ensures step c .before .before .before .before .before .before .before .before .before .before .before .before .before .before .before .put-number .ensures step c .before .before .before .before .before .before .before .before .before .before .put-text2 .ensures step c .before .before .before .before .before .before .put-set .ensures) .last (c .before .before .put-byte .ensures)
+returns c =
+    let at-byte = c .before .before in
+    let at-set = at-byte .before .before .before .before in
+    let at-text2 = at-set .before .before .before .before in
+    let at-number = at-text2 .before .before .before .before .before in
+    let at-text = at-number .before .before .before .before in
+    let at-elements = at-text .before .before .before .before .before in
+    let at-verdict = at-elements .before .before .before .before in
+    let entry = at-verdict .before .before .before in
+    (as-rest (over-pieces (entry .args .n) (entry .args .e) (entry .args .first) (entry .args .set)) (start _) step at-verdict .put-verdict-line .ensures step at-elements .put-elements-line .ensures step at-text .put-text .ensures step at-number .put-number .ensures step at-text2 .put-text2 .ensures step at-set .put-set .ensures) .last (at-byte .put-byte .ensures)
 
 pub put-over-report-spec : {M : Type 1} → statement M
 put-over-report-spec =

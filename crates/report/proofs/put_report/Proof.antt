@@ -29,22 +29,40 @@ put-verdict-line-requires c κs = omega (arith, verdict-length (c .before .befor
 
 put-elements-line-requires : tie.Need-put-elements-line-requires
 unfolding report
-put-elements-line-requires c κs = (c .before .before .before .before .before .before .pre .0, c .before .before .before .before .before .before .pre .1, fits (elementsLine _ _) _ (start (whole (c .before .before .before .before .before .before)) step c .before .before .before .put-verdict-line .ensures) (short (c .before .before .before .before .before .before)))
+put-elements-line-requires c κs =
+    let at-verdict = c .before .before .before in
+    let entry = at-verdict .before .before .before in
+    (entry .pre .0, entry .pre .1, fits (elementsLine _ _) _ (start (whole entry) step at-verdict .put-verdict-line .ensures) (short entry))
 
 put-steps-requires : tie.Need-put-steps-requires
 unfolding report
-put-steps-requires c κs = (c .before .before .before .before .before .before .before .before .before .before .pre .2, c .before .before .before .before .before .before .before .before .before .before .pre .5, fits (stepLines _) _ (start (whole (c .before .before .before .before .before .before .before .before .before .before)) step c .before .before .before .before .before .before .before .put-verdict-line .ensures step c .before .before .before .put-elements-line .ensures) (short (c .before .before .before .before .before .before .before .before .before .before)))
+put-steps-requires c κs =
+    let at-elements = c .before .before .before in
+    let at-verdict = at-elements .before .before .before .before in
+    let entry = at-verdict .before .before .before in
+    (entry .pre .2, entry .pre .5, fits (stepLines _) _ (start (whole entry) step at-verdict .put-verdict-line .ensures step at-elements .put-elements-line .ensures) (short entry))
 
 put-clusters-requires : tie.Need-put-clusters-requires
 unfolding report
-put-clusters-requires c κs = (c .before .before .before .before .before .before .before .before .before .before .before .before .before .before .pre .3, c .before .before .before .before .before .before .before .before .before .before .before .before .before .before .pre .4, ends (start (whole (c .before .before .before .before .before .before .before .before .before .before .before .before .before .before)) step c .before .before .before .before .before .before .before .before .before .before .before .put-verdict-line .ensures step c .before .before .before .before .before .before .before .put-elements-line .ensures step c .before .before .before .put-steps .ensures) (short (c .before .before .before .before .before .before .before .before .before .before .before .before .before .before)))
+put-clusters-requires c κs =
+    let at-steps = c .before .before .before in
+    let at-elements = at-steps .before .before .before .before in
+    let at-verdict = at-elements .before .before .before .before in
+    let entry = at-verdict .before .before .before in
+    (entry .pre .3, entry .pre .4, ends (start (whole entry) step at-verdict .put-verdict-line .ensures step at-elements .put-elements-line .ensures step at-steps .put-steps .ensures) (short entry))
 
 same-length : tie.Need-same-length
 same-length c = search needs
 
 returns : tie.Need-returns
 unfolding report
-returns c = (start (whole (c .before .before .before .before .before .before .before .before .before .before .before .before .before .before .before .before .before)) step c .before .before .before .before .before .before .before .before .before .before .before .before .before .before .put-verdict-line .ensures step c .before .before .before .before .before .before .before .before .before .before .put-elements-line .ensures step c .before .before .before .before .before .before .put-steps .ensures) .last (c .before .before .put-clusters .ensures)
+returns c =
+    let at-clusters = c .before .before in
+    let at-steps = at-clusters .before .before .before .before in
+    let at-elements = at-steps .before .before .before .before in
+    let at-verdict = at-elements .before .before .before .before in
+    let entry = at-verdict .before .before .before in
+    (start (whole entry) step at-verdict .put-verdict-line .ensures step at-elements .put-elements-line .ensures step at-steps .put-steps .ensures) .last (at-clusters .put-clusters .ensures)
 
 pub put-report-spec : {M : Type 1} → statement M
 put-report-spec =

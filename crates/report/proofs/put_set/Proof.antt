@@ -8,7 +8,7 @@ use lib.Bits.{and-le-l, and-le-r}
 use lib.Count.{trailing-le}
 use Rattle.space.specs.Text.{decimal}
 use Rattle.report.specs.Elements.{elements}
-use Rattle.report.specs.Report.{numbers}
+use Rattle.report.specs.Pieces.{numbers}
 use Rattle.report.specs.Report.Laws.{numbers-lowest, numbers-none}
 use Rattle.report.proofs.Going.{Going, start, _step_, as-rest, done, fits}
 use Rattle.report.proofs.put_set.Statement.{statement}
@@ -38,7 +38,9 @@ sub-rest : tie.Need-sub-rest Inv-loop μ-loop
 sub-rest c = omega arith
 
 loop-less : tie.Need-loop-less Inv-loop μ-loop
-loop-less c = omega (arith, and-le-r (c .before .before .before .before .before .loop .rest) (c .before .before .before .before .before .loop .rest - 1))
+loop-less c =
+    let at-loop = c .before .before .before .before .before in
+    omega (arith, and-le-r (at-loop .loop .rest) (at-loop .loop .rest - 1))
 
 loop-again : tie.Need-loop-again Inv-loop μ-loop
 loop-again c =

@@ -52,10 +52,14 @@ loop-again c =
     )
 
 same-length : tie.Need-same-length Inv-loop μ-loop
-same-length c = done (as-rest (steps-none (c .before .before .before .args .t3) (c .before .before .before .args .count) (c .before .loop .i) (c .loop-test .left)) (c .before .loop .inv .1)) .length-is
+same-length c =
+    let entry = c .before .before .before in
+    done (as-rest (steps-none (entry .args .t3) (entry .args .count) (c .before .loop .i) (c .loop-test .left)) (c .before .loop .inv .1)) .length-is
 
 returns : tie.Need-returns Inv-loop μ-loop
-returns c = done (as-rest (steps-none (c .before .before .before .args .t3) (c .before .before .before .args .count) (c .before .loop .i) (c .loop-test .left)) (c .before .loop .inv .1))
+returns c =
+    let entry = c .before .before .before in
+    done (as-rest (steps-none (entry .args .t3) (entry .args .count) (c .before .loop .i) (c .loop-test .left)) (c .before .loop .inv .1))
 
 pub put-steps-spec : {M : Type 1} → statement M
 put-steps-spec =

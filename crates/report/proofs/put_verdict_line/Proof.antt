@@ -57,31 +57,46 @@ same-length : tie.Need-same-length
 same-length c = search needs
 
 returns : tie.Need-returns
-returns c = put-as (sym (ap verdictLine (c .before .before .before .before .before .enum-told .given .1))) (c .before .before .put-text .ensures)
+returns c =
+    let at-text = c .before .before in
+    let at-enum-told = at-text .before .before .before in
+    put-as (sym (ap verdictLine (at-enum-told .enum-told .given .1))) (at-text .put-text .ensures)
 
 same-length-2 : tie.Need-same-length-2
 same-length-2 c = search needs
 
 returns-2 : tie.Need-returns-2
-returns-2 c = put-as (sym (ap verdictLine (c .before .before .before .before .before .enum-told2 .given .1))) (c .before .before .put-text2 .ensures)
+returns-2 c =
+    let at-text2 = c .before .before in
+    let at-enum-told2 = at-text2 .before .before .before in
+    put-as (sym (ap verdictLine (at-enum-told2 .enum-told2 .given .1))) (at-text2 .put-text2 .ensures)
 
 same-length-3 : tie.Need-same-length-3
 same-length-3 c = search needs
 
 returns-3 : tie.Need-returns-3
-returns-3 c = put-as (sym (ap verdictLine (c .before .before .before .before .before .enum-told3 .given .1))) (c .before .before .put-text3 .ensures)
+returns-3 c =
+    let at-text3 = c .before .before in
+    let at-enum-told3 = at-text3 .before .before .before in
+    put-as (sym (ap verdictLine (at-enum-told3 .enum-told3 .given .1))) (at-text3 .put-text3 .ensures)
 
 same-length-4 : tie.Need-same-length-4
 same-length-4 c = search needs
 
 returns-4 : tie.Need-returns-4
-returns-4 c = put-as (sym (ap verdictLine (c .before .before .before .before .before .enum-told4 .given .1))) (c .before .before .put-text4 .ensures)
+returns-4 c =
+    let at-text4 = c .before .before in
+    let at-enum-told4 = at-text4 .before .before .before in
+    put-as (sym (ap verdictLine (at-enum-told4 .enum-told4 .given .1))) (at-text4 .put-text4 .ensures)
 
 same-length-5 : tie.Need-same-length-5
 same-length-5 c = search needs
 
 returns-5 : tie.Need-returns-5
-returns-5 c = put-as (sym (ap verdictLine (c .before .before .before .before .before .enum-told5 .given .1))) (c .before .before .put-text5 .ensures)
+returns-5 c =
+    let at-text5 = c .before .before in
+    let at-enum-told5 = at-text5 .before .before .before in
+    put-as (sym (ap verdictLine (at-enum-told5 .enum-told5 .given .1))) (at-text5 .put-text5 .ensures)
 
 pub put-verdict-line-spec : {M : Type 1} → statement M
 put-verdict-line-spec =

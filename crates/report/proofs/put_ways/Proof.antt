@@ -6,7 +6,7 @@ use mathlib.Core.List.{[], _∷_}
 use lib.ListN.{length, length-append}
 use Rattle.space.specs.Text.{decimal}
 use Rattle.space.specs.Space.Laws.{put-as, _then_}
-use Rattle.report.specs.Report.{waysWords}
+use Rattle.report.specs.Pieces.{waysWords}
 use Rattle.report.proofs.put_ways.Statement.{statement}
 use Rattle.report.proofs.put_ways.Tie as tie
 
@@ -39,13 +39,20 @@ same-length : tie.Need-same-length
 same-length c = search needs
 
 returns : tie.Need-returns
-returns c = put-as (sym (ap waysWords (c .before .before .before .before .before .before .before .before .before .ways .given .1))) (c .before .before .before .before .before .before .put-number .ensures then c .before .before .put-byte .ensures)
+returns c =
+    let at-byte = c .before .before in
+    let at-number = at-byte .before .before .before .before in
+    let at-ways = at-number .before .before .before in
+    put-as (sym (ap waysWords (at-ways .ways .given .1))) (at-number .put-number .ensures then at-byte .put-byte .ensures)
 
 same-length-2 : tie.Need-same-length-2
 same-length-2 c = search needs
 
 returns-2 : tie.Need-returns-2
-returns-2 c = put-as (sym (ap waysWords (c .before .before .before .before .before .enum-told .given .1))) (c .before .before .put-text .ensures)
+returns-2 c =
+    let at-text = c .before .before in
+    let at-enum-told = at-text .before .before .before in
+    put-as (sym (ap waysWords (at-enum-told .enum-told .given .1))) (at-text .put-text .ensures)
 
 pub put-ways-spec : {M : Type 1} → statement M
 put-ways-spec =

@@ -3,7 +3,6 @@
 -- Assumes nothing.
 use Prim.Native.Nat.{ℕ, zero, suc, _+_, _*_, _≤_, _<_}
 use native.Mathlib.Omega.{arith}
-use borrow.Author.Tests.{lt-ltb}
 use mathlib.Core.Path.{_≡_, refl}
 use mathlib.Core.Bool.{Bool, true, false}
 use mathlib.Core.List.{List, [], _∷_, _++_}
@@ -17,6 +16,7 @@ use Rattle.theory.specs.Constraints.{NotOver, Below, Pairs}
 use Rattle.theory.specs.Constraints.Laws.{carried-full}
 use Rattle.theory.specs.Merge.{Merge, slot, three, joint, OpenAt, put, Valid, final, total, living, left, weight, weights}
 use Rattle.theory.specs.Merge.Count.{steps-left, weights-kept, steps-most}
+use Rattle.theory.specs.Merge.Numbered.{alive-lt, length-put}
 use Rattle.theory.specs.Merge.Threes.{size-joint}
 use Rattle.theory.specs.Plan.{ascending}
 use Rattle.theory.specs.Plan.Order.{open-ascending}
@@ -26,9 +26,9 @@ use Rattle.space.specs.Text.Laws.{decimal-1}
 use Rattle.answer.specs.Answer.{asWays, stepOf, stepsOf}
 use Rattle.answer.specs.declared.Verdict.{Verdict}
 use Rattle.answer.specs.declared.Step.{Step}
-use Rattle.report.specs.Elements.{elements}
 use Rattle.report.specs.Elements.Laws.{elements-size}
 use Rattle.report.specs.Report.{waysName, verdictLine, elementsLine, stepLine, slotLine, stepLines, clusterLines, report}
+use Rattle.report.specs.Pieces.{Small, AllSmall}
 use Rattle.report.specs.Report.Length.{decimal-length, decimal-two, verdict-length, elements-length, step-length, slot-length}
 
 -- ---- step lines
@@ -145,6 +145,26 @@ steps-length : (lines e : ℕ) (sizes : List ℤ) (s : List ℕ) (p : List Merge
 unfolding stepsOf
 steps-length lines e sizes s [] = refl
 steps-length lines e sizes s (m ∷ p) = omega (arith, steps-length lines e sizes (put s m) p)
+
+-- ---- and their numbers small
+
+small-step : (lines e : ℕ) (sizes : List ℤ) (s : List ℕ) (m : Merge) → OpenAt s m → length s < 1000 → Small (stepOf lines e sizes s m)
+unfolding stepOf
+small-step lines e sizes s m o h =
+    let a = open-ascending s m o in
+    record {
+      made-small = h;
+      i-small = omega (arith, alive-lt s (ascending m .i) (a .livei));
+      j-small = omega (arith, alive-lt s (ascending m .j) (a .livej));
+      k-small = omega (arith, alive-lt s (ascending m .k) (a .livek));
+    }
+
+pub small-steps : (lines e : ℕ) (sizes : List ℤ) (s : List ℕ) (p : List Merge) → Valid s p → length s + length p ≤ 1000
+    → AllSmall (stepsOf lines e sizes s p)
+unfolding stepsOf
+small-steps lines e sizes s [] v h = tt
+small-steps lines e sizes s (m ∷ p) v h =
+    (small-step lines e sizes s m (v .0) (omega arith), small-steps lines e sizes (put s m) p (v .1) (omega (arith, length-put s m)))
 
 -- ---- every list of merges
 

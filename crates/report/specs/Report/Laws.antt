@@ -18,7 +18,8 @@ use Rattle.answer.specs.declared.Ways.{Ways}
 use Rattle.answer.specs.declared.Step.{Step}
 use Rattle.report.specs.Elements.{elements}
 use Rattle.report.specs.Elements.Laws.{elements-lowest, elements-none}
-use Rattle.report.specs.Report.{others, line, kindName, waysName, listed, numbers, partsWords, kindWords, waysWords, verdictLine, elementsLine, stepLine, stepLines, clusterLine, slotLine, clusterLines, Small, AllSmall, overReport}
+use Rattle.report.specs.Report.{others, line, kindName, waysName, listed, verdictLine, elementsLine, stepLine, stepLines, clusterLine, slotLine, clusterLines, overReport}
+use Rattle.report.specs.Pieces.{numbers, partsWords, kindWords, waysWords, Small, AllSmall}
 
 -- ---- a set's elements in a line
 

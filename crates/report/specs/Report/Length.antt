@@ -2,15 +2,14 @@
 use Prim.Native.Nat.{ℕ, zero, suc, _+_, _*_, _-_, _/_, _%_, _≤_, _<_}
 use native.Mathlib.Omega.{arith}
 use borrow.Author.Tests.{lt-ltb}
-use mathlib.Core.Path.{_≡_, refl, ap}
+use mathlib.Core.Path.{_≡_, refl}
 use mathlib.Core.Bool.{Bool, true, false, cond}
 use mathlib.Core.List.{List, [], _∷_, _++_}
-use lib.Dec.{ltb, eqb}
-use lib.Count.{ones}
+use lib.Dec.{ltb}
 use lib.ListN.{length, length-append}
 use Rattle.theory.specs.Set.{at}
 use Rattle.theory.specs.Merge.{living}
-use Rattle.space.specs.Text.{ascii, digit, decimal}
+use Rattle.space.specs.Text.{digit, decimal}
 use Rattle.answer.specs.declared.Verdict.{Verdict}
 use Rattle.answer.specs.declared.Verdict.the-variants.{Over, Angle, Well, Stuck, Under}
 use Rattle.answer.specs.declared.JointKind.{JointKind}
@@ -19,8 +18,9 @@ use Rattle.answer.specs.declared.Ways.{Ways}
 use Rattle.answer.specs.declared.Ways.the-variants.{Known, Unknown}
 use Rattle.answer.specs.declared.Step.{Step}
 use Rattle.report.specs.Elements.{member, among, elements}
-use Rattle.report.specs.Elements.Laws.{elements-most, elements-size}
-use Rattle.report.specs.Report.{kindName, waysName, numbers, partsWords, kindWords, waysWords, verdictLine, elementsLine, stepLine, slotLine, stepLines, clusterLines, report, overReport}
+use Rattle.report.specs.Elements.Laws.{elements-most}
+use Rattle.report.specs.Report.{kindName, waysName, verdictLine, elementsLine, stepLine, slotLine, stepLines, clusterLines, report, overReport}
+use Rattle.report.specs.Pieces.{numbers}
 use Rattle.report.specs.Report.Laws.{step-pieces, slot-dead, slot-living, over-pieces}
 
 -- ---- numbers and sets
