@@ -25,7 +25,7 @@ use Rattle.sheet.specs.Graph.{endsOf, clustersOf, listedEnds}
 use Rattle.sheet.specs.Graph.Laws.{ends-sound}
 use Rattle.graph.specs.Arrays.{endAt, endPair}
 use Rattle.graph.specs.Arrays.Laws.{map-append}
-use Rattle.sparsity.specs.Listed.{ends, masks, Listed}
+use Rattle.theory.specs.Over.Listed.{ends, masks, Listed}
 
 -- the second or the first ends in an array
 abbrev pub endsIn : Bool → List Constraint → List ℕ

@@ -7,7 +7,7 @@ use lib.ListN.{length, take}
 use lib.Seq.{take-at}
 use Rattle.space.specs.declared.Written.the-variants.{Done, Refused}
 use Rattle.space.specs.Space.{Put, answer, after}
-use Rattle.space.specs.Space.Laws.{sets-front, put-as, put-after, short-answer, short-after, long-answer}
+use Rattle.space.specs.Space.Laws.{sets-front, put-as, put-after, put-refused, long-answer}
 
 module _ {items buffer filled : List ℕ} {len : ℕ} (p : Put buffer 0 items len filled) where
   count : len ≡ length items
@@ -16,7 +16,7 @@ module _ {items buffer filled : List ℕ} {len : ℕ} (p : Put buffer 0 items le
   pub buffered-short : (space : List ℕ) → length space < len → (Refused 17 ≡ answer items space) × (space ≡ after items space)
   buffered-short space h =
       let l : length space < length items = omega (arith, count) in
-      (sym (short-answer items space l), sym (short-after items space l))
+      put-refused items space l
 
   -- the buffer's part from 0 to len
   kept : length items ≤ length buffer → take (len - 0) filled ≡ items

@@ -26,7 +26,7 @@ done g = g .last (put-none _ _)
 
 -- the place after the whole is the place after the rest
 place : {space whole s1 rest : List ℕ} {at a1 : ℕ} → Going space at whole s1 a1 rest → a1 + length rest ≡ at + length whole
-place g = g .last (put-all refl) .next-is
+place g = g .last (put-all refl refl) .next-is
 
 -- so the next piece ends where the whole ends, or before
 pub fits : {space whole s1 : List ℕ} {at a1 : ℕ} (xs ys : List ℕ) → Going space at whole s1 a1 (xs ++ ys) → at + length whole < 2 ^ 64

@@ -10,7 +10,7 @@ use Rattle.sheet.specs.Facts.{Facts, factsOf}
 use Rattle.sheet.specs.Rules.{constraintsFault}
 use Rattle.sheet.specs.RoundTrip.Blocks.{elements-most, constraints-most, sheetFault-none}
 use Rattle.sheet.specs.Graph.{clustersOf}
-use Rattle.sparsity.specs.Listed.{masks, Listed}
+use Rattle.theory.specs.Over.Listed.{masks, Listed}
 use Rattle.sparsity.specs.Answer.{asOver}
 use Rattle.judge.specs.Listing.{endsIn, masks-are, listed, clusters-below}
 use Rattle.judge.proofs.over_of.Statement.{statement}
