@@ -1,22 +1,24 @@
 -- The constraints of an accepted sheet in two arrays of ends are the sheet's initial clusters. Assumes nothing.
 use Prim.Native.Nat.{ℕ, zero, suc, _<_, _≤_}
 use native.Mathlib.Omega.{arith}
-use borrow.Author.Tests.{eq-eqb}
+use borrow.Author.Tests.{eq-eqb, leb-true}
 use mathlib.Core.Path.{_≡_, refl, sym, ap, ap₂, _∙_, subst}
 use mathlib.Core.Logic.{_≢_}
 use mathlib.Core.Bool.{Bool, true, false, _&&_, _||_}
 use mathlib.Core.List.{List, [], _∷_, _++_, map}
-use lib.Dec.{T, eqb}
+use lib.Dec.{T, eqb, leb}
 use lib.ListN.{length, take, getD, replicate, List·getD-append, List·getD-map, length-map}
 use lib.Seq.{take-suc, take-all, length-take-le}
 use native.Mathlib.Nat.{le-refl, le-of-suc-le-suc}
-use Rattle.theory.specs.Constraints.{pair, clusters, cluster, Sound, Below}
-use Rattle.theory.specs.Constraints.Laws.{pair-one, sound-below}
+use Rattle.theory.specs.Constraints.{pair, clusters, cluster, Sound, Below, Pairs}
+use Rattle.theory.specs.Constraints.Laws.{pair-one, sound-below, sound-pairs}
 use Rattle.sheet.specs.declared.Element.{Element}
 use Rattle.sheet.specs.declared.Constraint.{Constraint}
-use Rattle.sheet.specs.Facts.{Facts, block, blankConstraint}
-use Rattle.sheet.specs.Rules.{stands, constraintFault, constraintsFault}
-use Rattle.sheet.specs.Rules.Laws.{ends-true}
+use Rattle.sheet.specs.declared.Sheet.{Sheet}
+use Rattle.sheet.specs.Facts.{Facts, factsOf, block, blankConstraint}
+use Rattle.sheet.specs.Rules.{stands, constraintFault, constraintsFault, sheetFault}
+use Rattle.sheet.specs.Rules.Laws.{and-true, ends-true}
+use Rattle.sheet.specs.RoundTrip.Blocks.{constraints-most, sheetFault-none}
 use Rattle.sheet.specs.Accepted.Laws.{taken, none-else}
 use Rattle.sheet.specs.Noted.Laws.{stands-more}
 use Rattle.sheet.specs.Graph.{endsOf, clustersOf, listedEnds}
@@ -51,7 +53,7 @@ masks-upto cs (suc k) h =
     let l : k < length cs = h in
     rw (masks-upto cs k (omega arith), ends-in cs k l, take-suc cs k blankConstraint l) (sym (map-append endPair (take k cs) (getD cs k blankConstraint ∷ [])))
 
-map-map : (cs : List Constraint) → map endPair cs ≡ clusters (map endsOf cs)
+pub map-map : (cs : List Constraint) → map endPair cs ≡ clusters (map endsOf cs)
 map-map [] = refl
 map-map (c ∷ cs) = ap (λ (l : List ℕ). endPair c ∷ l) (map-map cs)
 
@@ -127,6 +129,34 @@ module _ (f : Facts) (elements : length (f .elements) ≤ 64) (constraints : len
     differ = λ c d l m e. apart c d l m (sym (ends-in (f .constraints) c (omega arith)) ∙ e ∙ ends-in (f .constraints) d m);
   }
 
-  -- every constraint is a set of the sheet's elements
+  -- every constraint is a set of two of the sheet's elements
+  pub clusters-pairs : Pairs (clustersOf f)
+  clusters-pairs = sound-pairs (length (f .elements)) (listedEnds f) (ends-sound (f .elements) (f .constraints) [] fine)
+
   pub clusters-below : Below (length (f .elements)) (clustersOf f)
   clusters-below = sound-below (length (f .elements)) (listedEnds f) (ends-sound (f .elements) (f .constraints) [] fine)
+
+-- ---- a sheet in its blocks that no rule refuses
+
+pub record Blocks (s : Sheet) : Type 0 where
+  pub elements-two : 2 ≤ s .n
+  pub elements-most : s .n ≤ 64
+  pub elements-count : length (factsOf s .elements) ≡ s .n
+  pub most : s .e ≤ 200
+  pub count : length (factsOf s .constraints) ≡ s .e
+  pub fine : constraintsFault (factsOf s .elements) [] (factsOf s .constraints) ≡ 0
+
+pub blocks : (s : Sheet) → length (s .elements) ≡ 64 → length (s .constraints) ≡ 200 → sheetFault s ≡ 0 → Blocks s
+blocks s long-elements long none =
+    let h = sheetFault-none s none in
+    let n = and-true (leb 2 (s .n)) (leb (s .n) 64) (h .0) in
+    let m : s .n ≤ 64 = leb-true (s .n) 64 (n .1) in
+    let e : s .e ≤ 200 = constraints-most (s .e) (h .1) in
+    record {
+      elements-two = leb-true 2 (s .n) (n .0);
+      elements-most = m;
+      elements-count = length-take-le (s .n) (s .elements) (rw long-elements m);
+      most = e;
+      count = length-take-le (s .e) (s .constraints) (rw long e);
+      fine = h .2;
+    }

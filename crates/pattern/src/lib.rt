@@ -36,7 +36,7 @@ pub fn rewrite(bytes: &[u8], out: &mut [u8]) -> Written
         return Written::Refused(reader::refusal(outcome));
     };
     let sheet = reading.sheet;
-    writer::write_sheet(sheet, out)
+    writer::write_accepted(sheet, out)
 }
 
 // Two numbers into lent space, or 17.

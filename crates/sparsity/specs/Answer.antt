@@ -6,9 +6,9 @@ use lib.ListN.{getD}
 use Rattle.theory.specs.Set.{at}
 use Rattle.theory.specs.Constraints.{NotOver}
 use Rattle.theory.specs.Over.{Finding, fine, first}
-use Rattle.sparsity.specs.Listed.{masks}
+use Rattle.theory.specs.Over.Listed.{masks}
 use Rattle.sparsity.specs.Freedoms.{free, Table, Balanced, Closed}
-use Rattle.sparsity.specs.Core.{Few}
+use Rattle.peeling.specs.Core.{Few}
 use Rattle.sparsity.specs.declared.Over.{Over}
 use Rattle.sparsity.specs.declared.Over.the-variants.{Not, First}
 pub mod Laws

@@ -2,11 +2,13 @@
 -- holds x while that freedom is free, and else the other end of the constraint that uses it. Assumes nothing.
 use mathlib.Core.Path.{_≡_}
 use mathlib.Core.List.{List, []}
-use Prim.Native.Nat.{ℕ, suc, _+_, _*_, _-_, _≤_, _<_}
+use Prim.Native.Nat.{ℕ, _+_, _*_, _-_, _<_}
 use lib.ListN.{length, getD, set}
 use Rattle.theory.specs.Set.{_⊑_, at}
 use Rattle.theory.specs.Sum.{sum}
 use Rattle.theory.specs.Constraints.{carried}
+pub mod Sums
+pub mod Stores
 pub mod Laws
 
 -- what entry s of element x holds

@@ -1,7 +1,4 @@
--- The search for an over set: the constraints as listed, the freedoms, what is reached, the core, the answer.
-pub mod Less
-pub mod Listed
+-- The search for an over set: the freedoms, what is reached along them, the answer.
 pub mod Freedoms
 pub mod Reach
-pub mod Core
 pub mod Answer

@@ -7,6 +7,7 @@ use lib.Count.{ones}
 use lib.ListN.{length, getD, set}
 use Rattle.theory.specs.Set.{_∪_, at}
 use Rattle.sparsity.specs.Freedoms.{entry, stored, free, Table, Balanced, Closed}
+pub mod Visits
 pub mod Laws
 pub mod Back
 

@@ -3,39 +3,21 @@
 // other end of the constraint that uses it. The contracts cite theory's `Over` and this crate's specs.
 ghost use mathlib.Core.Path.{_≡_};
 ghost use mathlib.Core.Logic.{_≢_};
-ghost use mathlib.Core.List.{[]};
-ghost use Prim.Native.Nat.{ℕ, _+_, _-_, _^_, _≤_, _<_};
+ghost use Prim.Native.Nat.{ℕ, _+_, _≤_, _<_};
 ghost use lib.Count.{ones};
-ghost use lib.ListN.{getD, set};
-ghost use Rattle.theory.specs.Set.{_⊑_, at, full};
 ghost use Rattle.theory.specs.Constraints.{pair, Below};
 ghost use Rattle.theory.specs.Over.{overOf};
-ghost use Rattle.sparsity.specs.Listed.{masks, Listed};
-ghost use Rattle.sparsity.specs.Freedoms.{same, free, entry, Table, FreeBelow};
+ghost use Rattle.theory.specs.Over.Listed.{masks, Listed};
+ghost use Rattle.sparsity.specs.Freedoms.{same, free, Table, FreeBelow};
 ghost use Rattle.sparsity.specs.Reach.{item, Visit, Lent, Found, Way, Gained, Gathered, Placed};
-ghost use Rattle.sparsity.specs.Core.{Core, Near, Light, Peeled};
+ghost use Rattle.peeling.specs.Core.{Core};
 ghost use Rattle.sparsity.specs.Answer.{asOver};
-
-// A byte as an index.
-fn wide(x: u8) -> usize
-    ensures { λ r. ⌜ r ≡ x ⌝ }
-{
-    x as usize
-}
 
 // 1 where y is x, else 0.
 fn one_if_same(y: u8, x: u8) -> usize
     ensures { λ r. ⌜ r ≡ same y x ⌝ }
 {
     if y == x { 1 } else { 0 }
-}
-
-// The set of one element.
-fn single(x: u8) -> u64
-    requires { ⌜ x < 64 ⌝ }
-    ensures { λ r. ⌜ r ≡ 2 ^ x ⌝ }
-{
-    1u64 << (x as u32)
 }
 
 // The table with every freedom free.
@@ -45,7 +27,7 @@ fn all_free() -> [[u8; 2]; 64]
     let mut own = [[0u8; 2]; 64];
     let mut x: u8 = 0;
     while x < 64 {
-        let i = wide(x);
+        let i = peeling::wide(x);
         own[i] = [x; 2];
         x = x + 1;
     }
@@ -57,8 +39,8 @@ fn free_ends(own: [[u8; 2]; 64], a: u8, b: u8) -> usize
     requires { ⌜ (a < 64) × (b < 64) ⌝ }
     ensures { λ r. ⌜ r ≡ free own a + free own b ⌝ }
 {
-    let i = wide(a);
-    let j = wide(b);
+    let i = peeling::wide(a);
+    let j = peeling::wide(b);
     one_if_same(own[i][0], a)
         + one_if_same(own[i][1], a)
         + (one_if_same(own[j][0], b) + one_if_same(own[j][1], b))
@@ -75,7 +57,7 @@ fn visit(queue: &mut [u8; 64], from: &mut [u8; 64], f: Front, y: u8, p: u8) -> F
     requires { ⌜ (y < 64) × (ones (f .seen) ≡ f .count) ⌝ }
     ensures { λ r. ⌜ Visit (now (queue .entry)) (now (from .entry)) (f .seen) (f .count) y p (now (queue .exit)) (now (from .exit)) (r .seen) (r .count) ⌝ }
 {
-    let bit = single(y);
+    let bit = peeling::single(y);
     if f.seen & bit != 0 {
         return f;
     }
@@ -113,13 +95,13 @@ fn seek(own: [[u8; 2]; 64], queue: &mut [u8; 64], from: &mut [u8; 64], a: u8, b:
     queue[0] = a;
     queue[1] = b;
     let mut f = Front {
-        seen: single(a) | single(b),
+        seen: peeling::single(a) | peeling::single(b),
         count: 2,
     };
     let mut p: usize = 0;
     while p < f.count {
         let x = queue[p];
-        let i = wide(x);
+        let i = peeling::wide(x);
         let y = own[i][0];
         let z = own[i][1];
         if opens(y, z, x, p) != 0 {
@@ -149,11 +131,11 @@ fn release(own: [[u8; 2]; 64], queue: &[u8; 64], from: &[u8; 64], p: usize) -> [
     let mut t = own;
     let mut i = p;
     while 2 <= i {
-        let j = wide(from[i]);
+        let j = peeling::wide(from[i]);
         let bx = queue[j];
         let by = queue[i];
-        let x = wide(bx);
-        let y = wide(by);
+        let x = peeling::wide(bx);
+        let y = peeling::wide(by);
         let s = one_if_same(t[x][1], by);
         let r = one_if_same(t[y][1], by);
         t[x][s] = bx;
@@ -193,8 +175,8 @@ fn place(own: [[u8; 2]; 64], a: u8, b: u8) -> [[u8; 2]; 64]
     ensures { λ r. ⌜ Placed own a b r ⌝ }
 {
     let mut t = own;
-    let i = wide(a);
-    let j = wide(b);
+    let i = peeling::wide(a);
+    let j = peeling::wide(b);
     if t[i][0] == a {
         t[i][0] = b;
     } else if t[i][1] == a {
@@ -218,7 +200,7 @@ fn pair_of(a: u8, b: u8) -> u64
     requires { ⌜ (a < 64) × (b < 64) ⌝ }
     ensures { λ r. ⌜ r ≡ pair a b ⌝ }
 {
-    single(a) | single(b)
+    peeling::single(a) | peeling::single(b)
 }
 
 // The first of e constraints that makes those up to it over, with the smallest set, where the sets within core tell. An end that has one constraint
@@ -259,110 +241,12 @@ fn search(firsts: &[u8; 200], seconds: &[u8; 200], e: usize, core: u64) -> Over
     Over::Not
 }
 
-// For each element the set of those that share one of e constraints with it.
-fn near_of(firsts: &[u8; 200], seconds: &[u8; 200], e: usize) -> [u64; 64]
-    requires { ⌜ Listed (now firsts) (now seconds) e ⌝ }
-    ensures { λ r. ⌜ Near (now (firsts .entry)) (now (seconds .entry)) e r ⌝ }
-{
-    let mut near = [0u64; 64];
-    let mut c: usize = 0;
-    while c < e {
-        let a = firsts[c];
-        let b = seconds[c];
-        let i = wide(a);
-        let j = wide(b);
-        let p = near[i] | single(b);
-        let q = near[j] | single(a);
-        near[i] = p;
-        near[j] = q;
-        c = c + 1;
-    }
-    near
-}
-
-// A set without its lowest element.
-fn drop_low(m: u64) -> u64
-    ensures { λ r. ⌜ ones r ≡ ones m - 1 ⌝ }
-{
-    if m == 0 { 0 } else { m & (m - 1) }
-}
-
-// The lowest element of a set.
-fn lowest(m: u64) -> u8
-    requires { ⌜ 0 < m ⌝ }
-    ensures { λ r. ⌜ (r < 64) × (at r m ≡ 1) ⌝ }
-{
-    u64::trailing_zeros(m) as u8
-}
-
-// The elements with two neighbours at most.
-fn light_all(near: &[u64; 64]) -> u64
-    ensures { λ r. ⌜ Light (now (near .entry)) (full 64) r ⌝ }
-{
-    let mut todo: u64 = 0;
-    let mut x: u8 = 0;
-    while x < 64 {
-        let i = wide(x);
-        if drop_low(drop_low(near[i])) == 0 {
-            todo = todo | single(x);
-        }
-        x = x + 1;
-    }
-    todo
-}
-
-// The elements of who with two neighbours at most among those left.
-fn light_of(near: &[u64; 64], left: u64, who: u64) -> u64
-    requires { ⌜ who ⊑ left ⌝ }
-    ensures { λ r. ⌜ Light (now (near .entry)) left r ⌝ }
-{
-    let mut todo: u64 = 0;
-    let mut m = who;
-    while m != 0 {
-        let x = lowest(m);
-        let i = wide(x);
-        let bit = single(x);
-        if drop_low(drop_low(near[i] & left)) == 0 {
-            todo = todo | bit;
-        }
-        m = m - bit;
-    }
-    todo
-}
-
-// What is left when elements with two neighbours at most are taken away, one after another.
-fn peel(near: &[u64; 64], low: u64) -> u64
-    requires { ⌜ Light (now near) (full 64) low ⌝ }
-    ensures { λ r. ⌜ Peeled (now (near .entry)) r ⌝ }
-{
-    let mut left: u64 = 18446744073709551615;
-    let mut todo = low;
-    while todo != 0 {
-        let x = lowest(todo);
-        let i = wide(x);
-        let bit = single(x);
-        left = left - bit;
-        todo = (todo - bit) | light_of(near, left, near[i] & left);
-    }
-    left
-}
-
-// The elements that an over set can have.
-fn core_of(firsts: &[u8; 200], seconds: &[u8; 200], e: usize) -> u64
-    requires { ⌜ Listed (now firsts) (now seconds) e ⌝ }
-    ensures { λ r. ⌜ Core (now (firsts .entry)) (now (seconds .entry)) e r ⌝ }
-{
-    let near = near_of(firsts, seconds, e);
-    let low = light_all(&near);
-    peel(&near, low)
-}
-
 // The first of e constraints that makes those up to it over, with the smallest set; Not where they are not over.
 pub fn find_over(firsts: &[u8; 200], seconds: &[u8; 200], e: usize) -> Over
     requires { ⌜ Listed (now firsts) (now seconds) e ⌝ }
     ensures { λ r. ⌜ ((n : ℕ) → Below n (masks (now (firsts .entry)) (now (seconds .entry)) e) → r ≡ asOver (overOf n (masks (now (firsts .entry)) (now (seconds .entry)) e))) ⌝ }
 {
-    let core = core_of(firsts, seconds, e);
+    let core = peeling::core_of(firsts, seconds, e);
     if core == 0 {
         return Over::Not;
     }

@@ -1,12 +1,10 @@
 use borrow.Author.Needs.{needs}
 use mathlib.Core.Path.{_≡_, refl, sym, ap, _∙_}
-use Rattle.sheet.specs.declared.Sheet.{Sheet}
 use Rattle.sheet.specs.Field.{Bytes}
 use Rattle.reader.specs.Answers.{outcomeNumber}
-use Rattle.writer.specs.Write.{writeAnswer, writeAfter}
 use Rattle.space.specs.declared.Written.the-variants.{Refused}
 use Rattle.pattern.specs.Sheets.{rewriteAnswer, rewriteAfter}
-use Rattle.pattern.specs.Sheets.Laws.{facts-read, refusal-read, rewrite-answer, rewrite-after}
+use Rattle.pattern.specs.Sheets.Laws.{FactsRead, facts-read, refusal-read, rewrite-given}
 use Rattle.pattern.proofs.rewrite.Statement.{statement}
 use Rattle.pattern.proofs.rewrite.Tie as tie
 
@@ -31,8 +29,18 @@ returns c =
     let e = refusal-read (a .bytes .now) (r .result) (t .0 .0) (r .ensures) (t .1) in
     rw e (ap Refused (c .refusal .ensures ∙ ap outcomeNumber (t .1)), refl)
 
-write-sheet-requires : tie.Need-write-sheet-requires
-write-sheet-requires c κs = search needs
+-- the facts of the sheet
+module _ (c : tie.After-write-accepted-arg) where
+  all : Bytes (c .before .before .before .before .before .before .before .args .bytes .now)
+  all = record { each = λ i. c .before .before .before .before .before .before .shared-slice-known .given i .fits }
+
+  read : FactsRead (c .before .before .before .before .before .before .before .args .bytes .now) (c .before .before .before .before .read-sheet .result)
+  read =
+      facts-read (c .before .before .before .before .before .before .before .args .bytes .now) (c .before .before .before .before .read-sheet .result) all
+      (c .before .before .before .before .read-sheet .ensures) (c .before .before .enum-told .given .1)
+
+write-accepted-requires : tie.Need-write-accepted-requires
+write-accepted-requires c κs = read c .no-fault
 
 same-length : tie.Need-same-length
 same-length c = search needs
@@ -40,13 +48,10 @@ same-length c = search needs
 returns-2 : tie.Need-returns-2
 returns-2 c =
     let a = c .before .before .before .before .before .before .before .before .before .before .args in
-    let r = c .before .before .before .before .before .before .before .read-sheet in
-    let all : Bytes (a .bytes .now) = record { each = λ i. c .before .before .before .before .before .before .before .before .before .shared-slice-known .given i .fits } in
-    let f = facts-read (a .bytes .now) (r .result) all (r .ensures) (c .before .before .before .before .before .enum-told .given .1) in
-    let w = c .before .before .write-sheet .ensures in (
-      w .0 ∙ ap (λ (s : Sheet). writeAnswer s (a .out .now)) (f .sheet-is) ∙ rewrite-answer (a .bytes .now) (f .facts) (f .rest) (a .out .now) all (f .reads),
-      w .1 ∙ ap (λ (s : Sheet). writeAfter s (a .out .now)) (f .sheet-is) ∙ rewrite-after (a .bytes .now) (f .facts) (f .rest) (a .out .now) all (f .reads),
-    )
+    let p = c .before .before .before in
+    let w = c .before .before .write-accepted .ensures in
+    let g = rewrite-given (a .bytes .now) (a .out .now) (p .before .before .before .before .read-sheet .result) (all p) (read p) in
+    (w .0 ∙ g .0, w .1 ∙ g .1)
 
 pub rewrite-spec : {M : Type 1} → statement M
 rewrite-spec =
@@ -57,6 +62,6 @@ rewrite-spec =
     enum-told-2
     refusal-requires
     returns
-    write-sheet-requires
+    write-accepted-requires
     same-length
     returns-2)

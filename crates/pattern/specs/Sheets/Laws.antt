@@ -18,7 +18,6 @@ use Rattle.sheet.specs.Decode.{readSheet}
 use Rattle.sheet.specs.Encode.{sheetBytes}
 use Rattle.sheet.specs.RoundTrip.{written-read}
 use Rattle.sheet.specs.RoundTrip.Blocks.{factsOf-sheetOf, sheetOf-fault}
-use Rattle.writer.specs.Write.{writeAnswer, writeAfter}
 use Rattle.reader.specs.declared.Outcome.{Outcome}
 use Rattle.reader.specs.declared.Outcome.the-variants.{Accepted as Took, Refused as Stopped}
 use Rattle.reader.specs.declared.Reading.{Reading}
@@ -71,18 +70,14 @@ refusal-read bytes r k e o = go (readSheet bytes) refl
         let s : Stopped k ≡ Stopped j = sym o ∙ ap (λ (x : Reading). x .outcome) (e ∙ ap asReading q) in
         let n : k ≡ j = cc in q ∙ ap refused (sym n)
 
-module _ (bytes : List ℕ) (f : Facts) (rest space : List ℕ) (all : Bytes bytes) (e : readSheet bytes ≡ value f rest) where
-  pub rewrite-answer : writeAnswer (sheetOf f) space ≡ rewriteAnswer bytes space
-  unfolding writeAnswer rewriteAnswer
-  rewrite-answer =
-      let w = written-read bytes f rest all e in
-      rw (e, eq-eqb _ _ (sheetOf-fault f (w .2)), factsOf-sheetOf f, w .1)
+-- an accepted sheet's own bytes are written again
+module _ (bytes space : List ℕ) (r : Reading) (all : Bytes bytes) (h : FactsRead bytes r) where
+  same-bytes : sheetBytes (factsOf (r .sheet)) ≡ bytes
+  same-bytes = ap sheetBytes (h .facts-are) ∙ written-read bytes (h .facts) (h .rest) all (h .reads) .1
 
-  pub rewrite-after : writeAfter (sheetOf f) space ≡ rewriteAfter bytes space
-  unfolding writeAfter rewriteAfter
-  rewrite-after =
-      let w = written-read bytes f rest all e in
-      rw (e, eq-eqb _ _ (sheetOf-fault f (w .2)), factsOf-sheetOf f, w .1)
+  pub rewrite-given : (answer (sheetBytes (factsOf (r .sheet))) space ≡ rewriteAnswer bytes space) × (after (sheetBytes (factsOf (r .sheet))) space ≡ rewriteAfter bytes space)
+  unfolding rewriteAnswer rewriteAfter
+  rewrite-given = rw (same-bytes, h .reads) (refl, refl)
 
 -- ---- items into lent space
 

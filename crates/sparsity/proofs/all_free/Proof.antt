@@ -1,6 +1,6 @@
 use borrow.Author.Needs.{needs}
 -- `all_free` meets its contract. The loop's invariant: the freedoms of the elements below x are free. Assumes nothing.
-use mathlib.Core.Path.{_≡_, sym, subst}
+use mathlib.Core.Path.{sym, subst}
 use mathlib.Core.List.{[], _∷_}
 use Prim.Native.Nat.{ℕ, _+_, _-_, _≤_}
 use native.Mathlib.Omega.{arith}
@@ -9,9 +9,6 @@ use Rattle.sparsity.specs.Freedoms.{FreeBelow}
 use Rattle.sparsity.specs.Freedoms.Laws.{free-none, free-next}
 use Rattle.sparsity.proofs.all_free.Statement.{statement}
 use Rattle.sparsity.proofs.all_free.Tie as tie
-use Rattle.sparsity.proofs.all_free.Reads as reads
-use Rattle.sparsity.proofs.all_free.Lts as lts
-use Rattle.sparsity.proofs.wide.Reads as wide-reads
 
 abbrev Inv-loop : tie.InvT-loop
 Inv-loop own₀ x₀ own x = (x ≤ 64) × FreeBelow x own
@@ -19,31 +16,24 @@ Inv-loop own₀ x₀ own x = (x ≤ 64) × FreeBelow x own
 abbrev μ-loop : tie.MeasureT-loop
 μ-loop own₀ x₀ own x = 64 - x
 
--- src/lib.rt:47:5
 loop-holds : tie.Need-loop-holds Inv-loop μ-loop
 loop-holds c = (omega arith, free-none)
 
--- src/lib.rt:48:13
 wide-requires : tie.Need-wide-requires Inv-loop μ-loop
 wide-requires c κs = search needs
 
--- src/lib.rt:49:9
 mul-own : tie.Need-mul-own Inv-loop μ-loop
 mul-own c = omega arith
 
--- src/lib.rt:49:9
 array-set-from-own : tie.Need-array-set-from-own Inv-loop μ-loop
 array-set-from-own c = omega arith
 
--- src/lib.rt:50:13
 add-x : tie.Need-add-x Inv-loop μ-loop
 add-x c = omega arith
 
--- src/lib.rt:47:5
 loop-less : tie.Need-loop-less Inv-loop μ-loop
 loop-less c = omega arith
 
--- src/lib.rt:47:5
 loop-again : tie.Need-loop-again Inv-loop μ-loop
 loop-again c =
     let l = c .before .before .loop in (
@@ -52,7 +42,6 @@ loop-again c =
           (free-next (l .x) (l .own) (omega arith) (l .inv .1)),
     )
 
--- src/lib.rt:42:1
 returns : tie.Need-returns Inv-loop μ-loop
 returns c =
     let l = c .before .loop in

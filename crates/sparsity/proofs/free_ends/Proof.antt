@@ -2,96 +2,71 @@
 use mathlib.Core.Path.{ap₂}
 use Prim.Native.Nat.{_+_}
 use native.Mathlib.Omega.{arith}
-use Rattle.sparsity.specs.Freedoms.Laws.{same-bit, free-sum}
+use Rattle.sparsity.specs.Freedoms.Sums.{same-bit, free-sum}
 use borrow.Author.Needs.{needs}
 use Rattle.sparsity.proofs.free_ends.Statement.{statement}
 use Rattle.sparsity.proofs.free_ends.Tie as tie
-use Rattle.sparsity.proofs.free_ends.Reads as reads
-use Rattle.sparsity.proofs.free_ends.Lts as lts
-use Rattle.sparsity.proofs.one_if_same.Reads as one-if-same-reads
-use Rattle.sparsity.proofs.wide.Reads as wide-reads
 
--- src/lib.rt:61:9
 wide-requires : tie.Need-wide-requires
 wide-requires c κs = search needs
 
--- src/lib.rt:62:9
 wide-requires-2 : tie.Need-wide-requires-2
 wide-requires-2 c κs = search needs
 
--- src/lib.rt:63:17
 mul-one-if-same : tie.Need-mul-one-if-same
 mul-one-if-same c = search needs
 
--- src/lib.rt:63:17
 index-1-one-if-same : tie.Need-index-1-one-if-same
 index-1-one-if-same c = search needs
 
--- src/lib.rt:63:17
 index-2-one-if-same : tie.Need-index-2-one-if-same
 index-2-one-if-same c = search needs
 
--- src/lib.rt:63:5
 one-if-same-requires : tie.Need-one-if-same-requires
 one-if-same-requires c κs = search needs
 
--- src/lib.rt:63:45
 mul-one-if-same-2 : tie.Need-mul-one-if-same-2
 mul-one-if-same-2 c = search needs
 
--- src/lib.rt:63:45
 index-1-one-if-same-2 : tie.Need-index-1-one-if-same-2
 index-1-one-if-same-2 c = search needs
 
--- src/lib.rt:63:45
 index-2-one-if-same-2 : tie.Need-index-2-one-if-same-2
 index-2-one-if-same-2 c = search needs
 
--- src/lib.rt:63:33
 one-if-same-requires-2 : tie.Need-one-if-same-requires-2
 one-if-same-requires-2 c κs = search needs
 
--- src/lib.rt:63:5
 add-result : tie.Need-add-result
 add-result c = omega (arith, same-bit _ _ _ (c .before .before .one-if-same .ensures), same-bit _ _ _ (c .one-if-same2 .ensures))
 
--- src/lib.rt:63:74
 mul-one-if-same-3 : tie.Need-mul-one-if-same-3
 mul-one-if-same-3 c = search needs
 
--- src/lib.rt:63:74
 index-1-one-if-same-3 : tie.Need-index-1-one-if-same-3
 index-1-one-if-same-3 c = search needs
 
--- src/lib.rt:63:74
 index-2-one-if-same-3 : tie.Need-index-2-one-if-same-3
 index-2-one-if-same-3 c = search needs
 
--- src/lib.rt:63:62
 one-if-same-requires-3 : tie.Need-one-if-same-requires-3
 one-if-same-requires-3 c κs = search needs
 
--- src/lib.rt:63:102
 mul-one-if-same-4 : tie.Need-mul-one-if-same-4
 mul-one-if-same-4 c = search needs
 
--- src/lib.rt:63:102
 index-1-one-if-same-4 : tie.Need-index-1-one-if-same-4
 index-1-one-if-same-4 c = search needs
 
--- src/lib.rt:63:102
 index-2-one-if-same-4 : tie.Need-index-2-one-if-same-4
 index-2-one-if-same-4 c = search needs
 
--- src/lib.rt:63:90
 one-if-same-requires-4 : tie.Need-one-if-same-requires-4
 one-if-same-requires-4 c κs = search needs
 
--- src/lib.rt:63:62
 add-result-2 : tie.Need-add-result-2
 add-result-2 c = omega (arith, same-bit _ _ _ (c .before .before .one-if-same3 .ensures), same-bit _ _ _ (c .one-if-same4 .ensures))
 
--- src/lib.rt:63:5
 add-result-3 : tie.Need-add-result-3
 add-result-3 c =
     omega (
@@ -102,7 +77,6 @@ add-result-3 c =
       same-bit _ _ _ (c .one-if-same4 .ensures),
     )
 
--- src/lib.rt:57:1
 returns : tie.Need-returns
 returns c =
     let s = c .before .before .before .before .before .before .before .before .before .before in

@@ -1,7 +1,5 @@
 -- `one_if_same` meets its contract. Assumes nothing.
-use mathlib.Core.Path.{_≡_, sym, ap, _∙_}
 use Rattle.sparsity.specs.Freedoms.{same}
-use Rattle.sparsity.specs.Freedoms.Laws.{same-refl, same-ne}
 use native.Mathlib.Omega.{arith}
 use Rattle.sparsity.proofs.one_if_same.Statement.{statement}
 use Rattle.sparsity.proofs.one_if_same.Tie as tie

@@ -4,121 +4,91 @@ use Rattle.sparsity.specs.Reach.Back.{placed-first, placed-second, last-
 use borrow.Author.Needs.{needs}
 use Rattle.sparsity.proofs.place.Statement.{statement}
 use Rattle.sparsity.proofs.place.Tie as tie
-use Rattle.sparsity.proofs.place.Reads as reads
-use Rattle.sparsity.proofs.place.Lts as lts
-use Rattle.sparsity.proofs.wide.Reads as wide-reads
 
--- src/lib.rt:174:9
 wide-requires : tie.Need-wide-requires
 wide-requires c κs = search needs
 
--- src/lib.rt:175:9
 wide-requires-2 : tie.Need-wide-requires-2
 wide-requires-2 c κs = search needs
 
--- src/lib.rt:176:8
 mul-if1 : tie.Need-mul-if1
 mul-if1 c = search needs
 
--- src/lib.rt:176:8
 index-1-if1 : tie.Need-index-1-if1
 index-1-if1 c = search needs
 
--- src/lib.rt:176:8
 index-2-if1 : tie.Need-index-2-if1
 index-2-if1 c = search needs
 
--- src/lib.rt:177:9
 mul-t : tie.Need-mul-t
 mul-t c = search needs
 
--- src/lib.rt:177:9
 index-1-t : tie.Need-index-1-t
 index-1-t c = search needs
 
--- src/lib.rt:177:9
 index-2-t : tie.Need-index-2-t
 index-2-t c = search needs
 
--- src/lib.rt:178:15
 mul-if2 : tie.Need-mul-if2
 mul-if2 c = search needs
 
--- src/lib.rt:178:15
 index-1-if2 : tie.Need-index-1-if2
 index-1-if2 c = search needs
 
--- src/lib.rt:178:15
 index-2-if2 : tie.Need-index-2-if2
 index-2-if2 c = search needs
 
--- src/lib.rt:179:9
 mul-t-2 : tie.Need-mul-t-2
 mul-t-2 c = search needs
 
--- src/lib.rt:179:9
 index-1-t-2 : tie.Need-index-1-t-2
 index-1-t-2 c = search needs
 
--- src/lib.rt:179:9
 index-2-t-2 : tie.Need-index-2-t-2
 index-2-t-2 c = search needs
 
--- src/lib.rt:180:15
 mul-if3 : tie.Need-mul-if3
 mul-if3 c = search needs
 
--- src/lib.rt:180:15
 index-1-if3 : tie.Need-index-1-if3
 index-1-if3 c = search needs
 
--- src/lib.rt:180:15
 index-2-if3 : tie.Need-index-2-if3
 index-2-if3 c = search needs
 
--- src/lib.rt:181:9
 mul-t-3 : tie.Need-mul-t-3
 mul-t-3 c = search needs
 
--- src/lib.rt:181:9
 index-1-t-3 : tie.Need-index-1-t-3
 index-1-t-3 c = search needs
 
--- src/lib.rt:181:9
 index-2-t-3 : tie.Need-index-2-t-3
 index-2-t-3 c = search needs
 
--- src/lib.rt:183:9
 mul-t-4 : tie.Need-mul-t-4
 mul-t-4 c = search needs
 
--- src/lib.rt:183:9
 index-1-t-4 : tie.Need-index-1-t-4
 index-1-t-4 c = search needs
 
--- src/lib.rt:183:9
 index-2-t-4 : tie.Need-index-2-t-4
 index-2-t-4 c = search needs
 
--- src/lib.rt:169:1
 returns : tie.Need-returns
 returns c =
     let s = c .before .before .before .before in
     placed-first (s .args .own) (s .args .b) 0 (c .before .before .before .wide .ensures) (zero-lt-suc 1) (c .if1 .taken)
 
--- src/lib.rt:169:1
 returns-2 : tie.Need-returns-2
 returns-2 c =
     let s = c .before .before .before .before .before .before in
     placed-first (s .args .own) (s .args .b) 1 (c .before .before .before .before .before .wide .ensures) (le-refl 2) (c .if2 .taken)
 
--- src/lib.rt:169:1
 returns-3 : tie.Need-returns-3
 returns-3 c =
     let s = c .before .before .before .before .before .before .before .before in
     placed-second (s .args .own) (s .args .a) 0 (c .before .before .before .before .before .before .wide2 .ensures) (zero-lt-suc 1) (c .if3 .taken)
 
--- src/lib.rt:169:1
 returns-4 : tie.Need-returns-4
 returns-4 c =
     let s = c .before .before .before .before .before .before .before .before in

@@ -1,18 +1,14 @@
 -- `release` meets its contract. The loop's invariant: the freedoms from place p to place i are turned. Assumes nothing.
-use mathlib.Core.Path.{_≡_, sym, ap, _∙_, subst}
+use mathlib.Core.Path.{sym, ap, _∙_, subst}
 use Prim.Native.Nat.{ℕ}
 use borrow.Author.Needs.{needs}
 use native.Mathlib.Omega.{arith}
 use Rattle.sparsity.specs.Freedoms.{entry, stored, same}
-use Rattle.sparsity.specs.Freedoms.Laws.{same-bit}
+use Rattle.sparsity.specs.Freedoms.Sums.{same-bit}
 use Rattle.sparsity.specs.Reach.{Walked}
 use Rattle.sparsity.specs.Reach.Back.{walk-start, walk-step, walk-end, j-less, x-fits, y-fits}
 use Rattle.sparsity.proofs.release.Statement.{statement}
 use Rattle.sparsity.proofs.release.Tie as tie
-use Rattle.sparsity.proofs.release.Reads as reads
-use Rattle.sparsity.proofs.release.Lts as lts
-use Rattle.sparsity.proofs.one_if_same.Reads as one-if-same-reads
-use Rattle.sparsity.proofs.wide.Reads as wide-reads
 
 abbrev Inv-loop : tie.InvT-loop
 Inv-loop queue from p t₀ i₀ t i = Walked t₀ queue p i t
@@ -20,119 +16,96 @@ Inv-loop queue from p t₀ i₀ t i = Walked t₀ queue p i t
 abbrev μ-loop : tie.MeasureT-loop
 μ-loop queue from p t₀ i₀ t i = i
 
--- src/lib.rt:135:5
 loop-holds : tie.Need-loop-holds Inv-loop μ-loop
 loop-holds c = walk-start (c .pre)
 
--- src/lib.rt:136:22
 element-copy-out-wide : tie.Need-element-copy-out-wide Inv-loop μ-loop
 element-copy-out-wide c =
     let l = c .before .loop in
     let s = c .before .before in
     omega (arith, l .inv .inside, s .pre .room)
 
--- src/lib.rt:136:13
 wide-requires : tie.Need-wide-requires Inv-loop μ-loop
 wide-requires c κs = search needs
 
--- src/lib.rt:137:18
 element-copy-out-bx : tie.Need-element-copy-out-bx Inv-loop μ-loop
 element-copy-out-bx c =
     let l = c .before .before .before .loop in
     let s = c .before .before .before .before in
     omega (arith, j-less (s .pre) (l .inv) (c .before .before .loop-test .taken) (c .wide .ensures), l .inv .inside, s .pre .room)
 
--- src/lib.rt:138:18
 element-copy-out-by : tie.Need-element-copy-out-by Inv-loop μ-loop
 element-copy-out-by c =
     let l = c .before .before .before .before .loop in
     let s = c .before .before .before .before .before in
     omega (arith, l .inv .inside, s .pre .room)
 
--- src/lib.rt:139:13
 wide-requires-2 : tie.Need-wide-requires-2 Inv-loop μ-loop
 wide-requires-2 c κs = search needs
 
--- src/lib.rt:140:13
 wide-requires-3 : tie.Need-wide-requires-3 Inv-loop μ-loop
 wide-requires-3 c κs = search needs
 
--- src/lib.rt:141:29
 index-1-one-if-same : tie.Need-index-1-one-if-same Inv-loop μ-loop
 index-1-one-if-same c =
     let l = c .before .before .before .before .before .before .before .loop in
     let s = c .before .before .before .before .before .before .before .before in
     x-fits (s .pre) (l .inv) (c .before .before .before .before .before .before .loop-test .taken) (c .before .before .before .before .wide .ensures) (c .before .wide2 .ensures)
 
--- src/lib.rt:141:29
 mul-one-if-same : tie.Need-mul-one-if-same Inv-loop μ-loop
 mul-one-if-same c = omega (arith, index-1-one-if-same c)
 
--- src/lib.rt:141:29
 index-2-one-if-same : tie.Need-index-2-one-if-same Inv-loop μ-loop
 index-2-one-if-same c = omega arith
 
--- src/lib.rt:141:13
 one-if-same-requires : tie.Need-one-if-same-requires Inv-loop μ-loop
 one-if-same-requires c κs = search needs
 
--- src/lib.rt:142:29
 index-1-one-if-same-2 : tie.Need-index-1-one-if-same-2 Inv-loop μ-loop
 index-1-one-if-same-2 c =
     let l = c .before .before .before .before .before .before .before .before .before .loop in
     let s = c .before .before .before .before .before .before .before .before .before .before in
     y-fits (s .pre) (l .inv) (c .before .before .before .before .before .before .before .before .loop-test .taken) (c .before .before .before .before .before .before .wide .ensures) (c .before .before .wide3 .ensures)
 
--- src/lib.rt:142:29
 mul-one-if-same-2 : tie.Need-mul-one-if-same-2 Inv-loop μ-loop
 mul-one-if-same-2 c = omega (arith, index-1-one-if-same-2 c)
 
--- src/lib.rt:142:29
 index-2-one-if-same-2 : tie.Need-index-2-one-if-same-2 Inv-loop μ-loop
 index-2-one-if-same-2 c = omega arith
 
--- src/lib.rt:142:13
 one-if-same-requires-2 : tie.Need-one-if-same-requires-2 Inv-loop μ-loop
 one-if-same-requires-2 c κs = search needs
 
--- src/lib.rt:143:9
 index-1-t : tie.Need-index-1-t Inv-loop μ-loop
 index-1-t c =
     let l = c .before .before .before .before .before .before .before .before .before .before .before .loop in
     let s = c .before .before .before .before .before .before .before .before .before .before .before .before in
     x-fits (s .pre) (l .inv) (c .before .before .before .before .before .before .before .before .before .before .loop-test .taken) (c .before .before .before .before .before .before .before .before .wide .ensures) (c .before .before .before .before .before .wide2 .ensures)
 
--- src/lib.rt:143:9
 mul-t : tie.Need-mul-t Inv-loop μ-loop
 mul-t c = omega (arith, index-1-t c)
 
--- src/lib.rt:143:9
 index-2-t : tie.Need-index-2-t Inv-loop μ-loop
 index-2-t c = omega (arith, same-bit _ _ _ (c .before .before .one-if-same .ensures))
 
--- src/lib.rt:144:9
 index-1-t-2 : tie.Need-index-1-t-2 Inv-loop μ-loop
 index-1-t-2 c =
     let l = c .before .before .before .before .before .before .before .before .before .before .before .loop in
     let s = c .before .before .before .before .before .before .before .before .before .before .before .before in
     y-fits (s .pre) (l .inv) (c .before .before .before .before .before .before .before .before .before .before .loop-test .taken) (c .before .before .before .before .before .before .before .before .wide .ensures) (c .before .before .before .before .wide3 .ensures)
 
--- src/lib.rt:144:9
 mul-t-2 : tie.Need-mul-t-2 Inv-loop μ-loop
 mul-t-2 c = omega (arith, index-1-t-2 c)
 
--- src/lib.rt:144:9
 index-2-t-2 : tie.Need-index-2-t-2 Inv-loop μ-loop
 index-2-t-2 c = omega (arith, same-bit _ _ _ (c .one-if-same2 .ensures))
 
--- src/lib.rt:135:5
 loop-less : tie.Need-loop-less Inv-loop μ-loop
 loop-less c =
     let l = c .before .before .before .before .before .before .before .before .before .before .before .loop in
     let s = c .before .before .before .before .before .before .before .before .before .before .before .before in
     j-less (s .pre) (l .inv) (c .before .before .before .before .before .before .before .before .before .before .loop-test .taken) (c .before .before .before .before .before .before .before .before .wide .ensures)
 
--- src/lib.rt:135:5
 loop-again : tie.Need-loop-again Inv-loop μ-loop
 loop-again c =
     let l = c .before .before .before .before .before .before .before .before .before .before .before .loop in
@@ -147,7 +120,6 @@ loop-again c =
     (walk-step (s .pre) (l .inv) (c .before .before .before .before .before .before .before .before .before .before .loop-test .taken) (c .before .before .before .before .before .before .before .before .wide .ensures) ex ey
     (sx .ensures ∙ ap (same (entry (l .t) (c .before .before .before .before .before .wide2 .result) 1)) (sym ey)) (sy .ensures ∙ ap (same (entry (l .t) (c .before .before .before .before .wide3 .result) 1)) (sym ey)))
 
--- src/lib.rt:129:1
 returns : tie.Need-returns Inv-loop μ-loop
 returns c = walk-end (c .before .loop .inv) (c .loop-test .left)
 

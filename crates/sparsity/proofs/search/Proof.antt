@@ -1,25 +1,17 @@
 -- `search` meets its contract. The loop's invariant: the constraints before c use freedoms and are not over. Assumes nothing.
-use mathlib.Core.Path.{_≡_, refl, sym, ap, ap₂, _∙_, subst}
+use mathlib.Core.Path.{refl, sym, _∙_, subst}
 use mathlib.Core.Logic.{⊎-elim}
-use Prim.Native.Nat.{ℕ, suc, _+_, _-_, _<_}
+use Prim.Native.Nat.{ℕ, _-_}
 use borrow.Author.Needs.{needs}
 use native.Mathlib.Omega.{arith}
 use Rattle.theory.specs.Constraints.{NotOver}
-use Rattle.sparsity.specs.Listed.{masks}
+use Rattle.theory.specs.Over.Listed.{masks}
 use Rattle.sparsity.specs.Reach.{Lent}
-use Rattle.sparsity.specs.Reach.Laws.{lent-by}
+use Rattle.sparsity.specs.Reach.Visits.{lent-by}
 use Rattle.sparsity.specs.Answer.{Kept, Ready}
 use Rattle.sparsity.specs.Answer.Laws.{kept-start, la, lb, apart, told-in, told-out, ready-lone, ready-four, over-here, kept-by, kept-marks, kept-skip, kept-placed, answer-not, answer-first}
 use Rattle.sparsity.proofs.search.Statement.{statement}
 use Rattle.sparsity.proofs.search.Tie as tie
-use Rattle.sparsity.proofs.search.Reads as reads
-use Rattle.sparsity.proofs.search.Lts as lts
-use Rattle.sparsity.proofs.all_free.Reads as all-free-reads
-use Rattle.sparsity.proofs.free_ends.Reads as free-ends-reads
-use Rattle.sparsity.proofs.gather.Reads as gather-reads
-use Rattle.sparsity.proofs.pair_of.Reads as pair-of-reads
-use Rattle.sparsity.proofs.place.Reads as place-reads
-use Rattle.sparsity.proofs.seek.Reads as seek-reads
 
 abbrev Inv-loop : tie.InvT-loop
 Inv-loop firsts seconds e core own₀ queue₀ from₀ once₀ twice₀ c₀ own queue from once twice c = Kept firsts seconds e core c own once twice × Lent queue from
@@ -27,11 +19,9 @@ Inv-loop firsts seconds e core own₀ queue₀ from₀ once₀ twice₀ c₀ own
 abbrev μ-loop : tie.MeasureT-loop
 μ-loop firsts seconds e core own₀ queue₀ from₀ once₀ twice₀ c₀ own queue from once twice c = e - c
 
--- src/lib.rt:230:9
 all-free-requires : tie.Need-all-free-requires Inv-loop μ-loop
 all-free-requires c κs = search needs
 
--- src/lib.rt:236:5
 loop-holds : tie.Need-loop-holds Inv-loop μ-loop
 loop-holds c =
     let s = c .before in (
@@ -39,70 +29,52 @@ loop-holds c =
       record { places = refl; places′ = refl },
     )
 
--- src/lib.rt:237:17
 element-copy-out-a : tie.Need-element-copy-out-a Inv-loop μ-loop
 element-copy-out-a c = omega (arith, c .loop-test .taken, c .before .before .before .pre .0 .few)
 
--- src/lib.rt:238:17
 element-copy-out-b : tie.Need-element-copy-out-b Inv-loop μ-loop
 element-copy-out-b c = omega (arith, c .before .loop-test .taken, c .before .before .before .before .pre .0 .few)
 
--- src/lib.rt:239:13
 pair-of-requires : tie.Need-pair-of-requires Inv-loop μ-loop
 pair-of-requires c κs =
     let s = c .before .before .before .before .before in
     let l = c .before .before .before .loop in
-    let us = s .args .firsts .now in
-    let vs = s .args .seconds .now in
     let h = c .before .before .loop-test .taken in
-    (la us vs (s .args .e) (s .args .core) (s .pre .0) (s .pre .1) (l .c) h, lb us vs (s .args .e) (s .args .core) (s .pre .0) (s .pre .1) (l .c) h)
+    (la (s .pre .0) (s .pre .1) (l .c) h, lb (s .pre .0) (s .pre .1) (l .c) h)
 
--- src/lib.rt:242:21
 gather-requires : tie.Need-gather-requires Inv-loop μ-loop
 gather-requires c κs =
     let s = c .before .before .before .before .before .before .before .before .before .before in
     let l = c .before .before .before .before .before .before .before .before .loop in
-    let us = s .args .firsts .now in
-    let vs = s .args .seconds .now in
     let h = c .before .before .before .before .before .before .before .loop-test .taken in
-    (l .inv .0 .table, la us vs (s .args .e) (s .args .core) (s .pre .0) (s .pre .1) (l .c) h, lb us vs (s .args .e) (s .args .core) (s .pre .0) (s .pre .1) (l .c) h, apart us vs (s .args .e) (s .args .core) (s .pre .0) (s .pre .1) (l .c) h, l .inv .1)
+    (l .inv .0 .table, la (s .pre .0) (s .pre .1) (l .c) h, lb (s .pre .0) (s .pre .1) (l .c) h, apart (s .pre .0) (s .pre .1) (l .c) h, l .inv .1)
 
--- src/lib.rt:243:20
 free-ends-requires : tie.Need-free-ends-requires Inv-loop μ-loop
 free-ends-requires c κs =
     let s = c .before .before .before .before .before .before .before .before .before .before .before in
     let l = c .before .before .before .before .before .before .before .before .before .loop in
-    let us = s .args .firsts .now in
-    let vs = s .args .seconds .now in
     let h = c .before .before .before .before .before .before .before .before .loop-test .taken in
-    (la us vs (s .args .e) (s .args .core) (s .pre .0) (s .pre .1) (l .c) h, lb us vs (s .args .e) (s .args .core) (s .pre .0) (s .pre .1) (l .c) h)
+    (la (s .pre .0) (s .pre .1) (l .c) h, lb (s .pre .0) (s .pre .1) (l .c) h)
 
--- src/lib.rt:244:25
 seek-requires : tie.Need-seek-requires Inv-loop μ-loop
 seek-requires c κs =
     let s = c .before .before .before .before .before .before .before .before .before .before .before .before .before .before .before in
     let l = c .before .before .before .before .before .before .before .before .before .before .before .before .before .loop in
-    let us = s .args .firsts .now in
-    let vs = s .args .seconds .now in
     let h = c .before .before .before .before .before .before .before .before .before .before .before .before .loop-test .taken in
-    (c .before .before .before .before .gather .ensures .0 .again .table, la us vs (s .args .e) (s .args .core) (s .pre .0) (s .pre .1) (l .c) h, lb us vs (s .args .e) (s .args .core) (s .pre .0) (s .pre .1) (l .c) h, apart us vs (s .args .e) (s .args .core) (s .pre .0) (s .pre .1) (l .c) h, c .before .before .before .before .gather .ensures .1)
+    (c .before .before .before .before .gather .ensures .0 .again .table, la (s .pre .0) (s .pre .1) (l .c) h, lb (s .pre .0) (s .pre .1) (l .c) h, apart (s .pre .0) (s .pre .1) (l .c) h, c .before .before .before .before .gather .ensures .1)
 
--- src/lib.rt:245:21
 returns : tie.Need-returns Inv-loop μ-loop
 returns c =
     let s = c .before .before .before .before .before .before .before .before .before .before .before .before .before .before .before .before in
     let l = c .before .before .before .before .before .before .before .before .before .before .before .before .before .before .loop in
-    let us = s .args .firsts .now in
-    let vs = s .args .seconds .now in
     let h = c .before .before .before .before .before .before .before .before .before .before .before .before .before .loop-test .taken in
     let g = c .before .before .before .before .before .gather in
-    let i = told-in us vs (s .args .e) (s .args .core) (s .pre .0) (s .pre .1) (l .c) h (c .before .before .before .before .before .before .before .before .before .before .pair-of .ensures) (c .before .before .before .before .before .before .before .before .before .if1 .taken) in
+    let i = told-in (s .pre .0) (s .pre .1) (l .c) h (c .before .before .before .before .before .before .before .before .before .before .pair-of .ensures) (c .before .before .before .before .before .before .before .before .before .if1 .taken) in
     λ n below.
-    answer-first us vs (s .args .e) (s .pre .0) n below (l .c) (c .seek .result .seen)
-    (over-here us vs (s .args .e) (s .args .core) (s .pre .0) (s .pre .1) (l .c) h (l .own) (l .once) (l .twice) (l .inv .0) i (g .result) (g .ensures .0)
+    answer-first (s .pre .0) n below
+    (over-here (s .pre .0) (s .pre .1) (l .c) h (l .inv .0) i (g .ensures .0)
     (omega (arith, c .before .before .before .before .free-ends .ensures, c .before .before .before .if3 .taken)) (c .seek .ensures))
 
--- src/lib.rt:249:17
 place-requires : tie.Need-place-requires Inv-loop μ-loop
 place-requires c κs =
     let s = c .before .before .before .before .before .before .before .before in
@@ -111,25 +83,22 @@ place-requires c κs =
     let vs = s .args .seconds .now in
     let h = c .before .before .before .before .before .loop-test .taken in
     let q = c .before .before .pair-of .ensures in
-    let i = told-in us vs (s .args .e) (s .args .core) (s .pre .0) (s .pre .1) (l .c) h q (c .before .if1 .taken) in
+    let i = told-in (s .pre .0) (s .pre .1) (l .c) h q (c .before .if1 .taken) in
     let r : Ready us vs (s .args .core) (l .c) (c .if2 .own) =
     ⊎-elim
     (λ w.
     subst (Ready us vs (s .args .core) (l .c)) (sym (w .6))
-    (ready-four us vs (s .args .e) (s .args .core) (s .pre .0) (s .pre .1) (l .c) h (l .own) (l .once) (l .twice) (l .inv .0) i (w .3 .result) (w .3 .ensures .0) (omega (arith, w .4 .ensures, w .5 .left))))
-    (λ w. subst (Ready us vs (s .args .core) (l .c)) (sym (w .1)) (ready-lone us vs (s .args .e) (s .args .core) (s .pre .0) (s .pre .1) (l .c) h (l .own) (l .once) (l .twice) (l .inv .0) i (told-out us vs (s .args .e) (s .args .core) (s .pre .0) (s .pre .1) (l .c) h q (w .0 .left))))
+    (ready-four (s .pre .0) (s .pre .1) (l .c) h (l .inv .0) i (w .3 .ensures .0) (omega (arith, w .4 .ensures, w .5 .left))))
+    (λ w. subst (Ready us vs (s .args .core) (l .c)) (sym (w .1)) (ready-lone (s .pre .0) (s .pre .1) (l .c) h (l .inv .0) i (told-out (s .pre .0) (s .pre .1) (l .c) h q (w .0 .left))))
     (c .if2 .came) in
-    (r .table, la us vs (s .args .e) (s .args .core) (s .pre .0) (s .pre .1) (l .c) h, lb us vs (s .args .e) (s .args .core) (s .pre .0) (s .pre .1) (l .c) h, r .open-end)
+    (r .table, la (s .pre .0) (s .pre .1) (l .c) h, lb (s .pre .0) (s .pre .1) (l .c) h, r .open-end)
 
--- src/lib.rt:254:13
 add-c : tie.Need-add-c Inv-loop μ-loop
 add-c c = omega (arith, c .before .before .before .before .loop-test .taken)
 
--- src/lib.rt:236:5
 loop-less : tie.Need-loop-less Inv-loop μ-loop
 loop-less c = omega (arith, c .before .before .before .before .loop-test .taken)
 
--- src/lib.rt:236:5
 loop-again : tie.Need-loop-again Inv-loop μ-loop
 loop-again c =
     let s = c .before .before .before .before .before .before .before in
@@ -140,30 +109,29 @@ loop-again c =
     let q = c .before .pair-of .ensures in
     ⊎-elim
     (λ v.
-    let i = told-in us vs (s .args .e) (s .args .core) (s .pre .0) (s .pre .1) (l .c) h q (v .0 .taken) in
+    let i = told-in (s .pre .0) (s .pre .1) (l .c) h q (v .0 .taken) in
     let r : Ready us vs (s .args .core) (l .c) (v .1 .own) =
     ⊎-elim
     (λ w.
     subst (Ready us vs (s .args .core) (l .c)) (sym (w .6))
-    (ready-four us vs (s .args .e) (s .args .core) (s .pre .0) (s .pre .1) (l .c) h (l .own) (l .once) (l .twice) (l .inv .0) i (w .3 .result) (w .3 .ensures .0) (omega (arith, w .4 .ensures, w .5 .left))))
-    (λ w. subst (Ready us vs (s .args .core) (l .c)) (sym (w .1)) (ready-lone us vs (s .args .e) (s .args .core) (s .pre .0) (s .pre .1) (l .c) h (l .own) (l .once) (l .twice) (l .inv .0) i (told-out us vs (s .args .e) (s .args .core) (s .pre .0) (s .pre .1) (l .c) h q (w .0 .left))))
+    (ready-four (s .pre .0) (s .pre .1) (l .c) h (l .inv .0) i (w .3 .ensures .0) (omega (arith, w .4 .ensures, w .5 .left))))
+    (λ w. subst (Ready us vs (s .args .core) (l .c)) (sym (w .1)) (ready-lone (s .pre .0) (s .pre .1) (l .c) h (l .inv .0) i (told-out (s .pre .0) (s .pre .1) (l .c) h q (w .0 .left))))
     (v .1 .came) in (
-      kept-marks us vs (s .args .e) (s .args .core) (s .pre .0) (s .pre .1) (l .c) h (l .once) (l .twice) q (v .3) (v .6) (v .7) (kept-placed us vs (s .args .e) (s .args .core) (s .pre .0) (s .pre .1) (l .c) h (l .own) (l .once) (l .twice) (l .inv .0) i (v .1 .own) (v .2 .result) r (v .2 .ensures)),
+      kept-marks (s .pre .0) (s .pre .1) (l .c) h (l .once) (l .twice) q (v .3) (v .6) (v .7) (kept-placed (s .pre .0) (s .pre .1) (l .c) h (l .inv .0) i r (v .2 .ensures)),
       ⊎-elim (λ w. lent-by (v .4 ∙ w .7) (v .5 ∙ w .8) (w .3 .ensures .1)) (λ w. lent-by (v .4 ∙ w .2) (v .5 ∙ w .3) (l .inv .1)) (v .1 .came),
     ))
     (λ v. (
-      kept-by us vs (s .args .e) (s .args .core) (s .pre .0) (s .pre .1) (l .c) h (v .1) (v .4) (v .5) (kept-skip us vs (s .args .e) (s .args .core) (s .pre .0) (s .pre .1) (l .c) h (told-out us vs (s .args .e) (s .args .core) (s .pre .0) (s .pre .1) (l .c) h q (v .0 .left)) (l .own) (l .once) (l .twice) (l .inv .0)),
+      kept-by (s .pre .0) (s .pre .1) (l .c) h (v .1) (v .4) (v .5) (kept-skip (s .pre .0) (s .pre .1) (l .c) h (told-out (s .pre .0) (s .pre .1) (l .c) h q (v .0 .left)) (l .inv .0)),
       lent-by (v .2) (v .3) (l .inv .1),
     ))
     (c .if1 .came)
 
--- src/lib.rt:226:1
 returns-2 : tie.Need-returns-2 Inv-loop μ-loop
 returns-2 c =
     let s = c .before .before .before in
     let l = c .before .loop in
     λ n below.
-    answer-not (s .args .firsts .now) (s .args .seconds .now) (s .args .e) (s .pre .0) n below
+    answer-not (s .pre .0) n below
     (subst (λ (k : ℕ). NotOver (masks (s .args .firsts .now) (s .args .seconds .now) k)) (omega (arith, l .inv .0 .below, c .loop-test .left)) (l .inv .0 .fine))
 
 pub search-spec : {M : Type 1} → statement M

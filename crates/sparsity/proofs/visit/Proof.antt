@@ -1,14 +1,14 @@
 -- `visit` meets its contract. Assumes nothing.
-use mathlib.Core.Path.{_≡_, sym, subst}
+use mathlib.Core.Path.{sym, subst}
 use Prim.Native.Nat.{ℕ, _+_}
 use native.Mathlib.Omega.{arith}
 use borrow.Author.Needs.{needs}
 use lib.Bits.{bitOr}
 use lib.ListN.{set}
 use Rattle.theory.specs.Set.{_∪_}
-use Rattle.sparsity.specs.Less.{meets-at, misses-at}
+use Rattle.peeling.specs.Less.{meets-at, misses-at}
 use Rattle.sparsity.specs.Reach.{Visit, known, fresh}
-use Rattle.sparsity.specs.Reach.Laws.{visit-room}
+use Rattle.sparsity.specs.Reach.Visits.{visit-room}
 use Rattle.sparsity.proofs.visit.Statement.{statement}
 use Rattle.sparsity.proofs.visit.Tie as tie
 

@@ -1,31 +1,31 @@
 -- Laws of the answer: the search from its start, a constraint that does not lie in u, one that uses a freedom, and one that finds none. Assumes nothing.
 use mathlib.Core.Path.{_≡_, refl, sym, ap, ap₂, _∙_, subst}
 use mathlib.Core.Logic.{_≢_, _⊎_, inl, inr, ⊎-elim}
-use mathlib.Core.List.{List, []}
-use Prim.Native.Nat.{ℕ, zero, suc, _+_, _*_, _-_, _^_, _≤_, _<_}
-use native.Mathlib.Nat.{le-refl, le-step, lt-trans, zero-lt-suc, ne-of-lt}
+use mathlib.Core.List.{List}
+use Prim.Native.Nat.{ℕ, suc, _+_, _*_, _-_, _^_, _≤_, _<_}
+use native.Mathlib.Nat.{le-refl, lt-trans, ne-of-lt}
 use native.Mathlib.Decide.{decLe}
 use native.Mathlib.Numerals.{add-one}
 use native.Mathlib.Omega.{arith}
 use lib.Bits.{bitAnd, bitOr}
 use lib.Count.{ones}
-use lib.ListN.{length, take, getD}
+use lib.ListN.{getD}
 use Rattle.theory.specs.Set.{_∩_, _∪_, _⊑_, at}
-use Rattle.theory.specs.Set.Laws.{at-and, at-or, at-le, bit, size-le, sub-refl, sub-trans, and-l, and-r, and-sub, sub-and, two-in}
+use Rattle.theory.specs.Set.Laws.{at-and, at-or, at-le, bit, sub-refl, sub-trans, and-l, and-r, and-sub, sub-and, two-in}
 use Rattle.theory.specs.Constraints.{pair, has, carried, NotOver, Below}
-use Rattle.theory.specs.Constraints.Laws.{Has, inside, outside, has-dec, has-in, has-le, at-pair, at-end}
-use Rattle.theory.specs.Over.{IsOver, Tight, Smallest, FirstOver, Finding, fine, first, Finds, overOf}
+use Rattle.theory.specs.Constraints.Laws.{Has, inside, outside, has-dec, at-end}
+use Rattle.theory.specs.Over.{IsOver, Tight, Smallest, FirstOver, Finding, fine, first, overOf}
 use Rattle.theory.specs.Over.Laws.{tight-over, within-smallest, finds-overOf}
-use Rattle.sparsity.specs.Less.{at-below, sub-below, at-room, less-same, less-sub, size-less}
-use Rattle.sparsity.specs.Listed.{ends, masks, Listed}
-use Rattle.sparsity.specs.Listed.Laws.{carried-more, length-masks, take-masks, masks-at, ends-two, ends-below, masks-pairs, masks-below, carried-none, pair-in, pair-ends, has-not, has-other, pair-comm}
-use Rattle.sparsity.specs.Freedoms.{entry, stored, free, frees, kept, Table, Balanced, Closed, FreeBelow}
-use Rattle.sparsity.specs.Freedoms.Laws.{free-table, free-closed, free-balanced, balanced-outside, balanced-placed, stored-table, stored-closed, kept-le, closed-kept, kept-closed, frees-two, frees-less, frees-only}
-use Rattle.sparsity.specs.Reach.{Found, Stuck, Gathered, Placed}
+use Rattle.peeling.specs.Less.{sub-below, less-sub, size-less}
+use Rattle.theory.specs.Over.Listed.{ends, masks, Listed}
+use Rattle.theory.specs.Over.Listed.Laws.{carried-more, length-masks, take-masks, masks-at, masks-pairs, carried-none, pair-in, pair-ends, has-not, has-other, pair-comm}
+use Rattle.sparsity.specs.Freedoms.{free, frees, Table, Balanced, Closed, FreeBelow}
+use Rattle.sparsity.specs.Freedoms.Laws.{free-table, free-closed, free-balanced, kept-le, closed-kept, kept-closed, frees-two, frees-less, frees-only}
+use Rattle.sparsity.specs.Freedoms.Stores.{balanced-outside, balanced-placed, stored-table, stored-closed}
+use Rattle.sparsity.specs.Reach.{Found, Gathered, Placed}
 use Rattle.sparsity.specs.Reach.Laws.{found-first, found-second, found-closed, found-none, stuck-none, seen-within}
-use Rattle.sparsity.specs.Core.{Few, Core}
-use Rattle.sparsity.specs.Core.Laws.{few-none, few-other, few-outside, few-more}
-use Rattle.sparsity.specs.declared.Over.{Over}
+use Rattle.peeling.specs.Core.{Few, Core}
+use Rattle.peeling.specs.Core.Laws.{few-none, few-other, few-outside, few-more}
 use Rattle.sparsity.specs.declared.Over.the-variants.{Not, First}
 use Rattle.sparsity.specs.Answer.{asOver, Kept, Ready}
 
@@ -43,7 +43,7 @@ kept-start us vs e u own l f = record {
   lone = λ x z. record { few = λ a h q. omega arith };
 }
 
-module _ (us vs : List ℕ) (e u : ℕ) (l : Listed us vs e) (core : Core us vs e u) (c : ℕ) (lc : c < e) where
+module _ {us vs : List ℕ} {e u : ℕ} (l : Listed us vs e) (core : Core us vs e u) (c : ℕ) (lc : c < e) where
   abbrev a : ℕ
   a = getD us c 0
 
@@ -81,9 +81,9 @@ module _ (us vs : List ℕ) (e u : ℕ) (l : Listed us vs e) (core : Core us vs 
         go (inside i q) = absurd (out (sub-trans i h))
         go (outside n q) = q
 
-    pub kept-skip : (own : List (List ℕ)) (once twice : ℕ) → Kept us vs e u c own once twice → Kept us vs e u (suc c) own once twice
+    pub kept-skip : {own : List (List ℕ)} {once twice : ℕ} → Kept us vs e u c own once twice → Kept us vs e u (suc c) own once twice
     unfolding NotOver
-    kept-skip own once twice k = record {
+    kept-skip {own} k = record {
       below = lc;
       table = k .table;
       closed = k .closed;
@@ -276,7 +276,7 @@ module _ (us vs : List ℕ) (e u : ℕ) (l : Listed us vs e) (core : Core us vs 
   unfolding _∩_
   told-out {r} {w} q t h = t (subst (λ (z : ℕ). bitAnd z w ≡ z) (sym q) (sub-and m w h))
 
-  module _ (own : List (List ℕ)) (once twice : ℕ) (k : Kept us vs e u c own once twice) (inside-u : m ⊑ u) where
+  module _ {own : List (List ℕ)} {once twice : ℕ} (k : Kept us vs e u c own once twice) (inside-u : m ⊑ u) where
     -- an end that is not in twice
     pub ready-lone : (m ⊑ twice → ⊥) → Ready us vs u c own
     ready-lone n = go (bit (at a twice) (at-le a twice)) (bit (at b twice) (at-le b twice))
@@ -295,7 +295,7 @@ module _ (us vs : List ℕ) (e u : ℕ) (l : Listed us vs e) (core : Core us vs 
         go (inr p) (inl z) = lone b (at-end a b .1) z (λ h. omega arith)
         go (inr p) (inr q) = absurd (n (pair-in a b twice p q))
 
-    module _ (t : List (List ℕ)) (g : Gathered own a b t) where
+    module _ {t : List (List ℕ)} (g : Gathered own a b t) where
       t-closed : Closed t u
       t-closed = let o = pair-ends a b u inside-u in g .again .closed u (o .0) (o .1) (k .closed)
 
@@ -323,17 +323,28 @@ module _ (us vs : List ℕ) (e u : ℕ) (l : Listed us vs e) (core : Core us vs 
           done = stuck-none f (⊎-elim (λ (q : 4 ≤ free t a + free t b). absurd (omega arith)) (λ s. s) (g .most))
 
     -- the constraint is placed
-    pub kept-placed : (t new : List (List ℕ)) → Ready us vs u c t → Placed t a b new → Kept us vs e u (suc c) new (once ∪ m) (twice ∪ (once ∩ m))
-    kept-placed t new r p =
+    pub kept-placed : {t new : List (List ℕ)} → Ready us vs u c t → Placed t a b new → Kept us vs e u (suc c) new (once ∪ m) (twice ∪ (once ∩ m))
+    kept-placed {t} {new} r p =
         kept-next t (r .table) (r .closed) (r .balanced) (r .right) new p inside-u once twice (k .never) (k .lone)
 
 -- ---- the answer
 
-module _ (us vs : List ℕ) (e : ℕ) (l : Listed us vs e) (n : ℕ) (below : Below n (masks us vs e)) where
+module _ {us vs : List ℕ} {e : ℕ} (l : Listed us vs e) (n : ℕ) (below : Below n (masks us vs e)) where
   pub answer-not : NotOver (masks us vs e) → Not ≡ asOver (overOf n (masks us vs e))
   unfolding asOver
   answer-not f = ap asOver (finds-overOf n (masks us vs e) (masks-pairs us vs e l) below fine f)
 
-  pub answer-first : (c x : ℕ) → FirstOver (masks us vs e) c x → First c x ≡ asOver (overOf n (masks us vs e))
+  pub answer-first : {c x : ℕ} → FirstOver (masks us vs e) c x → First c x ≡ asOver (overOf n (masks us vs e))
   unfolding asOver
-  answer-first c x f = ap asOver (finds-overOf n (masks us vs e) (masks-pairs us vs e l) below (first c x) f)
+  answer-first {c} {x} f = ap asOver (finds-overOf n (masks us vs e) (masks-pairs us vs e l) below (first c x) f)
+
+-- what a caller learns from the answer
+pub not-told : (f : Finding) → Not ≡ asOver f → f ≡ fine
+unfolding asOver
+not-told fine q = refl
+not-told (first c x) q = cc
+
+pub first-told : (f : Finding) (c x : ℕ) → First c x ≡ asOver f → f ≡ first c x
+unfolding asOver
+first-told fine c x q = cc
+first-told (first d y) c x q = cc

@@ -1,16 +1,17 @@
 -- The way back from a place of the queue to the first two, which turns one freedom at each step, and what is gathered so. Assumes nothing.
 use mathlib.Core.Path.{_≡_, refl, sym, ap, ap₂, _∙_, subst}
-use mathlib.Core.Logic.{_≢_, _⊎_, inl, inr, ⊎-elim}
+use mathlib.Core.Logic.{_≢_, inl, inr, ⊎-elim}
 use mathlib.Core.List.{List}
-use Prim.Native.Nat.{ℕ, zero, suc, _+_, _*_, _^_, _≤_, _<_}
-use native.Mathlib.Nat.{lt-of-lt-of-le, lt-trans, lt-suc-self, zero-lt-suc, le-refl, le-of-suc-le-suc}
+use Prim.Native.Nat.{ℕ, suc, _+_, _≤_, _<_}
+use native.Mathlib.Nat.{lt-trans, lt-suc-self, zero-lt-suc, le-refl, le-of-suc-le-suc}
 use native.Mathlib.Decide.{ℕ-discrete, decLt}
 use native.Mathlib.Omega.{arith}
 use Rattle.theory.specs.Set.{at}
 use Rattle.theory.specs.Set.Laws.{bit}
-use Rattle.sparsity.specs.Freedoms.{entry, stored, free, same, Table, Balanced, Closed}
-use Rattle.sparsity.specs.Freedoms.Laws.{same-refl, same-ne, same-eq, same-bit, turned-table, turned-closed, turned-balanced, turned-gains, turned-other}
-use Rattle.sparsity.specs.Reach.{item, Reached, Found, Rebalanced, Way, Walked, Gained, Stuck, Gathered, Placed}
+use Rattle.sparsity.specs.Freedoms.{entry, stored, free, same, Table}
+use Rattle.sparsity.specs.Freedoms.Sums.{same-refl, same-ne, same-eq, same-bit}
+use Rattle.sparsity.specs.Freedoms.Stores.{turned-table, turned-closed, turned-balanced, turned-gains, turned-other}
+use Rattle.sparsity.specs.Reach.{item, Found, Rebalanced, Way, Walked, Gained, Placed}
 use Rattle.sparsity.specs.Reach.Laws.{linked-within, reached-most}
 
 -- ---- entries

@@ -1,0 +1,37 @@
+-- Pieces of the report's lines, as the code puts them one after another, and the bound it asks of a step's numbers. Assumes nothing.
+use Prim.Native.Nat.{ℕ, _<_}
+use mathlib.Core.List.{List, [], _∷_, _++_}
+use Rattle.space.specs.Text.{ascii, decimal}
+use Rattle.answer.specs.declared.JointKind.{JointKind}
+use Rattle.answer.specs.declared.Ways.{Ways}
+use Rattle.answer.specs.declared.Step.{Step}
+use Rattle.report.specs.Report.{others, kindName, waysName}
+
+-- numbers, a space before each
+unfoldable pub numbers : List ℕ → List ℕ
+numbers [] = []
+numbers (x ∷ xs) = 32 ∷ decimal x ++ numbers xs
+
+-- the number of the cluster made, and of its parts
+abbrev pub partsWords : ℕ → ℕ → ℕ → ℕ → List ℕ
+partsWords made i j k =
+    ascii "step" ++ (32 ∷ decimal made ++ (ascii " from" ++ (32 ∷ decimal i ++ (32 ∷ decimal j ++ 32 ∷ decimal k))))
+
+-- from the kind to the word before the placements
+abbrev pub kindWords : JointKind → List ℕ
+kindWords k = ascii " kind " ++ (kindName k ++ ascii " ways")
+
+-- the placements, at the end of the line
+abbrev pub waysWords : Ways → List ℕ
+waysWords w = others (waysName w ∷ [])
+
+-- the numbers of a step, and of each of several, are below 1,000
+pub record Small (s : Step) : Type 0 where
+  pub made-small : s .made < 1000
+  pub i-small : s .i < 1000
+  pub j-small : s .j < 1000
+  pub k-small : s .k < 1000
+
+abbrev pub AllSmall : List Step → Type 0
+AllSmall [] = Unit {0}
+AllSmall (s ∷ steps) = Small s × AllSmall steps

@@ -1,0 +1,97 @@
+-- The report, in ASCII. Document 01, "The report": the first line gives the verdict, the second n and e; then the steps in plan order, then the
+-- final clusters by number; for "over" two lines follow the second, and none after them. Assumes nothing.
+use Prim.Native.Nat.{ℕ, suc}
+use mathlib.Core.Bool.{cond}
+use mathlib.Core.List.{List, [], _∷_, _++_, map}
+use lib.Dec.{eqb}
+use Rattle.space.specs.Text.{ascii, decimal}
+use Rattle.answer.specs.declared.Verdict.{Verdict}
+use Rattle.answer.specs.declared.Verdict.the-variants.{Over, Angle, Well, Stuck, Under}
+use Rattle.answer.specs.declared.JointKind.{JointKind}
+use Rattle.answer.specs.declared.JointKind.the-variants.{Ppp, Ppl, Pll, Lll}
+use Rattle.answer.specs.declared.Ways.{Ways}
+use Rattle.answer.specs.declared.Ways.the-variants.{Known, Unknown}
+use Rattle.answer.specs.declared.Step.{Step}
+use Rattle.report.specs.Elements.{elements}
+pub mod Laws
+pub mod Length
+pub mod Bound
+pub mod Examples
+
+-- ---- words and lines
+
+-- what follows a line's first word: each word with one space before it, and byte 10 at the end
+abbrev pub others : List (List ℕ) → List ℕ
+others [] = 10 ∷ []
+others (w ∷ ws) = 32 ∷ w ++ others ws
+
+-- a line: one space between words, ended by byte 10
+abbrev pub line : List (List ℕ) → List ℕ
+line [] = 10 ∷ []
+line (w ∷ ws) = w ++ others ws
+
+-- ---- names and numbers
+
+abbrev pub verdictName : Verdict → List ℕ
+verdictName Over = ascii "over"
+verdictName Angle = ascii "angle"
+verdictName Well = ascii "well"
+verdictName Stuck = ascii "stuck"
+verdictName Under = ascii "under"
+
+abbrev pub kindName : JointKind → List ℕ
+kindName Ppp = ascii "ppp"
+kindName Ppl = ascii "ppl"
+kindName Pll = ascii "pll"
+kindName Lll = ascii "lll"
+
+abbrev pub waysName : Ways → List ℕ
+waysName (Known w) = decimal w
+waysName Unknown = ascii "?"
+
+-- a set's elements, a word each
+abbrev pub listed : ℕ → List (List ℕ)
+listed a = map decimal (elements a)
+
+-- ---- the lines
+
+abbrev pub verdictLine : Verdict → List ℕ
+verdictLine v = line (ascii "verdict" ∷ verdictName v ∷ [])
+
+abbrev pub elementsLine : ℕ → ℕ → List ℕ
+elementsLine n e = line (ascii "elements" ∷ decimal n ∷ ascii "constraints" ∷ decimal e ∷ [])
+
+-- the cluster made, its parts, the joint, the kind and the placements
+unfoldable pub stepLine : Step → List ℕ
+stepLine s =
+    line (
+    ascii "step" ∷ decimal (s .made) ∷ ascii "from" ∷ decimal (s .i) ∷ decimal (s .j) ∷ decimal (s .k)
+    ∷ ascii "joint" ∷ listed (s .joint) ++ (ascii "kind" ∷ kindName (s .kind) ∷ ascii "ways" ∷ waysName (s .ways) ∷ [])
+    )
+
+-- a final cluster's number and its elements
+unfoldable pub clusterLine : ℕ → ℕ → List ℕ
+clusterLine c a = line (ascii "cluster" ∷ decimal c ∷ ascii "holds" ∷ listed a)
+
+unfoldable pub stepLines : List Step → List ℕ
+stepLines [] = []
+stepLines (s ∷ steps) = stepLine s ++ stepLines steps
+
+-- cluster c stands at place c; a dead one is the empty set and has no line
+unfoldable pub slotLine : ℕ → ℕ → List ℕ
+slotLine c a = cond (eqb a 0) [] (clusterLine c a)
+
+-- the living clusters from c on
+unfoldable pub clusterLines : ℕ → List ℕ → List ℕ
+clusterLines c [] = []
+clusterLines c (a ∷ slots) = slotLine c a ++ clusterLines (suc c) slots
+
+-- ---- the report
+
+unfoldable pub report : ℕ → ℕ → Verdict → List Step → List ℕ → List ℕ
+report n e v steps slots = verdictLine v ++ (elementsLine n e ++ (stepLines steps ++ clusterLines 0 slots))
+
+-- the first constraint that makes the listed ones up to it over, and the smallest set
+unfoldable pub overReport : ℕ → ℕ → ℕ → ℕ → List ℕ
+overReport n e first set =
+    verdictLine Over ++ (elementsLine n e ++ (line (ascii "first" ∷ decimal first ∷ []) ++ line (ascii "set" ∷ listed set)))
