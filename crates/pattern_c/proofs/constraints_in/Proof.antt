@@ -22,7 +22,7 @@ mul-cs : tie.Need-mul-cs Inv-loop μ-loop
 mul-cs c = search needs
 
 array-set-from-cs : tie.Need-array-set-from-cs Inv-loop μ-loop
-array-set-from-cs c = c .before .loop-test .taken
+array-set-from-cs c = omega (arith, c .before .loop-test .taken)
 
 add-i : tie.Need-add-i Inv-loop μ-loop
 add-i c = search needs
@@ -35,7 +35,7 @@ loop-again c =
     let a = c .before .before .before .before .before .before .before .args in
     let l = c .before .before .loop in
     rw (c .constraint-at .ensures)
-    (filling-more (a .firsts .now) (a .seconds .now) (a .maps .now) (a .sizes .now) (a .tags .now) (l .i) (l .cs) (c .before .loop-test .taken) (l .inv))
+    (filling-more (a .firsts .now) (a .seconds .now) (a .maps .now) (a .sizes .now) (a .tags .now) (l .i) (l .cs) (omega (arith, c .before .loop-test .taken)) (l .inv))
 
 returns : tie.Need-returns Inv-loop μ-loop
 returns c =
