@@ -2,7 +2,7 @@
 -- steps one after another, each by 13 to 15, and then 16. Everything here computes. Assumes nothing.
 use mathlib.Core.Bool.{Bool, true, false, _||_}
 use mathlib.Core.List.{List, [], _∷_}
-use mathlib.Core.Option.{none, some}
+use mathlib.Core.Option.{Option, none, some}
 use Prim.Native.Nat.{ℕ, zero, suc, _%_}
 use lib.Dec.{leb, eqb}
 use lib.Count.{ones}
@@ -13,6 +13,8 @@ use Rattle.theory.specs.Plan.{openTest, firstOf}
 use Rattle.merges.specs.Run.{runOf}
 use Rattle.merges.specs.declared.Run.{Run}
 use Rattle.plans.specs.declared.Parts.{Parts}
+use Rattle.plans.specs.declared.Outcome.the-variants.{Accepted, Refused}
+use Rattle.plans.specs.declared.Checked.{Checked}
 
 -- ---- a step m, whose clusters are a, b and c
 
@@ -41,9 +43,13 @@ savedSteps (i ∷ j ∷ []) = []
 savedSteps (i ∷ []) = []
 savedSteps [] = []
 
+abbrev pub isSome : Option Merge → Bool
+isSome none = false
+isSome (some m) = true
+
 -- the rule that refuses the steps, 0 if none; 16: after the last step a merge is still open
 unfoldable pub stepsFault : List ℕ → List Merge → ℕ
-stepsFault s [] = elim (firstOf 0 s) [ none ↦ 0 | some m ↦ 16 ]
+stepsFault s [] = elim (isSome (firstOf 0 s)) [ true ↦ 16 | false ↦ 0 ]
 stepsFault s (m ∷ p) = elim (stepFault s m) [ zero ↦ stepsFault (put s m) p | suc r ↦ suc r ]
 
 -- the rule that refuses the plan, 0 if none; 12: the count of numbers is not a multiple of three
@@ -54,3 +60,12 @@ planFault cs l = elim (eqb (length l % 3) 0) [ true ↦ stepsFault cs (savedStep
 
 abbrev pub asMerge : Parts → Merge
 asMerge p = merge (p .i) (p .j) (p .k)
+
+-- a plan that no rule refuses is accepted, with its list of merges in arrays; a refusal gives its number alone
+abbrev pub answerOf : ℕ → Run → Checked
+answerOf zero run = record { outcome = Accepted; run = run }
+answerOf (suc rule) run = record { outcome = Refused (suc rule); run = runOf [] [] }
+
+-- the answer to the check of the saved plan l against the constraints cs
+unfoldable pub checkOf : List ℕ → List ℕ → Checked
+checkOf cs l = answerOf (planFault cs l) (runOf cs (savedSteps l))
