@@ -15,6 +15,7 @@ use Rattle.merges.specs.declared.Run.{Run}
 use Rattle.plans.specs.declared.Parts.{Parts}
 use Rattle.plans.specs.declared.Outcome.the-variants.{Accepted, Refused}
 use Rattle.plans.specs.declared.Checked.{Checked}
+pub mod Laws
 
 -- ---- a step m, whose clusters are a, b and c
 

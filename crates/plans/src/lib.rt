@@ -9,7 +9,8 @@ ghost use Rattle.merges.specs.Links.{Ready};
 ghost use Rattle.merges.specs.Search.{Merging};
 ghost use Rattle.merges.specs.Run.{Begun, Noted};
 ghost use Rattle.plans.specs.Check.{misnamed as isMisnamed, overlapping as isOverlapping, faultOf, stepFault, isSome, asMerge, answerOf, checkOf};
-use merges::{Found, Run};
+use merges::Found;
+use merges::Run;
 
 // A number of a saved plan as a place.
 fn wide(x: u16) -> usize
