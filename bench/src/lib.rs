@@ -2,6 +2,8 @@
 
 pub mod cases;
 pub mod plain;
+#[cfg(feature = "slvs")]
+pub mod slvs;
 pub mod table;
 pub mod timing;
 #[cfg(feature = "yardstick")]

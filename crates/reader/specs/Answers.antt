@@ -1,6 +1,6 @@
 -- What each answer of the reader says, over the bytes s that it reads: the value with the bytes from the next cursor on, or the refusal
 -- (document 01, "Where each form goes": each field read answers a value with the next cursor or a refusal number).
-use Prim.Native.Nat.{ℕ, _<_, _^_}
+use Prim.Native.Nat.{ℕ, _+_, _<_, _^_}
 use mathlib.Core.Path.{_≡_}
 use mathlib.Core.List.{List, []}
 use lib.ListN.{drop}
@@ -61,7 +61,13 @@ abbrev pub ruleOf : {A : Type 0} → Field A → ℕ
 ruleOf (value a s) = 0
 ruleOf (refused k) = k
 
--- a number that was read lies below the bound
+-- a number of k bytes that was read is below 256 ^ k, and the next cursor stands k bytes on, a place that fits
+pub record OfWidth (k at : ℕ) (r : NumberRead) : Type 0 where
+  pub below : (v : ℕ) (c : Cursor) → r ≡ number.Value v c → v < 256 ^ k
+  pub moves : (v : ℕ) (c : Cursor) → r ≡ number.Value v c → c .at ≡ at + k
+  pub within : (v : ℕ) (c : Cursor) → r ≡ number.Value v c → at + k < 2 ^ 64
+
+-- a number that was read is below the bound
 pub record Below (bound : ℕ) (r : NumberRead) : Type 0 where
   pub below : (v : ℕ) (c : Cursor) → r ≡ number.Value v c → v < bound
 

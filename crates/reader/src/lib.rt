@@ -4,13 +4,14 @@
 ghost use mathlib.Core.Path.{_≡_};
 ghost use mathlib.Core.List.{List, [], _∷_};
 ghost use Prim.Native.Nat.{ℕ, _≤_, _<_, _-_, _^_};
+ghost use lib.Dec.{eqb};
 ghost use lib.ListN.{length, drop};
 ghost use Rattle.sheet.specs.declared.Tag.the-variants.{Given as TagGiven, Missing as NoTag};
 ghost use Rattle.sheet.specs.Facts.{pick, elementsOf, linesOf};
 ghost use Rattle.sheet.specs.Field.{refused, byte, field, signed32, openingBytes, begins};
 ghost use Rattle.sheet.specs.Decode.{opening, size, tag, dimension, constraint, constraints, readKinds, readConstraints, readSheet};
 ghost use Rattle.sheet.specs.Noted.{Noted};
-ghost use Rattle.reader.specs.Answers.{ruleOf, asOpening, asByte, asNumber, asSize, asTag, asConstraint, asKinds, Below, factsWith, asReading, outcomeNumber};
+ghost use Rattle.reader.specs.Answers.{ruleOf, asOpening, asByte, asNumber, asSize, asTag, asConstraint, asKinds, OfWidth, Below, factsWith, asReading, outcomeNumber};
 use sheet::Constraint;
 use sheet::Element;
 use sheet::Kind;
@@ -174,7 +175,7 @@ pub fn read_byte(s: &[u8], c: Cursor) -> ByteRead
 pub fn read_number(s: &[u8], c: Cursor, k: usize) -> NumberRead
     requires { ⌜ k ≤ 8 ⌝ }
     ensures { λ r. ⌜ asNumber (now (s .entry)) r ≡ field k (drop (c .at) (now (s .entry))) ⌝ }
-    ensures { λ r. ⌜ Below (256 ^ k) r ⌝ }
+    ensures { λ r. ⌜ OfWidth k (c .at) r ⌝ }
 {
     let at = c.at;
     if bytes_left(s.len(), at) < k {
@@ -214,31 +215,31 @@ fn signed(u: u64) -> i32
     }
 }
 
-// The cursor after a field that stands, or before one that does not.
-fn past(stands: bool, after: Cursor, before: Cursor) -> Cursor
-    ensures { λ r. ⌜ r ≡ pick stands after before ⌝ }
+fn tag_of(bit: u8, t: u16) -> Tag
+    ensures { λ r. ⌜ r ≡ pick (eqb bit 1) (TagGiven t) NoTag ⌝ }
 {
-    if stands { after } else { before }
+    if bit == 1 {
+        Tag::Given(t)
+    } else {
+        Tag::Missing
+    }
 }
 
-fn tag_of(stands: bool, t: u16) -> Tag
-    ensures { λ r. ⌜ r ≡ pick stands (TagGiven t) NoTag ⌝ }
+// The tag, where bit 1 of the map stands. Its bytes are read ahead, so that the way does not part at the bit.
+fn read_tag(s: &[u8], c: Cursor, bit: u8) -> TagRead
+    requires { ⌜ bit < 2 ⌝ }
+    ensures { λ r. ⌜ asTag (now (s .entry)) r ≡ tag (eqb bit 1) (drop (c .at) (now (s .entry))) ⌝ }
 {
-    if stands { Tag::Given(t) } else { Tag::Missing }
-}
-
-// The tag, where bit 1 of the map stands. Two bytes are read ahead, so that the way does not part at the bit.
-fn read_tag(s: &[u8], c: Cursor, stands: bool) -> TagRead
-    ensures { λ r. ⌜ asTag (now (s .entry)) r ≡ tag stands (drop (c .at) (now (s .entry))) ⌝ }
-{
+    let at = c.at;
     let number = read_number(s, c, 2);
-    let NumberRead::Value(u, after) = number else {
-        if stands {
+    let NumberRead::Value(u, _) = number else {
+        if bit == 1 {
             return TagRead::Refused(number.refusal());
         }
         return TagRead::Value(Tag::Missing, c);
     };
-    TagRead::Value(tag_of(stands, u as u16), past(stands, after, c))
+    let after = at + 2 * (bit as usize);
+    TagRead::Value(tag_of(bit, u as u16), Cursor { at: after })
 }
 
 // The size, where bit 0 of the map stands: rule 9.
@@ -275,7 +276,7 @@ fn read_dimension(s: &[u8], c: Cursor, a: u8, b: u8, p: PairKind) -> ConstraintR
     let SizeRead::Value(z, c2) = sized else {
         return ConstraintRead::Refused(sized.refusal());
     };
-    let tagged = read_tag(s, c2, map / 2 == 1);
+    let tagged = read_tag(s, c2, map / 2);
     let TagRead::Value(t, c3) = tagged else {
         return ConstraintRead::Refused(tagged.refusal());
     };
@@ -368,8 +369,8 @@ fn read_constraints(s: &[u8], start: Cursor, n: usize, lines: u64, e: usize) -> 
         c = after;
         i += 1;
     }
-    let at = c.at;
-    if at < s.len() {
+    let end = c.at;
+    if end < s.len() {
         return refuse(10);
     }
     let elements = sheet::elements_of(n, lines);

@@ -1,7 +1,7 @@
 -- Reading and writing a sheet are each other's inverse (document 01, "The sheet in bytes" and "Refused"). The definitions are `readSheet` (Decode),
 -- `sheetBytes` (Encode) and `Accepted`; what the reader and the writer answer is said by these, so that the theorems hold of them. Assumes nothing.
 use Prim.Native.Nat.{ℕ, _≤_}
-use mathlib.Core.Path.{_≡_, ap, subst}
+use mathlib.Core.Path.{_≡_, subst}
 use mathlib.Core.List.{List, []}
 use lib.ListN.{length}
 use Rattle.sheet.specs.Facts.{Facts}
@@ -11,7 +11,7 @@ use Rattle.sheet.specs.Encode.{sheetBytes}
 use Rattle.sheet.specs.Accepted.{Accepted}
 use Rattle.sheet.specs.RoundTrip.Written.{sheet-back}
 use Rattle.sheet.specs.RoundTrip.Read.{sheet-read}
-use Rattle.sheet.specs.RoundTrip.Blocks.{sheet-length}
+use Rattle.sheet.specs.RoundTrip.Blocks.{accepted-length}
 pub mod Written
 pub mod Read
 pub mod Blocks
@@ -26,8 +26,8 @@ written-read s f t h e = let r = sheet-read s h e in (r .spent, r .same, r .acce
 
 -- a sheet has at most 1,814 bytes, written or read
 pub written-most : (f : Facts) → Accepted f → length (sheetBytes f) ≤ 1814
-written-most f h = sheet-length f h
+written-most f h = accepted-length f h
 
 pub read-most : (s : List ℕ) (f : Facts) (t : List ℕ) → Bytes s → readSheet s ≡ value f t → length s ≤ 1814
 read-most s f t h e =
-    let r = sheet-read s h e in subst (λ (l : List ℕ). length l ≤ 1814) (r .same) (sheet-length f (r .accepted))
+    let r = sheet-read s h e in subst (λ (l : List ℕ). length l ≤ 1814) (r .same) (accepted-length f (r .accepted))

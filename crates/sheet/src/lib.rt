@@ -7,6 +7,7 @@ ghost use lib.Dec.{eqb};
 ghost use lib.ListN.{length, take};
 ghost use Rattle.sheet.specs.Facts.{kindOf, lineBit, block, elementsOf, linesOf, blankElement};
 ghost use Rattle.sheet.specs.Rules.{elementCount, kindBits, constraintCount, ends, stands, pairOf, optional, bitMap, within as liesWithin, sizeRange, sizeFault, constraintFault, sheetFault};
+ghost use Rattle.sheet.specs.Range.{lowestSize, highestSize};
 ghost use Rattle.sheet.specs.Noted.{Noted};
 
 // The four bytes that open every sheet.
@@ -124,25 +125,34 @@ fn within(low: i32, high: i32, z: i32) -> bool
     if low <= z { z <= high } else { false }
 }
 
-// Rule 9.
+fn lowest_size(p: PairKind) -> i32
+    ensures { λ r. ⌜ r ≡ lowestSize p ⌝ }
+{
+    match p {
+        PairKind::Points => 1,
+        PairKind::PointLine => -40000,
+        PairKind::Lines => -17999,
+    }
+}
+
+fn highest_size(p: PairKind) -> i32
+    ensures { λ r. ⌜ r ≡ highestSize p ⌝ }
+{
+    match p {
+        PairKind::Points => 40000,
+        PairKind::PointLine => 40000,
+        PairKind::Lines => 17999,
+    }
+}
+
+// Rule 9: one range with 0 left out, so that the way does not part at the kind of pair.
 pub fn size_range(p: PairKind, z: i32) -> bool
     ensures { λ r. ⌜ r ≡ sizeRange p z ⌝ }
 {
-    match p {
-        PairKind::Points => within(1, 40000, z),
-        PairKind::PointLine => {
-            if within(-40000, -1, z) {
-                return true;
-            }
-            within(1, 40000, z)
-        }
-        PairKind::Lines => {
-            if within(-17999, -1, z) {
-                return true;
-            }
-            within(1, 17999, z)
-        }
+    if z == 0 {
+        return false;
     }
+    within(lowest_size(p), highest_size(p), z)
 }
 
 // Rules 8 and 9 of a size that is given or missing: the rule's number, or 0.

@@ -6,7 +6,8 @@ ghost use Prim.Native.Nat.{_+_, _≤_, _<_, _^_};
 ghost use Rattle.sheet.specs.Facts.{linesOf, factsOf};
 ghost use Rattle.sheet.specs.Field.{digits, unsigned32};
 ghost use Rattle.sheet.specs.Encode.{sizeBit, tagBit, sizeBytes, tagBytes, constraintBytes, sheetBytes};
-ghost use Rattle.space.specs.Space.{Put};
+ghost use Rattle.sheet.specs.Rules.{sheetFault};
+ghost use Rattle.space.specs.Space.{Put, answer, after};
 ghost use Rattle.writer.specs.Write.{writeAnswer, writeAfter};
 use sheet::Constraint;
 use sheet::Element;
@@ -14,6 +15,9 @@ use sheet::Sheet;
 use sheet::Size;
 use sheet::Tag;
 use space::Written;
+
+// No sheet has more bytes.
+pub const MOST_BYTES: usize = 1814;
 
 // A number of k bytes, lowest first.
 fn put_number(out: &mut [u8], at: usize, k: usize, u: u64) -> usize
@@ -136,6 +140,25 @@ fn put_sheet(out: &mut [u8], s: Sheet, lines: u64) -> usize
     at
 }
 
+// The facts in their blocks as bytes, where no rule refuses them: space for the largest sheet needs no measuring.
+pub fn write_accepted(s: Sheet, out: &mut [u8]) -> Written
+    requires { ⌜ sheetFault s ≡ 0 ⌝ }
+    ensures { λ r. ⌜ (r ≡ answer (sheetBytes (factsOf s)) (now (out .entry))) × (now (out .exit) ≡ after (sheetBytes (factsOf s)) (now (out .entry))) ⌝ }
+{
+    let elements = s.elements;
+    let lines = sheet::lines_of(elements, s.n);
+    if MOST_BYTES <= out.len() {
+        let written = put_sheet(out, s, lines);
+        return Written::Done(written);
+    }
+    let needed = put_sheet(&mut out[..0], s, lines);
+    if out.len() < needed {
+        return Written::Refused(17);
+    }
+    let written = put_sheet(out, s, lines);
+    Written::Done(written)
+}
+
 // The facts in their blocks as bytes, or the first rule that refuses them.
 pub fn write_sheet(s: Sheet, out: &mut [u8]) -> Written
     ensures { λ r. ⌜ (r ≡ writeAnswer s (now (out .entry))) × (now (out .exit) ≡ writeAfter s (now (out .entry))) ⌝ }
@@ -144,12 +167,5 @@ pub fn write_sheet(s: Sheet, out: &mut [u8]) -> Written
     if fault != 0 {
         return Written::Refused(fault);
     }
-    let elements = s.elements;
-    let lines = sheet::lines_of(elements, s.n);
-    let needed = put_sheet(&mut out[..0], s, lines);
-    if out.len() < needed {
-        return Written::Refused(17);
-    }
-    let written = put_sheet(out, s, lines);
-    Written::Done(written)
+    write_accepted(s, out)
 }

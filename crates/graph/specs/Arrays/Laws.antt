@@ -12,7 +12,7 @@ use Rattle.sheet.specs.Facts.{block}
 use Rattle.sheet.specs.Facts.Laws.{still-blank, filled}
 use Rattle.graph.specs.Arrays.{EndsBelow64}
 
-map-append : {A B : Type 0} (f : A → B) (xs ys : List A) → map f (xs ++ ys) ≡ map f xs ++ map f ys
+pub map-append : {A B : Type 0} (f : A → B) (xs ys : List A) → map f (xs ++ ys) ≡ map f xs ++ map f ys
 map-append f [] ys = refl
 map-append f (x ∷ xs) ys = ap (λ (l : List _). f x ∷ l) (map-append f xs ys)
 

@@ -1,14 +1,13 @@
-use borrow.Author.Needs.{needs}
+-- `reader::opens` meets its contract. Assumes nothing.
 use Prim.Native.Nat.{_-_, _≤_}
 use native.Mathlib.Omega.{arith}
-use mathlib.Core.Path.{_≡_, refl, sym, _∙_}
+use mathlib.Core.Path.{_≡_, refl, _∙_}
+use borrow.Author.Needs.{needs}
 use lib.ListN.{drop}
 use Rattle.sheet.specs.Field.{begins, openingBytes}
 use Rattle.reader.proofs.Opening.{begins-short, begins-differs, begins-agrees, begins-all}
 use Rattle.reader.proofs.opens.Statement.{statement}
 use Rattle.reader.proofs.opens.Tie as tie
-use Rattle.reader.proofs.opens.Reads as reads
-use Rattle.reader.proofs.opens.Lts as lts
 
 abbrev Inv-loop : tie.InvT-loop
 Inv-loop s i₀ i = (i ≤ 4) × (begins openingBytes s ≡ begins (drop i openingBytes) (drop i s))

@@ -1,67 +1,49 @@
-use Rattle.reader.proofs.Constraints.{ends-wrong, pair-again, pair-new}
-use Rattle.reader.specs.Answers.{asByte}
-use Rattle.sheet.specs.Decode.{constraint}
-use Rattle.sheet.specs.Rules.Laws.{ends-true, pair-shift}
-use Rattle.sheet.specs.Rules.{ends}
-use Rattle.sheet.specs.Field.{value, byte}
-use lib.ListN.{drop}
+-- `reader::read_constraint` meets its contract. Assumes nothing.
+use Prim.Native.Nat.{_<_}
+use native.Mathlib.Omega.{arith}
 use mathlib.Core.Bool.{true}
 use mathlib.Core.Path.{_≡_, sym, ap, _∙_}
 use borrow.Author.Tests.{not-true, not-false}
-use native.Mathlib.Omega.{arith}
-use Prim.Native.Nat.{_<_}
 use borrow.Author.Needs.{needs}
+use lib.ListN.{drop}
+use Rattle.sheet.specs.Field.{value, byte}
+use Rattle.sheet.specs.Rules.Laws.{ends-true, pair-shift}
+use Rattle.sheet.specs.Rules.{ends}
+use Rattle.sheet.specs.Decode.{constraint}
+use Rattle.reader.specs.Answers.{asByte}
+use Rattle.reader.proofs.Constraints.{ends-wrong, pair-again, pair-new}
 use Rattle.reader.proofs.read_constraint.Statement.{statement}
 use Rattle.reader.proofs.read_constraint.Tie as tie
-use Rattle.reader.proofs.read_constraint.Reads as reads
-use Rattle.reader.proofs.read_constraint.Lts as lts
-use Rattle.reader.proofs.ByteRead.refusal.Reads as refusal-reads
-use Rattle.reader.proofs.read_byte.Reads as read-byte-reads
-use Rattle.reader.proofs.read_dimension.Reads as read-dimension-reads
-use Rattle.sheet.proofs.ends_ascend.Reads as ends-ascend-reads
-use Rattle.sheet.proofs.kind_at.Reads as kind-at-reads
-use Rattle.sheet.proofs.pair_of.Reads as pair-of-reads
-use Rattle.sheet.proofs.pair_stands.Reads as pair-stands-reads
 
--- src/lib.rt:275:9
 read-byte-requires : tie.Need-read-byte-requires
 read-byte-requires c κs = search needs
 
--- src/lib.rt:276:25
 enum-known-start : tie.Need-enum-known-start
 enum-known-start c = search needs
 
--- src/lib.rt:277:40
 enum-told : tie.Need-enum-told
 enum-told c = search needs
 
--- src/lib.rt:277:40
 refusal-requires : tie.Need-refusal-requires
 refusal-requires c κs = search needs
 
--- src/lib.rt:277:9
 returns : tie.Need-returns
 unfolding constraint
 returns c = λ es cs en el h.
     rw (← c .before .before .before .read-byte .ensures, c .refusal .ensures, c .before .enum-told .given .1)
 
--- src/lib.rt:279:9
 read-byte-requires-2 : tie.Need-read-byte-requires-2
 read-byte-requires-2 c κs = search needs
 
--- src/lib.rt:280:25
 enum-known-end : tie.Need-enum-known-end
 enum-known-end c = search needs
 
--- src/lib.rt:281:40
 enum-told-2 : tie.Need-enum-told-2
 enum-told-2 c = search needs
 
--- src/lib.rt:281:40
 refusal-requires-2 : tie.Need-refusal-requires-2
 refusal-requires-2 c κs = search needs
 
--- src/lib.rt:281:9
 returns-2 : tie.Need-returns-2
 unfolding constraint
 returns-2 c = λ es cs en el h.
@@ -76,11 +58,9 @@ second-read : (c : tie.After-known-told2)
     → byte (drop (c .before .before .before .before .before .start .given .0 .1 .0 .at) (c .before .before .before .before .before .before .before .before .before .args .s .now)) ≡ value (c .before .end .given .0 .0) (drop (c .before .end .given .0 .1 .0 .at) (c .before .before .before .before .before .before .before .before .before .args .s .now))
 second-read c = sym (c .before .before .before .read-byte2 .ensures) ∙ ap (asByte (c .before .before .before .before .before .before .before .before .before .args .s .now)) (c .before .end .given .1)
 
--- src/lib.rt:283:9
 ends-ascend-requires : tie.Need-ends-ascend-requires
 ends-ascend-requires c κs = search needs
 
--- src/lib.rt:284:9
 returns-3 : tie.Need-returns-3
 returns-3 c = λ es cs en el h.
     sym (ends-wrong es cs _ (first-read (c .before .before)) (second-read (c .before .before)) (rw en at (sym (c .before .ends-ascend .ensures) ∙ not-true (c .before .ends-ascend .result) (c .if1 .taken))))
@@ -94,32 +74,25 @@ small c =
     let h = ends-true (c .before .before .before .before .before .before .before .before .before .before .before .args .n) (c .before .before .before .before .before .before .before .start .given .0 .0) (c .before .before .before .end .given .0 .0) (ascend c) in
     (omega (arith, h, c .before .before .before .before .before .before .before .before .before .before .before .pre), omega (arith, h, c .before .before .before .before .before .before .before .before .before .before .before .pre))
 
--- src/lib.rt:286:8
 pair-stands-requires : tie.Need-pair-stands-requires
 pair-stands-requires c κs = small c
 
--- src/lib.rt:287:9
 returns-4 : tie.Need-returns-4
 returns-4 c = λ es cs en el h.
     sym (pair-again es cs _ (first-read (c .before .before .before .before)) (second-read (c .before .before .before .before)) (rw en at (ascend (c .before .before))) (sym (c .before .pair-stands .ensures cs h) ∙ c .if2 .taken))
 
--- src/lib.rt:289:28
 kind-at-requires : tie.Need-kind-at-requires
 kind-at-requires c κs = small (c .before .before) .0
 
--- src/lib.rt:289:54
 kind-at-requires-2 : tie.Need-kind-at-requires-2
 kind-at-requires-2 c κs = small (c .before .before .before) .1
 
--- src/lib.rt:289:9
 pair-of-requires : tie.Need-pair-of-requires
 pair-of-requires c κs = search needs
 
--- src/lib.rt:290:5
 read-dimension-requires : tie.Need-read-dimension-requires
 read-dimension-requires c κs = search needs
 
--- src/lib.rt:271:1
 returns-5 : tie.Need-returns-5
 returns-5 c = λ es cs en el h.
     let a = c .before .before .before .before .before .before .before .before .before .before .before .before .before .start .given .0 .0 in

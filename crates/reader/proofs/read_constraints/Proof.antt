@@ -1,30 +1,24 @@
-use Rattle.reader.proofs.Constraints.{read-ends, one-more, stopped, at-end, bytes-follow}
-use Rattle.reader.specs.Answers.{asConstraint, asReading, factsWith}
-use Rattle.sheet.specs.Decode.{constraint, constraints}
-use Rattle.sheet.specs.Noted.Laws.{noted-none}
-use Rattle.sheet.specs.Noted.{Noted}
-use Rattle.sheet.specs.Field.{Field, value}
-use Rattle.sheet.specs.Facts.Laws.{elementsOf-length, linesOf-elementsOf, still-blank, filled}
-use Rattle.sheet.specs.Facts.{elementsOf, blankConstraint, sheetOf}
-use Rattle.sheet.specs.declared.Constraint.{Constraint}
-use lib.Seq.{length-take-le, take-suc-set}
-use lib.ListN.{length, take, drop, set, replicate, length-set}
-use borrow.Author.Needs.{needs}
-use mathlib.Core.List.{List, [], _∷_, _++_}
-use mathlib.Core.Path.{_≡_, refl, sym, ap, _∙_}
+-- `reader::read_constraints` meets its contract. Assumes nothing.
+use Prim.Native.Nat.{ℕ, _-_, _<_, _≤_}
 use native.Mathlib.Omega.{arith}
 use native.Mathlib.Numerals.{add-one}
 use native.Mathlib.Nat.{sub-zero}
-use Prim.Native.Nat.{ℕ, _+_, _-_, _<_, _≤_}
+use mathlib.Core.List.{List, []}
+use mathlib.Core.Path.{_≡_, refl, sym, ap, _∙_}
+use borrow.Author.Needs.{needs}
+use lib.Seq.{length-take-le, take-suc-set}
+use lib.ListN.{length, take, drop, replicate, length-set}
+use Rattle.sheet.specs.declared.Constraint.{Constraint}
+use Rattle.sheet.specs.Facts.Laws.{elementsOf-length, linesOf-elementsOf, still-blank, filled}
+use Rattle.sheet.specs.Facts.{elementsOf, blankConstraint, sheetOf}
+use Rattle.sheet.specs.Field.{Field, value}
+use Rattle.sheet.specs.Noted.Laws.{noted-none}
+use Rattle.sheet.specs.Noted.{Noted}
+use Rattle.sheet.specs.Decode.{constraint, constraints}
+use Rattle.reader.specs.Answers.{asConstraint, asReading, factsWith}
+use Rattle.reader.proofs.Constraints.{read-ends, one-more, stopped, at-end, bytes-follow}
 use Rattle.reader.proofs.read_constraints.Statement.{statement}
 use Rattle.reader.proofs.read_constraints.Tie as tie
-use Rattle.reader.proofs.read_constraints.Reads as reads
-use Rattle.reader.proofs.read_constraints.Lts as lts
-use Rattle.reader.proofs.ConstraintRead.refusal.Reads as refusal-reads
-use Rattle.reader.proofs.read_constraint.Reads as read-constraint-reads
-use Rattle.reader.proofs.refuse.Reads as refuse-reads
-use Rattle.sheet.proofs.elements_of.Reads as elements-of-reads
-use Rattle.sheet.proofs.note_pair.Reads as note-pair-reads
 
 -- i constraints are read and noted; what is left gives the answer; the places beyond are blank
 record Turn (s : List ℕ) (n lines e start : ℕ) (cs : List Constraint) (pairs : List ℕ) (at i : ℕ) : Type 0 where
@@ -40,11 +34,9 @@ Inv-loop s n lines e cs₀ pairs₀ c₀ i₀ cs pairs c i = Turn s n lines e (c
 abbrev μ-loop : tie.MeasureT-loop
 μ-loop s n lines e cs₀ pairs₀ c₀ i₀ cs pairs c i = e - i
 
--- src/lib.rt:332:5
 loop-holds : tie.Need-loop-holds Inv-loop μ-loop
 loop-holds c = record { turns = omega arith; places = refl; noted = noted-none; reads = rw sub-zero; blank = refl }
 
--- src/lib.rt:333:13
 read-constraint-requires : tie.Need-read-constraint-requires Inv-loop μ-loop
 read-constraint-requires c κs = c .before .before .before .before .pre .0
 
@@ -55,23 +47,18 @@ answer c =
     let g = c .before .before .before .before .before .args in
     c .read-constraint .ensures (elementsOf (g .n) (g .lines)) (take (c .before .before .before .loop .i) (c .before .before .before .loop .cs)) (sym (elementsOf-length (g .n) (g .lines))) (sym (linesOf-elementsOf (g .n) (g .lines) (c .before .before .before .before .before .pre .1))) (c .before .before .before .loop .inv .noted)
 
--- src/lib.rt:334:35
 enum-known-got : tie.Need-enum-known-got Inv-loop μ-loop
 enum-known-got c = search needs
 
--- src/lib.rt:335:27
 enum-told : tie.Need-enum-told Inv-loop μ-loop
 enum-told c = search needs
 
--- src/lib.rt:335:27
 refusal-requires : tie.Need-refusal-requires Inv-loop μ-loop
 refusal-requires c κs = search needs
 
--- src/lib.rt:335:13
 refuse-requires : tie.Need-refuse-requires Inv-loop μ-loop
 refuse-requires c κs = search needs
 
--- src/lib.rt:335:13
 returns : tie.Need-returns Inv-loop μ-loop
 returns c =
     let g = c .before .before .before .before .before .before .before .before .before .args in
@@ -87,7 +74,6 @@ taken : (c : tie.After-known-told Inv-loop μ-loop)
     ≡ value (c .before .got .given .0 .0) (drop (c .before .got .given .0 .1 .0 .at) (c .before .before .before .before .before .before .before .before .args .s .now))
 taken c = sym (answer (c .before .before .before)) ∙ ap (asConstraint (c .before .before .before .before .before .before .before .before .args .s .now)) (c .before .got .given .1)
 
--- src/lib.rt:337:9
 note-pair-requires : tie.Need-note-pair-requires Inv-loop μ-loop
 note-pair-requires c κs =
     let g = c .before .before .before .before .before .before .before .before .before .args in
@@ -95,23 +81,18 @@ note-pair-requires c κs =
     let l = elementsOf-length (g .n) (g .lines) in
     (omega (arith, h, l, c .before .before .before .before .before .before .before .before .before .pre), omega (arith, h, l, c .before .before .before .before .before .before .before .before .before .pre))
 
--- src/lib.rt:338:9
 mul-cs : tie.Need-mul-cs Inv-loop μ-loop
 mul-cs c = search needs
 
--- src/lib.rt:338:9
 array-set-from-cs : tie.Need-array-set-from-cs Inv-loop μ-loop
 array-set-from-cs c = search needs
 
--- src/lib.rt:340:9
 add-i : tie.Need-add-i Inv-loop μ-loop
 add-i c = search needs
 
--- src/lib.rt:332:5
 loop-less : tie.Need-loop-less Inv-loop μ-loop
 loop-less c = search needs
 
--- src/lib.rt:332:5
 loop-again : tie.Need-loop-again Inv-loop μ-loop
 loop-again c =
     let g = c .before .before .before .before .before .before .before .before .before .before .args in
@@ -129,11 +110,9 @@ loop-again c =
       blank = still-blank (a .cs) 200 (a .i) blankConstraint k (omega (arith, c .before .before .before .before .before .before .before .before .before .before .pre)) (a .inv .blank);
     }
 
--- src/lib.rt:344:9
 refuse-requires-2 : tie.Need-refuse-requires-2 Inv-loop μ-loop
 refuse-requires-2 c κs = search needs
 
--- src/lib.rt:344:9
 returns-2 : tie.Need-returns-2 Inv-loop μ-loop
 returns-2 c =
     let g = c .before .before .before .before .before .args in
@@ -142,11 +121,9 @@ returns-2 c =
     ∙ ap (λ (f : Field (List Constraint)). asReading (factsWith (elementsOf (g .n) (g .lines)) f)) (sym
     (a .inv .reads ∙ bytes-follow (elementsOf (g .n) (g .lines)) (g .e) (a .i) (a .c .at) (take (a .i) (a .cs)) (g .s .now) (c .before .before .loop-test .left) (c .before .if1 .taken)))
 
--- src/lib.rt:346:9
 elements-of-requires : tie.Need-elements-of-requires Inv-loop μ-loop
 elements-of-requires c κs = c .before .before .before .before .pre .0
 
--- src/lib.rt:318:1
 returns-3 : tie.Need-returns-3 Inv-loop μ-loop
 unfolding sheetOf
 returns-3 c =

@@ -1,39 +1,28 @@
-use Rattle.sheet.specs.Decode.{readKinds}
-use mathlib.Core.Path.{_≡_, sym, _∙_}
+-- `reader::read_kinds` meets its contract. Assumes nothing.
 use Prim.Native.Nat.{ℕ}
-use borrow.Author.Tests.{ltb-true}
 use native.Mathlib.Omega.{arith}
-use borrow.Author.Tests.{not-true, not-false}
+use mathlib.Core.Path.{_≡_, sym, _∙_}
+use borrow.Author.Tests.{ltb-true, not-true, not-false}
 use borrow.Author.Needs.{needs}
+use Rattle.sheet.specs.Decode.{readKinds}
 use Rattle.reader.proofs.read_kinds.Statement.{statement}
 use Rattle.reader.proofs.read_kinds.Tie as tie
-use Rattle.reader.proofs.read_kinds.Reads as reads
-use Rattle.reader.proofs.read_kinds.Lts as lts
-use Rattle.reader.proofs.NumberRead.refusal.Reads as refusal-reads
-use Rattle.reader.proofs.read_number.Reads as read-number-reads
-use Rattle.sheet.proofs.kind_bits.Reads as kind-bits-reads
 
--- src/lib.rt:364:37
 add-read-number : tie.Need-add-read-number
 add-read-number c = search needs
 
--- src/lib.rt:364:9
 read-number-requires : tie.Need-read-number-requires
 read-number-requires c κs = search needs
 
--- src/lib.rt:365:27
 enum-known-number : tie.Need-enum-known-number
 enum-known-number c = search needs
 
--- src/lib.rt:366:36
 enum-told : tie.Need-enum-told
 enum-told c = search needs
 
--- src/lib.rt:366:36
 refusal-requires : tie.Need-refusal-requires
 refusal-requires c κs = search needs
 
--- src/lib.rt:366:9
 returns : tie.Need-returns
 unfolding readKinds
 returns c = (
@@ -41,11 +30,9 @@ returns c = (
   record { below = λ v d e. let z : _≡_ {A = ℕ} 0 1 = cc in omega arith },
 )
 
--- src/lib.rt:368:9
 kind-bits-requires : tie.Need-kind-bits-requires
 kind-bits-requires c κs = search needs
 
--- src/lib.rt:369:9
 returns-2 : tie.Need-returns-2
 unfolding readKinds
 returns-2 c = (
@@ -53,7 +40,6 @@ returns-2 c = (
   record { below = λ v d e. let z : _≡_ {A = ℕ} 0 1 = cc in omega arith },
 )
 
--- src/lib.rt:359:1
 returns-3 : tie.Need-returns-3
 unfolding readKinds
 returns-3 c =

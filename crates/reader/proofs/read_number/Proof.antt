@@ -1,17 +1,14 @@
-use borrow.Author.Needs.{needs}
-use Prim.Native.Nat.{ℕ, suc, _+_, _*_, _-_, _^_, _<_, _≤_}
+-- `reader::read_number` meets its contract. Assumes nothing.
+use Prim.Native.Nat.{ℕ, _+_, _-_, _^_, _<_, _≤_}
 use native.Mathlib.Omega.{arith}
 use native.Mathlib.Nat.{sub-self}
 use mathlib.Core.Path.{_≡_, refl, sym, ap, _∙_}
-use lib.ListN.{getD, length, take, drop}
+use borrow.Author.Needs.{needs}
+use lib.ListN.{length, take, drop}
 use Rattle.sheet.specs.Field.{value, number}
 use Rattle.reader.proofs.Numbers.{field-short, field-whole, number-none, number-more, below-more, below-most}
 use Rattle.reader.proofs.read_number.Statement.{statement}
 use Rattle.reader.proofs.read_number.Tie as tie
-use Rattle.reader.proofs.read_number.Reads as reads
-use Rattle.reader.proofs.read_number.Lts as lts
-use Rattle.reader.proofs.bytes_left.Reads as bytes-left-reads
-use Rattle.reader.proofs.wide.Reads as wide-reads
 
 abbrev Inv-loop : tie.InvT-loop
 Inv-loop s k at u₀ i₀ u i =
@@ -20,61 +17,54 @@ Inv-loop s k at u₀ i₀ u i =
 abbrev μ-loop : tie.MeasureT-loop
 μ-loop s k at u₀ i₀ u i = i
 
--- src/lib.rt:170:8
 bytes-left-requires : tie.Need-bytes-left-requires Inv-loop μ-loop
 bytes-left-requires c κs = search needs
 
--- src/lib.rt:171:9
 returns : tie.Need-returns Inv-loop μ-loop
 returns c =
     let b = c .before .before .before in (
       sym (field-short (b .args .s .now) (b .args .c .at) (b .args .k) (omega arith)),
-      record { below = λ v d e. let z : _≡_ {A = ℕ} 0 1 = cc in omega arith },
+      record {
+        below = λ v d e. let z : _≡_ {A = ℕ} 0 1 = cc in omega arith;
+        moves = λ v d e. let z : _≡_ {A = ℕ} 0 1 = cc in absurd (omega arith);
+        within = λ v d e. let z : _≡_ {A = ℕ} 0 1 = cc in omega arith;
+      },
     )
 
 room : (c : tie.Else1 Inv-loop μ-loop) → c .before .before .before .args .k ≤ length (c .before .before .before .args .s .now) - c .before .before .before .args .c .at
 room c = omega arith
 
--- src/lib.rt:175:5
 loop-holds : tie.Need-loop-holds Inv-loop μ-loop
 loop-holds c = (omega arith, sym (number-none (c .before .before .before .args .s .now) (c .before .before .before .args .c .at) (c .before .before .before .args .k) (room c)), omega (arith, sub-self (c .before .before .before .args .k), ap (λ (m : ℕ). 256 ^ m) (sub-self (c .before .before .before .args .k))))
 
--- src/lib.rt:176:9
 sub-i : tie.Need-sub-i Inv-loop μ-loop
 sub-i c = search needs
 
 byte-below : (c : tie.After-wide Inv-loop μ-loop) → c .wide .result < 256
 byte-below c = omega (arith, c .before .shared-slice-known2 .given (c .before .before .before .before .before .before .before .args .c .at + (c .before .before .before .loop .i - 1)))
 
--- src/lib.rt:177:13
 mul-u : tie.Need-mul-u Inv-loop μ-loop
 mul-u c =
     let a = c .before .loop in
     omega (arith, below-most (c .before .before .before .before .before .args .k) (a .i) (a .u) 0 (c .loop-test .taken) (a .inv .0) (a .inv .2) (omega arith) (c .before .before .before .before .before .pre))
 
--- src/lib.rt:177:30
 add-wide : tie.Need-add-wide Inv-loop μ-loop
 add-wide c = search needs
 
--- src/lib.rt:177:28
 shared-slice-read-wide : tie.Need-shared-slice-read-wide Inv-loop μ-loop
 shared-slice-read-wide c = search needs
 
--- src/lib.rt:177:23
 wide-requires : tie.Need-wide-requires Inv-loop μ-loop
 wide-requires c κs = search needs
 
--- src/lib.rt:177:13
 add-u : tie.Need-add-u Inv-loop μ-loop
 add-u c =
     let a = c .before .before .before .loop in
     omega (arith, below-most (c .before .before .before .before .before .before .before .args .k) (a .i) (a .u) (c .wide .result) (c .before .before .loop-test .taken) (a .inv .0) (a .inv .2) (byte-below c) (c .before .before .before .before .before .before .before .pre))
 
--- src/lib.rt:175:5
 loop-less : tie.Need-loop-less Inv-loop μ-loop
 loop-less c = search needs
 
--- src/lib.rt:175:5
 loop-again : tie.Need-loop-again Inv-loop μ-loop
 loop-again c =
     let a = c .before .before .before .loop in
@@ -84,11 +74,9 @@ loop-again c =
       below-more (b .before .before .before .args .k) (a .i) (a .u) (c .wide .result) (c .before .before .loop-test .taken) (a .inv .0) (a .inv .2) (byte-below c),
     )
 
--- src/lib.rt:179:39
 add-t7 : tie.Need-add-t7 Inv-loop μ-loop
 add-t7 c = search needs
 
--- src/lib.rt:165:1
 returns-2 : tie.Need-returns-2 Inv-loop μ-loop
 returns-2 c =
     let a = c .before .loop in
@@ -98,7 +86,11 @@ returns-2 c =
     let w : g .k - a .i ≡ g .k = omega arith in (
       ap (λ (m : ℕ). value m (drop (g .c .at + g .k) (g .s .now))) (a .inv .1 ∙ ap (λ (m : ℕ). number (drop m (take (g .k) (drop (g .c .at) (g .s .now))))) z)
           ∙ sym (field-whole (g .s .now) (g .c .at) (g .k) (room b)),
-      record { below = λ v d e. let q : a .u ≡ v = cc in omega (arith, ap (λ (m : ℕ). 256 ^ m) w) },
+      record {
+        below = λ v d e. let q : a .u ≡ v = cc in omega (arith, ap (λ (m : ℕ). 256 ^ m) w);
+        moves = λ v d e. cc;
+        within = λ v d e. omega (arith, add-t7 c);
+      },
     )
 
 pub read-number-spec : {M : Type 1} → statement M

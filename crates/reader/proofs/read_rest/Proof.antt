@@ -1,50 +1,37 @@
-use Rattle.reader.proofs.Sheets.{no-constraint-count, many-constraints, constraints-counted}
-use Rattle.reader.specs.Answers.{asByte, asReading}
-use Rattle.sheet.specs.RoundTrip.Blocks.{constraints-most}
-use Rattle.sheet.specs.Rules.{constraintCount}
-use Rattle.sheet.specs.Field.{value, byte}
-use lib.ListN.{drop}
-use borrow.Author.Tests.{not-true, not-false}
+-- `reader::read_rest` meets its contract. Assumes nothing.
 use mathlib.Core.Bool.{true}
 use mathlib.Core.Path.{_≡_, sym, ap, _∙_}
+use borrow.Author.Tests.{not-true, not-false}
 use borrow.Author.Needs.{needs}
+use lib.ListN.{drop}
+use Rattle.sheet.specs.Field.{value, byte}
+use Rattle.sheet.specs.Rules.{constraintCount}
+use Rattle.sheet.specs.RoundTrip.Blocks.{constraints-most}
+use Rattle.reader.specs.Answers.{asByte, asReading}
+use Rattle.reader.proofs.Sheets.{no-constraint-count, many-constraints, constraints-counted}
 use Rattle.reader.proofs.read_rest.Statement.{statement}
 use Rattle.reader.proofs.read_rest.Tie as tie
-use Rattle.reader.proofs.read_rest.Reads as reads
-use Rattle.reader.proofs.read_rest.Lts as lts
-use Rattle.reader.proofs.ByteRead.refusal.Reads as refusal-reads
-use Rattle.reader.proofs.read_byte.Reads as read-byte-reads
-use Rattle.reader.proofs.read_constraints.Reads as read-constraints-reads
-use Rattle.reader.proofs.refuse.Reads as refuse-reads
-use Rattle.sheet.proofs.constraint_count.Reads as constraint-count-reads
 
--- src/lib.rt:379:9
 read-byte-requires : tie.Need-read-byte-requires
 read-byte-requires c κs = search needs
 
--- src/lib.rt:380:25
 enum-known-count : tie.Need-enum-known-count
 enum-known-count c = search needs
 
--- src/lib.rt:381:23
 enum-told : tie.Need-enum-told
 enum-told c = search needs
 
--- src/lib.rt:381:23
 refusal-requires : tie.Need-refusal-requires
 refusal-requires c κs = search needs
 
--- src/lib.rt:381:9
 refuse-requires : tie.Need-refuse-requires
 refuse-requires c κs = search needs
 
--- src/lib.rt:381:9
 returns : tie.Need-returns
 returns c =
     c .refuse .ensures
     ∙ ap asReading (sym (no-constraint-count _ _ (rw (← c .before .before .before .before .read-byte .ensures, c .before .refusal .ensures, c .before .before .enum-told .given .1))))
 
--- src/lib.rt:383:13
 cast-e : tie.Need-cast-e
 cast-e c = search needs
 
@@ -52,15 +39,12 @@ counted : (c : tie.After-known-told)
     → byte (drop (c .before .before .before .before .before .args .c .at) (c .before .before .before .before .before .args .s .now)) ≡ value (c .before .count .given .0 .0) (drop (c .before .count .given .0 .1 .0 .at) (c .before .before .before .before .before .args .s .now))
 counted c = sym (c .before .before .before .read-byte .ensures) ∙ ap (asByte (c .before .before .before .before .before .args .s .now)) (c .before .count .given .1)
 
--- src/lib.rt:384:9
 constraint-count-requires : tie.Need-constraint-count-requires
 constraint-count-requires c κs = search needs
 
--- src/lib.rt:385:9
 refuse-requires-2 : tie.Need-refuse-requires-2
 refuse-requires-2 c κs = search needs
 
--- src/lib.rt:385:9
 returns-2 : tie.Need-returns-2
 returns-2 c =
     c .refuse2 .ensures
@@ -69,11 +53,9 @@ returns-2 c =
 few : (c : tie.Else1) → constraintCount (c .before .before .before .count .given .0 .0) ≡ true
 few c = sym (c .before .constraint-count .ensures) ∙ not-false (c .before .constraint-count .result) (c .if1 .left)
 
--- src/lib.rt:387:5
 read-constraints-requires : tie.Need-read-constraints-requires
 read-constraints-requires c κs = (c .before .before .before .before .before .before .before .pre .0, c .before .before .before .before .before .before .before .pre .1, constraints-most (c .before .before .before .count .given .0 .0) (few c))
 
--- src/lib.rt:375:1
 returns-3 : tie.Need-returns-3
 returns-3 c = c .read-constraints .ensures ∙ ap asReading (sym (constraints-counted _ _ (counted (c .before .before .before)) (few (c .before))))
 

@@ -1,48 +1,35 @@
-use Rattle.sheet.specs.Rules.{sizeRange}
-use Rattle.sheet.specs.Field.{signed32}
+-- `reader::read_size` meets its contract. Assumes nothing.
 use mathlib.Core.Path.{_≡_}
-use Rattle.sheet.specs.Decode.{size}
-use mir.Syntax.{w32}
-use mir.Facts.{toZ-ofZ}
-use native.Mathlib.Omega.{arith}
 use borrow.Author.Tests.{not-true, not-false}
 use borrow.Author.Needs.{needs}
+use mir.Syntax.{w32}
+use mir.Facts.{toZ-ofZ}
+use Rattle.sheet.specs.Field.{signed32}
+use Rattle.sheet.specs.Rules.{sizeRange}
+use Rattle.sheet.specs.Decode.{size}
 use Rattle.reader.proofs.read_size.Statement.{statement}
 use Rattle.reader.proofs.read_size.Tie as tie
-use Rattle.reader.proofs.read_size.Reads as reads
-use Rattle.reader.proofs.read_size.Lts as lts
-use Rattle.reader.proofs.NumberRead.refusal.Reads as refusal-reads
-use Rattle.reader.proofs.read_number.Reads as read-number-reads
-use Rattle.reader.proofs.signed.Reads as signed-reads
-use Rattle.sheet.proofs.size_range.Reads as size-range-reads
 
--- src/lib.rt:226:13
 read-number-requires : tie.Need-read-number-requires
 read-number-requires c κs = search needs
 
--- src/lib.rt:227:31
 enum-known-number : tie.Need-enum-known-number
 enum-known-number c = search needs
 
--- src/lib.rt:228:38
 enum-told : tie.Need-enum-told
 enum-told c = search needs
 
--- src/lib.rt:228:38
 refusal-requires : tie.Need-refusal-requires
 refusal-requires c κs = search needs
 
--- src/lib.rt:228:13
 returns : tie.Need-returns
 unfolding size
 returns c =
     rw (c .before .before .before .before .if1 .taken, ← c .before .before .before .read-number .ensures .0, c .refusal .ensures, c .before .enum-told .given .1)
 
--- src/lib.rt:230:13
 signed-requires : tie.Need-signed-requires
 signed-requires c κs = c .before .before .before .read-number .ensures .1 .below _ _ (c .before .number .given .1)
 
--- src/lib.rt:231:13
 size-range-requires : tie.Need-size-range-requires
 size-range-requires c κs = search needs
 
@@ -50,19 +37,16 @@ range : (c : tie.After-size-range) → c .size-range .result ≡ sizeRange (c .b
 range c =
     rw (toZ-ofZ {w = w32} {z = c .before .signed .result} (search needs), c .before .signed .ensures) at (c .size-range .ensures)
 
--- src/lib.rt:232:13
 returns-2 : tie.Need-returns-2
 unfolding size
 returns-2 c =
     rw (c .before .before .before .before .before .before .before .if1 .taken, ← c .before .before .before .before .before .before .read-number .ensures .0, c .before .before .before .before .number .given .1, ← range (c .before), not-true (c .before .size-range .result) (c .if2 .taken))
 
--- src/lib.rt:222:1
 returns-3 : tie.Need-returns-3
 unfolding size
 returns-3 c =
     rw (toZ-ofZ {w = w32} {z = c .before .before .signed .result} (search needs), c .before .before .signed .ensures, c .before .before .before .before .before .before .before .if1 .taken, ← c .before .before .before .before .before .before .read-number .ensures .0, c .before .before .before .before .number .given .1, ← range (c .before), not-false (c .before .size-range .result) (c .if2 .left))
 
--- src/lib.rt:222:1
 returns-4 : tie.Need-returns-4
 unfolding size
 returns-4 c = rw (c .if1 .left)

@@ -1,16 +1,13 @@
-use borrow.Author.Needs.{needs}
+-- `reader::tag_of` meets its contract. Assumes nothing.
+use borrow.Author.Tests.{eq-eqb, ne-eqb}
 use Rattle.reader.proofs.tag_of.Statement.{statement}
 use Rattle.reader.proofs.tag_of.Tie as tie
-use Rattle.reader.proofs.tag_of.Reads as reads
-use Rattle.reader.proofs.tag_of.Lts as lts
 
--- src/lib.rt:224:1
 returns : tie.Need-returns
-returns c = rw (c .if1 .taken)
+returns c = rw (eq-eqb _ _ (c .if1 .taken))
 
--- src/lib.rt:224:1
 returns-2 : tie.Need-returns-2
-returns-2 c = search needs
+returns-2 c = rw (ne-eqb _ _ (c .if1 .left))
 
 pub tag-of-spec : {M : Type 1} → statement M
 tag-of-spec = tie.close (tie.spec returns returns-2)

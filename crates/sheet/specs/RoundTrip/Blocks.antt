@@ -1,21 +1,20 @@
 -- Accepted facts in the blocks of a sheet and out again, and the length of their bytes. Assumes nothing.
-use Prim.Native.Nat.{ℕ, suc, _+_, _*_, _-_, _^_, _<_, _≤_}
+use Prim.Native.Nat.{ℕ, _^_, _<_, _≤_}
 use native.Mathlib.Omega.{arith}
 use borrow.Author.Tests.{leb-true}
-use mathlib.Core.Path.{_≡_, refl, ap}
-use mathlib.Core.Bool.{Bool, true, false, _&&_}
-use mathlib.Core.List.{List, [], _∷_, _++_}
+use mathlib.Core.Path.{_≡_, refl}
+use mathlib.Core.Bool.{Bool, true, false}
+use mathlib.Core.List.{[]}
 use lib.Dec.{leb}
-use lib.ListN.{length, take, getD, length-append}
+use lib.ListN.{length, take, getD, length-append, length-take}
 use lib.Seq.{take-append-seam, length-take-le}
 use Rattle.sheet.specs.declared.Sheet.{Sheet}
-use Rattle.sheet.specs.Facts.{Facts, pick, linesOf, sheetOf, factsOf, blankConstraint}
-use Rattle.sheet.specs.Field.{digits}
+use Rattle.sheet.specs.Facts.{Facts, pick, sheetOf, factsOf, blankConstraint}
 use Rattle.sheet.specs.Field.Laws.{length-digits}
 use Rattle.sheet.specs.Rules.Laws.{and-true}
 use Rattle.sheet.specs.Rules.{elementCount, constraintCount, constraintsFault, sheetFault}
 use Rattle.sheet.specs.Decode.{kindBytes}
-use Rattle.sheet.specs.Encode.{constraintsBytes, sheetBytes}
+use Rattle.sheet.specs.Encode.{sheetBytes}
 use Rattle.sheet.specs.Encode.Laws.{constraints-length}
 use Rattle.sheet.specs.Accepted.{tagNumber, Accepted}
 
@@ -60,10 +59,18 @@ module _ (s : Sheet) (elements : length (s .elements) ≡ 64) (constraints : len
 
 -- ---- length
 
-pub sheet-length : (f : Facts) → Accepted f → length (sheetBytes f) ≤ 1814
+pub sheet-length : (f : Facts) → length (f .elements) ≤ 64 → length (f .constraints) ≤ 200 → length (sheetBytes f) ≤ 1814
 unfolding sheetBytes
-sheet-length f h =
-    let n = length (f .elements) in
-    let bytes : kindBytes n ≤ 8 = omega (arith, elements-most n (h .element-count)) in
-    rw (length-append, length-digits)
-    (omega (arith, constraints-length (f .constraints), constraints-most (length (f .constraints)) (h .constraint-count)))
+sheet-length f n-most e-most =
+    let bytes : kindBytes (length (f .elements)) ≤ 8 = omega arith in
+    rw (length-append, length-digits) (omega (arith, constraints-length (f .constraints)))
+
+pub accepted-length : (f : Facts) → Accepted f → length (sheetBytes f) ≤ 1814
+accepted-length f h = sheet-length f (elements-most _ (h .element-count)) (constraints-most _ (h .constraint-count))
+
+-- blocks that no rule refuses, whatever their lengths
+pub sheetFault-length : (s : Sheet) → sheetFault s ≡ 0 → length (sheetBytes (factsOf s)) ≤ 1814
+sheetFault-length s h =
+    let f = sheetFault-none s h in
+    sheet-length (factsOf s) (omega (arith, length-take (s .n) (s .elements), elements-most (s .n) (f .0)))
+    (omega (arith, length-take (s .e) (s .constraints), constraints-most (s .e) (f .1)))

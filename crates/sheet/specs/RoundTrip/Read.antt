@@ -3,23 +3,21 @@ use Prim.Native.Nat.{ℕ, zero, suc, _+_, _*_, _/_, _%_, _^_, _<_}
 use native.Mathlib.Omega.{arith}
 use borrow.Author.Tests.{ltb-true, not-true}
 use mathlib.Core.Path.{_≡_, refl, sym, ap, _∙_}
-use mathlib.Core.Bool.{Bool, true, false, not, _&&_, _||_}
+use mathlib.Core.Bool.{Bool, true, false, not, _||_}
 use mathlib.Core.List.{List, [], _∷_, _++_, append-nil, append-assoc}
 use lib.Dec.{eqb, ltb}
 use lib.ListN.{length, drop, getD}
 use Rattle.sheet.specs.declared.Element.{Element}
 use Rattle.sheet.specs.declared.PairKind.{PairKind}
 use Rattle.sheet.specs.declared.Size.{Size}
-use Rattle.sheet.specs.declared.Size.the-variants.{Given, Missing}
 use Rattle.sheet.specs.declared.Tag.{Tag}
-use Rattle.sheet.specs.declared.Tag.the-variants.{Given as TagGiven, Missing as NoTag}
 use Rattle.sheet.specs.declared.Constraint.{Constraint}
-use Rattle.sheet.specs.Facts.{Facts, pick, linesOf, elementsOf, blankConstraint}
+use Rattle.sheet.specs.Facts.{Facts, pick, linesOf, blankConstraint}
 use Rattle.sheet.specs.Facts.Laws.{elementsOf-length, linesOf-elementsOf}
-use Rattle.sheet.specs.Field.{Field, value, refused, next, demand, digits, field, byte, signed32, unsigned32, openingBytes, begins, Bytes}
+use Rattle.sheet.specs.Field.{value, refused, digits, field, byte, signed32, openingBytes, begins, Bytes}
 use Rattle.sheet.specs.Field.Laws.{next-value, demand-value, value-with, refused-value, field-front, byte-front, begins-front, bytes-drop, unsigned32-signed32}
 use Rattle.sheet.specs.Rules.Laws.{and-true}
-use Rattle.sheet.specs.Rules.{elementCount, kindBits, constraintCount, ends, stands, pairAt, optional, bitMap, sizeRange, sizeFault, constraintFault, or-else, constraintsFault}
+use Rattle.sheet.specs.Rules.{elementCount, kindBits, constraintCount, ends, stands, pairAt, optional, bitMap, sizeRange, sizeFault, constraintFault, constraintsFault}
 use Rattle.sheet.specs.Decode.{kindBytes, opening, size, tag, dimension, constraint, constraints, readConstraints, readKinds, readSheet}
 use Rattle.sheet.specs.Encode.{sizeBit, tagBit, sizeBytes, tagBytes, constraintBytes, constraintsBytes, sheetBytes}
 use Rattle.sheet.specs.Accepted.{tagNumber, Accepted}

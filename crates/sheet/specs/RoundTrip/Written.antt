@@ -1,10 +1,10 @@
 -- The bytes of accepted facts, read field by field, give the facts. Assumes nothing.
-use Prim.Native.Nat.{ℕ, zero, suc, _+_, _*_, _-_, _/_, _%_, _^_, _<_, _≤_}
-use native.Mathlib.Nat.{pow-le-pow-right, lt-of-lt-of-le, pow-succ', pow-zero}
+use Prim.Native.Nat.{ℕ, zero, suc, _+_, _*_, _/_, _%_, _^_, _<_, _≤_}
+use native.Mathlib.Nat.{pow-le-pow-right, lt-of-lt-of-le, pow-succ'}
 use native.Mathlib.Omega.{arith}
 use borrow.Author.Tests.{lt-ltb, leb-true}
-use mathlib.Core.Path.{_≡_, refl, sym, ap, _∙_}
-use mathlib.Core.Bool.{Bool, true, false, not, _&&_, _||_}
+use mathlib.Core.Path.{_≡_, refl, _∙_}
+use mathlib.Core.Bool.{Bool, true, false, _||_}
 use mathlib.Core.List.{List, [], _∷_, _++_, append-nil, append-assoc}
 use lib.Dec.{eqb}
 use lib.IntN.{ℤ, pos, negsuc}
@@ -19,12 +19,12 @@ use Rattle.sheet.specs.declared.Size.the-variants.{Given, Missing}
 use Rattle.sheet.specs.declared.Tag.{Tag}
 use Rattle.sheet.specs.declared.Tag.the-variants.{Given as TagGiven, Missing as NoTag}
 use Rattle.sheet.specs.declared.Constraint.{Constraint}
-use Rattle.sheet.specs.Facts.{Facts, pick, linesOf, elementsOf, blankConstraint}
+use Rattle.sheet.specs.Facts.{Facts, pick, linesOf, blankConstraint}
 use Rattle.sheet.specs.Facts.Laws.{linesOf-below, elementsOf-linesOf}
-use Rattle.sheet.specs.Field.{Field, value, number, digits, field, signed32, unsigned32}
+use Rattle.sheet.specs.Field.{value, unsigned32}
 use Rattle.sheet.specs.Field.Laws.{field-digits, unsigned32-below, signed32-unsigned32}
 use Rattle.sheet.specs.Rules.Laws.{and-true}
-use Rattle.sheet.specs.Rules.{ends, stands, pairAt, optional, bitMap, within, sizeRange, sizeFault, constraintFault, or-else, constraintsFault, elementCount, constraintCount}
+use Rattle.sheet.specs.Rules.{ends, stands, pairAt, optional, bitMap, within, sizeRange, sizeFault, constraintFault, or-else, constraintsFault}
 use Rattle.sheet.specs.Decode.{kindBytes, size, tag, dimension, constraint, constraints, readConstraints, readKinds, readSheet}
 use Rattle.sheet.specs.Encode.{sizeBit, tagBit, sizeBytes, tagBytes, constraintBytes, constraintsBytes, sheetBytes}
 use Rattle.sheet.specs.Accepted.{tagNumber, Accepted}

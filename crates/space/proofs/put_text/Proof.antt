@@ -1,11 +1,11 @@
 -- `space::put_text` meets its contract. The loop's invariant: what is left of the text, put from the place reached, makes the space that the whole
 -- text makes. Assumes nothing.
 use borrow.Author.Needs.{needs}
-use Prim.Native.Nat.{ℕ, _+_, _-_, _≤_}
+use Prim.Native.Nat.{_+_, _-_, _≤_}
 use native.Mathlib.Nat.{add-zero, add-suc}
 use native.Mathlib.Numerals.{add-one}
 use native.Mathlib.Omega.{arith}
-use mathlib.Core.Path.{_≡_, refl, sym, ap, _∙_}
+use mathlib.Core.Path.{_≡_, refl, sym, _∙_}
 use lib.ListN.{length, drop, length-set, drop-of-length-le}
 use lib.Seq.{sets, drop-cons}
 use Rattle.space.specs.Space.Laws.{put-all, put-short}

@@ -2,15 +2,12 @@
 -- `answer` and `after`. Assumes nothing.
 use Prim.Native.Nat.{ℕ, suc, _+_, _≤_, _<_}
 use native.Mathlib.Nat.{add-zero, zero-add, add-suc, suc-add}
-use native.Mathlib.Numerals.{add-one}
 use native.Mathlib.Omega.{arith}
 use borrow.Author.Tests.{lt-ltb, le-ltb}
 use mathlib.Core.Path.{_≡_, refl, sym, ap, _∙_}
-use mathlib.Core.Logic.{_⊎_, ⊎-elim}
 use mathlib.Core.List.{List, [], _∷_, _++_}
-use lib.ListN.{length, drop, set, length-append, length-set}
-use lib.Seq.{sets, sets-eq, set-out, length-sets}
-use Rattle.space.specs.declared.Written.{Written}
+use lib.ListN.{length, drop, set, length-append}
+use lib.Seq.{sets, sets-eq, length-sets}
 use Rattle.space.specs.declared.Written.the-variants.{Done, Refused}
 use Rattle.space.specs.Space.{Put, answer, after}
 
@@ -63,18 +60,20 @@ pub none-left : {items after : List ℕ} {at next : ℕ} → Put [] at items nex
 none-left {after = []} p = refl
 none-left {after = x ∷ xs} p = absurd (omega (arith, p .length-is))
 
-pub short-answer : (items space : List ℕ) → length space < length items → answer items space ≡ Refused 17
-unfolding answer
-short-answer items space h = rw (lt-ltb _ _ h)
-
-pub short-after : (items space : List ℕ) → length space < length items → after items space ≡ space
-unfolding after
-short-after items space h = rw (lt-ltb _ _ h)
+-- items that have no room are refused
+pub put-refused : (items space : List ℕ) → length space < length items → (Refused 17 ≡ answer items space) × (space ≡ after items space)
+unfolding answer after
+put-refused items space h = rw (lt-ltb _ _ h) (refl, refl)
 
 pub long-answer : (items space : List ℕ) → length items ≤ length space → answer items space ≡ Done (length items)
 unfolding answer
 long-answer items space h = rw (le-ltb _ _ h)
 
+-- items that have room are put from the front
 pub put-after : {items space left : List ℕ} {next : ℕ} → length items ≤ length space → Put space 0 items next left → left ≡ after items space
 unfolding after
 put-after {items} {space} h p = rw (le-ltb _ _ h) (p .after-is (omega arith) ∙ sets-front items space h)
+
+pub put-done : {items space left : List ℕ} {next : ℕ} → length items ≤ length space → Put space 0 items next left
+    → (Done next ≡ answer items space) × (left ≡ after items space)
+put-done h p = (ap Done (p .next-is ∙ zero-add _) ∙ sym (long-answer _ _ h), put-after h p)

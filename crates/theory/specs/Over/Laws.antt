@@ -1,21 +1,22 @@
 -- Laws of "over". Among the sets that hold both ends of a constraint and carry exactly 2m-3 there is exactly one smallest, which lies within every
 -- other; what is found is determined; the tests find it; elements that no constraint names change nothing. Assumes nothing.
 use mathlib.Core.Path.{_≡_, refl, sym, ap, ap₂, _∙_, subst}
-use mathlib.Core.Logic.{_⊎_, inl, inr, ⊎-elim}
-use mathlib.Core.Bool.{Bool, true, false, _&&_}
+use mathlib.Core.Logic.{_⊎_, inl, inr}
+use mathlib.Core.Bool.{Bool, true, false}
 use mathlib.Core.List.{List, [], _∷_, _++_}
 use Prim.Native.Nat.{ℕ, zero, suc, _+_, _*_, _^_, _≤_, _<_}
-use native.Mathlib.Nat.{le-antisymm, le-refl, le-step, lt-suc-self, lt-of-not-le, zero-lt-suc, pow-le-pow-right, lt-of-lt-of-le}
+use native.Mathlib.Nat.{le-antisymm, le-refl, le-step, lt-suc-self}
 use native.Mathlib.Omega.{arith}
-use native.Mathlib.Decide.{ℕ-discrete, decLe, decLt, le-ind}
-use lib.Dec.{T, leb, ltb, eqb, leb→le, le→leb, ltb→lt, lt→ltb, eqb→eq, eqb-refl}
+use native.Mathlib.Decide.{ℕ-discrete, decLe, decLt}
+use lib.Dec.{T, leb, ltb, eqb, leb→le, le→leb, ltb→lt, lt→ltb, eqb→eq}
 use lib.Count.{ones}
 use lib.ListN.{length, take, getD}
 use lib.Seq.{take-suc, take-length}
+use Rattle.theory.specs.Tests.{and-intro, and-both, eq-test}
 use Rattle.theory.specs.Set.{_∩_, _∪_, _⊑_, full}
-use Rattle.theory.specs.Set.Laws.{size-zero, size-or, size-le, size-eq, size-full, sub-refl, sub-trans, and-l, and-r, and-most, or-l, cut-below, below-full}
+use Rattle.theory.specs.Set.Laws.{size-zero, size-or, size-le, size-eq, size-full, and-l, and-r, and-most, or-l, cut-below, below-full}
 use Rattle.theory.specs.Constraints.{has, carried, NotOver, NotOverIn, Among, Pairs, Below}
-use Rattle.theory.specs.Constraints.Laws.{inside, Has, outside, has-dec, has-in, has-le, carried-two, carried-full, carried-cut, not-over-in}
+use Rattle.theory.specs.Constraints.Laws.{inside, Has, outside, has-dec, has-in, carried-two, carried-full, carried-cut, not-over-in}
 use Rattle.theory.specs.Over.{IsOver, Tight, Smallest, FirstOver, Finding, fine, first, Finds, heavy, anyBelow, isOver, isTight, smaller, fewestBelow, smallestSet, next, overUpTo, overOf}
 
 -- ---- a list and one constraint more
@@ -138,14 +139,6 @@ tight-cut n cs below f m e l x t =
 
 -- ---- the tests
 
-and-intro : (a b : Bool) → T a → T b → T (a && b)
-and-intro true b p q = q
-and-intro false b p q = p
-
-and-both : (a b : Bool) → T (a && b) → T a × T b
-and-both true b t = (tt, t)
-and-both false b t = absurd t
-
 pub heavy-over : (cs : List ℕ) (x : ℕ) → T (heavy cs x) → IsOver cs
 unfolding heavy
 heavy-over cs x t =
@@ -161,8 +154,7 @@ tight-test : (cs : List ℕ) (m x : ℕ) → Tight cs m x → T (isTight cs m x)
 unfolding isTight
 tight-test cs m x t =
     and-intro (eqb (has m x) 1) (eqb (carried cs x + 3) (2 * ones x))
-    (subst (λ (z : ℕ). T (eqb z 1)) (sym (has-in m x (t .holds))) tt)
-    (subst (λ (z : ℕ). T (eqb (carried cs x + 3) z)) (t .exact) (eqb-refl (carried cs x + 3)))
+    (eq-test (has m x) 1 (has-in m x (t .holds))) (eq-test (carried cs x + 3) (2 * ones x) (t .exact))
 
 test-tight : (cs : List ℕ) (m x : ℕ) → T (isTight cs m x) → Tight cs m x
 unfolding isTight
@@ -303,6 +295,19 @@ module _ (n : ℕ) (cs : List ℕ) (pairs : Pairs cs) (below : Below n cs) where
   first-set k l f o =
       smallest-set n (take k cs) (below-take n k cs below) f (getD cs k 0) (pair-at k l) (below-at k l) (o .set)
       (over-tight (take k cs) (take (suc k) cs) (getD cs k 0) (λ x. carried-next cs k x l) f (o .set) (o .two) (o .more))
+
+  -- there is always exactly one smallest, and it lies within every other
+  pub one-smallest : (k : ℕ) → k < length cs → NotOver (take k cs) → IsOver (take (suc k) cs)
+      → (x : ℕ) × Smallest (take k cs) (getD cs k 0) x × ((y : ℕ) → Smallest (take k cs) (getD cs k 0) y → y ≡ x)
+      × ((y : ℕ) → Tight (take k cs) (getD cs k 0) y → x ⊑ y)
+  one-smallest k l f o =
+      let x = smallestSet n (take k cs) (getD cs k 0) in
+      let s = first-set k l f o in (
+        x,
+        s,
+        λ y t. smallest-one (take k cs) f (getD cs k 0) (pair-at k l) y x t s,
+        λ y t. smallest-within (take k cs) f (getD cs k 0) (pair-at k l) x y s t,
+      )
 
   -- the right finding for the first k constraints
   FindsTo : ℕ → Finding → Type 0

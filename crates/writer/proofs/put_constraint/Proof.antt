@@ -1,8 +1,6 @@
 -- `writer::put_constraint` meets its contract: ends and bit map, then the size, then the tag. Assumes nothing.
 use borrow.Author.Needs.{needs}
-use Prim.Native.Nat.{_≤_}
 use native.Mathlib.Omega.{arith}
-use mathlib.Core.Path.{_≡_, ap}
 use Rattle.sheet.specs.Encode.{constraintBytes}
 use Rattle.sheet.specs.Encode.Laws.{sizeBit-le, tagBit-le, size-length}
 use Rattle.space.specs.Space.Laws.{put-as, _then_}

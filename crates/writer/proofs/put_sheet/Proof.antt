@@ -1,12 +1,11 @@
 -- `writer::put_sheet` meets its contract. The loop's invariant: the bytes of the constraints passed are put, after what precedes them. Assumes nothing.
 use borrow.Author.Needs.{needs}
-use Prim.Native.Nat.{ℕ, _+_, _-_, _*_, _/_, _<_, _≤_}
+use Prim.Native.Nat.{_+_, _-_, _/_, _≤_}
 use native.Mathlib.Omega.{arith}
-use mathlib.Core.Path.{_≡_, refl, sym, ap, _∙_}
-use mathlib.Core.List.{[], _∷_, _++_, append-assoc}
-use lib.ListN.{length, take, getD, length-map}
+use mathlib.Core.Path.{_≡_, sym, _∙_}
+use lib.ListN.{length, take, length-map}
 use lib.Seq.{length-take-le}
-use Rattle.sheet.specs.Facts.{linesOf, factsOf}
+use Rattle.sheet.specs.Facts.{factsOf}
 use Rattle.sheet.specs.Encode.{constraintsBytes, sheetBytes}
 use Rattle.sheet.specs.Encode.Laws.{constraints-more, constraints-length}
 use Rattle.sheet.specs.Field.Laws.{length-digits}

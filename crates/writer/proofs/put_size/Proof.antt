@@ -1,6 +1,6 @@
 -- `writer::put_size` meets its contract. Assumes nothing.
 use borrow.Author.Needs.{needs}
-use mathlib.Core.Path.{_≡_, ap}
+use mathlib.Core.Path.{ap}
 use mir.Facts.{toZ-ofZ}
 use mir.Syntax.{w32}
 use Rattle.sheet.specs.Encode.{sizeBytes}

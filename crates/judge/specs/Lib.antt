@@ -1,0 +1,3 @@
+-- The judgement of an accepted sheet.
+pub mod Listing
+pub mod Judged

@@ -1,0 +1,2 @@
+-- What the entry points answer, by the bytes of a sheet.
+pub mod Sheets

@@ -1,0 +1,23 @@
+-- A rule's number with its sign, and a count, in 32 bits. Assumes nothing.
+use Prim.Native.Nat.{ℕ, zero, suc, _<_}
+use native.Mathlib.Omega.{arith}
+use mathlib.Core.Path.{_≡_, refl, ap, _∙_}
+use borrow.Author.Tests.{lt-ltb}
+use lib.IntN.{ℤ, pos, negsuc, _-ℤ_}
+use mir.Syntax.{w32}
+use mir.Val.{SFits, toZ, ofZ}
+use mir.Facts.{toZ-ofZ}
+use Rattle.space.specs.declared.Written.{Written}
+use Rattle.pattern_c.specs.Numbers.{minus, asCount}
+
+pub zero-minus : (k : ℕ) → pos 0 -ℤ pos k ≡ minus k
+zero-minus zero = refl
+zero-minus (suc k) = let h : 0 < suc k = omega arith in rw (lt-ltb 0 (suc k) h) (ap negsuc (omega arith))
+
+pub minus-fits : (k : ℕ) → k < 256 → SFits w32 (minus k)
+minus-fits zero h = record { sfits = omega arith }
+minus-fits (suc k) h = record { sfits = omega arith }
+
+-- what a function answers that counts what it has written
+pub counted : (z : ℤ) (w v : Written) → SFits w32 z → z ≡ asCount w → w ≡ v → toZ w32 (ofZ w32 z) ≡ asCount v
+counted z w v fits e f = toZ-ofZ fits ∙ e ∙ ap asCount f

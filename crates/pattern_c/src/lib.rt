@@ -1,0 +1,142 @@
+// The entry points for C: numbers and slices alone, each slice a pointer and a length. include/pattern.h declares them. An answer is the count of
+// items written, or minus the number of the rule that refuses; specs/ says it.
+ghost use mathlib.Core.Path.{_≡_};
+ghost use lib.ListN.{getD};
+ghost use Rattle.pattern.specs.Sheets.{rewriteAnswer, rewriteAfter, itemsAnswer, itemsAfter, overOfFacts};
+ghost use Rattle.writer.specs.Write.{writeAnswer, writeAfter};
+ghost use Rattle.pattern_c.specs.Numbers.{asCount};
+ghost use Rattle.pattern_c.specs.Columns.{sizeIn, tagIn, constraintIn, constraintsIn, sheetIn};
+use sheet::Constraint;
+use sheet::Sheet;
+use sheet::Size;
+use sheet::Tag;
+use space::Written;
+
+// The count of items written, or minus the rule's number.
+fn count(w: Written) -> i32
+    ensures { λ r. ⌜ r ≡ asCount w ⌝ }
+{
+    match w {
+        Written::Done(n) => { if n < 2147483648 { n as i32 } else { 2147483647 } }
+        Written::Refused(k) => 0 - (k as i32),
+    }
+}
+
+// A sheet read and written again: its own bytes, or the rule of 1 to 10 and 17 that refuses it.
+#[no_mangle]
+pub extern "C" fn pattern_rewrite(sheet: &[u8], out: &mut [u8]) -> i32
+    ensures { λ r. ⌜ (r ≡ asCount (rewriteAnswer (now (sheet .entry)) (now (out .entry)))) × (now (out .exit) ≡ rewriteAfter (now (sheet .entry)) (now (out .entry))) ⌝ }
+{
+    count(pattern::rewrite(sheet, out))
+}
+
+// The byte at a place, 0 past the end.
+fn byte_at(list: &[u8], i: usize) -> u8
+    ensures { λ r. ⌜ r ≡ getD (now (list .entry)) i 0 ⌝ }
+{
+    if i < list.len() { list[i] } else { 0 }
+}
+
+// The size at a place of the columns.
+fn size_at(maps: &[u8], sizes: &[i32], i: usize) -> Size
+    ensures { λ r. ⌜ r ≡ sizeIn (now (maps .entry)) (now (sizes .entry)) i ⌝ }
+{
+    if byte_at(maps, i) % 2 == 1 {
+        if i < sizes.len() {
+            return Size::Given(sizes[i]);
+        }
+    }
+    Size::Missing
+}
+
+// The tag at a place of the columns.
+fn tag_at(maps: &[u8], tags: &[u16], i: usize) -> Tag
+    ensures { λ r. ⌜ r ≡ tagIn (now (maps .entry)) (now (tags .entry)) i ⌝ }
+{
+    if byte_at(maps, i) / 2 % 2 == 1 {
+        if i < tags.len() {
+            return Tag::Given(tags[i]);
+        }
+    }
+    Tag::Missing
+}
+
+// The constraint at a place of the columns.
+fn constraint_at(
+    firsts: &[u8],
+    seconds: &[u8],
+    maps: &[u8],
+    sizes: &[i32],
+    tags: &[u16],
+    i: usize,
+) -> Constraint
+    ensures { λ r. ⌜ r ≡ constraintIn (now (firsts .entry)) (now (seconds .entry)) (now (maps .entry)) (now (sizes .entry)) (now (tags .entry)) i ⌝ }
+{
+    let size = size_at(maps, sizes, i);
+    let tag = tag_at(maps, tags, i);
+    Constraint {
+        first: byte_at(firsts, i),
+        second: byte_at(seconds, i),
+        size,
+        tag,
+    }
+}
+
+// The block of 200 constraints in the columns.
+fn constraints_in(
+    firsts: &[u8],
+    seconds: &[u8],
+    maps: &[u8],
+    sizes: &[i32],
+    tags: &[u16],
+) -> [Constraint; 200]
+    ensures { λ r. ⌜ r ≡ constraintsIn (now (firsts .entry)) (now (seconds .entry)) (now (maps .entry)) (now (sizes .entry)) (now (tags .entry)) 200 ⌝ }
+{
+    let none = Constraint {
+        first: 0,
+        second: 0,
+        size: Size::Missing,
+        tag: Tag::Missing,
+    };
+    let mut cs = [none; 200];
+    let mut i: usize = 0;
+    while i < 200 {
+        cs[i] = constraint_at(firsts, seconds, maps, sizes, tags, i);
+        i += 1;
+    }
+    cs
+}
+
+// A sheet's facts, the constraints in columns, as bytes in lent space, or the rule of 3, 5 to 9 and 17 that refuses them.
+#[no_mangle]
+pub extern "C" fn pattern_write(
+    n: usize,
+    e: usize,
+    lines: u64,
+    firsts: &[u8],
+    seconds: &[u8],
+    maps: &[u8],
+    sizes: &[i32],
+    tags: &[u16],
+    out: &mut [u8],
+) -> i32
+    ensures { λ r. ⌜ (r ≡ asCount (writeAnswer (sheetIn n e lines (now (firsts .entry)) (now (seconds .entry)) (now (maps .entry)) (now (sizes .entry)) (now (tags .entry))) (now (out .entry)))) × (now (out .exit) ≡ writeAfter (sheetIn n e lines (now (firsts .entry)) (now (seconds .entry)) (now (maps .entry)) (now (sizes .entry)) (now (tags .entry))) (now (out .entry))) ⌝ }
+{
+    let elements = sheet::elements_of(64, lines);
+    let constraints = constraints_in(firsts, seconds, maps, sizes, tags);
+    let facts = Sheet {
+        n,
+        e,
+        elements,
+        constraints,
+    };
+    count(pattern::write(facts, out))
+}
+
+// Whether a sheet is over: the number of the first constraint that makes it so and the smallest set, element i as bit i; no item where it is not over.
+#[no_mangle]
+pub extern "C" fn pattern_over(sheet: &[u8], out: &mut [u64]) -> i32
+    ensures { λ r. ⌜ (r ≡ asCount (itemsAnswer overOfFacts (now (sheet .entry)) (now (out .entry)))) × (now (out .exit) ≡ itemsAfter overOfFacts (now (sheet .entry)) (now (out .entry))) ⌝ }
+{
+    count(pattern::over(sheet, out))
+}

@@ -1,0 +1,23 @@
+-- `core_of` meets its contract. Assumes nothing.
+use Rattle.peeling.specs.Core.Peeling.{core-peeled}
+use borrow.Author.Needs.{needs}
+use Rattle.peeling.proofs.core_of.Statement.{statement}
+use Rattle.peeling.proofs.core_of.Tie as tie
+
+near-of-requires : tie.Need-near-of-requires
+near-of-requires c κs = search needs
+
+light-all-requires : tie.Need-light-all-requires
+light-all-requires c κs = search needs
+
+peel-requires : tie.Need-peel-requires
+peel-requires c κs = search needs
+
+returns : tie.Need-returns
+returns c =
+    let s = c .before .before .before .before .before in
+    let n = c .before .before .before .before .near-of in
+    core-peeled (s .args .firsts .now) (s .args .seconds .now) (s .args .e) (s .pre) (n .result) (n .ensures) (c .peel .result) (c .peel .ensures)
+
+pub core-of-spec : {M : Type 1} → statement M
+core-of-spec = tie.close (tie.spec near-of-requires light-all-requires peel-requires returns)

@@ -1,0 +1,79 @@
+-- `light_all` meets its contract. The loop's invariant: the elements found are light. Assumes nothing.
+use mathlib.Core.Logic.{⊎-elim}
+use Prim.Native.Nat.{_-_, _≤_}
+use native.Mathlib.Omega.{arith}
+use lib.ListN.{getD}
+use Rattle.theory.specs.Set.{full}
+use Rattle.peeling.specs.Core.{Light}
+use Rattle.peeling.specs.Core.Peeling.{light-none, light-all-code, light-same, two-most}
+use borrow.Author.Needs.{needs}
+use Rattle.peeling.proofs.light_all.Statement.{statement}
+use Rattle.peeling.proofs.light_all.Tie as tie
+
+abbrev Inv-loop : tie.InvT-loop
+Inv-loop near todo₀ x₀ todo x = (x ≤ 64) × Light near (full 64) todo
+
+abbrev μ-loop : tie.MeasureT-loop
+μ-loop near todo₀ x₀ todo x = 64 - x
+
+loop-holds : tie.Need-loop-holds Inv-loop μ-loop
+loop-holds c = (omega arith, light-none (c .args .near .now) (full 64))
+
+wide-requires : tie.Need-wide-requires Inv-loop μ-loop
+wide-requires c κs = search needs
+
+mul-drop-low : tie.Need-mul-drop-low Inv-loop μ-loop
+mul-drop-low c = omega (arith, c .wide .ensures)
+
+element-copy-out-drop-low : tie.Need-element-copy-out-drop-low Inv-loop μ-loop
+element-copy-out-drop-low c = omega (arith, c .wide .ensures)
+
+drop-low-requires : tie.Need-drop-low-requires Inv-loop μ-loop
+drop-low-requires c κs = search needs
+
+drop-low-requires-2 : tie.Need-drop-low-requires-2 Inv-loop μ-loop
+drop-low-requires-2 c κs = search needs
+
+single-requires : tie.Need-single-requires Inv-loop μ-loop
+single-requires c κs = search needs
+
+add-x : tie.Need-add-x Inv-loop μ-loop
+add-x c = omega arith
+
+loop-less : tie.Need-loop-less Inv-loop μ-loop
+loop-less c = omega arith
+
+loop-again : tie.Need-loop-again Inv-loop μ-loop
+loop-again c =
+    let near = c .before .before .before .before .before .before .before .args .near .now in
+    let l = c .before .before .before .before .before .before .loop in
+    let i = c .before .before .before .before .wide in
+    let p = c .before .before .drop-low in
+    let q = c .before .drop-low2 in (
+      omega arith,
+      ⊎-elim
+          (λ w. light-all-code near (l .todo) (l .inv .1) (c .before .before .before .before .before .loop-test .taken) (i .ensures) (w .1 .ensures)
+          (two-most (getD near (i .result) 0) (p .result) (q .result) (p .ensures) (q .ensures) (w .0 .taken)) (w .2))
+          (λ w. light-same near (full 64) (w .1) (l .inv .1)) (c .if1 .came),
+    )
+
+returns : tie.Need-returns Inv-loop μ-loop
+returns c = c .before .loop .inv .1
+
+pub light-all-spec : {M : Type 1} → statement M
+light-all-spec =
+    tie.close
+    (tie.spec
+    Inv-loop
+    μ-loop
+    loop-holds
+    wide-requires
+    mul-drop-low
+    element-copy-out-drop-low
+    drop-low-requires
+    drop-low-requires-2
+    single-requires
+    add-x
+    loop-less
+    loop-again
+    returns)

@@ -1,0 +1,91 @@
+-- `light_of` meets its contract. The loop's invariant: the elements found are light, and those to be tried are left. Assumes nothing.
+use mathlib.Core.Path.{sym, subst}
+use mathlib.Core.Logic.{⊎-elim}
+use Prim.Native.Nat.{ℕ, _-_}
+use native.Mathlib.Omega.{arith}
+use lib.Bits.{bitAnd}
+use lib.ListN.{getD}
+use lib.Pow.{pow-pos}
+use Rattle.theory.specs.Set.{_⊑_}
+use Rattle.theory.specs.Set.Laws.{at-le, sub-trans}
+use Rattle.peeling.specs.Less.{at-room, less-sub}
+use Rattle.peeling.specs.Core.{Light}
+use Rattle.peeling.specs.Core.Peeling.{light-none, light-code, light-same, two-most}
+use borrow.Author.Needs.{needs}
+use Rattle.peeling.proofs.light_of.Statement.{statement}
+use Rattle.peeling.proofs.light_of.Tie as tie
+
+abbrev Inv-loop : tie.InvT-loop
+Inv-loop near left who todo₀ m₀ todo m = (m ⊑ left) × Light near left todo
+
+abbrev μ-loop : tie.MeasureT-loop
+μ-loop near left who todo₀ m₀ todo m = m
+
+loop-holds : tie.Need-loop-holds Inv-loop μ-loop
+loop-holds c = (c .pre, light-none (c .args .near .now) (c .args .left))
+
+lowest-requires : tie.Need-lowest-requires Inv-loop μ-loop
+lowest-requires c κs = search needs
+
+wide-requires : tie.Need-wide-requires Inv-loop μ-loop
+wide-requires c κs = search needs
+
+single-requires : tie.Need-single-requires Inv-loop μ-loop
+single-requires c κs = c .before .lowest .ensures .0
+
+mul-drop-low : tie.Need-mul-drop-low Inv-loop μ-loop
+mul-drop-low c = omega (arith, c .before .wide .ensures, c .before .before .lowest .ensures .0)
+
+element-copy-out-drop-low : tie.Need-element-copy-out-drop-low Inv-loop μ-loop
+element-copy-out-drop-low c = omega (arith, c .before .wide .ensures, c .before .before .lowest .ensures .0)
+
+drop-low-requires : tie.Need-drop-low-requires Inv-loop μ-loop
+drop-low-requires c κs = search needs
+
+drop-low-requires-2 : tie.Need-drop-low-requires-2 Inv-loop μ-loop
+drop-low-requires-2 c κs = search needs
+
+sub-m : tie.Need-sub-m Inv-loop μ-loop
+sub-m c = omega (arith, at-room (c .before .before .before .before .before .before .lowest .result) (c .before .before .before .before .before .before .before .before .loop .m) (c .before .before .before .before .before .before .lowest .ensures .1), c .before .before .before .before .single .ensures)
+
+loop-less : tie.Need-loop-less Inv-loop μ-loop
+loop-less c = omega (arith, sub-m c, c .before .before .before .before .single .ensures, pow-pos (c .before .before .before .before .before .before .lowest .result))
+
+loop-again : tie.Need-loop-again Inv-loop μ-loop
+loop-again c =
+    let a = c .before .before .before .before .before .before .before .before .before .args in
+    let l = c .before .before .before .before .before .before .before .before .loop in
+    let x = c .before .before .before .before .before .before .lowest in
+    let i = c .before .before .before .before .before .wide in
+    let b = c .before .before .before .before .single in
+    let p = c .before .before .drop-low in
+    let q = c .before .drop-low2 in (
+      sub-trans (subst (λ (z : ℕ). l .m - z ⊑ l .m) (sym (b .ensures)) (less-sub (x .result) (l .m) (x .ensures .1))) (l .inv .0),
+      ⊎-elim
+          (λ w. light-code (a .near .now) (a .left) (l .todo) (l .inv .1)
+          (omega (arith, l .inv .0 .le (x .result), x .ensures .1, at-le (x .result) (a .left))) (i .ensures) (b .ensures)
+          (two-most (bitAnd (getD (a .near .now) (i .result) 0) (a .left)) (p .result) (q .result) (p .ensures) (q .ensures) (w .0 .taken)) (w .1))
+          (λ w. light-same (a .near .now) (a .left) (w .1) (l .inv .1)) (c .if1 .came),
+    )
+
+returns : tie.Need-returns Inv-loop μ-loop
+returns c = c .before .loop .inv .1
+
+pub light-of-spec : {M : Type 1} → statement M
+light-of-spec =
+    tie.close
+    (tie.spec
+    Inv-loop
+    μ-loop
+    loop-holds
+    lowest-requires
+    wide-requires
+    single-requires
+    mul-drop-low
+    element-copy-out-drop-low
+    drop-low-requires
+    drop-low-requires-2
+    sub-m
+    loop-less
+    loop-again
+    returns)

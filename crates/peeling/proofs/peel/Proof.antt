@@ -1,0 +1,94 @@
+-- `peel` meets its contract. The loop's invariant: elements are taken away down to left, and todo are light there. Assumes nothing.
+use Prim.Native.Nat.{_-_}
+use native.Mathlib.Omega.{arith}
+use lib.ListN.{getD}
+use Rattle.peeling.specs.Core.{Light, Peeled, whole}
+use Rattle.peeling.specs.Core.Peeling.{peel-room, todo-room, peel-less, peel-next, light-next}
+use Rattle.theory.specs.Set.{_∩_, full}
+use Rattle.theory.specs.Set.Laws.{and-r}
+use borrow.Author.Needs.{needs}
+use Rattle.peeling.proofs.peel.Statement.{statement}
+use Rattle.peeling.proofs.peel.Tie as tie
+
+abbrev Inv-loop : tie.InvT-loop
+Inv-loop near low left₀ todo₀ left todo = Peeled near left × Light near left todo
+
+abbrev μ-loop : tie.MeasureT-loop
+μ-loop near low left₀ todo₀ left todo = left
+
+loop-holds : tie.Need-loop-holds Inv-loop μ-loop
+unfolding full
+loop-holds c = (whole, c .pre)
+
+lowest-requires : tie.Need-lowest-requires Inv-loop μ-loop
+lowest-requires c κs = search needs
+
+wide-requires : tie.Need-wide-requires Inv-loop μ-loop
+wide-requires c κs = search needs
+
+single-requires : tie.Need-single-requires Inv-loop μ-loop
+single-requires c κs = c .before .lowest .ensures .0
+
+sub-left : tie.Need-sub-left Inv-loop μ-loop
+sub-left c =
+    let s = c .before .before .before .before .before in
+    let l = c .before .before .before .before .loop in
+    peel-room (s .args .near .now) (l .left) (l .todo) (c .before .before .lowest .result) (c .single .result) (l .inv .0) (l .inv .1) (c .before .before .lowest .ensures .1) (c .single .ensures)
+
+sub-todo : tie.Need-sub-todo Inv-loop μ-loop
+sub-todo c =
+    let s = c .before .before .before .before .before in
+    let l = c .before .before .before .before .loop in
+    todo-room (s .args .near .now) (l .left) (l .todo) (c .before .before .lowest .result) (c .single .result) (l .inv .0) (l .inv .1) (c .before .before .lowest .ensures .1) (c .single .ensures)
+
+mul-light-of : tie.Need-mul-light-of Inv-loop μ-loop
+mul-light-of c = omega (arith, c .before .wide .ensures, c .before .before .lowest .ensures .0)
+
+element-copy-out-light-of : tie.Need-element-copy-out-light-of Inv-loop μ-loop
+element-copy-out-light-of c = omega (arith, c .before .wide .ensures, c .before .before .lowest .ensures .0)
+
+light-of-requires : tie.Need-light-of-requires Inv-loop μ-loop
+unfolding _∩_
+light-of-requires c κs =
+    let s = c .before .before .before .before .before .before in
+    let l = c .before .before .before .before .before .loop in
+    and-r (getD (s .args .near .now) (c .before .before .wide .result) 0) (l .left - c .before .single .result)
+
+loop-less : tie.Need-loop-less Inv-loop μ-loop
+loop-less c =
+    let s = c .before .before .before .before .before .before .before in
+    let l = c .before .before .before .before .before .before .loop in
+    peel-less (s .args .near .now) (l .left) (l .todo) (c .before .before .before .before .lowest .result) (c .before .before .single .result) (l .inv .0) (l .inv .1) (c .before .before .before .before .lowest .ensures .1) (c .before .before .single .ensures)
+
+loop-again : tie.Need-loop-again Inv-loop μ-loop
+loop-again c =
+    let s = c .before .before .before .before .before .before .before in
+    let l = c .before .before .before .before .before .before .loop in
+    let x = c .before .before .before .before .lowest in
+    let b = c .before .before .single in (
+      peel-next (s .args .near .now) (l .left) (l .todo) (x .result) (b .result) (l .inv .0) (l .inv .1) (x .ensures .1) (b .ensures),
+      light-next (s .args .near .now) (l .left) (l .todo) (x .result) (b .result) (l .inv .0) (l .inv .1) (x .ensures .1) (b .ensures) (c .light-of .result)
+          (c .light-of .ensures),
+    )
+
+returns : tie.Need-returns Inv-loop μ-loop
+returns c = c .before .loop .inv .0
+
+pub peel-spec : {M : Type 1} → statement M
+peel-spec =
+    tie.close
+    (tie.spec
+    Inv-loop
+    μ-loop
+    loop-holds
+    lowest-requires
+    wide-requires
+    single-requires
+    sub-left
+    sub-todo
+    mul-light-of
+    element-copy-out-light-of
+    light-of-requires
+    loop-less
+    loop-again
+    returns)

@@ -1,0 +1,21 @@
+-- `single` meets its contract. Assumes nothing.
+use mathlib.Core.Path.{_∙_}
+use Prim.Native.Nat.{_^_}
+use native.Mathlib.Nat.{one-mul, lt-suc-self}
+use native.Mathlib.Omega.{arith}
+use lib.Pow.{shl-exact}
+use borrow.Author.Needs.{needs}
+use Rattle.peeling.proofs.single.Statement.{statement}
+use Rattle.peeling.proofs.single.Tie as tie
+
+cast-result : tie.Need-cast-result
+cast-result c = search needs
+
+shl-result : tie.Need-shl-result
+shl-result c = search needs
+
+returns : tie.Need-returns
+returns c = shl-exact 1 (c .args .x) 64 (lt-suc-self 1) (omega arith) ∙ one-mul (2 ^ (c .args .x))
+
+pub single-spec : {M : Type 1} → statement M
+single-spec = tie.close (tie.spec cast-result shl-result returns)

@@ -1,0 +1,38 @@
+-- Elements that are in the way of no over set, and the core that is left without them. Assumes nothing.
+use mathlib.Core.Path.{_≡_}
+use mathlib.Core.List.{List}
+use Prim.Native.Nat.{ℕ, _+_, _*_, _-_, _^_, _≤_, _<_}
+use lib.Count.{ones}
+use lib.ListN.{length, getD}
+use Rattle.theory.specs.Set.{_∩_, _⊑_, at, full}
+use Rattle.theory.specs.Constraints.{pair, carried, NotOver}
+use Rattle.theory.specs.Over.Listed.{ends, masks}
+pub mod Laws
+pub mod Peeling
+
+-- within u, element x has at most k constraints
+pub record Few (cs : List ℕ) (u x k : ℕ) : Type 0 where
+  pub few : (a : ℕ) → a ⊑ u → at x a ≡ 1 → carried cs a ≤ carried cs (a - 2 ^ x) + k
+
+-- the sets within u tell whether the first c of e constraints are over, and a set's part within u carries all but two for each element that it lacks
+pub record Core (us vs : List ℕ) (e u : ℕ) : Type 0 where
+  pub small : u < 2 ^ 64
+  pub fine : (c : ℕ) → c ≤ e → ((a : ℕ) → a ⊑ u → 2 ≤ ones a → carried (masks us vs c) a + 3 ≤ 2 * ones a) → NotOver (masks us vs c)
+  pub cut : (c a : ℕ) → c ≤ e → carried (masks us vs c) a + 2 * ones (a ∩ u) ≤ carried (masks us vs c) (a ∩ u) + 2 * ones a
+
+-- ---- taking elements away
+
+-- item x of near holds the elements that share one of the first c constraints with x
+pub record Near (us vs : List ℕ) (c : ℕ) (near : List ℕ) : Type 0 where
+  pub places : length near ≡ 64
+  pub told : (x y : ℕ) → x < 64 → at y (getD near x 0) ≡ 1 → (d : ℕ) × (d < c) × (ends us vs d ≡ pair x y)
+  pub counts : (x a : ℕ) → x < 64 → at x a ≡ 1 → carried (masks us vs c) a ≤ carried (masks us vs c) (a - 2 ^ x) + ones (getD near x 0 ∩ a)
+
+-- elements of u with at most two neighbours in u
+pub record Light (near : List ℕ) (u todo : ℕ) : Type 0 where
+  pub light : (x : ℕ) → at x todo ≡ 1 → (at x u ≡ 1) × (ones (getD near x 0 ∩ u) ≤ 2)
+
+-- what is left when elements with at most two neighbours among those left are taken away one by one
+pub data Peeled (near : List ℕ) : ℕ → Type 0 where
+  whole : Peeled near (full 64)
+  less : {u : ℕ} (x : ℕ) → Peeled near u → at x u ≡ 1 → ones (getD near x 0 ∩ u) ≤ 2 → Peeled near (u - 2 ^ x)

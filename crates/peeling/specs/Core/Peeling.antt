@@ -1,0 +1,366 @@
+-- Elements with at most two constraints are taken away one by one: what is left is a core. A least over set has three constraints at each element, so
+-- none loses any. Assumes nothing.
+use mathlib.Core.Path.{_≡_, refl, sym, ap, _∙_, subst}
+use mathlib.Core.Logic.{_≢_, _⊎_, inl, inr, ⊎-elim}
+use mathlib.Core.List.{List}
+use Prim.Native.Nat.{ℕ, zero, suc, _+_, _*_, _-_, _^_, _≤_, _<_}
+use native.Mathlib.Nat.{le-refl, le-step, lt-trans, lt-suc-self, ne-of-lt}
+use native.Mathlib.Decide.{ℕ-discrete, decLe, le-ind}
+use native.Mathlib.Numerals.{add-one}
+use native.Mathlib.Omega.{arith}
+use lib.Bits.{bitAnd, bitOr}
+use lib.Count.{ones}
+use lib.ListN.{getD, set, length-set, replicate, length-replicate}
+use lib.Seq.{getD-set-same, getD-set-other}
+use lib.Pow.{pow-lt, pow-pos}
+use Rattle.theory.specs.Set.{_∩_, _∪_, _⊑_, at, full}
+use Rattle.theory.specs.Set.Laws.{at-and, at-or, at-le, at-zero, at-same, at-other, bit, ext, size-zero, size-le, size-add, sub-refl, sub-trans, and-l, and-r, and-mono, below-full}
+use Rattle.theory.specs.Constraints.{pair, has, carried, NotOver, NotOverIn}
+use Rattle.theory.specs.Constraints.Laws.{Has, inside, outside, has-dec, has-in, has-le, has-mono, at-pair, carried-cut, not-over-in}
+use Rattle.peeling.specs.Less.{at-below, at-room, less-same, less-other, less-sub, size-less, sub-less}
+use Rattle.theory.specs.Over.Listed.{ends, masks, Listed}
+use Rattle.theory.specs.Over.Listed.Laws.{carried-more, masks-pairs, masks-below, carried-one, listed-part, pair-ends, pair-comm}
+use Rattle.peeling.specs.Core.{Few, Core, Near, Light, Peeled, whole, less}
+
+-- ---- neighbours
+
+near-sub : (m u v : ℕ) → u ⊑ v → ones (m ∩ u) ≤ ones (m ∩ v)
+near-sub m u v h = size-le (m ∩ v) (m ∩ u) (and-mono (sub-refl m) h)
+
+-- y is a new neighbour of x
+near-more : (n x y a : ℕ) → at y n ≡ 0 → ones (n ∩ a) + has (pair x y) a ≤ ones ((n ∪ 2 ^ y) ∩ a)
+near-more n x y a z = go (has-dec (pair x y) a)
+  where
+    grows : n ∩ a ⊑ (n ∪ 2 ^ y) ∩ a
+    grows = record { le = λ i. omega (arith, at-and i n a, at-and i (n ∪ 2 ^ y) a, at-or i n (2 ^ y)) }
+
+    go : Has (pair x y) a → ones (n ∩ a) + has (pair x y) a ≤ ones ((n ∪ 2 ^ y) ∩ a)
+    go (outside k q) = omega (arith, size-le ((n ∪ 2 ^ y) ∩ a) (n ∩ a) grows)
+    go (inside i q) =
+        omega (arith, size-add (n ∩ a) y (omega (arith, at-and y n a, z)), ap ones (ext (2 ^ y ∪ (n ∩ a)) ((n ∪ 2 ^ y) ∩ a) digit))
+      where
+        there : at y a ≡ 1
+        there = pair-ends x y a i .1
+
+        digit : (k : ℕ) → at k (2 ^ y ∪ (n ∩ a)) ≡ at k ((n ∪ 2 ^ y) ∩ a)
+        digit k = pick (ℕ-discrete k y)
+          where
+            e1 : at k (2 ^ y ∪ (n ∩ a)) ≡ Prim.Native.Nat.max (at k (2 ^ y)) (Prim.Native.Nat.min (at k n) (at k a))
+            e1 = at-or k (2 ^ y) (n ∩ a) ∙ ap (Prim.Native.Nat.max (at k (2 ^ y))) (at-and k n a)
+
+            e2 : at k ((n ∪ 2 ^ y) ∩ a) ≡ Prim.Native.Nat.min (Prim.Native.Nat.max (at k n) (at k (2 ^ y))) (at k a)
+            e2 = at-and k (n ∪ 2 ^ y) a ∙ ap (λ (w : ℕ). Prim.Native.Nat.min w (at k a)) (at-or k n (2 ^ y))
+
+            pick : Dec (k ≡ y) → at k (2 ^ y ∪ (n ∩ a)) ≡ at k ((n ∪ 2 ^ y) ∩ a)
+            pick (yes p) =
+                omega (arith, e1, e2, ap (λ (i : ℕ). at i a) p, there, ap (λ (i : ℕ). at i (2 ^ y)) p, at-same y, ap (λ (i : ℕ). at i n) p)
+            pick (no w) = omega (arith, e1, e2, at-other k y w)
+
+pub near-none : (us vs : List ℕ) → Near us vs 0 (replicate 64 0)
+unfolding masks carried
+near-none us vs = record {
+  places = length-replicate {A = ℕ} 64 0;
+  told = λ x y l e. absurd (omega (arith, e, ap (at y) (zero-item 64 x), at-zero y));
+  counts = λ x a l e. omega arith;
+}
+  where
+    zero-item : (n x : ℕ) → _≡_ {A = ℕ} (getD (replicate n 0) x 0) 0
+    zero-item zero x = refl
+    zero-item (suc n) zero = refl
+    zero-item (suc n) (suc x) = zero-item n x
+
+module _ (us vs : List ℕ) (e : ℕ) (l : Listed us vs e) (c : ℕ) (lc : c < e) (near : List ℕ) (n : Near us vs c near) where
+  abbrev a : ℕ
+  a = getD us c 0
+
+  abbrev b : ℕ
+  b = getD vs c 0
+
+  abbrev m : ℕ
+  m = ends us vs c
+
+  abbrev mid : List ℕ
+  mid = set near a (getD near a 0 ∪ 2 ^ b)
+
+  abbrev new : List ℕ
+  new = set mid b (getD near b 0 ∪ 2 ^ a)
+
+  la : a < 64
+  la = lt-trans (l .ascend c lc) (l .below c lc)
+
+  lb : b < 64
+  lb = l .below c lc
+
+  a≢b : a ≢ b
+  a≢b = ne-of-lt (l .ascend c lc)
+
+  at-a : getD new a 0 ≡ getD near a 0 ∪ 2 ^ b
+  at-a = getD-set-other mid b a (getD near b 0 ∪ 2 ^ a) 0 a≢b ∙ getD-set-same near a (getD near a 0 ∪ 2 ^ b) 0 (omega (arith, n .places, la))
+
+  at-b : getD new b 0 ≡ getD near b 0 ∪ 2 ^ a
+  at-b = getD-set-same mid b (getD near b 0 ∪ 2 ^ a) 0 (omega (arith, length-set near a (getD near a 0 ∪ 2 ^ b), n .places, lb))
+
+  at-other-item : (x : ℕ) → x ≢ a → x ≢ b → getD new x 0 ≡ getD near x 0
+  at-other-item x p q = getD-set-other mid b x (getD near b 0 ∪ 2 ^ a) 0 q ∙ getD-set-other near a x (getD near a 0 ∪ 2 ^ b) 0 p
+
+  -- no earlier constraint has the same ends
+  fresh : (x y : ℕ) → x < 64 → m ≡ pair x y → at y (getD near x 0) ≡ 0
+  fresh x y lx q = ⊎-elim
+      (λ (z : at y (getD near x 0) ≡ 0). z)
+      (λ (z : at y (getD near x 0) ≡ 1). let o = n .told x y lx z in absurd (l .differ (o .0) c (o .1) lc (o .2 ∙ sym q)))
+      (bit (at y (getD near x 0)) (at-le y (getD near x 0)))
+
+  told-end : (x y : ℕ) → m ≡ pair x y → getD new x 0 ≡ getD near x 0 ∪ 2 ^ y → x < 64 → (z : ℕ) → at z (getD new x 0) ≡ 1
+      → (d : ℕ) × (d < suc c) × (ends us vs d ≡ pair x z)
+  told-end x y q g lx z e = go (ℕ-discrete z y)
+    where
+      go : Dec (z ≡ y) → (d : ℕ) × (d < suc c) × (ends us vs d ≡ pair x z)
+      go (yes p) = (c, lt-suc-self c, q ∙ ap (pair x) (sym p))
+      go (no w) =
+          let o = n .told x z lx (omega (arith, e, ap (at z) g, at-or z (getD near x 0) (2 ^ y), at-other z y w)) in
+          (o .0, le-step (o .1), o .2)
+
+  counts-end : (x y : ℕ) → m ≡ pair x y → getD new x 0 ≡ getD near x 0 ∪ 2 ^ y → x < 64 → (w : ℕ) → at x w ≡ 1
+      → carried (masks us vs (suc c)) w ≤ carried (masks us vs (suc c)) (w - 2 ^ x) + ones (getD new x 0 ∩ w)
+  counts-end x y q g lx w e =
+      omega (
+        arith,
+        carried-more us vs c w,
+        carried-more us vs c (w - 2 ^ x),
+        n .counts x w lx e,
+        near-more (getD near x 0) x y w (fresh x y lx q),
+        ap (λ (z : ℕ). has z w) q,
+        ap (λ (z : ℕ). ones (z ∩ w)) g,
+      )
+
+  counts-other : (x : ℕ) → x ≢ a → x ≢ b → x < 64 → (w : ℕ) → at x w ≡ 1
+      → carried (masks us vs (suc c)) w ≤ carried (masks us vs (suc c)) (w - 2 ^ x) + ones (getD new x 0 ∩ w)
+  counts-other x p q lx w e =
+      omega (
+        arith,
+        carried-more us vs c w,
+        carried-more us vs c (w - 2 ^ x),
+        n .counts x w lx e,
+        go (has-dec m w),
+        ap (λ (z : ℕ). ones (z ∩ w)) (at-other-item x p q),
+      )
+    where
+      none : at x m ≡ 0
+      none = ⊎-elim (λ (z : at x m ≡ 0). z) (λ (z : at x m ≡ 1). absurd (⊎-elim p q (at-pair x a b z))) (bit (at x m) (at-le x m))
+
+      go : Has m w → has m w ≤ has m (w - 2 ^ x)
+      go (inside i z) = omega (arith, has-le m w, has-in m (w - 2 ^ x) (sub-less x w m e i none))
+      go (outside k z) = omega arith
+
+  near-by : (P : ℕ → Type 0) → (P a) → (P b) → ((x : ℕ) → x ≢ a → x ≢ b → P x) → (x : ℕ) → P x
+  near-by P pa pb po x = go (ℕ-discrete x a) (ℕ-discrete x b)
+    where
+      go : Dec (x ≡ a) → Dec (x ≡ b) → P x
+      go (yes p) d = subst P (sym p) pa
+      go (no p) (yes q) = subst P (sym q) pb
+      go (no p) (no q) = po x p q
+
+  pub near-next : Near us vs (suc c) new
+  near-next = record {
+    places = length-set mid b (getD near b 0 ∪ 2 ^ a) ∙ length-set near a (getD near a 0 ∪ 2 ^ b) ∙ n .places;
+    told = λ x y lx e.
+        near-by (λ x. x < 64 → (y : ℕ) → at y (getD new x 0) ≡ 1 → (d : ℕ) × (d < suc c) × (ends us vs d ≡ pair x y))
+        (told-end a b refl at-a) (told-end b a (pair-comm a b) at-b)
+        (λ x p q lx y e. let o = n .told x y lx (ap (at y) (sym (at-other-item x p q)) ∙ e) in (o .0, le-step (o .1), o .2)) x lx y e;
+    counts = λ x w lx e.
+        near-by
+        (λ x. x < 64 → (w : ℕ) → at x w ≡ 1 → carried (masks us vs (suc c)) w ≤ carried (masks us vs (suc c)) (w - 2 ^ x) + ones (getD new x 0 ∩ w))
+        (counts-end a b refl at-a) (counts-end b a (pair-comm a b) at-b) counts-other x lx w e;
+  }
+
+  -- the same of what the code has
+  pub near-code : {i j sa sb : ℕ} → i ≡ a → j ≡ b → sa ≡ 2 ^ a → sb ≡ 2 ^ b
+      → Near us vs (c + 1) (set (set near i (bitOr (getD near i 0) sb)) j (bitOr (getD near j 0) sa))
+  unfolding _∪_
+  near-code {i} {j} {sa} {sb} ei ej ea eb =
+      subst (λ (x : ℕ). Near us vs (c + 1) (set (set near x (bitOr (getD near x 0) sb)) j (bitOr (getD near j 0) sa))) (sym ei)
+      (subst (λ (x : ℕ). Near us vs (c + 1) (set (set near a (bitOr (getD near a 0) sb)) x (bitOr (getD near x 0) sa))) (sym ej)
+      (subst (λ (x : ℕ). Near us vs (c + 1) (set (set near a (bitOr (getD near a 0) sb)) b (bitOr (getD near b 0) x))) (sym ea)
+      (subst (λ (x : ℕ). Near us vs (c + 1) (set (set near a (bitOr (getD near a 0) x)) b (bitOr (getD near b 0) (2 ^ a)))) (sym eb)
+      (subst (λ (x : ℕ). Near us vs x new) (sym (add-one c)) near-next))))
+
+-- ---- light elements
+
+-- without its two lowest elements a set is empty
+pub two-most : (k p q : ℕ) → ones p ≡ ones k - 1 → ones q ≡ ones p - 1 → q ≡ 0 → ones k ≤ 2
+two-most k p q ep eq z = omega (arith, ap ones z, size-zero)
+
+pub full-at : (n x : ℕ) → x < n → at x (full n) ≡ 1
+full-at n x l = omega (arith, below-full n (2 ^ x) (pow-lt l) .le x, at-same x, at-le x (full n))
+
+pub light-none : (near : List ℕ) (u : ℕ) → Light near u 0
+light-none near u = record { light = λ x e. absurd (omega (arith, at-zero x)) }
+
+pub light-one : (near : List ℕ) (u todo x : ℕ) → Light near u todo → at x u ≡ 1 → ones (getD near x 0 ∩ u) ≤ 2 → Light near u (todo ∪ 2 ^ x)
+light-one near u todo x t e h = record { light = λ y q. go y q (ℕ-discrete y x) }
+  where
+    go : (y : ℕ) → at y (todo ∪ 2 ^ x) ≡ 1 → Dec (y ≡ x) → (at y u ≡ 1) × (ones (getD near y 0 ∩ u) ≤ 2)
+    go y q (yes p) = subst (λ (z : ℕ). (at z u ≡ 1) × (ones (getD near z 0 ∩ u) ≤ 2)) (sym p) (e, h)
+    go y q (no n) = t .light y (omega (arith, q, at-or y todo (2 ^ x), at-other y x n))
+
+pub light-code : (near : List ℕ) (u todo : ℕ) {x i s new : ℕ} → Light near u todo → at x u ≡ 1 → i ≡ x → s ≡ 2 ^ x → ones (bitAnd (getD near i 0) u) ≤ 2
+    → new ≡ bitOr todo s → Light near u new
+unfolding _∪_ _∩_
+light-code near u todo {x} {i} {s} {new} t e ei es two q =
+    subst (Light near u) (sym (q ∙ ap (bitOr todo) es))
+    (light-one near u todo x t e (subst (λ (k : ℕ). ones (bitAnd (getD near k 0) u) ≤ 2) ei two))
+
+-- two neighbours at most in all
+pub light-all-code : (near : List ℕ) (todo : ℕ) {x i s new : ℕ} → Light near (full 64) todo → x < 64 → i ≡ x → s ≡ 2 ^ x → ones (getD near i 0) ≤ 2
+    → new ≡ bitOr todo s → Light near (full 64) new
+unfolding _∩_
+light-all-code near todo {x} {i} t l ei es two q =
+    light-code near (full 64) todo t (full-at 64 x l) ei es
+    (omega (arith, size-le (getD near i 0) (getD near i 0 ∩ full 64) (and-l (getD near i 0) (full 64)))) q
+
+pub light-same : (near : List ℕ) (u : ℕ) {todo new : ℕ} → new ≡ todo → Light near u todo → Light near u new
+light-same near u q t = subst (Light near u) (sym q) t
+
+pub light-or : (near : List ℕ) (u s t : ℕ) → Light near u s → Light near u t → Light near u (s ∪ t)
+light-or near u s t f g = record {
+  light = λ x q. ⊎-elim
+      (λ (z : at x s ≡ 0). g .light x (omega (arith, q, at-or x s t)))
+      (λ (z : at x s ≡ 1). f .light x z) (bit (at x s) (at-le x s));
+}
+
+-- those that are left when x is taken away are light still
+pub light-rest : (near : List ℕ) (u todo x : ℕ) → Light near u todo → at x u ≡ 1 → at x todo ≡ 1 → Light near (u - 2 ^ x) (todo - 2 ^ x)
+light-rest near u todo x t e h = record { light = λ y q. go y q (ℕ-discrete y x) }
+  where
+    go : (y : ℕ) → at y (todo - 2 ^ x) ≡ 1 → Dec (y ≡ x) → (at y (u - 2 ^ x) ≡ 1) × (ones (getD near y 0 ∩ (u - 2 ^ x)) ≤ 2)
+    go y q (yes p) = absurd (omega (arith, q, ap (λ (z : ℕ). at z (todo - 2 ^ x)) p, less-same x todo h))
+    go y q (no n) =
+        let o = t .light y (sym (less-other x y todo h n) ∙ q) in
+        (less-other x y u e n ∙ o .0, omega (arith, o .1, near-sub (getD near y 0) (u - 2 ^ x) u (less-sub x u e)))
+
+-- ---- one element taken away
+
+module _ (near : List ℕ) (left todo x s : ℕ) (p : Peeled near left) (t : Light near left todo) (e : at x todo ≡ 1) (es : s ≡ 2 ^ x) where
+  in-left : at x left ≡ 1
+  in-left = t .light x e .0
+
+  pub peel-room : s ≤ left
+  peel-room = omega (arith, at-room x left in-left)
+
+  pub todo-room : s ≤ todo
+  todo-room = omega (arith, at-room x todo e)
+
+  pub peel-less : left - s < left
+  peel-less = omega (arith, peel-room, pow-pos x)
+
+  pub peel-next : Peeled near (left - s)
+  peel-next = subst (λ (z : ℕ). Peeled near (left - z)) (sym es) (less x p in-left (t .light x e .1))
+
+  pub light-next : (r : ℕ) → Light near (left - s) r → Light near (left - s) (bitOr (todo - s) r)
+  unfolding _∪_
+  light-next r g =
+      light-or near (left - s) (todo - s) r
+      (subst (λ (z : ℕ). Light near (left - z) (todo - z)) (sym es) (light-rest near left todo x t in-left e)) g
+
+-- ---- the core
+
+module _ (us vs : List ℕ) (e : ℕ) (l : Listed us vs e) (near : List ℕ) (n : Near us vs e near) where
+  few-part : (c : ℕ) → c ≤ e → (u x : ℕ) → x < 64 → ones (getD near x 0 ∩ u) ≤ 2 → Few (masks us vs c) u x 2
+  few-part c h u x lx two =
+      le-ind (λ (d : ℕ). Few (masks us vs d) u x 2 → Few (masks us vs c) u x 2) (λ f. f) (λ d k ih f. ih (back d f)) e h
+      (record { few = λ a i q. omega (arith, n .counts x a lx q, near-sub (getD near x 0) a u i) })
+    where
+      back : (d : ℕ) → Few (masks us vs (suc d)) u x 2 → Few (masks us vs d) u x 2
+      back d f = record {
+        few = λ a i q.
+            omega (
+              arith,
+              f .few a i q,
+              carried-more us vs d a,
+              carried-more us vs d (a - 2 ^ x),
+              has-mono (ends us vs d) (a - 2 ^ x) a (less-sub x a q),
+            );
+      }
+
+  peeled-small : (u : ℕ) → Peeled near u → u < 2 ^ 64
+  unfolding full
+  peeled-small u whole = omega (arith, pow-pos 64)
+  peeled-small u (less {u = v} x p q h) = omega (arith, peeled-small v p)
+
+  -- what a set loses
+  peeled-cut : (u : ℕ) → Peeled near u → (c : ℕ) → c ≤ e → (a : ℕ)
+      → carried (masks us vs c) a + 2 * ones (a ∩ u) ≤ carried (masks us vs c) (a ∩ u) + 2 * ones a
+  peeled-cut u whole c h a =
+      omega (
+        arith,
+        carried-cut 64 (masks us vs c) (masks-below us vs c (listed-part e c h l)) a,
+        size-le a (a ∩ full 64) (and-l a (full 64)),
+      )
+  peeled-cut u (less {u = v} x p q two) c h a = go (bit (at x a) (at-le x a)) (peeled-cut v p c h a)
+    where
+      w : ℕ
+      w = a ∩ v
+
+      outside-x : at x a ≡ 0 → a ∩ (v - 2 ^ x) ≡ a ∩ v
+      outside-x z = ext (a ∩ (v - 2 ^ x)) (a ∩ v) (λ y. digit y (ℕ-discrete y x))
+        where
+          digit : (y : ℕ) → Dec (y ≡ x) → at y (a ∩ (v - 2 ^ x)) ≡ at y (a ∩ v)
+          digit y (yes r) = omega (arith, at-and y a (v - 2 ^ x), at-and y a v, ap (λ (i : ℕ). at i a) r, z)
+          digit y (no k) = omega (arith, at-and y a (v - 2 ^ x), at-and y a v, less-other x y v q k)
+
+      there : at x a ≡ 1 → at x (a ∩ v) ≡ 1
+      there z = omega (arith, at-and x a v, q, z)
+
+      inside-x : at x a ≡ 1 → a ∩ (v - 2 ^ x) ≡ (a ∩ v) - 2 ^ x
+      inside-x z = ext (a ∩ (v - 2 ^ x)) ((a ∩ v) - 2 ^ x) (λ y. digit y (ℕ-discrete y x))
+        where
+          digit : (y : ℕ) → Dec (y ≡ x) → at y (a ∩ (v - 2 ^ x)) ≡ at y ((a ∩ v) - 2 ^ x)
+          digit y (yes r) =
+              subst (λ (i : ℕ). at i (a ∩ (v - 2 ^ x)) ≡ at i ((a ∩ v) - 2 ^ x)) (sym r)
+              (omega (arith, at-and x a (v - 2 ^ x), less-same x v q, less-same x (a ∩ v) (there z)))
+          digit y (no k) = omega (arith, at-and y a (v - 2 ^ x), at-and y a v, less-other x y v q k, less-other x y (a ∩ v) (there z) k)
+
+      go : (at x a ≡ 0) ⊎ (at x a ≡ 1) → carried (masks us vs c) a + 2 * ones (a ∩ v) ≤ carried (masks us vs c) (a ∩ v) + 2 * ones a
+          → carried (masks us vs c) a + 2 * ones (a ∩ (v - 2 ^ x)) ≤ carried (masks us vs c) (a ∩ (v - 2 ^ x)) + 2 * ones a
+      go (inl z) ih = subst (λ (i : ℕ). carried (masks us vs c) a + 2 * ones i ≤ carried (masks us vs c) i + 2 * ones a) (sym (outside-x z)) ih
+      go (inr z) ih =
+          subst (λ (i : ℕ). carried (masks us vs c) a + 2 * ones i ≤ carried (masks us vs c) i + 2 * ones a) (sym (inside-x z))
+          (omega (
+            arith,
+            ih,
+            size-less x (a ∩ v) (there z),
+            few-part c h v x (at-below 64 x v (peeled-small v p) q) two .few (a ∩ v) (and-r a v) (there z),
+          ))
+
+  -- the sets within what is left tell whether the list is over
+  peeled-fine : (u : ℕ) → Peeled near u → (c : ℕ) → c ≤ e
+      → ((a : ℕ) → a ⊑ u → 2 ≤ ones a → carried (masks us vs c) a + 3 ≤ 2 * ones a) → NotOver (masks us vs c)
+  unfolding NotOverIn
+  peeled-fine u whole c h f =
+      let k = listed-part e c h l in
+      not-over-in 64 (masks us vs c) (masks-pairs us vs c k) (masks-below us vs c k) (λ a la b. f a (below-full 64 a la) b)
+  peeled-fine u (less {u = v} x p q two) c h f = peeled-fine v p c h (λ a i b. go a i b (bit (at x a) (at-le x a)))
+    where
+      go : (a : ℕ) → a ⊑ v → 2 ≤ ones a → (at x a ≡ 0) ⊎ (at x a ≡ 1) → carried (masks us vs c) a + 3 ≤ 2 * ones a
+      go a i b (inl z) = f a (sub-less x v a q i z) b
+      go a i b (inr z) = pick (decLe 3 (ones a))
+        where
+          within : a - 2 ^ x ⊑ v - 2 ^ x
+          within = sub-less x v (a - 2 ^ x) q (sub-trans (less-sub x a z) i) (less-same x a z)
+
+          pick : Dec (3 ≤ ones a) → carried (masks us vs c) a + 3 ≤ 2 * ones a
+          pick (yes k) =
+              let s = size-less x a z in
+              omega (
+                arith,
+                f (a - 2 ^ x) within (omega arith),
+                few-part c h v x (at-below 64 x v (peeled-small v p) q) two .few a i z,
+              )
+          pick (no k) = omega (arith, carried-one us vs e l c h a (omega arith))
+
+  pub core-peeled : (u : ℕ) → Peeled near u → Core us vs e u
+  core-peeled u p = record { small = peeled-small u p; fine = peeled-fine u p; cut = λ c a h. peeled-cut u p c h a }
+
+-- an empty core: the list is not over
+pub core-none : (us vs : List ℕ) (e : ℕ) → Core us vs e 0 → NotOver (masks us vs e)
+core-none us vs e k = k .fine e (le-refl e) (λ a h b. absurd (omega (arith, size-le 0 a h, size-zero)))

@@ -1,0 +1,128 @@
+-- Laws of sets as masks with one element taken out, `a - 2 ^ x`, and of the lowest element. Assumes nothing.
+use mathlib.Core.Path.{_≡_, refl, sym, ap, _∙_, subst}
+use mathlib.Core.Logic.{_≢_, ⊎-elim}
+use Prim.Native.Nat.{ℕ, zero, suc, _-_, _/_, _%_, _^_, _≤_, _<_}
+use native.Mathlib.Nat.{div-eq-of-lt, lt-of-lt-of-le, zero-mod, pow-le-pow-right, zero-lt-suc, pow-succ'}
+use native.Mathlib.Omega.{arith}
+use native.Mathlib.Decide.{ℕ-discrete, decLt}
+use lib.Arith.{bin-ind}
+use lib.Bits.{bitAnd, and-step, and-self, and-le-r}
+use lib.Count.{ones, ones-step, under, trailingZeros}
+use Rattle.theory.specs.Set.{_∩_, _∪_, _⊑_, at}
+use Rattle.theory.specs.Set.Laws.{at-and, at-or, at-le, at-zero, at-div, at-same, at-other, zero-ext, ext, size-add, bit, sub-and}
+
+-- an element of a set below 2 ^ n is below n
+pub at-below : (n x a : ℕ) → a < 2 ^ n → at x a ≡ 1 → x < n
+at-below n x a l e = go (decLt x n)
+  where
+    go : Dec (x < n) → x < n
+    go (yes h) = h
+    go (no h) =
+        let p : 2 ^ n ≤ 2 ^ x = pow-le-pow-right (zero-lt-suc 1) (omega arith) in
+        absurd (omega (arith, at-div x a, ap (λ (z : ℕ). z % 2) (div-eq-of-lt (lt-of-lt-of-le l p)), zero-mod 2))
+
+-- a part of a set below 2 ^ n is below 2 ^ n
+pub sub-below : (n a b : ℕ) → a ⊑ b → b < 2 ^ n → a < 2 ^ n
+unfolding _∩_
+sub-below n a b h l = omega (arith, and-le-r a b, sub-and a b h)
+
+-- ---- one element looked for
+
+pub meets-at : (x a b : ℕ) → b ≡ 2 ^ x → bitAnd a b ≢ 0 → at x a ≡ 1
+unfolding _∩_
+meets-at x a b q n = ⊎-elim (λ (e : at x a ≡ 0). absurd (n (ap (bitAnd a) q ∙ misses x a e))) (λ (e : at x a ≡ 1). e) (bit (at x a) (at-le x a))
+  where
+    misses : (x a : ℕ) → at x a ≡ 0 → a ∩ 2 ^ x ≡ 0
+    misses x a e = zero-ext (a ∩ 2 ^ x) (λ y. go y (ℕ-discrete y x))
+      where
+        go : (y : ℕ) → Dec (y ≡ x) → at y (a ∩ 2 ^ x) ≡ 0
+        go y (yes q) = subst (λ (z : ℕ). at z (a ∩ 2 ^ x) ≡ 0) (sym q) (omega (arith, at-and x a (2 ^ x), e))
+        go y (no m) = omega (arith, at-and y a (2 ^ x), at-other y x m)
+
+pub misses-at : (x a b : ℕ) → b ≡ 2 ^ x → bitAnd a b ≡ 0 → at x a ≡ 0
+unfolding _∩_
+misses-at x a b q e =
+    omega (arith, at-and x a (2 ^ x), at-same x, at-le x a, ap (at x) (ap (bitAnd a) (sym q) ∙ e), at-zero x)
+
+-- ---- one element taken out
+
+-- a set that holds x is no less than 2 ^ x
+pub at-room : (x a : ℕ) → at x a ≡ 1 → 2 ^ x ≤ a
+unfolding at
+at-room zero a e = omega arith
+at-room (suc x) a e = omega (arith, at-room x (a / 2) e, pow-succ' 2 x)
+
+less-half : (x a : ℕ) → 2 ^ suc x ≤ a → ((a - 2 ^ suc x) / 2 ≡ a / 2 - 2 ^ x) × ((a - 2 ^ suc x) % 2 ≡ a % 2)
+less-half x a h = let p = pow-succ' 2 x in (omega arith, omega arith)
+
+pub less-same : (x a : ℕ) → at x a ≡ 1 → at x (a - 2 ^ x) ≡ 0
+unfolding at
+less-same zero a e = omega arith
+less-same (suc x) a e = ap (at x) (less-half x a (at-room (suc x) a e) .0) ∙ less-same x (a / 2) e
+
+pub less-other : (x y a : ℕ) → at x a ≡ 1 → y ≢ x → at y (a - 2 ^ x) ≡ at y a
+unfolding at
+less-other zero zero a e n = absurd (n refl)
+less-other zero (suc y) a e n = ap (at y) (omega arith)
+less-other (suc x) zero a e n = less-half x a (at-room (suc x) a e) .1
+less-other (suc x) (suc y) a e n =
+    ap (at y) (less-half x a (at-room (suc x) a e) .0) ∙ less-other x y (a / 2) e (λ q. n (ap suc q))
+
+pub less-sub : (x a : ℕ) → at x a ≡ 1 → a - 2 ^ x ⊑ a
+less-sub x a e = record { le = λ y. go y (ℕ-discrete y x) }
+  where
+    go : (y : ℕ) → Dec (y ≡ x) → at y (a - 2 ^ x) ≤ at y a
+    go y (yes q) = subst (λ (z : ℕ). at z (a - 2 ^ x) ≤ at z a) (sym q) (omega (arith, less-same x a e))
+    go y (no n) = omega (arith, less-other x y a e n)
+
+-- put back
+pub less-or : (x a : ℕ) → at x a ≡ 1 → 2 ^ x ∪ (a - 2 ^ x) ≡ a
+less-or x a e = ext (2 ^ x ∪ (a - 2 ^ x)) a (λ y. go y (ℕ-discrete y x))
+  where
+    go : (y : ℕ) → Dec (y ≡ x) → at y (2 ^ x ∪ (a - 2 ^ x)) ≡ at y a
+    go y (yes q) =
+        subst (λ (z : ℕ). at z (2 ^ x ∪ (a - 2 ^ x)) ≡ at z a) (sym q)
+        (omega (arith, at-or x (2 ^ x) (a - 2 ^ x), at-same x, less-same x a e))
+    go y (no n) = omega (arith, at-or y (2 ^ x) (a - 2 ^ x), at-other y x n, less-other x y a e n)
+
+pub size-less : (x a : ℕ) → at x a ≡ 1 → suc (ones (a - 2 ^ x)) ≡ ones a
+size-less x a e = sym (size-add (a - 2 ^ x) x (less-same x a e)) ∙ ap ones (less-or x a e)
+
+-- a set without x is a part of a that has not lost more
+pub sub-less : (x a b : ℕ) → at x a ≡ 1 → b ⊑ a → at x b ≡ 0 → b ⊑ a - 2 ^ x
+sub-less x a b e h z = record { le = λ y. go y (ℕ-discrete y x) }
+  where
+    go : (y : ℕ) → Dec (y ≡ x) → at y b ≤ at y (a - 2 ^ x)
+    go y (yes q) = omega (arith, z, ap (λ (i : ℕ). at i b) q)
+    go y (no n) = omega (arith, h .le y, less-other x y a e n)
+
+-- ---- the lowest element
+
+pub trailing-at : (k a : ℕ) → 0 < a → a < 2 ^ k → at (trailingZeros k a) a ≡ 1
+unfolding trailingZeros at
+trailing-at zero a h l = absurd (omega arith)
+trailing-at (suc k) a h l = go (a % 2) refl (λ z. trailing-at k (a / 2) (omega arith) (omega (arith, pow-succ' 2 k)))
+  where
+    go : (d : ℕ) → a % 2 ≡ d → (a % 2 ≡ 0 → at (trailingZeros k (a / 2)) (a / 2) ≡ 1) → at (under d (trailingZeros k (a / 2))) a ≡ 1
+    go zero e rec = rec e
+    go (suc zero) e rec = e
+    go (suc (suc d)) e rec = absurd (omega arith)
+
+-- a set without its lowest element
+pub drop-low : (a : ℕ) → 0 < a → suc (ones (bitAnd a (a - 1))) ≡ ones a
+drop-low =
+    bin-ind (λ (a : ℕ). 0 < a → suc (ones (bitAnd a (a - 1))) ≡ ones a) (λ h. absurd (omega arith))
+    (λ a ih h. go a ih h (ℕ-discrete (a % 2) 1))
+  where
+    go : (a : ℕ) → (0 < a / 2 → suc (ones (bitAnd (a / 2) (a / 2 - 1))) ≡ ones (a / 2)) → 0 < a → Dec (a % 2 ≡ 1)
+        → suc (ones (bitAnd a (a - 1))) ≡ ones a
+    go a ih h (yes e) =
+        let half : (a - 1) / 2 ≡ a / 2 = omega arith in
+        let b : ℕ = bitAnd a (a - 1) in
+        let s : b / 2 ≡ a / 2 = omega (arith, and-step a (a - 1), ap (bitAnd (a / 2)) half ∙ and-self (a / 2)) in
+        omega (arith, ones-step a, ones-step b, ap ones s, and-step a (a - 1))
+    go a ih h (no n) =
+        let half : (a - 1) / 2 ≡ a / 2 - 1 = omega arith in
+        let b : ℕ = bitAnd a (a - 1) in
+        let s : b / 2 ≡ bitAnd (a / 2) (a / 2 - 1) = omega (arith, and-step a (a - 1), ap (bitAnd (a / 2)) half) in
+        omega (arith, ones-step a, ones-step b, ap ones s, and-step a (a - 1), ih (omega arith))

@@ -1,0 +1,122 @@
+// The core of a list of constraints: what is left when elements with at most two constraints are taken away, one after another. A set that carries
+// more than 2m-3 constraints, and has no smaller one in it, has three at each element: the core tells all that is to be known of "over"
+// (document 01, "Verdict names: over"). The contracts cite this crate's `Core`.
+ghost use mathlib.Core.Path.{_≡_};
+ghost use Prim.Native.Nat.{_-_, _^_, _≤_, _<_};
+ghost use lib.Count.{ones};
+ghost use Rattle.theory.specs.Set.{_⊑_, at, full};
+ghost use Rattle.theory.specs.Over.Listed.{Listed};
+ghost use Rattle.peeling.specs.Core.{Core, Near, Light, Peeled};
+
+// A byte as an index.
+pub fn wide(x: u8) -> usize
+    ensures { λ r. ⌜ r ≡ x ⌝ }
+{
+    x as usize
+}
+
+// The set of one element.
+pub fn single(x: u8) -> u64
+    requires { ⌜ x < 64 ⌝ }
+    ensures { λ r. ⌜ r ≡ 2 ^ x ⌝ }
+{
+    1u64 << (x as u32)
+}
+
+// For each element the set of those that share one of e constraints with it.
+fn near_of(firsts: &[u8; 200], seconds: &[u8; 200], e: usize) -> [u64; 64]
+    requires { ⌜ Listed (now firsts) (now seconds) e ⌝ }
+    ensures { λ r. ⌜ Near (now (firsts .entry)) (now (seconds .entry)) e r ⌝ }
+{
+    let mut near = [0u64; 64];
+    let mut c: usize = 0;
+    while c < e {
+        let a = firsts[c];
+        let b = seconds[c];
+        let i = wide(a);
+        let j = wide(b);
+        let p = near[i] | single(b);
+        let q = near[j] | single(a);
+        near[i] = p;
+        near[j] = q;
+        c = c + 1;
+    }
+    near
+}
+
+// A set without its lowest element.
+fn drop_low(m: u64) -> u64
+    ensures { λ r. ⌜ ones r ≡ ones m - 1 ⌝ }
+{
+    if m == 0 { 0 } else { m & (m - 1) }
+}
+
+// The lowest element of a set.
+fn lowest(m: u64) -> u8
+    requires { ⌜ 0 < m ⌝ }
+    ensures { λ r. ⌜ (r < 64) × (at r m ≡ 1) ⌝ }
+{
+    u64::trailing_zeros(m) as u8
+}
+
+// The elements with two neighbours at most.
+fn light_all(near: &[u64; 64]) -> u64
+    ensures { λ r. ⌜ Light (now (near .entry)) (full 64) r ⌝ }
+{
+    let mut todo: u64 = 0;
+    let mut x: u8 = 0;
+    while x < 64 {
+        let i = wide(x);
+        if drop_low(drop_low(near[i])) == 0 {
+            todo = todo | single(x);
+        }
+        x = x + 1;
+    }
+    todo
+}
+
+// The elements of who with two neighbours at most among those left.
+fn light_of(near: &[u64; 64], left: u64, who: u64) -> u64
+    requires { ⌜ who ⊑ left ⌝ }
+    ensures { λ r. ⌜ Light (now (near .entry)) left r ⌝ }
+{
+    let mut todo: u64 = 0;
+    let mut m = who;
+    while m != 0 {
+        let x = lowest(m);
+        let i = wide(x);
+        let bit = single(x);
+        if drop_low(drop_low(near[i] & left)) == 0 {
+            todo = todo | bit;
+        }
+        m = m - bit;
+    }
+    todo
+}
+
+// What is left when elements with two neighbours at most are taken away, one after another.
+fn peel(near: &[u64; 64], low: u64) -> u64
+    requires { ⌜ Light (now near) (full 64) low ⌝ }
+    ensures { λ r. ⌜ Peeled (now (near .entry)) r ⌝ }
+{
+    let mut left: u64 = 18446744073709551615;
+    let mut todo = low;
+    while todo != 0 {
+        let x = lowest(todo);
+        let i = wide(x);
+        let bit = single(x);
+        left = left - bit;
+        todo = (todo - bit) | light_of(near, left, near[i] & left);
+    }
+    left
+}
+
+// The elements that an over set can have.
+pub fn core_of(firsts: &[u8; 200], seconds: &[u8; 200], e: usize) -> u64
+    requires { ⌜ Listed (now firsts) (now seconds) e ⌝ }
+    ensures { λ r. ⌜ Core (now (firsts .entry)) (now (seconds .entry)) e r ⌝ }
+{
+    let near = near_of(firsts, seconds, e);
+    let low = light_all(&near);
+    peel(&near, low)
+}

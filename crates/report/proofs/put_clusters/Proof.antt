@@ -1,0 +1,72 @@
+-- `report::put_clusters` meets its contract: the lines of the clusters from `c` on are still to be put. Assumes nothing.
+use Prim.Native.Nat.{_-_, _≤_}
+use native.Mathlib.Omega.{arith}
+use lib.ListN.{length, take, drop}
+use Rattle.report.specs.Report.{slotLine, clusterLines}
+use Rattle.report.specs.Report.Laws.{clusters-next, clusters-none}
+use Rattle.report.proofs.Going.{Going, start, _step_, as-rest, done, fits}
+use Rattle.report.proofs.put_clusters.Statement.{statement}
+use Rattle.report.proofs.put_clusters.Tie as tie
+
+abbrev Inv-loop : tie.InvT-loop
+Inv-loop out₀ at slots used next₀ c₀ out next c =
+    (c ≤ used) × Going out₀ at (clusterLines 0 (take used slots)) out next (clusterLines c (drop c (take used slots)))
+
+abbrev μ-loop : tie.MeasureT-loop
+μ-loop out₀ at slots used next₀ c₀ out next c = used - c
+
+long : (c : tie.Start Inv-loop μ-loop) → c .args .used ≤ length (c .args .slots .now)
+long c = omega (arith, c .pre)
+
+loop-holds : tie.Need-loop-holds Inv-loop μ-loop
+loop-holds c = (omega arith, start _)
+
+mul-put-slot-line : tie.Need-mul-put-slot-line Inv-loop μ-loop
+mul-put-slot-line c = omega arith
+
+element-copy-out-put-slot-line : tie.Need-element-copy-out-put-slot-line Inv-loop μ-loop
+element-copy-out-put-slot-line c = omega arith
+
+put-slot-line-requires : tie.Need-put-slot-line-requires Inv-loop μ-loop
+put-slot-line-requires c κs =
+    let s = c .before .before .before .before .before in
+    let l = c .before .before .before .loop in (
+      omega arith,
+      fits (slotLine _ _) _ (as-rest (clusters-next (s .args .slots .now) (s .args .used) (l .c) (long s) (c .before .before .loop-test .taken)) (l .inv .1)) (s .pre .2),
+    )
+
+add-c : tie.Need-add-c Inv-loop μ-loop
+add-c c = omega arith
+
+loop-less : tie.Need-loop-less Inv-loop μ-loop
+loop-less c = omega arith
+
+loop-again : tie.Need-loop-again Inv-loop μ-loop
+loop-again c =
+    let s = c .before .before .before .before .before .before .before .before in
+    let l = c .before .before .before .before .before .before .loop in (
+      omega arith,
+      as-rest (clusters-next (s .args .slots .now) (s .args .used) (l .c) (long s) (c .before .before .before .before .before .loop-test .taken)) (l .inv .1) step c .before .before .put-slot-line .ensures,
+    )
+
+same-length : tie.Need-same-length Inv-loop μ-loop
+same-length c = done (as-rest (clusters-none (c .before .before .before .args .slots .now) (c .before .before .before .args .used) (c .before .loop .c) (c .loop-test .left)) (c .before .loop .inv .1)) .length-is
+
+returns : tie.Need-returns Inv-loop μ-loop
+returns c = done (as-rest (clusters-none (c .before .before .before .args .slots .now) (c .before .before .before .args .used) (c .before .loop .c) (c .loop-test .left)) (c .before .loop .inv .1))
+
+pub put-clusters-spec : {M : Type 1} → statement M
+put-clusters-spec =
+    tie.close
+    (tie.spec
+    Inv-loop
+    μ-loop
+    loop-holds
+    mul-put-slot-line
+    element-copy-out-put-slot-line
+    put-slot-line-requires
+    add-c
+    loop-less
+    loop-again
+    same-length
+    returns)

@@ -1,0 +1,74 @@
+-- `report::put_steps` meets its contract: the lines of the steps from `i` on are still to be put. Assumes nothing.
+use Prim.Native.Nat.{_-_, _≤_}
+use native.Mathlib.Omega.{arith}
+use lib.ListN.{length, take, drop}
+use Rattle.report.specs.Report.{stepLine, stepLines}
+use Rattle.report.specs.Report.Laws.{steps-next, steps-none, small-at}
+use Rattle.report.proofs.Going.{Going, start, _step_, as-rest, done, fits}
+use Rattle.report.proofs.put_steps.Statement.{statement}
+use Rattle.report.proofs.put_steps.Tie as tie
+
+abbrev Inv-loop : tie.InvT-loop
+Inv-loop out₀ at count steps next₀ i₀ out next i =
+    (i ≤ count) × Going out₀ at (stepLines (take count steps)) out next (stepLines (drop i (take count steps)))
+
+abbrev μ-loop : tie.MeasureT-loop
+μ-loop out₀ at count steps next₀ i₀ out next i = count - i
+
+-- the array has 62 places
+long : (c : tie.Start Inv-loop μ-loop) → c .args .count ≤ length (c .args .t3)
+long c = omega (arith, c .good .1 .1 .0 .1 .0 .1, c .pre)
+
+loop-holds : tie.Need-loop-holds Inv-loop μ-loop
+loop-holds c = (omega arith, start _)
+
+mul-s : tie.Need-mul-s Inv-loop μ-loop
+mul-s c = omega arith
+
+array-copy-out-s : tie.Need-array-copy-out-s Inv-loop μ-loop
+array-copy-out-s c = omega arith
+
+put-step-line-requires : tie.Need-put-step-line-requires Inv-loop μ-loop
+put-step-line-requires c κs =
+    let s = c .before .before .before .before .before in
+    let l = c .before .before .before .loop in
+    let h = c .before .before .loop-test .taken in (
+      small-at (s .args .t3) (s .args .count) (l .i) _ (long s) (s .pre .1) h,
+      fits (stepLine _) _ (as-rest (steps-next (s .args .t3) (s .args .count) (l .i) _ (long s) h) (l .inv .1)) (s .pre .2),
+    )
+
+add-i : tie.Need-add-i Inv-loop μ-loop
+add-i c = omega arith
+
+loop-less : tie.Need-loop-less Inv-loop μ-loop
+loop-less c = omega arith
+
+loop-again : tie.Need-loop-again Inv-loop μ-loop
+loop-again c =
+    let s = c .before .before .before .before .before .before .before .before in
+    let l = c .before .before .before .before .before .before .loop in (
+      omega arith,
+      as-rest (steps-next (s .args .t3) (s .args .count) (l .i) _ (long s) (c .before .before .before .before .before .loop-test .taken)) (l .inv .1) step c .before .before .put-step-line .ensures,
+    )
+
+same-length : tie.Need-same-length Inv-loop μ-loop
+same-length c = done (as-rest (steps-none (c .before .before .before .args .t3) (c .before .before .before .args .count) (c .before .loop .i) (c .loop-test .left)) (c .before .loop .inv .1)) .length-is
+
+returns : tie.Need-returns Inv-loop μ-loop
+returns c = done (as-rest (steps-none (c .before .before .before .args .t3) (c .before .before .before .args .count) (c .before .loop .i) (c .loop-test .left)) (c .before .loop .inv .1))
+
+pub put-steps-spec : {M : Type 1} → statement M
+put-steps-spec =
+    tie.close
+    (tie.spec
+    Inv-loop
+    μ-loop
+    loop-holds
+    mul-s
+    array-copy-out-s
+    put-step-line-requires
+    add-i
+    loop-less
+    loop-again
+    same-length
+    returns)

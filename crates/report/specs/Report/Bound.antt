@@ -1,0 +1,173 @@
+-- A bound on the report's length: 42 + 12 * steps + 24 * e bytes for every list of merges, at most 3,786 on a sheet that is not over. A step line
+-- has at most 57 bytes; the line of a cluster of m elements has 18 + 3m at most; e is the clusters left and twice the steps, and the sum of 2m - 3.
+-- Assumes nothing.
+use Prim.Native.Nat.{ℕ, zero, suc, _+_, _*_, _≤_, _<_}
+use native.Mathlib.Omega.{arith}
+use borrow.Author.Tests.{lt-ltb}
+use mathlib.Core.Path.{_≡_, refl}
+use mathlib.Core.Bool.{Bool, true, false}
+use mathlib.Core.List.{List, [], _∷_, _++_}
+use lib.Dec.{ltb, eqb}
+use lib.Count.{ones}
+use lib.IntN.{ℤ, natAbs, _-ℤ_}
+use lib.ListN.{length, length-append}
+use Rattle.theory.specs.Set.{_∩_, full}
+use Rattle.theory.specs.Set.Laws.{size-full}
+use Rattle.theory.specs.Constraints.{NotOver, Below, Pairs}
+use Rattle.theory.specs.Constraints.Laws.{carried-full}
+use Rattle.theory.specs.Merge.{Merge, slot, three, joint, OpenAt, put, Valid, final, total, living, left, weight, weights}
+use Rattle.theory.specs.Merge.Count.{steps-left, weights-kept, steps-most}
+use Rattle.theory.specs.Merge.Threes.{size-joint}
+use Rattle.theory.specs.Plan.{ascending}
+use Rattle.theory.specs.Plan.Order.{open-ascending}
+use Rattle.theory.specs.Placement.{JointKind, ppp, ppl, pll, lll, byOrder, against, triangle, strip, stripOf, placed, sizeAt, initial, unknown, jointKind, ways}
+use Rattle.space.specs.Text.{decimal}
+use Rattle.space.specs.Text.Laws.{decimal-1}
+use Rattle.answer.specs.Answer.{asWays, stepOf, stepsOf}
+use Rattle.answer.specs.declared.Verdict.{Verdict}
+use Rattle.answer.specs.declared.Step.{Step}
+use Rattle.report.specs.Elements.{elements}
+use Rattle.report.specs.Elements.Laws.{elements-size}
+use Rattle.report.specs.Report.{waysName, verdictLine, elementsLine, stepLine, slotLine, stepLines, clusterLines, report}
+use Rattle.report.specs.Report.Length.{decimal-length, decimal-two, verdict-length, elements-length, step-length, slot-length}
+
+-- ---- step lines
+
+-- a joint of three elements, and at most nine placements
+pub record Modest (s : Step) : Type 0 where
+  pub joint-three : ones (s .joint) ≤ 3
+  pub ways-one : length (waysName (s .ways)) ≤ 1
+
+abbrev pub AllModest : List Step → Type 0
+AllModest [] = Unit {0}
+AllModest (s ∷ steps) = Modest s × AllModest steps
+
+steps-short : (steps : List Step) → AllModest steps → length (stepLines steps) ≤ 57 * length steps
+unfolding stepLines
+steps-short [] h = omega arith
+steps-short (s ∷ steps) h =
+    omega (arith, length-append (stepLine s) (stepLines steps), step-length s, elements-size (s .joint), h .0 .joint-three, h .0 .ways-one, steps-short steps (h .1))
+
+-- ---- cluster lines
+
+slot-short : (c a : ℕ) → 2 * length (slotLine c a) ≤ 45 * living a + 3 * weight a
+slot-short c zero = omega (arith, slot-length c zero)
+slot-short c (suc a) = omega (arith, slot-length c (suc a), elements-size (suc a))
+
+clusters-short : (c : ℕ) (slots : List ℕ) → 2 * length (clusterLines c slots) ≤ 45 * left slots + 3 * weights slots
+unfolding clusterLines left weights total
+clusters-short c [] = omega arith
+clusters-short c (a ∷ slots) =
+    omega (arith, length-append (slotLine c a) (clusterLines (suc c) slots), slot-short c a, clusters-short (suc c) slots)
+
+-- ---- the report
+
+report-short : (n e : ℕ) (v : Verdict) (steps : List Step) (slots : List ℕ) → n < 100 → AllModest steps
+    → 2 * length (report n e v steps slots) ≤ 84 + 114 * length steps + 45 * left slots + 3 * weights slots
+unfolding report
+report-short n e v steps slots small modest =
+    let rest = stepLines steps ++ clusterLines 0 slots in
+    omega (
+      arith,
+      length-append (verdictLine v) (elementsLine n e ++ rest),
+      length-append (elementsLine n e) rest,
+      length-append (stepLines steps) (clusterLines 0 slots),
+      verdict-length v,
+      elements-length n e,
+      decimal-two n small,
+      decimal-length e,
+      steps-short steps modest,
+      clusters-short 0 slots,
+    )
+
+-- ---- the steps of a list of merges are modest
+
+against-two : (x y : ℕ) → against x y ≤ 2
+unfolding against
+against-two x y = go (ltb y x) (ltb x y)
+  where
+    go : (a b : Bool) → byOrder a b ≤ 2
+    go true b = omega arith
+    go false false = omega arith
+    go false true = omega arith
+
+strip-two : (lines a b : ℕ) (x y z : ℤ) → stripOf lines a b x y z ≤ 2
+unfolding stripOf strip
+strip-two lines a b x y z = go (eqb (a ∩ lines) 0) (eqb (b ∩ lines) 0)
+  where
+    go : (p q : Bool)
+        → elim p [
+          | true ↦ against (natAbs (z -ℤ y)) (natAbs x)
+          | false ↦ elim q [ true ↦ against (natAbs (z -ℤ x)) (natAbs y) | false ↦ against (natAbs (y -ℤ x)) (natAbs z) ]
+        ]
+        ≤ 2
+    go true q = against-two _ _
+    go false true = against-two _ _
+    go false false = against-two _ _
+
+one-digit : (w : ℕ) → w ≤ 2 → length (decimal w) ≤ 1
+one-digit w h = rw (decimal-1 w (omega arith)) (omega arith)
+
+placed-one : (lines : ℕ) (k : JointKind) (a b : ℕ) (x y z : ℤ) → length (waysName (asWays (placed lines k a b x y z))) ≤ 1
+unfolding placed triangle
+placed-one lines ppp a b x y z = one-digit _ (against-two _ _)
+placed-one lines ppl a b x y z = one-digit _ (strip-two lines a b x y z)
+placed-one lines pll a b x y z = one-digit 1 (omega arith)
+placed-one lines lll a b x y z = omega arith
+
+ways-one-digit : (lines e : ℕ) (sizes : List ℤ) (s : List ℕ) (m : Merge) → length (waysName (asWays (ways lines e sizes s m))) ≤ 1
+unfolding ways
+ways-one-digit lines e sizes s m = go (initial e m)
+  where
+    go : (b : Bool)
+        → length (waysName (asWays (elim b [
+          | true ↦
+              placed lines (jointKind lines (joint (three s m))) (slot s (m .i)) (slot s (m .j)) (sizeAt sizes (m .i)) (sizeAt sizes (m .j)) (sizeAt sizes (m .k))
+          | false ↦ unknown
+        ])))
+        ≤ 1
+    go true = placed-one lines (jointKind lines (joint (three s m))) (slot s (m .i)) (slot s (m .j)) (sizeAt sizes (m .i)) (sizeAt sizes (m .j)) (sizeAt sizes (m .k))
+    go false = omega arith
+
+modest-step : (lines e : ℕ) (sizes : List ℤ) (s : List ℕ) (m : Merge) → OpenAt s m → Modest (stepOf lines e sizes s m)
+unfolding stepOf
+modest-step lines e sizes s m o = record {
+  joint-three = omega (arith, size-joint (three s (ascending m)) (open-ascending s m o .open3));
+  ways-one = ways-one-digit lines e sizes s (ascending m);
+}
+
+modest-steps : (lines e : ℕ) (sizes : List ℤ) (s : List ℕ) (p : List Merge) → Valid s p → AllModest (stepsOf lines e sizes s p)
+unfolding stepsOf
+modest-steps lines e sizes s [] v = tt
+modest-steps lines e sizes s (m ∷ p) v = (modest-step lines e sizes s m (v .0), modest-steps lines e sizes (put s m) p (v .1))
+
+steps-length : (lines e : ℕ) (sizes : List ℤ) (s : List ℕ) (p : List Merge) → length (stepsOf lines e sizes s p) ≡ length p
+unfolding stepsOf
+steps-length lines e sizes s [] = refl
+steps-length lines e sizes s (m ∷ p) = omega (arith, steps-length lines e sizes (put s m) p)
+
+-- ---- every list of merges
+
+module _ (n lines : ℕ) (sizes : List ℤ) (cs : List ℕ) (pairs : Pairs cs) (p : List Merge) (valid : Valid cs p) (v : Verdict) where
+  pub report-bound : n < 100 → length (report n (length cs) v (stepsOf lines (length cs) sizes cs p) (final cs p)) ≤ 42 + 12 * length p + 24 * length cs
+  report-bound small =
+      omega (
+        arith,
+        report-short n (length cs) v (stepsOf lines (length cs) sizes cs p) (final cs p) small (modest-steps lines (length cs) sizes cs p valid),
+        steps-length lines (length cs) sizes cs p,
+        steps-left cs pairs p valid,
+        weights-kept cs pairs p valid,
+      )
+
+  -- a sheet that is not over
+  pub report-most : 2 ≤ n → n ≤ 64 → Below n cs → NotOver cs → length (report n (length cs) v (stepsOf lines (length cs) sizes cs p) (final cs p)) ≤ 3786
+  unfolding NotOver
+  report-most two most below fine =
+      omega (
+        arith,
+        report-bound (omega arith),
+        steps-most n cs two pairs below fine p valid,
+        fine (full n) (omega (arith, size-full n)),
+        size-full n,
+        carried-full n cs below,
+      )

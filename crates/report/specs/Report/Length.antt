@@ -1,0 +1,130 @@
+-- How long a report is. Document 01, "Refused", rule 17, asks for space of that length. Assumes nothing.
+use Prim.Native.Nat.{ℕ, zero, suc, _+_, _*_, _-_, _/_, _%_, _≤_, _<_}
+use native.Mathlib.Omega.{arith}
+use borrow.Author.Tests.{lt-ltb}
+use mathlib.Core.Path.{_≡_, refl, ap}
+use mathlib.Core.Bool.{Bool, true, false, cond}
+use mathlib.Core.List.{List, [], _∷_, _++_}
+use lib.Dec.{ltb, eqb}
+use lib.Count.{ones}
+use lib.ListN.{length, length-append}
+use Rattle.theory.specs.Set.{at}
+use Rattle.theory.specs.Merge.{living}
+use Rattle.space.specs.Text.{ascii, digit, decimal}
+use Rattle.answer.specs.declared.Verdict.{Verdict}
+use Rattle.answer.specs.declared.Verdict.the-variants.{Over, Angle, Well, Stuck, Under}
+use Rattle.answer.specs.declared.JointKind.{JointKind}
+use Rattle.answer.specs.declared.JointKind.the-variants.{Ppp, Ppl, Pll, Lll}
+use Rattle.answer.specs.declared.Ways.{Ways}
+use Rattle.answer.specs.declared.Ways.the-variants.{Known, Unknown}
+use Rattle.answer.specs.declared.Step.{Step}
+use Rattle.report.specs.Elements.{member, among, elements}
+use Rattle.report.specs.Elements.Laws.{elements-most, elements-size}
+use Rattle.report.specs.Report.{kindName, waysName, numbers, partsWords, kindWords, waysWords, verdictLine, elementsLine, stepLine, slotLine, stepLines, clusterLines, report, overReport}
+use Rattle.report.specs.Report.Laws.{step-pieces, slot-dead, slot-living, over-pieces}
+
+-- ---- numbers and sets
+
+pub decimal-length : (n : ℕ) → length (decimal n) ≤ 3
+unfolding decimal
+decimal-length n = go (ltb n 10) (ltb n 100)
+  where
+    go : (a b : Bool) → length (cond a (digit n ∷ []) (cond b (digit (n / 10) ∷ digit (n % 10) ∷ []) (digit (n / 100) ∷ digit (n / 10 % 10) ∷ digit (n % 10) ∷ []))) ≤ 3
+    go true b = omega arith
+    go false true = omega arith
+    go false false = omega arith
+
+pub decimal-two : (n : ℕ) → n < 100 → length (decimal n) ≤ 2
+unfolding decimal
+decimal-two n h = rw (lt-ltb n 100 h) (go (ltb n 10))
+  where
+    go : (a : Bool) → length (cond a (digit n ∷ []) (digit (n / 10) ∷ digit (n % 10) ∷ [])) ≤ 2
+    go true = omega arith
+    go false = omega arith
+
+-- an element's number has at most two digits, and a space before it
+among-length : (k x a : ℕ) → x + k ≤ 100 → length (numbers (among k x a)) ≤ 3 * length (among k x a)
+unfolding among numbers
+among-length zero x a h = omega arith
+among-length (suc k) x a h = go (at x a) (among-length k (suc x) a (omega arith))
+  where
+    go : (d : ℕ) → length (numbers (among k (suc x) a)) ≤ 3 * length (among k (suc x) a)
+        → length (numbers (member d x (among k (suc x) a))) ≤ 3 * length (member d x (among k (suc x) a))
+    go zero ih = ih
+    go (suc d) ih = omega (arith, length-append (decimal x) (numbers (among k (suc x) a)), decimal-two x (omega arith))
+
+pub set-length : (a : ℕ) → length (numbers (elements a)) ≤ 3 * length (elements a)
+unfolding elements
+set-length a = among-length 64 0 a (omega arith)
+
+-- ---- lines
+
+pub verdict-length : (v : Verdict) → length (verdictLine v) ≤ 14
+verdict-length Over = omega arith
+verdict-length Angle = omega arith
+verdict-length Well = omega arith
+verdict-length Stuck = omega arith
+verdict-length Under = omega arith
+
+pub elements-length : (n e : ℕ) → length (elementsLine n e) ≡ 23 + (length (decimal n) + length (decimal e))
+elements-length n e = simp length-append (omega arith)
+
+kind-length : (k : JointKind) → length (kindName k) ≡ 3
+kind-length Ppp = refl
+kind-length Ppl = refl
+kind-length Pll = refl
+kind-length Lll = refl
+
+ways-length : (w : Ways) → length (waysName w) ≤ 3
+ways-length (Known w) = decimal-length w
+ways-length Unknown = omega arith
+
+pub step-length : (s : Step) → length (stepLine s) ≤ 47 + (length (waysName (s .ways)) + 3 * length (elements (s .joint)))
+step-length s =
+    rw step-pieces
+    (simp length-append
+    (omega (arith, decimal-length (s .made), decimal-length (s .i), decimal-length (s .j), decimal-length (s .k), set-length (s .joint), kind-length (s .kind))))
+
+pub slot-length : (c a : ℕ) → length (slotLine c a) ≤ living a * (18 + 3 * length (elements a))
+slot-length c zero = rw (slot-dead c zero refl) (omega arith)
+slot-length c (suc a) =
+    rw (slot-living c (suc a) (λ e. omega arith)) (simp length-append (omega (arith, decimal-length c, set-length (suc a))))
+
+-- ---- any report
+
+steps-long : (steps : List Step) → length (stepLines steps) ≤ 242 * length steps
+unfolding stepLines
+steps-long [] = omega arith
+steps-long (s ∷ steps) =
+    omega (arith, length-append (stepLine s) (stepLines steps), step-length s, ways-length (s .ways), elements-most (s .joint), steps-long steps)
+
+clusters-long : (c : ℕ) (slots : List ℕ) → length (clusterLines c slots) ≤ 210 * length slots
+unfolding clusterLines
+clusters-long c [] = omega arith
+clusters-long c (a ∷ slots) =
+    omega (arith, length-append (slotLine c a) (clusterLines (suc c) slots), slot-long a, clusters-long (suc c) slots)
+  where
+    slot-long : (a : ℕ) → length (slotLine c a) ≤ 210
+    slot-long zero = omega (arith, slot-length c zero)
+    slot-long (suc a) = omega (arith, slot-length c (suc a), elements-most (suc a))
+
+pub report-long : (n e : ℕ) (v : Verdict) (steps : List Step) (slots : List ℕ)
+    → length (report n e v steps slots) ≤ 43 + 242 * length steps + 210 * length slots
+unfolding report
+report-long n e v steps slots =
+    let rest = stepLines steps ++ clusterLines 0 slots in
+    omega (
+      arith,
+      length-append (verdictLine v) (elementsLine n e ++ rest),
+      length-append (elementsLine n e) rest,
+      length-append (stepLines steps) (clusterLines 0 slots),
+      verdict-length v,
+      elements-length n e,
+      decimal-length n,
+      decimal-length e,
+      steps-long steps,
+      clusters-long 0 slots,
+    )
+
+pub over-long : (n e first set : ℕ) → length (overReport n e first set) ≤ 249
+over-long n e first set = rw over-pieces (simp length-append (omega (arith, decimal-length n, decimal-length e, decimal-length first, set-length set, elements-most set)))

@@ -1,0 +1,199 @@
+// The report's bytes into lent space, line by line. Each function puts its bytes from a place on and answers the place after them; a call over no
+// space measures. Contracts cite specs/Report.antt.
+ghost use mathlib.Core.Path.{_≡_};
+ghost use mathlib.Core.List.{[], _∷_, _++_};
+ghost use Prim.Native.Nat.{ℕ, _+_, _<_, _≤_, _^_};
+ghost use lib.ListN.{length, take, getD};
+ghost use Rattle.space.specs.Space.{Put};
+ghost use Rattle.space.specs.Text.{ascii, decimal};
+ghost use Rattle.report.specs.Elements.{elements};
+ghost use Rattle.report.specs.Report.{numbers, partsWords, kindWords, waysWords, verdictLine, elementsLine, stepLine, stepLines, slotLine, clusterLines, Small, AllSmall, report, overReport};
+use answer::JointKind;
+use answer::Step;
+use answer::Verdict;
+use answer::Ways;
+use space::put_byte;
+use space::put_decimal;
+use space::put_text;
+
+// A space and a number.
+fn put_number(out: &mut [u8], at: usize, n: usize) -> usize
+    requires { ⌜ (n < 1000) × (at + length (32 ∷ decimal n) < 2 ^ 64) ⌝ }
+    ensures { λ r. ⌜ Put (now (out .entry)) at (32 ∷ decimal n) r (now (out .exit)) ⌝ }
+{
+    let a1 = put_byte(out, at, b' ');
+    put_decimal(out, a1, n)
+}
+
+// A set's elements, a space before each.
+fn put_set(out: &mut [u8], at: usize, set: u64) -> usize
+    requires { ⌜ at + length (numbers (elements set)) < 2 ^ 64 ⌝ }
+    ensures { λ r. ⌜ Put (now (out .entry)) at (numbers (elements set)) r (now (out .exit)) ⌝ }
+{
+    let mut next = at;
+    let mut rest = set;
+    while rest != 0 {
+        let x = u64::trailing_zeros(rest) as usize;
+        next = put_number(out, next, x);
+        rest = rest & (rest - 1);
+    }
+    next
+}
+
+// The verdict's line.
+fn put_verdict_line(out: &mut [u8], at: usize, verdict: Verdict) -> usize
+    requires { ⌜ at + length (verdictLine verdict) < 2 ^ 64 ⌝ }
+    ensures { λ r. ⌜ Put (now (out .entry)) at (verdictLine verdict) r (now (out .exit)) ⌝ }
+{
+    match verdict {
+        Verdict::Over => put_text(out, at, b"verdict over\n"),
+        Verdict::Angle => put_text(out, at, b"verdict angle\n"),
+        Verdict::Well => put_text(out, at, b"verdict well\n"),
+        Verdict::Stuck => put_text(out, at, b"verdict stuck\n"),
+        Verdict::Under => put_text(out, at, b"verdict under\n"),
+    }
+}
+
+// The line of the element count n and the constraint count e.
+fn put_elements_line(out: &mut [u8], at: usize, n: usize, e: usize) -> usize
+    requires { ⌜ (n < 1000) × (e < 1000) × (at + length (elementsLine n e) < 2 ^ 64) ⌝ }
+    ensures { λ r. ⌜ Put (now (out .entry)) at (elementsLine n e) r (now (out .exit)) ⌝ }
+{
+    let a1 = put_text(out, at, b"elements");
+    let a2 = put_number(out, a1, n);
+    let a3 = put_text(out, a2, b" constraints");
+    let a4 = put_number(out, a3, e);
+    put_byte(out, a4, b'\n')
+}
+
+// A step line up to its parts.
+fn put_parts(out: &mut [u8], at: usize, made: usize, i: usize, j: usize, k: usize) -> usize
+    requires { ⌜ (made < 1000) × (i < 1000) × (j < 1000) × (k < 1000) × (at + length (partsWords made i j k) < 2 ^ 64) ⌝ }
+    ensures { λ r. ⌜ Put (now (out .entry)) at (partsWords made i j k) r (now (out .exit)) ⌝ }
+{
+    let a1 = put_text(out, at, b"step");
+    let a2 = put_number(out, a1, made);
+    let a3 = put_text(out, a2, b" from");
+    let a4 = put_number(out, a3, i);
+    let a5 = put_number(out, a4, j);
+    put_number(out, a5, k)
+}
+
+// A step line from the kind to the word before the placements.
+fn put_kind(out: &mut [u8], at: usize, kind: JointKind) -> usize
+    requires { ⌜ at + length (kindWords kind) < 2 ^ 64 ⌝ }
+    ensures { λ r. ⌜ Put (now (out .entry)) at (kindWords kind) r (now (out .exit)) ⌝ }
+{
+    match kind {
+        JointKind::Ppp => put_text(out, at, b" kind ppp ways"),
+        JointKind::Ppl => put_text(out, at, b" kind ppl ways"),
+        JointKind::Pll => put_text(out, at, b" kind pll ways"),
+        JointKind::Lll => put_text(out, at, b" kind lll ways"),
+    }
+}
+
+// The placements, at the end of a step line.
+fn put_ways(out: &mut [u8], at: usize, ways: Ways) -> usize
+    requires { ⌜ at + length (waysWords ways) < 2 ^ 64 ⌝ }
+    ensures { λ r. ⌜ Put (now (out .entry)) at (waysWords ways) r (now (out .exit)) ⌝ }
+{
+    match ways {
+        Ways::Known(w) => {
+            let a1 = put_number(out, at, w as usize);
+            put_byte(out, a1, b'\n')
+        }
+        Ways::Unknown => put_text(out, at, b" ?\n"),
+    }
+}
+
+// A step's line.
+fn put_step_line(out: &mut [u8], at: usize, s: Step) -> usize
+    requires { ⌜ Small s × (at + length (stepLine s) < 2 ^ 64) ⌝ }
+    ensures { λ r. ⌜ Put (now (out .entry)) at (stepLine s) r (now (out .exit)) ⌝ }
+{
+    let kind = s.kind;
+    let ways = s.ways;
+    let a1 = put_parts(out, at, s.made, s.i, s.j, s.k);
+    let a2 = put_text(out, a1, b" joint");
+    let a3 = put_set(out, a2, s.joint);
+    let a4 = put_kind(out, a3, kind);
+    put_ways(out, a4, ways)
+}
+
+// The line of cluster c, which holds the elements of a; none for the empty set, since that cluster is dead.
+fn put_slot_line(out: &mut [u8], at: usize, c: usize, a: u64) -> usize
+    requires { ⌜ (c < 1000) × (at + length (slotLine c a) < 2 ^ 64) ⌝ }
+    ensures { λ r. ⌜ Put (now (out .entry)) at (slotLine c a) r (now (out .exit)) ⌝ }
+{
+    if a == 0 {
+        return at;
+    }
+    let a1 = put_text(out, at, b"cluster");
+    let a2 = put_number(out, a1, c);
+    let a3 = put_text(out, a2, b" holds");
+    let a4 = put_set(out, a3, a);
+    put_byte(out, a4, b'\n')
+}
+
+// The lines of the first `count` steps.
+fn put_steps(out: &mut [u8], at: usize, steps: [Step; 62], count: usize) -> usize
+    requires { ⌜ (count ≤ 62) × AllSmall (take count steps) × (at + length (stepLines (take count steps)) < 2 ^ 64) ⌝ }
+    ensures { λ r. ⌜ Put (now (out .entry)) at (stepLines (take count steps)) r (now (out .exit)) ⌝ }
+{
+    let mut next = at;
+    let mut i: usize = 0;
+    while i < count {
+        let s = steps[i];
+        next = put_step_line(out, next, s);
+        i += 1;
+    }
+    next
+}
+
+// The lines of the living clusters among the first `used` slots.
+fn put_clusters(out: &mut [u8], at: usize, slots: &[u64; 192], used: usize) -> usize
+    requires { ⌜ (used ≤ 192) × (length (now slots) ≡ 192) × (at + length (clusterLines 0 (take used (now slots))) < 2 ^ 64) ⌝ }
+    ensures { λ r. ⌜ Put (now (out .entry)) at (clusterLines 0 (take used (now (slots .entry)))) r (now (out .exit)) ⌝ }
+{
+    let mut next = at;
+    let mut c: usize = 0;
+    while c < used {
+        next = put_slot_line(out, next, c, slots[c]);
+        c += 1;
+    }
+    next
+}
+
+// The report of a sheet that is not over: its verdict, the first `count` of the steps, and the living clusters among the first `used` slots.
+pub fn put_report(
+    out: &mut [u8],
+    n: usize,
+    e: usize,
+    verdict: Verdict,
+    steps: [Step; 62],
+    count: usize,
+    slots: &[u64; 192],
+    used: usize,
+) -> usize
+    requires { ⌜ (n < 1000) × (e < 1000) × (count ≤ 62) × (used ≤ 192) × (length (now slots) ≡ 192) × AllSmall (take count steps) ⌝ }
+    ensures { λ r. ⌜ Put (now (out .entry)) 0 (report n e verdict (take count steps) (take used (now (slots .entry)))) r (now (out .exit)) ⌝ }
+{
+    let a1 = put_verdict_line(out, 0, verdict);
+    let a2 = put_elements_line(out, a1, n, e);
+    let a3 = put_steps(out, a2, steps, count);
+    put_clusters(out, a3, slots, used)
+}
+
+// The report of an over sheet: the first constraint that makes those up to it over, and the smallest set.
+pub fn put_over_report(out: &mut [u8], n: usize, e: usize, first: usize, set: u64) -> usize
+    requires { ⌜ (n < 1000) × (e < 1000) × (first < 1000) ⌝ }
+    ensures { λ r. ⌜ Put (now (out .entry)) 0 (overReport n e first set) r (now (out .exit)) ⌝ }
+{
+    let a1 = put_verdict_line(out, 0, Verdict::Over);
+    let a2 = put_elements_line(out, a1, n, e);
+    let a3 = put_text(out, a2, b"first");
+    let a4 = put_number(out, a3, first);
+    let a5 = put_text(out, a4, b"\nset");
+    let a6 = put_set(out, a5, set);
+    put_byte(out, a6, b'\n')
+}

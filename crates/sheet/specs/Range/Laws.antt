@@ -1,0 +1,31 @@
+-- One range without 0 is rule 9's. Assumes nothing.
+use Prim.Native.Nat.{ℕ, zero, suc}
+use native.Mathlib.Omega.{arith}
+use mathlib.Core.Path.{_≡_, refl}
+use mathlib.Core.Bool.{Bool, true, false, _&&_, _||_}
+use borrow.Author.Tests.{le-leb}
+use lib.Dec.{leb}
+use lib.IntN.{ℤ, pos, negsuc}
+use Rattle.sheet.specs.declared.PairKind.{PairKind}
+use Rattle.sheet.specs.declared.PairKind.the-variants.{Points, PointLine, Lines}
+use Rattle.sheet.specs.Rules.{within, sizeRange}
+use Rattle.sheet.specs.Range.{lowestSize, highestSize}
+
+or-false : (x : Bool) → x || false ≡ x
+or-false true = refl
+or-false false = refl
+
+both-signs : (k m : ℕ) (z : ℤ) → (z ≡ pos 0 → ⊥) → within (negsuc k) (negsuc 0) z || within (pos 1) (pos m) z ≡ within (negsuc k) (pos m) z
+both-signs k m (pos zero) h = absurd (h refl)
+both-signs k m (pos (suc n)) h = rw (le-leb 1 (suc n) (omega arith))
+both-signs k m (negsuc n) h = rw (le-leb 0 n (omega arith)) (or-false (leb n k && true))
+
+pub range-without-zero : (p : PairKind) (z : ℤ) → (z ≡ pos 0 → ⊥) → sizeRange p z ≡ within (lowestSize p) (highestSize p) z
+range-without-zero Points z h = refl
+range-without-zero PointLine z h = both-signs 39999 40000 z h
+range-without-zero Lines z h = both-signs 17998 17999 z h
+
+pub no-zero : (p : PairKind) → sizeRange p (pos 0) ≡ false
+no-zero Points = refl
+no-zero PointLine = refl
+no-zero Lines = refl

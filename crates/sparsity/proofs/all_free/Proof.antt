@@ -1,0 +1,63 @@
+use borrow.Author.Needs.{needs}
+-- `all_free` meets its contract. The loop's invariant: the freedoms of the elements below x are free. Assumes nothing.
+use mathlib.Core.Path.{sym, subst}
+use mathlib.Core.List.{[], _∷_}
+use Prim.Native.Nat.{ℕ, _+_, _-_, _≤_}
+use native.Mathlib.Omega.{arith}
+use lib.ListN.{set}
+use Rattle.sparsity.specs.Freedoms.{FreeBelow}
+use Rattle.sparsity.specs.Freedoms.Laws.{free-none, free-next}
+use Rattle.sparsity.proofs.all_free.Statement.{statement}
+use Rattle.sparsity.proofs.all_free.Tie as tie
+
+abbrev Inv-loop : tie.InvT-loop
+Inv-loop own₀ x₀ own x = (x ≤ 64) × FreeBelow x own
+
+abbrev μ-loop : tie.MeasureT-loop
+μ-loop own₀ x₀ own x = 64 - x
+
+loop-holds : tie.Need-loop-holds Inv-loop μ-loop
+loop-holds c = (omega arith, free-none)
+
+wide-requires : tie.Need-wide-requires Inv-loop μ-loop
+wide-requires c κs = search needs
+
+mul-own : tie.Need-mul-own Inv-loop μ-loop
+mul-own c = omega arith
+
+array-set-from-own : tie.Need-array-set-from-own Inv-loop μ-loop
+array-set-from-own c = omega arith
+
+add-x : tie.Need-add-x Inv-loop μ-loop
+add-x c = omega arith
+
+loop-less : tie.Need-loop-less Inv-loop μ-loop
+loop-less c = omega arith
+
+loop-again : tie.Need-loop-again Inv-loop μ-loop
+loop-again c =
+    let l = c .before .before .loop in (
+      omega arith,
+      subst (λ (i : ℕ). FreeBelow (l .x + 1) (set (l .own) i (l .x ∷ l .x ∷ []))) (sym (c .wide .ensures))
+          (free-next (l .x) (l .own) (omega arith) (l .inv .1)),
+    )
+
+returns : tie.Need-returns Inv-loop μ-loop
+returns c =
+    let l = c .before .loop in
+    subst (λ (n : ℕ). FreeBelow n (l .own)) (omega arith) (l .inv .1)
+
+pub all-free-spec : {M : Type 1} → statement M
+all-free-spec =
+    tie.close
+    (tie.spec
+    Inv-loop
+    μ-loop
+    loop-holds
+    wide-requires
+    mul-own
+    array-set-from-own
+    add-x
+    loop-less
+    loop-again
+    returns)

@@ -1,0 +1,21 @@
+-- `pair_of` meets its contract. Assumes nothing.
+use mathlib.Core.Path.{ap₂}
+use lib.Bits.{bitOr}
+use Rattle.theory.specs.Set.{_∪_}
+use Rattle.theory.specs.Constraints.{pair}
+use borrow.Author.Needs.{needs}
+use Rattle.sparsity.proofs.pair_of.Statement.{statement}
+use Rattle.sparsity.proofs.pair_of.Tie as tie
+
+single-requires : tie.Need-single-requires
+single-requires c κs = search needs
+
+single-requires-2 : tie.Need-single-requires-2
+single-requires-2 c κs = search needs
+
+returns : tie.Need-returns
+unfolding pair _∪_
+returns c = ap₂ bitOr (c .before .single .ensures) (c .single2 .ensures)
+
+pub pair-of-spec : {M : Type 1} → statement M
+pair-of-spec = tie.close (tie.spec single-requires single-requires-2 returns)

@@ -1,0 +1,394 @@
+-- Laws of what the search reaches: a visit, a whole search, the way back, and what is gathered. Assumes nothing.
+use mathlib.Core.Path.{_≡_, refl, sym, ap, ap₂, _∙_, subst}
+use mathlib.Core.Logic.{_≢_, ⊎-elim}
+use mathlib.Core.List.{List}
+use Prim.Native.Nat.{ℕ, zero, suc, _+_, _^_, _≤_, _<_}
+use native.Mathlib.Nat.{lt-of-lt-of-le, lt-trans, lt-suc-self, zero-lt-suc, le-refl, ne-of-lt, not-suc-le-zero, le-of-suc-le-suc, eq-or-lt-of-le}
+use native.Mathlib.Decide.{ℕ-discrete, decLt}
+use native.Mathlib.Omega.{arith}
+use lib.Bits.{bitOr, or-lt}
+use lib.Count.{ones, ones-le}
+use lib.ListN.{length, set, length-set}
+use lib.Pow.{pow-lt}
+use lib.Seq.{getD-set-same, getD-set-other}
+use Rattle.theory.specs.Set.{_∪_, _⊑_, at}
+use Rattle.theory.specs.Set.Laws.{at-or, at-le, at-same, at-other, bit, size-add, size-pow, or-comm}
+use Rattle.sparsity.specs.Freedoms.{entry, free, same, Table, Closed}
+use Rattle.sparsity.specs.Reach.{item, Visit, known, fresh, Lent, Reached, Longer, Scanned, Found, Stuck}
+
+-- ---- a visit
+
+-- an element that is not reached yet finds room in the queue
+pub visit-size : (seen y : ℕ) → at y seen ≡ 0 → ones (seen ∪ 2 ^ y) ≡ ones seen + 1
+visit-size seen y e = ap ones (or-comm seen (2 ^ y)) ∙ omega (arith, size-add seen y e)
+
+pub visit-room : (seen count y : ℕ) → seen < 2 ^ 64 → y < 64 → ones seen ≡ count → at y seen ≡ 0 → count < 64
+unfolding _∪_
+visit-room seen count y l ly e z =
+    omega (arith, visit-size seen y z, ones-le 64 (seen ∪ 2 ^ y) (or-lt 64 seen (2 ^ y) l (pow-lt ly)))
+
+pub longer-refl : (queue : List ℕ) (seen count : ℕ) → Longer queue seen count queue seen count
+longer-refl queue seen count = record { more = le-refl count; places = λ i l. refl; marks = λ x e. e }
+
+module _ (own : List (List ℕ)) (t : Table own) (a b : ℕ) (queue from : List ℕ) (seen count : ℕ) (r : Reached own a b queue from seen count)
+    (p s y : ℕ) (lp : p < count) (ls : s < 2) (ey : y ≡ entry own (item queue p) s) where
+  ly : y < 64
+  ly = omega (arith, ey, t .low (item queue p) s (r .inside p lp) ls)
+
+  module _ (new : at y seen ≡ 0) where
+    fits : count < 64
+    fits = visit-room seen count y (r .small) ly (r .size) new
+
+    abbrev q : List ℕ
+    q = set queue count y
+
+    abbrev f : List ℕ
+    f = set from count p
+
+    abbrev v : ℕ
+    v = seen ∪ 2 ^ y
+
+    q-old : (i : ℕ) → i < count → item q i ≡ item queue i
+    q-old i l = getD-set-other queue count i y 0 (ne-of-lt l)
+
+    q-new : item q count ≡ y
+    q-new = getD-set-same queue count y 0 (omega (arith, r .lent .places, fits))
+
+    f-old : (i : ℕ) → i < count → item f i ≡ item from i
+    f-old i l = getD-set-other from count i p 0 (ne-of-lt l)
+
+    f-new : item f count ≡ p
+    f-new = getD-set-same from count p 0 (omega (arith, r .lent .places′, fits))
+
+    v-old : (x : ℕ) → at x seen ≡ 1 → at x v ≡ 1
+    v-old x e = omega (arith, at-or x seen (2 ^ y), at-le x (2 ^ y))
+
+    v-new : at y v ≡ 1
+    v-new = omega (arith, at-or y seen (2 ^ y), at-same y, at-le y seen)
+
+    v-other : (x : ℕ) → x ≢ y → at x v ≡ at x seen
+    v-other x n = omega (arith, at-or x seen (2 ^ y), at-other x y n)
+
+    split : (P : ℕ → Type 0) → P count → ((i : ℕ) → i < count → P i) → (i : ℕ) → i < count + 1 → P i
+    split P last old i l = ⊎-elim (λ (e : i ≡ count). subst P (sym e) last) (λ (m : i < count). old i m) (eq-or-lt-of-le (omega arith))
+
+    old≢ : (i : ℕ) → i < count → item queue i ≢ y
+    old≢ i l e = omega (arith, r .marked i l, ap (λ (x : ℕ). at x seen) e)
+
+    pushed : Reached own a b q f v (count + 1)
+    unfolding _∪_
+    pushed = record {
+      lent = record { places = length-set queue count y ∙ r .lent .places; places′ = length-set from count p ∙ r .lent .places′ };
+      low = omega (arith, r .low);
+      start = q-old 0 (omega (arith, r .low)) ∙ r .start;
+      start′ = q-old 1 (omega (arith, r .low)) ∙ r .start′;
+      inside = split (λ i. item q i < 64) (omega (arith, q-new, ly)) (λ i l. omega (arith, q-old i l, r .inside i l));
+      back = λ i h l. split (λ i. 2 ≤ i → item f i < i) (λ h. omega (arith, f-new, lp)) (λ i l h. omega (arith, f-old i l, r .back i h l)) i l h;
+      link = λ i h l. split Link (λ h. (s, ls, ap (λ (j : ℕ). entry own (item q j) s) f-new ∙ ap (λ (x : ℕ). entry own x s) (q-old p lp) ∙ sym ey ∙ sym q-new))
+          (λ i l h.
+          let o = r .link i h l in (
+            o .0,
+            o .1,
+            ap (λ (j : ℕ). entry own (item q j) (o .0)) (f-old i l)
+                ∙ ap (λ (x : ℕ). entry own x (o .0)) (q-old (item from i) (omega (arith, r .back i h l))) ∙ o .2 ∙ sym (q-old i l),
+          )) i l h;
+      apart = λ i j l h. split (λ j. i < j → item q i ≢ item q j) (λ l e. old≢ i l (sym (q-old i l) ∙ e ∙ q-new))
+          (λ j m l e. r .apart i j l m (sym (q-old i (lt-trans l m)) ∙ e ∙ q-old j m)) j h l;
+      marked = split (λ i. at (item q i) v ≡ 1) (ap (λ (x : ℕ). at x v) q-new ∙ v-new)
+          (λ i l. ap (λ (x : ℕ). at x v) (q-old i l) ∙ v-old (item queue i) (r .marked i l));
+      queued = λ x e. queued x e (ℕ-discrete x y);
+      size = visit-size seen y new ∙ ap (λ (n : ℕ). n + 1) (r .size);
+      small = or-lt 64 seen (2 ^ y) (r .small) (pow-lt ly);
+    }
+      where
+        Link : ℕ → Type 0
+        Link i = 2 ≤ i → (s : ℕ) × (s < 2) × (entry own (item q (item f i)) s ≡ item q i)
+
+        queued : (x : ℕ) → at x v ≡ 1 → Dec (x ≡ y) → (i : ℕ) × (i < count + 1) × (item q i ≡ x)
+        queued x e (yes m) = (count, omega arith, q-new ∙ sym m)
+        queued x e (no n) =
+            let o = r .queued x (sym (v-other x n) ∙ e) in
+            (o .0, omega (arith, o .1), q-old (o .0) (o .1) ∙ o .2)
+
+  pub visit-reached : (q f : List ℕ) (v n : ℕ) → Visit queue from seen count y p q f v n → Reached own a b q f v n
+  visit-reached q f v n (known e) = r
+  visit-reached q f v n (fresh e) = pushed e
+
+  pub visit-longer : (q f : List ℕ) (v n : ℕ) → Visit queue from seen count y p q f v n → Longer queue seen count q v n
+  visit-longer q f v n (known e) = longer-refl queue seen count
+  visit-longer q f v n (fresh e) = record { more = omega arith; places = q-old e; marks = v-old e }
+
+  pub visit-seen : (q f : List ℕ) (v n : ℕ) → Visit queue from seen count y p q f v n → at y v ≡ 1
+  visit-seen q f v n (known e) = e
+  visit-seen q f v n (fresh e) = v-new e
+
+pub lent-by : {q f queue from : List ℕ} → queue ≡ q → from ≡ f → Lent q f → Lent queue from
+lent-by eq ef l = record { places = ap length eq ∙ l .places; places′ = ap length ef ∙ l .places′ }
+
+-- ---- the search
+
+-- the queue at the start
+module _ (own : List (List ℕ)) (a b : ℕ) (la : a < 64) (lb : b < 64) (n : a ≢ b) {queue from : List ℕ} (lent : Lent queue from) where
+  abbrev two : List ℕ
+  two = set (set queue 0 a) 1 b
+
+  first : item two 0 ≡ a
+  first = getD-set-other (set queue 0 a) 1 0 b 0 (ne-of-lt (zero-lt-suc 0)) ∙ getD-set-same queue 0 a 0 (omega (arith, lent .places))
+
+  second : item two 1 ≡ b
+  second = getD-set-same (set queue 0 a) 1 b 0 (omega (arith, length-set queue 0 a, lent .places))
+
+  either : (P : ℕ → Type 0) → P 0 → P 1 → (i : ℕ) → i < 2 → P i
+  either P p q i l = ⊎-elim (λ (e : i ≡ 0). subst P (sym e) p) (λ (e : i ≡ 1). subst P (sym e) q) (bit i (le-of-suc-le-suc l))
+
+  abbrev ends : ℕ
+  ends = 2 ^ a ∪ 2 ^ b
+
+  at-a : at a ends ≡ 1
+  at-a = omega (arith, at-or a (2 ^ a) (2 ^ b), at-same a, at-le a (2 ^ b))
+
+  at-b : at b ends ≡ 1
+  at-b = omega (arith, at-or b (2 ^ a) (2 ^ b), at-same b, at-le b (2 ^ a))
+
+  pub begun : Reached own a b two from ends 2
+  unfolding _∪_
+  begun = record {
+    lent = record { places = length-set (set queue 0 a) 1 b ∙ length-set queue 0 a ∙ lent .places; places′ = lent .places′ };
+    low = le-refl 2;
+    start = first;
+    start′ = second;
+    inside = either (λ i. item two i < 64) (omega (arith, first)) (omega (arith, second));
+    back = λ i h l. absurd (omega arith);
+    link = λ i h l. absurd (omega arith);
+    apart = λ i j l h e. n (sym first ∙ ap (item two) (low-is i j l h) ∙ e ∙ ap (item two) (high-is i j l h) ∙ second);
+    marked = either (λ i. at (item two i) ends ≡ 1) (ap (λ (x : ℕ). at x ends) first ∙ at-a) (ap (λ (x : ℕ). at x ends) second ∙ at-b);
+    queued = λ x e. queued x e (ℕ-discrete x a) (ℕ-discrete x b);
+    size = omega (arith, size-add (2 ^ b) a (at-other a b n), size-pow b);
+    small = or-lt 64 (2 ^ a) (2 ^ b) (pow-lt la) (pow-lt lb);
+  }
+    where
+      low-is : (i j : ℕ) → i < j → j < 2 → 0 ≡ i
+      low-is i j l h = omega arith
+
+      high-is : (i j : ℕ) → i < j → j < 2 → j ≡ 1
+      high-is i j l h = omega arith
+
+      queued : (x : ℕ) → at x ends ≡ 1 → Dec (x ≡ a) → Dec (x ≡ b) → (i : ℕ) × (i < 2) × (item two i ≡ x)
+      queued x e (yes p) d = (0, zero-lt-suc 1, first ∙ sym p)
+      queued x e (no p) (yes q) = (1, lt-suc-self 1, second ∙ sym q)
+      queued x e (no p) (no q) = absurd (omega (arith, at-or x (2 ^ a) (2 ^ b), at-other x a p, at-other x b q))
+
+  pub begun-with : (p q : ℕ) → p ≡ 2 ^ a → q ≡ 2 ^ b → Reached own a b two from (bitOr p q) 2
+  unfolding _∪_
+  begun-with p q ep eq = subst (λ (v : ℕ). Reached own a b two from v 2) (ap₂ bitOr (sym ep) (sym eq)) begun
+
+pub scanned-none : (own : List (List ℕ)) (queue : List ℕ) (seen : ℕ) → Scanned own queue seen 0
+scanned-none own queue seen = record { stays = λ i s l h. absurd (not-suc-le-zero l); none = λ i h l. absurd (not-suc-le-zero l) }
+
+-- one more place is scanned: both entries of its element are visited
+pub scanned-next : (own : List (List ℕ)) (queue : List ℕ) (seen count p : ℕ) → p < count → Scanned own queue seen p
+    → (2 ≤ p → free own (item queue p) ≡ 0) → (queue′ : List ℕ) (seen′ count′ : ℕ) → Longer queue seen count queue′ seen′ count′
+    → ((s : ℕ) → s < 2 → at (entry own (item queue p) s) seen′ ≡ 1) → Scanned own queue′ seen′ (p + 1)
+scanned-next own queue seen count p lp sc shut queue′ seen′ count′ g here = record { stays = stays; none = none }
+  where
+    same-at : (i : ℕ) → i ≤ p → item queue′ i ≡ item queue i
+    same-at i l = g .places i (omega arith)
+
+    stays : (i s : ℕ) → i < p + 1 → s < 2 → at (entry own (item queue′ i) s) seen′ ≡ 1
+    stays i s l h =
+        ap (λ (x : ℕ). at (entry own x s) seen′) (same-at i (omega arith))
+        ∙ ⊎-elim (λ (e : i ≡ p). ap (λ (j : ℕ). at (entry own (item queue j) s) seen′) e ∙ here s h)
+        (λ (m : i < p). g .marks (entry own (item queue i) s) (sc .stays i s m h)) (eq-or-lt-of-le (omega arith))
+
+    none : (i : ℕ) → 2 ≤ i → i < p + 1 → free own (item queue′ i) ≡ 0
+    none i h l =
+        ap (free own) (same-at i (omega arith))
+        ∙ ⊎-elim (λ (e : i ≡ p). ap (λ (j : ℕ). free own (item queue j)) e ∙ shut (omega arith)) (λ (m : i < p). sc .none i h m)
+        (eq-or-lt-of-le (omega arith))
+
+pub longer-trans : (q : List ℕ) (v n : ℕ) (q′ : List ℕ) (v′ n′ : ℕ) (q″ : List ℕ) (v″ n″ : ℕ) → Longer q v n q′ v′ n′ → Longer q′ v′ n′ q″ v″ n″ → Longer q v n q″ v″ n″
+longer-trans q v n q′ v′ n′ q″ v″ n″ g h = record {
+  more = omega (arith, g .more, h .more);
+  places = λ i l. h .places i (lt-of-lt-of-le l (g .more)) ∙ g .places i l;
+  marks = λ x e. h .marks x (g .marks x e);
+}
+
+pub reached-most : {own : List (List ℕ)} {a b : ℕ} {queue from : List ℕ} {seen count : ℕ} → Reached own a b queue from seen count → count ≤ 64
+reached-most {seen = seen} r = omega (arith, r .size, ones-le 64 seen (r .small))
+
+-- the element at place p, which is i, is scanned by two visits
+module _ {own : List (List ℕ)} {a b : ℕ} {queue from : List ℕ} {seen count : ℕ} (t : Table own) (r : Reached own a b queue from seen count)
+    (p : ℕ) (lp : p < count) {i : ℕ} (ei : i ≡ item queue p) where
+  entry-is : (s : ℕ) → entry own i s ≡ entry own (item queue p) s
+  entry-is s = ap (λ (x : ℕ). entry own x s) ei
+
+  pub scan-fits : i < 64
+  scan-fits = omega (arith, r .inside p lp)
+
+  pub scan-low : (s : ℕ) → s < 2 → entry own i s < 64
+  scan-low s l = t .low i s scan-fits l
+
+  module _ {q f : List ℕ} {v n : ℕ} (one : Visit queue from seen count (entry own i 0) p q f v n) where
+    mid : Reached own a b q f v n
+    mid = visit-reached own t a b queue from seen count r p 0 (entry own i 0) lp (zero-lt-suc 1) (entry-is 0) q f v n one
+
+    longer : Longer queue seen count q v n
+    longer = visit-longer own t a b queue from seen count r p 0 (entry own i 0) lp (zero-lt-suc 1) (entry-is 0) q f v n one
+
+    lp′ : p < n
+    lp′ = lt-of-lt-of-le lp (longer .more)
+
+    entry-is′ : entry own i 1 ≡ entry own (item q p) 1
+    entry-is′ = entry-is 1 ∙ ap (λ (x : ℕ). entry own x 1) (sym (longer .places p lp))
+
+    pub mid-size : ones v ≡ n
+    mid-size = mid .size
+
+    module _ {q′ f′ : List ℕ} {v′ n′ : ℕ} (two : Visit q f v n (entry own i 1) p q′ f′ v′ n′) where
+      pub scan-reached : Reached own a b q′ f′ v′ n′
+      scan-reached = visit-reached own t a b q f v n mid p 1 (entry own i 1) lp′ (le-refl 2) entry-is′ q′ f′ v′ n′ two
+
+      longer′ : Longer q v n q′ v′ n′
+      longer′ = visit-longer own t a b q f v n mid p 1 (entry own i 1) lp′ (le-refl 2) entry-is′ q′ f′ v′ n′ two
+
+      pub scan-below : p + 1 ≤ n′
+      scan-below = omega (arith, lp′, longer′ .more)
+
+      pub scan-next : Scanned own queue seen p → (2 ≤ p → 0 ≡ same (entry own i 0) (item queue p) + same (entry own i 1) (item queue p)) → Scanned own q′ v′ (p + 1)
+      unfolding free
+      scan-next sc shut =
+          scanned-next own queue seen count p lp sc
+          (λ h. ap₂ (λ (y z : ℕ). same y (item queue p) + same z (item queue p)) (sym (entry-is 0)) (sym (entry-is 1)) ∙ sym (shut h)) q′ v′ n′
+          (longer-trans queue seen count q v n q′ v′ n′ longer longer′)
+          (λ s l. ⊎-elim
+          (λ (e : s ≡ 0). ap (λ (k : ℕ). at (entry own (item queue p) k) v′) e ∙ ap (λ (y : ℕ). at y v′) (sym (entry-is 0))
+          ∙ longer′ .marks (entry own i 0) (visit-seen own t a b queue from seen count r p 0 (entry own i 0) lp (zero-lt-suc 1) (entry-is 0) q f v n one))
+          (λ (e : s ≡ 1). ap (λ (k : ℕ). at (entry own (item queue p) k) v′) e ∙ ap (λ (y : ℕ). at y v′) (sym (entry-is 1))
+          ∙ visit-seen own t a b q f v n mid p 1 (entry own i 1) lp′ (le-refl 2) entry-is′ q′ f′ v′ n′ two)
+          (bit s (le-of-suc-le-suc l)))
+
+  -- a free entry there, not at the first two places
+  pub found-here : Scanned own queue seen p → (h : ℕ) → h ≢ 0
+      → ((2 ≤ p → h ≡ same (entry own i 0) (item queue p) + same (entry own i 1) (item queue p)) × (p < 2 → h ≡ 0))
+      → Found own a b queue from seen count p
+  unfolding free
+  found-here sc h n o = record {
+    reached = r;
+    scanned = sc;
+    below = omega arith;
+    open-at = λ l. (far, positive (o .0 far));
+  }
+    where
+      far : 2 ≤ p
+      far = go (decLt p 2)
+        where
+          go : Dec (p < 2) → 2 ≤ p
+          go (yes l) = absurd (n (o .1 l))
+          go (no l) = omega arith
+
+      positive : h ≡ same (entry own i 0) (item queue p) + same (entry own i 1) (item queue p)
+          → 0 < same (entry own (item queue p) 0) (item queue p) + same (entry own (item queue p) 1) (item queue p)
+      positive e =
+          omega (arith, n, e, ap (λ (y : ℕ). same y (item queue p)) (entry-is 0), ap (λ (y : ℕ). same y (item queue p)) (entry-is 1))
+
+-- every place is scanned
+pub found-all : {own : List (List ℕ)} {a b : ℕ} {queue from : List ℕ} {seen count : ℕ} (p : ℕ) → Reached own a b queue from seen count
+    → Scanned own queue seen p → p ≤ count → count ≤ p → Found own a b queue from seen count p
+found-all p r sc l h = record { reached = r; scanned = sc; below = l; open-at = λ k. absurd (omega arith) }
+
+-- what is linked to the first two lies in every closed set that holds them
+pub linked-within : (own : List (List ℕ)) (queue from : List ℕ) (count : ℕ) → ((i : ℕ) → 2 ≤ i → i < count → item from i < i)
+    → ((i : ℕ) → 2 ≤ i → i < count → (s : ℕ) × (s < 2) × (entry own (item queue (item from i)) s ≡ item queue i))
+    → (u : ℕ) → at (item queue 0) u ≡ 1 → at (item queue 1) u ≡ 1 → Closed own u → (i : ℕ) → i < count → at (item queue i) u ≡ 1
+linked-within own queue from count back link u ea eb c i l = go (suc i) i (lt-suc-self i) l
+  where
+    go : (m i : ℕ) → i < m → i < count → at (item queue i) u ≡ 1
+    go zero i h l = absurd (not-suc-le-zero h)
+    go (suc m) i h l = pick (λ j k n. go m j k n) (decLt i 2)
+      where
+        pick : ((j : ℕ) → j < m → j < count → at (item queue j) u ≡ 1) → Dec (i < 2) → at (item queue i) u ≡ 1
+        pick rec (yes k) = ⊎-elim
+            (λ (e : i ≡ 0). ap (λ (j : ℕ). at (item queue j) u) e ∙ ea)
+            (λ (e : i ≡ 1). ap (λ (j : ℕ). at (item queue j) u) e ∙ eb) (bit i (le-of-suc-le-suc k))
+        pick rec (no k) =
+            let two : 2 ≤ i = omega arith in
+            let o = link i two l in
+            let b = back i two l in
+            ap (λ (x : ℕ). at x u) (sym (o .2)) ∙ c .stays (item queue (item from i)) (o .0) (rec (item from i) (omega arith) (omega arith)) (o .1)
+
+-- what is reached lies in every closed set that holds a and b
+pub reached-within : (own : List (List ℕ)) (a b : ℕ) (queue from : List ℕ) (seen count : ℕ) → Reached own a b queue from seen count
+    → (u : ℕ) → at a u ≡ 1 → at b u ≡ 1 → Closed own u → (i : ℕ) → i < count → at (item queue i) u ≡ 1
+reached-within own a b queue from seen count r u ea eb c =
+    linked-within own queue from count (r .back) (r .link) u (ap (λ (x : ℕ). at x u) (r .start) ∙ ea) (ap (λ (x : ℕ). at x u) (r .start′) ∙ eb) c
+
+pub seen-within : {own : List (List ℕ)} {a b : ℕ} {queue from : List ℕ} {seen count : ℕ} → Reached own a b queue from seen count
+    → (u : ℕ) → at a u ≡ 1 → at b u ≡ 1 → Closed own u → seen ⊑ u
+seen-within {own} {a} {b} {queue} {from} {seen} {count} r u ea eb c = record {
+  le = λ x. ⊎-elim
+      (λ (e : at x seen ≡ 0). omega arith)
+      (λ (e : at x seen ≡ 1).
+      let o = r .queued x e in
+      omega (arith, ap (λ (i : ℕ). at i u) (o .2), reached-within own a b queue from seen count r u ea eb c (o .0) (o .1)))
+      (bit (at x seen) (at-le x seen));
+}
+
+-- all is reached, and nothing is free but at a and b: no more can be had
+module _ {own : List (List ℕ)} {a b : ℕ} {queue from : List ℕ} {seen count place : ℕ} (f : Found own a b queue from seen count place)
+    (done : count ≤ place) where
+  abbrev r : Reached own a b queue from seen count
+  r = f .reached
+
+  pub found-first : at a seen ≡ 1
+  found-first = ap (λ (x : ℕ). at x seen) (sym (r .start)) ∙ r .marked 0 (omega (arith, r .low))
+
+  pub found-second : at b seen ≡ 1
+  found-second = ap (λ (x : ℕ). at x seen) (sym (r .start′)) ∙ r .marked 1 (omega (arith, r .low))
+
+  pub found-closed : Closed own seen
+  found-closed = record {
+    stays = λ x s e h.
+        let o = r .queued x e in
+        subst (λ (z : ℕ). at (entry own z s) seen ≡ 1) (o .2) (f .scanned .stays (o .0) s (lt-of-lt-of-le (o .1) done) h);
+  }
+
+  pub found-none : (x : ℕ) → at x seen ≡ 1 → x ≢ a → x ≢ b → free own x ≡ 0
+  found-none x e na nb = go (r .queued x e)
+    where
+      go : (i : ℕ) × (i < count) × (item queue i ≡ x) → free own x ≡ 0
+      go o = pick (decLt (o .0) 2)
+        where
+          pick : Dec (o .0 < 2) → free own x ≡ 0
+          pick (yes k) = ⊎-elim
+              (λ (z : o .0 ≡ 0). absurd (na (sym (o .2) ∙ ap (item queue) z ∙ r .start)))
+              (λ (z : o .0 ≡ 1). absurd (nb (sym (o .2) ∙ ap (item queue) z ∙ r .start′))) (bit (o .0) (le-of-suc-le-suc k))
+          pick (no k) = ap (free own) (sym (o .2)) ∙ f .scanned .none (o .0) (omega arith) (lt-of-lt-of-le (o .1) done)
+
+  pub found-stuck : Stuck own a b
+  found-stuck = record {
+    set = seen;
+    small = r .small;
+    first = found-first;
+    second = found-second;
+    closed = found-closed;
+    none = found-none;
+  }
+
+-- where no more can be had, the search finds none
+pub stuck-none : {own : List (List ℕ)} {a b : ℕ} {queue from : List ℕ} {seen count place : ℕ} → Found own a b queue from seen count place
+    → Stuck own a b → count ≤ place
+stuck-none {own} {a} {b} {queue} {from} {seen} {count} {place} f s = go (decLt place count)
+  where
+    go : Dec (place < count) → count ≤ place
+    go (no n) = omega arith
+    go (yes l) =
+        let r = f .reached in
+        let o = f .open-at l in
+        absurd
+        (omega (
+          arith,
+          o .1,
+          s .none (item queue place) (reached-within own a b queue from seen count r (s .set) (s .first) (s .second) (s .closed) place l)
+              (λ e. r .apart 0 place (omega (arith, o .0)) l (r .start ∙ sym e))
+              (λ e. r .apart 1 place (o .0) l (r .start′ ∙ sym e)),
+        ))

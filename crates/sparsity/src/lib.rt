@@ -1,0 +1,254 @@
+// The search for a set with too many constraints (document 01, "Verdict names: over"), by counting freedoms: each element brings two, and each
+// constraint uses up one. The table of freedoms has two entries for each element: an entry of x holds x while that freedom is free, and else the
+// other end of the constraint that uses it. The contracts cite theory's `Over` and this crate's specs.
+ghost use mathlib.Core.Path.{_≡_};
+ghost use mathlib.Core.Logic.{_≢_};
+ghost use Prim.Native.Nat.{ℕ, _+_, _≤_, _<_};
+ghost use lib.Count.{ones};
+ghost use Rattle.theory.specs.Constraints.{pair, Below};
+ghost use Rattle.theory.specs.Over.{overOf};
+ghost use Rattle.theory.specs.Over.Listed.{masks, Listed};
+ghost use Rattle.sparsity.specs.Freedoms.{same, free, entry, Table, FreeBelow};
+ghost use Rattle.sparsity.specs.Reach.{item, Visit, Lent, Found, Way, Gained, Gathered, Placed};
+ghost use Rattle.peeling.specs.Core.{Core};
+ghost use Rattle.sparsity.specs.Answer.{asOver};
+
+// 1 where y is x, else 0.
+fn one_if_same(y: u8, x: u8) -> usize
+    ensures { λ r. ⌜ r ≡ same y x ⌝ }
+{
+    if y == x { 1 } else { 0 }
+}
+
+// The table with every freedom free.
+fn all_free() -> [[u8; 2]; 64]
+    ensures { λ r. ⌜ FreeBelow 64 r ⌝ }
+{
+    let mut own = [[0u8; 2]; 64];
+    let mut x: u8 = 0;
+    while x < 64 {
+        let i = peeling::wide(x);
+        own[i] = [x; 2];
+        x = x + 1;
+    }
+    own
+}
+
+// The free entries of the elements a and b.
+fn free_ends(own: [[u8; 2]; 64], a: u8, b: u8) -> usize
+    requires { ⌜ (a < 64) × (b < 64) ⌝ }
+    ensures { λ r. ⌜ r ≡ free own a + free own b ⌝ }
+{
+    let i = peeling::wide(a);
+    let j = peeling::wide(b);
+    one_if_same(own[i][0], a)
+        + one_if_same(own[i][1], a)
+        + (one_if_same(own[j][0], b) + one_if_same(own[j][1], b))
+}
+
+// The set of the elements reached, and how many there are.
+pub struct Front {
+    pub seen: u64,
+    pub count: usize,
+}
+
+// Element y, met from the element at place p, goes to the end of the queue unless it is known.
+fn visit(queue: &mut [u8; 64], from: &mut [u8; 64], f: Front, y: u8, p: u8) -> Front
+    requires { ⌜ (y < 64) × (ones (f .seen) ≡ f .count) ⌝ }
+    ensures { λ r. ⌜ Visit (now (queue .entry)) (now (from .entry)) (f .seen) (f .count) y p (now (queue .exit)) (now (from .exit)) (r .seen) (r .count) ⌝ }
+{
+    let bit = peeling::single(y);
+    if f.seen & bit != 0 {
+        return f;
+    }
+    let k = f.count;
+    queue[k] = y;
+    from[k] = p;
+    Front {
+        seen: f.seen | bit,
+        count: k + 1,
+    }
+}
+
+// How many entries of x, y and z, are free, for an x that does not stand at the first two places.
+fn opens(y: u8, z: u8, x: u8, p: usize) -> usize
+    ensures { λ r. ⌜ ((2 ≤ p) → r ≡ same y x + same z x) × ((p < 2) → r ≡ 0) ⌝ }
+{
+    if p < 2 {
+        return 0;
+    }
+    one_if_same(y, x) + one_if_same(z, x)
+}
+
+// What a search has found: the set of the elements reached, how many there are, and the place of the first that has a free entry, or the count.
+pub struct Sought {
+    pub seen: u64,
+    pub count: usize,
+    pub place: usize,
+}
+
+// The search from a and b along the freedoms in use, for another element with a free entry.
+fn seek(own: [[u8; 2]; 64], queue: &mut [u8; 64], from: &mut [u8; 64], a: u8, b: u8) -> Sought
+    requires { ⌜ Table own × (a < 64) × (b < 64) × (a ≢ b) × Lent (now queue) (now from) ⌝ }
+    ensures { λ r. ⌜ Found own a b (now (queue .exit)) (now (from .exit)) (r .seen) (r .count) (r .place) ⌝ }
+{
+    queue[0] = a;
+    queue[1] = b;
+    let mut f = Front {
+        seen: peeling::single(a) | peeling::single(b),
+        count: 2,
+    };
+    let mut p: usize = 0;
+    while p < f.count {
+        let x = queue[p];
+        let i = peeling::wide(x);
+        let y = own[i][0];
+        let z = own[i][1];
+        if opens(y, z, x, p) != 0 {
+            return Sought {
+                seen: f.seen,
+                count: f.count,
+                place: p,
+            };
+        }
+        let g = visit(queue, from, f, y, p as u8);
+        let h = visit(queue, from, g, z, p as u8);
+        f = h;
+        p = p + 1;
+    }
+    Sought {
+        seen: f.seen,
+        count: f.count,
+        place: p,
+    }
+}
+
+// Freedoms are turned along the way from place p back to one of the first two, which gets a free entry.
+fn release(own: [[u8; 2]; 64], queue: &[u8; 64], from: &[u8; 64], p: usize) -> [[u8; 2]; 64]
+    requires { ⌜ Way own (now queue) (now from) p ⌝ }
+    ensures { λ r. ⌜ Gained own (item (now (queue .entry)) 0) (item (now (queue .entry)) 1) r ⌝ }
+{
+    let mut t = own;
+    let mut i = p;
+    while 2 <= i {
+        let j = peeling::wide(from[i]);
+        let bx = queue[j];
+        let by = queue[i];
+        let x = peeling::wide(bx);
+        let y = peeling::wide(by);
+        let s = one_if_same(t[x][1], by);
+        let r = one_if_same(t[y][1], by);
+        t[x][s] = bx;
+        t[y][r] = bx;
+        i = j;
+    }
+    t
+}
+
+// As many free entries on a and b as can be had.
+fn gather(
+    own: [[u8; 2]; 64],
+    queue: &mut [u8; 64],
+    from: &mut [u8; 64],
+    a: u8,
+    b: u8,
+) -> [[u8; 2]; 64]
+    requires { ⌜ Table own × (a < 64) × (b < 64) × (a ≢ b) × Lent (now queue) (now from) ⌝ }
+    ensures { λ r. ⌜ Gathered own a b r × Lent (now (queue .exit)) (now (from .exit)) ⌝ }
+{
+    let mut t = own;
+    while free_ends(t, a, b) < 4 {
+        let s = seek(t, queue, from, a, b);
+        let p = s.place;
+        if s.count <= p {
+            return t;
+        }
+        let next = release(t, queue, from, p);
+        t = next;
+    }
+    t
+}
+
+// A free entry of a or b is used for the constraint between them.
+fn place(own: [[u8; 2]; 64], a: u8, b: u8) -> [[u8; 2]; 64]
+    requires { ⌜ Table own × (a < 64) × (b < 64) × (0 < free own a + free own b) ⌝ }
+    ensures { λ r. ⌜ Placed own a b r ⌝ }
+{
+    let mut t = own;
+    let i = peeling::wide(a);
+    let j = peeling::wide(b);
+    if t[i][0] == a {
+        t[i][0] = b;
+    } else if t[i][1] == a {
+        t[i][1] = b;
+    } else if t[j][0] == b {
+        t[j][0] = a;
+    } else {
+        t[j][1] = a;
+    }
+    t
+}
+
+// The answer of the search for an over set.
+pub enum Over {
+    Not,
+    First { constraint: usize, set: u64 },
+}
+
+// The set of two elements.
+fn pair_of(a: u8, b: u8) -> u64
+    requires { ⌜ (a < 64) × (b < 64) ⌝ }
+    ensures { λ r. ⌜ r ≡ pair a b ⌝ }
+{
+    peeling::single(a) | peeling::single(b)
+}
+
+// The first of e constraints that makes those up to it over, with the smallest set, where the sets within core tell. An end that has one constraint
+// at most takes the next without a search: once and twice are the elements with one and with two.
+fn search(firsts: &[u8; 200], seconds: &[u8; 200], e: usize, core: u64) -> Over
+    requires { ⌜ Listed (now firsts) (now seconds) e × Core (now firsts) (now seconds) e core ⌝ }
+    ensures { λ r. ⌜ ((n : ℕ) → Below n (masks (now (firsts .entry)) (now (seconds .entry)) e) → r ≡ asOver (overOf n (masks (now (firsts .entry)) (now (seconds .entry)) e))) ⌝ }
+{
+    let mut own = all_free();
+    let mut queue = [0u8; 64];
+    let mut from = [0u8; 64];
+    let mut once: u64 = 0;
+    let mut twice: u64 = 0;
+    let mut c: usize = 0;
+    while c < e {
+        let a = firsts[c];
+        let b = seconds[c];
+        let pair = pair_of(a, b);
+        if pair & core == pair {
+            if pair & twice == pair {
+                let t = gather(own, &mut queue, &mut from, a, b);
+                if free_ends(t, a, b) < 4 {
+                    let s = seek(t, &mut queue, &mut from, a, b);
+                    return Over::First {
+                        constraint: c,
+                        set: s.seen,
+                    };
+                }
+                own = t;
+            }
+            let next = place(own, a, b);
+            own = next;
+            twice = twice | (once & pair);
+            once = once | pair;
+        }
+        c = c + 1;
+    }
+    Over::Not
+}
+
+// The first of e constraints that makes those up to it over, with the smallest set; Not where they are not over.
+pub fn find_over(firsts: &[u8; 200], seconds: &[u8; 200], e: usize) -> Over
+    requires { ⌜ Listed (now firsts) (now seconds) e ⌝ }
+    ensures { λ r. ⌜ ((n : ℕ) → Below n (masks (now (firsts .entry)) (now (seconds .entry)) e) → r ≡ asOver (overOf n (masks (now (firsts .entry)) (now (seconds .entry)) e))) ⌝ }
+{
+    let core = peeling::core_of(firsts, seconds, e);
+    if core == 0 {
+        return Over::Not;
+    }
+    search(firsts, seconds, e, core)
+}

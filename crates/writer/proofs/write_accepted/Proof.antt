@@ -1,0 +1,87 @@
+-- `writer::write_accepted` meets its contract: one run over space for the largest sheet, else a run over no space that measures, then the run that
+-- writes. Assumes nothing.
+use borrow.Author.Needs.{needs}
+use Prim.Native.Nat.{_<_, _≤_}
+use native.Mathlib.Nat.{zero-add, le-trans}
+use mathlib.Core.Path.{_≡_}
+use mathlib.Core.List.{[]}
+use lib.ListN.{length}
+use Rattle.sheet.specs.Facts.{factsOf}
+use Rattle.sheet.specs.Encode.{sheetBytes}
+use Rattle.sheet.specs.RoundTrip.Blocks.{sheetFault-none, sheetFault-length, elements-most, constraints-most}
+use Rattle.space.specs.Space.Laws.{none-left, put-refused, put-done}
+use Rattle.writer.proofs.write_accepted.Statement.{statement}
+use Rattle.writer.proofs.write_accepted.Tie as tie
+
+few-elements : (c : tie.Start) → c .args .s .n ≤ 64
+few-elements c = elements-most (c .args .s .n) (sheetFault-none (c .args .s) (c .pre) .0)
+
+few-constraints : (c : tie.Start) → c .args .s .e ≤ 200
+few-constraints c = constraints-most (c .args .s .e) (sheetFault-none (c .args .s) (c .pre) .1)
+
+lines-of-requires : tie.Need-lines-of-requires
+lines-of-requires c κs = few-elements (c .before .before)
+
+put-sheet-requires : tie.Need-put-sheet-requires
+put-sheet-requires c κs = (few-elements (c .before .before .before .before .before), few-constraints (c .before .before .before .before .before), c .before .before .lines-of .ensures)
+
+same-length : tie.Need-same-length
+same-length c = search needs
+
+returns : tie.Need-returns
+returns c =
+    let a = c .before .before .before .before .before .before .before .before in
+    put-done (le-trans (sheetFault-length (a .args .s) (a .pre)) (c .before .before .before .before .if1 .taken)) (c .before .before .put-sheet .ensures)
+
+slice-relend-prefix-put-sheet : tie.Need-slice-relend-prefix-put-sheet
+slice-relend-prefix-put-sheet c = search needs
+
+slice-aggregate-put-sheet : tie.Need-slice-aggregate-put-sheet
+slice-aggregate-put-sheet c = search needs
+
+put-sheet-requires-2 : tie.Need-put-sheet-requires-2
+put-sheet-requires-2 c κs = (few-elements (c .before .before .before .before .before), few-constraints (c .before .before .before .before .before), c .before .before .lines-of .ensures)
+
+-- the run that measures leaves no space
+none : (c : tie.After-put-sheet2) → c .put-sheet2 .last .0 ≡ []
+none c = none-left (c .put-sheet2 .ensures)
+
+same-length-2 : tie.Need-same-length-2
+same-length-2 c = search needs
+
+returns-2 : tie.Need-returns-2
+returns-2 c =
+    let a = c .before .before .before .before .before .before .before .before .before .args in
+    let p = c .before .before .before in
+    let h : length (a .out .now) < length (sheetBytes (factsOf (a .s))) = rw (none p, p .put-sheet2 .ensures .next-is, zero-add) at (c .if2 .taken) in
+    rw (none p) (put-refused (sheetBytes (factsOf (a .s))) (a .out .now) h)
+
+put-sheet-requires-3 : tie.Need-put-sheet-requires-3
+put-sheet-requires-3 c κs = (few-elements (c .before .before .before .before .before .before .before .before .before .before), few-constraints (c .before .before .before .before .before .before .before .before .before .before), c .before .before .before .before .before .before .before .lines-of .ensures)
+
+same-length-3 : tie.Need-same-length-3
+same-length-3 c = search needs
+
+returns-3 : tie.Need-returns-3
+returns-3 c =
+    let a = c .before .before .before .before .before .before .before .before .before .before .before .before .before .args in
+    let p = c .before .before .before .before .before .before .before in
+    let h : length (sheetBytes (factsOf (a .s))) ≤ length (a .out .now) = rw (none p, p .put-sheet2 .ensures .next-is, zero-add) at (c .before .before .before .before .if2 .left) in
+    put-done h (rw (none p) at (c .before .before .put-sheet3 .ensures))
+
+pub write-accepted-spec : {M : Type 1} → statement M
+write-accepted-spec =
+    tie.close
+    (tie.spec
+    lines-of-requires
+    put-sheet-requires
+    same-length
+    returns
+    slice-relend-prefix-put-sheet
+    slice-aggregate-put-sheet
+    put-sheet-requires-2
+    same-length-2
+    returns-2
+    put-sheet-requires-3
+    same-length-3
+    returns-3)

@@ -1,0 +1,223 @@
+//! The geometric constraint engine for flat patterns, in safe Rust over its static library.
+//!
+//! A call answers what it wrote at the front of the lent space, or the [`Rule`] that refuses it; a refused call leaves
+//! the space as it was.
+//!
+//! ```
+//! use pattern::{Constraint, Facts, Kind, MOST_BYTES};
+//!
+//! // three points, 30 mm apart
+//! let constraints = [
+//!     Constraint::sized(0, 1, 300),
+//!     Constraint::sized(0, 2, 300),
+//!     Constraint::sized(1, 2, 300),
+//! ];
+//! let facts = Facts { kinds: &[Kind::Point; 3], constraints: &constraints };
+//! let mut space = [0; MOST_BYTES];
+//! let sheet = pattern::write(&facts, &mut space)?;
+//! assert_eq!(sheet.len(), 28);
+//!
+//! let mut space = [0; MOST_BYTES];
+//! assert_eq!(pattern::rewrite(sheet, &mut space)?, sheet);
+//! # Ok::<(), pattern::Rule>(())
+//! ```
+
+use std::fmt;
+
+/// The most elements of a sheet.
+pub const MOST_ELEMENTS: usize = 64;
+/// The most constraints of a sheet.
+pub const MOST_CONSTRAINTS: usize = 200;
+/// The most bytes of a sheet: with so much space no sheet is refused by rule 17.
+pub const MOST_BYTES: usize = 1814;
+
+/// The functions of `include/pattern.h`.
+mod c {
+    unsafe extern "C" {
+        pub fn pattern_rewrite(sheet: *const u8, len: usize, out: *mut u8, room: usize) -> i32;
+        pub fn pattern_write(
+            n: usize,
+            e: usize,
+            lines: u64,
+            firsts: *const u8,
+            firsts_len: usize,
+            seconds: *const u8,
+            seconds_len: usize,
+            maps: *const u8,
+            maps_len: usize,
+            sizes: *const i32,
+            sizes_len: usize,
+            tags: *const u16,
+            tags_len: usize,
+            out: *mut u8,
+            room: usize,
+        ) -> i32;
+    }
+}
+
+/// The number of the rule that refuses a call.
+#[derive(Clone, Copy, PartialEq, Eq, Debug)]
+pub struct Rule(pub u8);
+
+impl Rule {
+    /// What the rule says.
+    pub fn reason(self) -> &'static str {
+        match self.0 {
+            1 => "the opening is short or different",
+            2 => "the sheet ends inside a field, or before one that must follow",
+            3 => "the element count is outside 2 to 64",
+            4 => "an unused kind bit is 1",
+            5 => "the constraint count is above 200",
+            6 => "the ends are not first below second below the element count",
+            7 => "the pair stands in an earlier constraint",
+            8 => "the map has an unknown bit, or lacks the size of two points or two lines",
+            9 => "the size is outside its range",
+            10 => "bytes follow the last constraint",
+            17 => "the lent space is shorter than the answer",
+            _ => "no rule of this library",
+        }
+    }
+}
+
+impl fmt::Display for Rule {
+    fn fmt(&self, f: &mut fmt::Formatter) -> fmt::Result {
+        write!(f, "refused by rule {}: {}", self.0, self.reason())
+    }
+}
+
+impl std::error::Error for Rule {}
+
+/// The kind of an element.
+#[derive(Clone, Copy, PartialEq, Eq, Debug)]
+pub enum Kind {
+    Point,
+    Line,
+}
+
+/// A constraint between two elements, the first below the second.
+#[derive(Clone, Copy, PartialEq, Eq, Debug)]
+pub struct Constraint {
+    pub first: u8,
+    pub second: u8,
+    /// A distance in tenths of a millimetre, an angle in hundredths of a degree; a point lies on a line by a missing one.
+    pub size: Option<i32>,
+    pub tag: Option<u16>,
+}
+
+impl Constraint {
+    /// A constraint with a size and no tag.
+    pub fn sized(first: u8, second: u8, size: i32) -> Constraint {
+        Constraint { first, second, size: Some(size), tag: None }
+    }
+
+    /// The bit map: bit 0 where the size is given, bit 1 where the tag is.
+    fn map(&self) -> u8 {
+        u8::from(self.size.is_some()) | u8::from(self.tag.is_some()) << 1
+    }
+}
+
+/// The facts of a sheet.
+#[derive(Clone, Copy, PartialEq, Eq, Debug)]
+pub struct Facts<'a> {
+    pub kinds: &'a [Kind],
+    pub constraints: &'a [Constraint],
+}
+
+/// Reads a sheet and writes it again: the same bytes.
+///
+/// ```
+/// use pattern::Rule;
+///
+/// let mut space = [7; 8];
+/// assert_eq!(pattern::rewrite(b"PF01\x02\0\0", &mut space)?, b"PF01\x02\0\0");
+/// assert_eq!(space[7], 7); // beyond the answer nothing changes
+///
+/// assert_eq!(pattern::rewrite(b"PF01\x41", &mut space), Err(Rule(3)));
+/// assert_eq!(pattern::rewrite(b"PF01\x02\0\0", &mut space[..6]), Err(Rule(17)));
+/// # Ok::<(), Rule>(())
+/// ```
+pub fn rewrite<'a>(sheet: &[u8], out: &'a mut [u8]) -> Result<&'a [u8], Rule> {
+    // SAFETY: each list is a live slice of its length, and `out` is borrowed alone.
+    let answer = unsafe { c::pattern_rewrite(sheet.as_ptr(), sheet.len(), out.as_mut_ptr(), out.len()) };
+    written(answer, out)
+}
+
+/// Writes a sheet from its facts.
+///
+/// ```
+/// use pattern::{Constraint, Facts, Kind, Rule};
+///
+/// // a point on a line
+/// let on = Constraint { first: 0, second: 1, size: None, tag: Some(5) };
+/// let mut facts = Facts { kinds: &[Kind::Line, Kind::Point], constraints: &[on] };
+/// let mut space = [0; 16];
+/// assert_eq!(pattern::write(&facts, &mut space)?, b"PF01\x02\x01\x01\0\x01\x02\x05\0");
+///
+/// // two points have no such constraint
+/// facts.kinds = &[Kind::Point; 2];
+/// assert_eq!(pattern::write(&facts, &mut space), Err(Rule(8)));
+/// # Ok::<(), Rule>(())
+/// ```
+pub fn write<'a>(facts: &Facts, out: &'a mut [u8]) -> Result<&'a [u8], Rule> {
+    let &Facts { kinds, constraints } = facts;
+    let lines = kinds.iter().take(MOST_ELEMENTS).rev().fold(0, |bits, &kind| bits << 1 | u64::from(kind == Kind::Line));
+    let mut columns = Columns::default();
+    for (i, constraint) in constraints.iter().take(MOST_CONSTRAINTS).enumerate() {
+        columns.firsts[i] = constraint.first;
+        columns.seconds[i] = constraint.second;
+        columns.maps[i] = constraint.map();
+        columns.sizes[i] = constraint.size.unwrap_or(0);
+        columns.tags[i] = constraint.tag.unwrap_or(0);
+    }
+    let Columns { firsts, seconds, maps, sizes, tags } = &columns;
+    // SAFETY: each list is a live slice of its length, and `out` is borrowed alone.
+    let answer = unsafe {
+        c::pattern_write(
+            kinds.len(),
+            constraints.len(),
+            lines,
+            firsts.as_ptr(),
+            firsts.len(),
+            seconds.as_ptr(),
+            seconds.len(),
+            maps.as_ptr(),
+            maps.len(),
+            sizes.as_ptr(),
+            sizes.len(),
+            tags.as_ptr(),
+            tags.len(),
+            out.as_mut_ptr(),
+            out.len(),
+        )
+    };
+    written(answer, out)
+}
+
+/// The fields of the constraints, a list each.
+struct Columns {
+    firsts: [u8; MOST_CONSTRAINTS],
+    seconds: [u8; MOST_CONSTRAINTS],
+    maps: [u8; MOST_CONSTRAINTS],
+    sizes: [i32; MOST_CONSTRAINTS],
+    tags: [u16; MOST_CONSTRAINTS],
+}
+
+impl Default for Columns {
+    fn default() -> Columns {
+        Columns {
+            firsts: [0; MOST_CONSTRAINTS],
+            seconds: [0; MOST_CONSTRAINTS],
+            maps: [0; MOST_CONSTRAINTS],
+            sizes: [0; MOST_CONSTRAINTS],
+            tags: [0; MOST_CONSTRAINTS],
+        }
+    }
+}
+
+/// The items that a call wrote, or the rule that refused it.
+fn written<T>(answer: i32, out: &[T]) -> Result<&[T], Rule> {
+    match usize::try_from(answer) {
+        Ok(count) => Ok(&out[..count]),
+        Err(_) => Err(Rule(answer.unsigned_abs() as u8)),
+    }
+}

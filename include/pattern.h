@@ -1,0 +1,76 @@
+/*
+ * pattern.h - a geometric constraint engine for flat patterns.
+ *
+ * Link with libpattern_c.a; it needs nothing but the C library. Every function is proved: for every
+ * input its answer and the lent space are what its definition says.
+ *
+ * Lists    A list is a pointer and a count of items. A pointer is never NULL, even where its count
+ *          is 0, and is aligned for its type; `out` overlaps no other list. Nothing outside the
+ *          lists is read or written.
+ * Answers  0 or more: the count of items written to the front of `out`; the rest is unchanged.
+ *          Below 0: minus the number of the rule that refuses the call (enum pattern_rule);
+ *          all of `out` is unchanged.
+ * State    There is none. Nothing is allocated or kept between calls; any threads may call at once,
+ *          each with an `out` of its own.
+ */
+#ifndef PATTERN_H
+#define PATTERN_H
+
+#include <stddef.h>
+#include <stdint.h>
+
+#ifdef __cplusplus
+extern "C" {
+#endif
+
+#define PATTERN_MAX_ELEMENTS    64   /* points and lines of a sheet, numbered from 0 */
+#define PATTERN_MAX_CONSTRAINTS 200  /* constraints of a sheet, numbered from 0 */
+#define PATTERN_MAX_SHEET       1814 /* bytes of a sheet: with this room no sheet is refused by 17 */
+
+/* The rules that refuse, in checking order. */
+enum pattern_rule {
+    PATTERN_OPENING     = 1,  /* the sheet does not open with PF01 */
+    PATTERN_CUT         = 2,  /* the sheet ends inside a field, or before one that must follow */
+    PATTERN_ELEMENTS    = 3,  /* the element count is outside 2 to 64 */
+    PATTERN_KIND_BITS   = 4,  /* an unused kind bit is 1 */
+    PATTERN_CONSTRAINTS = 5,  /* the constraint count is above 200 */
+    PATTERN_ENDS        = 6,  /* the ends are not first below second below the element count */
+    PATTERN_PAIR        = 7,  /* an earlier constraint has the same two ends */
+    PATTERN_MAP         = 8,  /* an unknown map bit, or no size for two points or two lines */
+    PATTERN_SIZE        = 9,  /* the size is outside its range, a written 0 included */
+    PATTERN_EXTRA       = 10, /* bytes follow the last constraint */
+    PATTERN_ROOM        = 17  /* `out` is shorter than the answer */
+};
+
+/* Bits of a constraint's map. */
+#define PATTERN_SIZED  1 /* the size is given; a point and a line may go without, the point then on the line */
+#define PATTERN_TAGGED 2 /* the tag is given */
+
+/*
+ * Reads a sheet and writes it again: the same bytes. Tries rules 1 to 10 in the order of the fields,
+ * then 17. Answers the count of bytes.
+ */
+int32_t pattern_rewrite(const uint8_t *sheet, size_t len, uint8_t *out, size_t room);
+
+/*
+ * Writes a sheet from its facts; constraint i stands in place i of the five lists. Tries rules 3 and
+ * 5, each constraint by 6 to 9, then 17. Answers the count of bytes.
+ * Places from e on and bits of lines from n on have no influence. A list may be shorter than e: an
+ * end that it lacks is 0, a size or tag that it lacks is missing.
+ */
+int32_t pattern_write(
+    size_t n,                                   /* count of elements */
+    size_t e,                                   /* count of constraints */
+    uint64_t lines,                             /* bit i: element i is a line, else a point */
+    const uint8_t *firsts, size_t firsts_len,   /* the first end, the lower one */
+    const uint8_t *seconds, size_t seconds_len, /* the second end */
+    const uint8_t *maps, size_t maps_len,       /* PATTERN_SIZED and PATTERN_TAGGED; other bits have no influence */
+    const int32_t *sizes, size_t sizes_len,     /* distance in tenths of a millimetre, or angle in hundredths of a degree */
+    const uint16_t *tags, size_t tags_len,      /* any value */
+    uint8_t *out, size_t room);
+
+#ifdef __cplusplus
+}
+#endif
+
+#endif
