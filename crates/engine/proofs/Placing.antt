@@ -4,7 +4,6 @@ use mathlib.Core.Bool.{Bool, true, false, _&&_}
 use mathlib.Core.Logic.{_≢_}
 use mathlib.Core.List.{List}
 use Prim.Native.Nat.{ℕ, _≤_, _<_}
-use native.Mathlib.Omega.{arith}
 use lib.Dec.{eqb, ltb}
 use lib.ListN.{getD}
 use borrow.Author.Tests.{eq-eqb, ne-eqb, lt-ltb, le-ltb}
@@ -17,16 +16,8 @@ use Rattle.answer.specs.Answer.{asWays}
 use Rattle.answer.specs.declared.JointKind.{JointKind}
 use Rattle.answer.specs.declared.JointKind.the-variants.{Ppp, Ppl, Pll, Lll}
 use Rattle.answer.specs.declared.Ways.the-variants.{Known, Unknown}
+use Rattle.merges.proofs.Branch.{yes-branch, no-branch}
 use Rattle.engine.specs.Steps.{kindOf, waysBy}
-
--- the branch that a test takes
-yes-branch : {A : Type 0} (t : Bool) (p q : A) → t ≡ true → p ≡ elim t [ true ↦ p | false ↦ q ]
-yes-branch true p q e = refl
-yes-branch false p q e = absurd (let z : _≡_ {A = ℕ} 0 1 = cc in omega arith)
-
-no-branch : {A : Type 0} (t : Bool) (p q : A) → t ≡ false → q ≡ elim t [ true ↦ p | false ↦ q ]
-no-branch true p q e = absurd (let z : _≡_ {A = ℕ} 0 1 = cc in omega arith)
-no-branch false p q e = refl
 
 -- the constraint of the two points is the first, the second or the third
 module _ (lines a b : ℕ) (x y z : ℤ) where

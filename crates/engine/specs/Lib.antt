@@ -1,2 +1,3 @@
 -- What the engine answers.
 pub mod Steps
+pub mod Lists

@@ -9,11 +9,16 @@ ghost use Rattle.theory.specs.Placement.{jointKind, against as comparison, tria
 ghost use Rattle.answer.specs.Answer.{asVerdict, asKind, asWays};
 ghost use Rattle.theory.specs.Merge.{merge as numbers};
 ghost use Rattle.engine.specs.Steps.{kindOf, waysBy, stepAt, blankStep, Stepped};
+ghost use Rattle.space.specs.Space.{answer, after};
+ghost use Rattle.engine.specs.Lists.{livingOf};
 use answer::JointKind;
 use answer::Step;
 use answer::Verdict;
 use answer::Ways;
 use merges::Run;
+use space::Written;
+use space::put_number16;
+use space::put_number64;
 
 // Is some joint three lines?
 pub fn angled(joints: &[u64; 64], steps: usize, lines: u64) -> bool
@@ -237,4 +242,58 @@ pub fn steps_of(
         t += 1;
     }
     steps
+}
+
+// The numbers of a list of merges, three a step, into lent space, or 17.
+pub fn put_plan(run: Run, out: &mut [u16]) -> Written
+    requires { ⌜ (run .steps ≤ 62) × (length (run .parts) ≡ 192) ⌝ }
+    ensures { λ r. ⌜ (r ≡ answer (take (3 * run .steps) (run .parts)) (now (out .entry))) × (now (out .exit) ≡ after (take (3 * run .steps) (run .parts)) (now (out .entry))) ⌝ }
+{
+    let count = 3 * run.steps;
+    let parts = run.parts;
+    if out.len() < count {
+        return Written::Refused(17);
+    }
+    let mut i: usize = 0;
+    while i < count {
+        i = put_number16(out, i, parts[i]);
+    }
+    Written::Done(count)
+}
+
+// How many clusters live.
+fn count_living(slots: &[u64; 192], used: usize) -> usize
+    requires { ⌜ (used ≤ 192) × (length (now slots) ≡ 192) ⌝ }
+    ensures { λ r. ⌜ r ≡ length (livingOf (take used (now (slots .entry)))) ⌝ }
+{
+    let mut count: usize = 0;
+    let mut c: usize = 0;
+    while c < used {
+        if slots[c] != 0 {
+            count += 1;
+        }
+        c += 1;
+    }
+    count
+}
+
+// The clusters that live, by number, into lent space, or 17.
+pub fn put_clusters(slots: &[u64; 192], used: usize, out: &mut [u64]) -> Written
+    requires { ⌜ (used ≤ 192) × (length (now slots) ≡ 192) ⌝ }
+    ensures { λ r. ⌜ (r ≡ answer (livingOf (take used (now (slots .entry)))) (now (out .entry))) × (now (out .exit) ≡ after (livingOf (take used (now (slots .entry)))) (now (out .entry))) ⌝ }
+{
+    let count = count_living(slots, used);
+    if out.len() < count {
+        return Written::Refused(17);
+    }
+    let mut next: usize = 0;
+    let mut c: usize = 0;
+    while c < used {
+        let x = slots[c];
+        if x != 0 {
+            next = put_number64(out, next, x);
+        }
+        c += 1;
+    }
+    Written::Done(count)
 }

@@ -1,0 +1,49 @@
+-- `plans::ascend` meets its contract. Assumes nothing.
+use mathlib.Core.Path.{ap, ap₂, _∙_}
+use Prim.Native.Nat.{ℕ, min, max}
+use Rattle.theory.specs.Plan.{ascending}
+use borrow.Author.Needs.{needs}
+use Rattle.plans.proofs.ascend.Statement.{statement}
+use Rattle.plans.proofs.ascend.Tie as tie
+
+lower-requires : tie.Need-lower-requires
+lower-requires c κs = search needs
+
+higher-requires : tie.Need-higher-requires
+higher-requires c κs = search needs
+
+lower-requires-2 : tie.Need-lower-requires-2
+lower-requires-2 c κs = search needs
+
+lower-requires-3 : tie.Need-lower-requires-3
+lower-requires-3 c κs = search needs
+
+higher-requires-2 : tie.Need-higher-requires-2
+higher-requires-2 c κs = search needs
+
+higher-requires-3 : tie.Need-higher-requires-3
+higher-requires-3 c κs = search needs
+
+returns : tie.Need-returns
+unfolding ascending
+returns c =
+    let k = c .before .before .before .before .before .before .args .k in
+    let low = c .before .before .before .before .before .lower .ensures in
+    let high = c .before .before .before .before .higher .ensures in
+    λ t. record {
+      i = (c .before .before .before .lower2 .ensures ∙ ap (λ (x : ℕ). min x k) low) t;
+      j = (c .before .higher2 .ensures ∙ ap₂ max low (c .before .before .lower3 .ensures ∙ ap (λ (x : ℕ). min x k) high)) t;
+      k = (c .higher3 .ensures ∙ ap (λ (x : ℕ). max x k) high) t;
+    }
+
+pub ascend-spec : {M : Type 1} → statement M
+ascend-spec =
+    tie.close
+    (tie.spec
+    lower-requires
+    higher-requires
+    lower-requires-2
+    lower-requires-3
+    higher-requires-2
+    higher-requires-3
+    returns)

@@ -1,0 +1,36 @@
+-- `plans::fault_at` meets its contract. Assumes nothing.
+use mathlib.Core.Path.{_∙_}
+use Rattle.theory.specs.Merge.{merge}
+use Rattle.plans.specs.Check.{faultOf, stepFault}
+use borrow.Author.Needs.{needs}
+use Rattle.plans.proofs.fault_at.Statement.{statement}
+use Rattle.plans.proofs.fault_at.Tie as tie
+
+cluster-at-requires : tie.Need-cluster-at-requires
+cluster-at-requires c κs = search needs
+
+cluster-at-requires-2 : tie.Need-cluster-at-requires-2
+cluster-at-requires-2 c κs = search needs
+
+cluster-at-requires-3 : tie.Need-cluster-at-requires-3
+cluster-at-requires-3 c κs = search needs
+
+step-fault-requires : tie.Need-step-fault-requires
+step-fault-requires c κs = search needs
+
+returns : tie.Need-returns
+unfolding stepFault
+returns c =
+    let a = c .before .before .before .before .args in
+    c .step-fault .ensures
+    ∙ (λ t. faultOf (c .before .before .before .cluster-at .ensures t) (c .before .before .cluster-at2 .ensures t) (c .before .cluster-at3 .ensures t) (merge (a .i) (a .j) (a .k)))
+
+pub fault-at-spec : {M : Type 1} → statement M
+fault-at-spec =
+    tie.close
+    (tie.spec
+    cluster-at-requires
+    cluster-at-requires-2
+    cluster-at-requires-3
+    step-fault-requires
+    returns)

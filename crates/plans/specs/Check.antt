@@ -1,0 +1,72 @@
+-- The check of a saved plan, a list of numbers, three a step. Document 01, "Refused", rules 12 to 16: the count of numbers is tried first, then the
+-- steps one after another, each by 13 to 15, and then 16. Everything here computes. Assumes nothing.
+use mathlib.Core.Bool.{Bool, true, false, _||_}
+use mathlib.Core.List.{List, [], _∷_}
+use mathlib.Core.Option.{Option, none, some}
+use Prim.Native.Nat.{ℕ, zero, suc, _%_}
+use lib.Dec.{leb, eqb}
+use lib.Count.{ones}
+use lib.ListN.{length}
+use Rattle.theory.specs.Set.{_∩_}
+use Rattle.theory.specs.Merge.{slot, Merge, merge, put}
+use Rattle.theory.specs.Plan.{openTest, firstOf}
+use Rattle.merges.specs.Run.{runOf}
+use Rattle.merges.specs.declared.Run.{Run}
+use Rattle.plans.specs.declared.Parts.{Parts}
+use Rattle.plans.specs.declared.Outcome.the-variants.{Accepted, Refused}
+use Rattle.plans.specs.declared.Checked.{Checked}
+pub mod Laws
+
+-- ---- a step m, whose clusters are a, b and c
+
+-- 13: the step names a number that is no living cluster, or one cluster twice
+unfoldable pub misnamed : ℕ → ℕ → ℕ → Merge → Bool
+misnamed a b c m = eqb a 0 || (eqb b 0 || (eqb c 0 || (eqb (m .i) (m .j) || (eqb (m .j) (m .k) || eqb (m .i) (m .k)))))
+
+-- 14: two of the step's clusters share two or more elements
+unfoldable pub overlapping : ℕ → ℕ → ℕ → Bool
+overlapping a b c = leb 2 (ones (a ∩ b)) || (leb 2 (ones (b ∩ c)) || leb 2 (ones (a ∩ c)))
+
+-- the rule that refuses the step, 0 if none; 15: the step's clusters do not otherwise make an open merge
+unfoldable pub faultOf : ℕ → ℕ → ℕ → Merge → ℕ
+faultOf a b c m =
+    elim (misnamed a b c m) [ true ↦ 13 | false ↦ elim (overlapping a b c) [ true ↦ 14 | false ↦ elim (openTest a b c) [ true ↦ 0 | false ↦ 15 ] ] ]
+
+unfoldable pub stepFault : List ℕ → Merge → ℕ
+stepFault s m = faultOf (slot s (m .i)) (slot s (m .j)) (slot s (m .k)) m
+
+-- ---- the plan
+
+-- three numbers a step
+unfoldable pub savedSteps : List ℕ → List Merge
+savedSteps (i ∷ j ∷ k ∷ l) = merge i j k ∷ savedSteps l
+savedSteps (i ∷ j ∷ []) = []
+savedSteps (i ∷ []) = []
+savedSteps [] = []
+
+abbrev pub isSome : Option Merge → Bool
+isSome none = false
+isSome (some m) = true
+
+-- the rule that refuses the steps, 0 if none; 16: after the last step a merge is still open
+unfoldable pub stepsFault : List ℕ → List Merge → ℕ
+stepsFault s [] = elim (isSome (firstOf 0 s)) [ true ↦ 16 | false ↦ 0 ]
+stepsFault s (m ∷ p) = elim (stepFault s m) [ zero ↦ stepsFault (put s m) p | suc r ↦ suc r ]
+
+-- the rule that refuses the plan, 0 if none; 12: the count of numbers is not a multiple of three
+unfoldable pub planFault : List ℕ → List ℕ → ℕ
+planFault cs l = elim (eqb (length l % 3) 0) [ true ↦ stepsFault cs (savedSteps l) | false ↦ 12 ]
+
+-- ---- in the code's terms
+
+abbrev pub asMerge : Parts → Merge
+asMerge p = merge (p .i) (p .j) (p .k)
+
+-- a plan that no rule refuses is accepted, with its list of merges in arrays; a refusal gives its number alone
+abbrev pub answerOf : ℕ → Run → Checked
+answerOf zero run = record { outcome = Accepted; run = run }
+answerOf (suc rule) run = record { outcome = Refused (suc rule); run = runOf [] [] }
+
+-- the answer to the check of the saved plan l against the constraints cs
+unfoldable pub checkOf : List ℕ → List ℕ → Checked
+checkOf cs l = answerOf (planFault cs l) (runOf cs (savedSteps l))

@@ -1,0 +1,2 @@
+-- What the check of a saved plan answers.
+pub mod Check
