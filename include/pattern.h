@@ -69,6 +69,13 @@ int32_t pattern_write(
     const uint16_t *tags, size_t tags_len,      /* any value */
     uint8_t *out, size_t room);
 
+/*
+ * Whether a sheet is over: whether some part of it has a constraint too many. Tries rules 1 to 10,
+ * then 17. Answers 2 where it is: out[0] is the number of the first constraint that makes it so,
+ * out[1] the smallest part that cannot take it, bit i for element i. Answers 0 where it is not.
+ */
+int32_t pattern_over(const uint8_t *sheet, size_t len, uint64_t *out, size_t room);
+
 #ifdef __cplusplus
 }
 #endif

@@ -52,6 +52,7 @@ mod c {
             out: *mut u8,
             room: usize,
         ) -> i32;
+        pub fn pattern_over(sheet: *const u8, len: usize, out: *mut u64, room: usize) -> i32;
     }
 }
 
@@ -191,6 +192,40 @@ pub fn write<'a>(facts: &Facts, out: &'a mut [u8]) -> Result<&'a [u8], Rule> {
         )
     };
     written(answer, out)
+}
+
+/// What makes a sheet over.
+#[derive(Clone, Copy, PartialEq, Eq, Debug)]
+pub struct Over {
+    /// The number of the first constraint that makes the ones up to it over.
+    pub first: usize,
+    /// The smallest set of elements that cannot take it: element i as bit i.
+    pub set: u64,
+}
+
+/// Whether a sheet is over: whether some part of it has a constraint too many.
+///
+/// ```
+/// use pattern::{Constraint, Facts, Kind, MOST_BYTES, Over};
+///
+/// // four points with all six distances
+/// let pairs = [(0, 1), (0, 2), (1, 2), (1, 3), (2, 3), (0, 3)];
+/// let constraints = pairs.map(|(first, second)| Constraint::sized(first, second, 300));
+/// let mut space = [0; MOST_BYTES];
+/// let sheet = pattern::write(&Facts { kinds: &[Kind::Point; 4], constraints: &constraints }, &mut space)?;
+/// assert_eq!(pattern::over(sheet)?, Some(Over { first: 5, set: 0b1111 }));
+///
+/// assert_eq!(pattern::over(b"PF01\x02\0\0")?, None);
+/// # Ok::<(), pattern::Rule>(())
+/// ```
+pub fn over(sheet: &[u8]) -> Result<Option<Over>, Rule> {
+    let mut out = [0; 2];
+    // SAFETY: each list is a live slice of its length, and `out` is borrowed alone.
+    let answer = unsafe { c::pattern_over(sheet.as_ptr(), sheet.len(), out.as_mut_ptr(), out.len()) };
+    Ok(match written(answer, &out)? {
+        &[first, set] => Some(Over { first: first as usize, set }),
+        _ => None,
+    })
 }
 
 /// The fields of the constraints, a list each.
