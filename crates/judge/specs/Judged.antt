@@ -1,20 +1,23 @@
 -- What is judged of a sheet's facts. Document 01, "Verdict names": over is tried first, and of an over sheet no plan is made and no final cluster is
 -- given; the answer names the first constraint and the smallest set. Every other sheet gets the engine's plan and its verdict.
 use Prim.Native.Nat.{ℕ}
-use mathlib.Core.List.{List, []}
+use mathlib.Core.List.{List, [], map}
 use lib.ListN.{length}
 use Rattle.theory.specs.Over.{Finding, fine, first, overOf}
-use Rattle.theory.specs.Merge.{Merge}
-use Rattle.theory.specs.Plan.{planOf}
+use Rattle.theory.specs.Merge.{Merge, final}
+use Rattle.theory.specs.Plan.{planOf, ascending}
 use Rattle.theory.specs.Verdict.{listVerdict}
 use Rattle.sheet.specs.Facts.{Facts, linesOf}
 use Rattle.sheet.specs.Graph.{clustersOf}
 use Rattle.answer.specs.declared.Verdict.the-variants.{Over}
 use Rattle.answer.specs.Answer.{asVerdict}
 use Rattle.merges.specs.Run.{runOf}
+use Rattle.merges.specs.Held.{flat}
+use Rattle.engine.specs.Lists.{livingOf}
 use Rattle.judge.specs.declared.Judged.{Judged}
 pub mod Laws
 pub mod Found
+pub mod Lists
 
 -- a list of merges of the sheet's constraints, with its own verdict
 unfoldable pub listed : Facts → List Merge → Judged
@@ -38,3 +41,25 @@ judgedBy f (first c x) = overFound c x
 
 unfoldable pub judgedOf : Facts → Judged
 judgedOf f = judgedBy f (overOf (length (f .elements)) (clustersOf f))
+
+-- ---- what the judgement gives as lists
+
+-- the engine's plan: none is made of an over sheet
+abbrev pub planBy : Facts → Finding → List Merge
+planBy f fine = planOf (clustersOf f)
+planBy f (first c x) = []
+
+unfoldable pub planOfFacts : Facts → List Merge
+planOfFacts f = planBy f (overOf (length (f .elements)) (clustersOf f))
+
+-- three numbers a step, ascending
+unfoldable pub planNumbers : Facts → List ℕ
+planNumbers f = flat (map ascending (planOfFacts f))
+
+-- the final clusters: none is given of an over sheet
+abbrev pub finalsBy : Facts → Finding → List ℕ
+finalsBy f fine = livingOf (final (clustersOf f) (planOf (clustersOf f)))
+finalsBy f (first c x) = []
+
+unfoldable pub finalClusters : Facts → List ℕ
+finalClusters f = finalsBy f (overOf (length (f .elements)) (clustersOf f))

@@ -46,7 +46,8 @@ fn no_run() -> Run
     }
 }
 
-fn over_found(first: usize, set: u64) -> Judged
+// An over sheet: the first constraint and the smallest set, and no merge.
+pub fn over_found(first: usize, set: u64) -> Judged
     ensures { λ r. ⌜ r ≡ overFound first set ⌝ }
 {
     let run = no_run();

@@ -1,2 +1,3 @@
 -- What the entry points answer, by the bytes of a sheet.
 pub mod Sheets
+pub mod Judgements

@@ -5,7 +5,11 @@ ghost use Rattle.reader.specs.Answers.{asReading};
 ghost use Rattle.writer.specs.Write.{writeAnswer, writeAfter};
 ghost use mathlib.Core.List.{[], _∷_};
 ghost use Rattle.space.specs.Space.{answer, after};
+ghost use Rattle.judge.specs.Judged.{planNumbers, finalClusters};
+ghost use Rattle.pattern.specs.Judgements.{reckoned, judgementOf};
 ghost use Rattle.pattern.specs.Sheets.{rewriteAnswer, rewriteAfter, itemsAnswer, itemsAfter, overOfFacts};
+use answer::Verdict;
+use judge::Judged;
 use reader::Outcome;
 use reader::Reading;
 use sheet::Sheet;
@@ -66,4 +70,77 @@ pub fn over(bytes: &[u8], out: &mut [u64]) -> Written
         return Written::Done(0);
     };
     put_two(constraint as u64, set, out)
+}
+
+// The judgement of a sheet given as bytes, or the rule that refuses it.
+pub struct Reckoning {
+    pub outcome: Outcome,
+    pub judged: Judged,
+}
+
+// Reads a sheet and judges it.
+fn reckon(bytes: &[u8]) -> Reckoning
+    ensures { λ r. ⌜ r ≡ reckoned (readSheet (now (bytes .entry))) ⌝ }
+{
+    let reading = reader::read_sheet(bytes);
+    let outcome = reading.outcome;
+    let Outcome::Accepted = outcome else {
+        let judged = judge::over_found(0, 0);
+        return Reckoning { outcome, judged };
+    };
+    let sheet = reading.sheet;
+    let judged = judge::judge(sheet);
+    Reckoning {
+        outcome: Outcome::Accepted,
+        judged,
+    }
+}
+
+// The answer to a call for a verdict.
+pub enum Judgement {
+    Is(Verdict),
+    Refused(u8),
+}
+
+// The verdict of a sheet.
+pub fn verdict(bytes: &[u8]) -> Judgement
+    ensures { λ r. ⌜ r ≡ judgementOf (now (bytes .entry)) ⌝ }
+{
+    let r = reckon(bytes);
+    let outcome = r.outcome;
+    let Outcome::Accepted = outcome else {
+        return Judgement::Refused(reader::refusal(outcome));
+    };
+    let judged = r.judged;
+    let is = judged.verdict;
+    Judgement::Is(is)
+}
+
+// The engine's plan, three numbers a step, ascending; no number of an over sheet.
+pub fn plan(bytes: &[u8], out: &mut [u16]) -> Written
+    ensures { λ r. ⌜ (r ≡ itemsAnswer planNumbers (now (bytes .entry)) (now (out .entry))) × (now (out .exit) ≡ itemsAfter planNumbers (now (bytes .entry)) (now (out .entry))) ⌝ }
+{
+    let r = reckon(bytes);
+    let outcome = r.outcome;
+    let Outcome::Accepted = outcome else {
+        return Written::Refused(reader::refusal(outcome));
+    };
+    let judged = r.judged;
+    let run = judged.run;
+    engine::put_plan(run, out)
+}
+
+// The final clusters as sets, by number; none of an over sheet.
+pub fn clusters(bytes: &[u8], out: &mut [u64]) -> Written
+    ensures { λ r. ⌜ (r ≡ itemsAnswer finalClusters (now (bytes .entry)) (now (out .entry))) × (now (out .exit) ≡ itemsAfter finalClusters (now (bytes .entry)) (now (out .entry))) ⌝ }
+{
+    let r = reckon(bytes);
+    let outcome = r.outcome;
+    let Outcome::Accepted = outcome else {
+        return Written::Refused(reader::refusal(outcome));
+    };
+    let judged = r.judged;
+    let run = judged.run;
+    let slots = run.slots;
+    engine::put_clusters(&slots, 192, out)
 }

@@ -1,0 +1,64 @@
+use borrow.Author.Needs.{needs}
+use mathlib.Core.Path.{_≡_, refl, sym, ap, _∙_}
+use lib.ListN.{take}
+use native.Mathlib.Omega.{arith}
+use Rattle.sheet.specs.Field.{Bytes}
+use Rattle.reader.specs.Answers.{outcomeNumber}
+use Rattle.space.specs.declared.Written.the-variants.{Refused}
+use Rattle.judge.specs.Judged.{finalClusters}
+use Rattle.pattern.specs.Sheets.Laws.{items-refused, items-given}
+use Rattle.pattern.specs.Judgements.Laws.{Judging, judging, stopped}
+use Rattle.pattern.proofs.clusters.Statement.{statement}
+use Rattle.pattern.proofs.clusters.Tie as tie
+
+reckon-requires : tie.Need-reckon-requires
+reckon-requires c κs = search needs
+
+enum-told : tie.Need-enum-told
+enum-told c = search needs
+
+enum-told-2 : tie.Need-enum-told-2
+enum-told-2 c = search needs
+
+refusal-requires : tie.Need-refusal-requires
+refusal-requires c κs = search needs
+
+returns : tie.Need-returns
+returns c =
+    let a = c .before .before .before .before .before .before .args in
+    let r = c .before .before .before .reckon in
+    let t = c .before .enum-told2 .given in
+    let g = items-refused finalClusters (a .bytes .now) (a .out .now) (t .0 .0) (stopped (a .bytes .now) (r .result) (t .0 .0) (r .ensures) (t .1)) in
+    (ap Refused (c .refusal .ensures ∙ ap outcomeNumber (t .1)) ∙ g .0, g .1)
+
+-- the judgement of the sheet
+judged : (c : tie.After-put-clusters-arg) → Judging (c .before .before .before .before .before .before .before .before .before .before .args .bytes .now) (c .before .before .before .before .before .before .before .reckon .result)
+judged c =
+    let all : Bytes (c .before .before .before .before .before .before .before .before .before .before .args .bytes .now) = record { each = λ i. c .before .before .before .before .before .before .before .before .before .shared-slice-known .given i .fits } in
+    judging (c .before .before .before .before .before .before .before .before .before .before .args .bytes .now) (c .before .before .before .before .before .before .before .reckon .result) all (c .before .before .before .before .before .before .before .reckon .ensures) (c .before .before .before .before .before .enum-told .given .1)
+
+put-clusters-requires : tie.Need-put-clusters-requires
+put-clusters-requires c κs = (omega arith, judged c .slots-long)
+
+same-length : tie.Need-same-length
+same-length c = search needs
+
+returns-2 : tie.Need-returns-2
+returns-2 c =
+    let j = judged (c .before .before .before) in
+    let p = c .before .before .put-clusters .ensures in
+    let g = items-given finalClusters _ _ (j .facts) (j .rest) _ (j .reads) (j .finals) in
+    (p .0 ∙ g .0, p .1 ∙ g .1)
+
+pub clusters-spec : {M : Type 1} → statement M
+clusters-spec =
+    tie.close
+    (tie.spec
+    reckon-requires
+    enum-told
+    enum-told-2
+    refusal-requires
+    returns
+    put-clusters-requires
+    same-length
+    returns-2)
