@@ -3,6 +3,9 @@ use Prim.Native.Nat.{ℕ}
 use lib.Dec.{ltb}
 use lib.IntN.{ℤ, pos, negℤ}
 use Rattle.sheet.specs.Facts.{pick}
+use Rattle.answer.specs.Answer.{verdictNumber}
+use Rattle.pattern.specs.declared.Judgement.{Judgement}
+use Rattle.pattern.specs.declared.Judgement.the-variants.{Is, Refused as No}
 use Rattle.space.specs.declared.Written.{Written}
 use Rattle.space.specs.declared.Written.the-variants.{Done, Refused}
 pub mod Laws
@@ -14,3 +17,8 @@ minus k = negℤ (pos k)
 abbrev pub asCount : Written → ℤ
 asCount (Done n) = pos (pick (ltb n 2147483648) n 2147483647)
 asCount (Refused k) = minus k
+
+-- the verdict's place among the names, from 0, or the rule
+abbrev pub asNumber : Judgement → Written
+asNumber (Is v) = Done (verdictNumber v)
+asNumber (No k) = Refused k

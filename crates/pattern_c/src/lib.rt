@@ -4,8 +4,11 @@ ghost use mathlib.Core.Path.{_≡_};
 ghost use lib.ListN.{getD};
 ghost use Rattle.pattern.specs.Sheets.{rewriteAnswer, rewriteAfter, itemsAnswer, itemsAfter, overOfFacts};
 ghost use Rattle.writer.specs.Write.{writeAnswer, writeAfter};
-ghost use Rattle.pattern_c.specs.Numbers.{asCount};
+ghost use Rattle.pattern.specs.Judgements.{judgementOf};
+ghost use Rattle.judge.specs.Judged.{planNumbers, finalClusters};
+ghost use Rattle.pattern_c.specs.Numbers.{asCount, asNumber};
 ghost use Rattle.pattern_c.specs.Columns.{sizeIn, tagIn, constraintIn, constraintsIn, sheetIn};
+use pattern::Judgement;
 use sheet::Constraint;
 use sheet::Sheet;
 use sheet::Size;
@@ -139,4 +142,38 @@ pub extern "C" fn pattern_over(sheet: &[u8], out: &mut [u64]) -> i32
     ensures { λ r. ⌜ (r ≡ asCount (itemsAnswer overOfFacts (now (sheet .entry)) (now (out .entry)))) × (now (out .exit) ≡ itemsAfter overOfFacts (now (sheet .entry)) (now (out .entry))) ⌝ }
 {
     count(pattern::over(sheet, out))
+}
+
+// A verdict as its number, counted like items.
+fn verdict_number(j: Judgement) -> Written
+    ensures { λ r. ⌜ r ≡ asNumber j ⌝ }
+{
+    match j {
+        Judgement::Is(v) => Written::Done(v.number() as usize),
+        Judgement::Refused(k) => Written::Refused(k),
+    }
+}
+
+// The verdict of a sheet, 0 over, 1 angle, 2 well, 3 stuck, 4 under; or minus the rule of 1 to 10 that refuses it.
+#[no_mangle]
+pub extern "C" fn pattern_verdict(sheet: &[u8]) -> i32
+    ensures { λ r. ⌜ r ≡ asCount (asNumber (judgementOf (now (sheet .entry)))) ⌝ }
+{
+    count(verdict_number(pattern::verdict(sheet)))
+}
+
+// The engine's plan, three numbers a step, ascending; no number of an over sheet.
+#[no_mangle]
+pub extern "C" fn pattern_plan(sheet: &[u8], out: &mut [u16]) -> i32
+    ensures { λ r. ⌜ (r ≡ asCount (itemsAnswer planNumbers (now (sheet .entry)) (now (out .entry)))) × (now (out .exit) ≡ itemsAfter planNumbers (now (sheet .entry)) (now (out .entry))) ⌝ }
+{
+    count(pattern::plan(sheet, out))
+}
+
+// The final clusters as sets, element i as bit i, by cluster number; none of an over sheet.
+#[no_mangle]
+pub extern "C" fn pattern_clusters(sheet: &[u8], out: &mut [u64]) -> i32
+    ensures { λ r. ⌜ (r ≡ asCount (itemsAnswer finalClusters (now (sheet .entry)) (now (out .entry)))) × (now (out .exit) ≡ itemsAfter finalClusters (now (sheet .entry)) (now (out .entry))) ⌝ }
+{
+    count(pattern::clusters(sheet, out))
 }
