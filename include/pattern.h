@@ -76,6 +76,31 @@ int32_t pattern_write(
  */
 int32_t pattern_over(const uint8_t *sheet, size_t len, uint64_t *out, size_t room);
 
+/* The verdicts, in the order they are tried. */
+enum pattern_verdict_name {
+    PATTERN_OVER  = 0, /* some part has a constraint too many */
+    PATTERN_ANGLE = 1, /* some three lines are held by their angles alone */
+    PATTERN_WELL  = 2, /* fully dimensioned, and built from parts three at a time */
+    PATTERN_STUCK = 3, /* as many constraints as that needs, but no such construction */
+    PATTERN_UNDER = 4  /* constraints are missing */
+};
+
+/* The verdict of a sheet: one of the names above. Tries rules 1 to 10. */
+int32_t pattern_verdict(const uint8_t *sheet, size_t len);
+
+/*
+ * The plan of a sheet: three cluster numbers a step, ascending. Constraint i is cluster i; step k,
+ * from 0, merges its three clusters into cluster e + k. An over sheet has no plan and answers 0.
+ * Tries rules 1 to 10, then 17. A plan has at most 62 steps.
+ */
+int32_t pattern_plan(const uint8_t *sheet, size_t len, uint16_t *out, size_t room);
+
+/*
+ * The clusters that are left when no merge is open, by number: bit i for element i. An over sheet
+ * answers 0. Tries rules 1 to 10, then 17. There are at most 125.
+ */
+int32_t pattern_clusters(const uint8_t *sheet, size_t len, uint64_t *out, size_t room);
+
 #ifdef __cplusplus
 }
 #endif
