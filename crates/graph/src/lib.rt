@@ -8,31 +8,9 @@ ghost use lib.IntN.{pos};
 ghost use lib.ListN.{take};
 ghost use Rattle.sheet.specs.Facts.{block};
 ghost use Rattle.sheet.specs.Graph.{sizeOf};
-ghost use Rattle.graph.specs.Arrays.{endAt, constraintSize, endPair, EndsBelow64};
+ghost use Rattle.graph.specs.Arrays.{constraintSize, endPair, EndsBelow64};
 use sheet::Constraint;
 use sheet::Size;
-
-// An end of a constraint, the second or the first.
-fn end_of(c: Constraint, second: bool) -> u8
-    ensures { λ r. ⌜ r ≡ endAt second c ⌝ }
-{
-    if second { c.second } else { c.first }
-}
-
-// The second or the first ends of the first e constraints, 0 beyond them.
-pub fn ends_of(cs: [Constraint; 200], e: usize, second: bool) -> [u8; 200]
-    requires { ⌜ e ≤ 200 ⌝ }
-    ensures { λ r. ⌜ r ≡ block 200 0 (map (endAt second) (take e cs)) ⌝ }
-{
-    let mut ends = [0u8; 200];
-    let mut i: usize = 0;
-    while i < e {
-        let c = cs[i];
-        ends[i] = end_of(c, second);
-        i += 1;
-    }
-    ends
-}
 
 fn size_of(size: Size) -> i32
     ensures { λ r. ⌜ r ≡ sizeOf size ⌝ }

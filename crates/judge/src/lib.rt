@@ -20,10 +20,16 @@ pub fn over_of(s: Sheet) -> Over
     requires { ⌜ sheetFault s ≡ 0 ⌝ }
     ensures { λ r. ⌜ r ≡ asOver (overOf (length (factsOf s .elements)) (clustersOf (factsOf s))) ⌝ }
 {
-    let cs = s.constraints;
     let e = s.e;
-    let firsts = graph::ends_of(cs, e, false);
-    let seconds = graph::ends_of(cs, e, true);
+    let mut firsts = [0u8; 200];
+    let mut seconds = [0u8; 200];
+    let mut i: usize = 0;
+    while i < e {
+        let c = s.constraints[i];
+        firsts[i] = c.first;
+        seconds[i] = c.second;
+        i += 1;
+    }
     sparsity::find_over(&firsts, &seconds, e)
 }
 
