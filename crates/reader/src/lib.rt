@@ -2,8 +2,8 @@
 // Each field read answers a value with the next cursor or the number of the rule that refuses it. Contracts cite the decoding of
 // the crate `sheet` and, for what an answer says, specs/Answers.antt.
 ghost use mathlib.Core.Path.{_≡_};
-ghost use mathlib.Core.List.{List, [], _∷_};
-ghost use Prim.Native.Nat.{ℕ, _≤_, _<_, _-_, _^_};
+ghost use mathlib.Core.List.{List, []};
+ghost use Prim.Native.Nat.{_≤_, _<_, _-_, _^_};
 ghost use lib.Dec.{eqb};
 ghost use lib.ListN.{length, drop};
 ghost use Rattle.sheet.specs.declared.Tag.the-variants.{Given as TagGiven, Missing as NoTag};
@@ -67,6 +67,7 @@ pub struct Reading {
 }
 
 impl OpeningRead {
+    // The rule that refuses the opening, 0 of one that was read.
     pub fn refusal(self) -> u8
         ensures { λ k. ⌜ k ≡ ruleOf (asOpening [] self) ⌝ }
     {
@@ -78,6 +79,7 @@ impl OpeningRead {
 }
 
 impl ByteRead {
+    // The rule that refuses the byte, 0 of one that was read.
     pub fn refusal(self) -> u8
         ensures { λ k. ⌜ k ≡ ruleOf (asByte [] self) ⌝ }
     {
@@ -89,6 +91,7 @@ impl ByteRead {
 }
 
 impl NumberRead {
+    // The rule that refuses the number, 0 of one that was read.
     pub fn refusal(self) -> u8
         ensures { λ k. ⌜ k ≡ ruleOf (asNumber [] self) ⌝ }
     {
@@ -100,6 +103,7 @@ impl NumberRead {
 }
 
 impl SizeRead {
+    // The rule that refuses the size, 0 of one that was read.
     pub fn refusal(self) -> u8
         ensures { λ k. ⌜ k ≡ ruleOf (asSize [] self) ⌝ }
     {
@@ -111,6 +115,7 @@ impl SizeRead {
 }
 
 impl TagRead {
+    // The rule that refuses the tag, 0 of one that was read.
     pub fn refusal(self) -> u8
         ensures { λ k. ⌜ k ≡ ruleOf (asTag [] self) ⌝ }
     {
@@ -122,6 +127,7 @@ impl TagRead {
 }
 
 impl ConstraintRead {
+    // The rule that refuses the constraint, 0 of one that was read.
     pub fn refusal(self) -> u8
         ensures { λ k. ⌜ k ≡ ruleOf (asConstraint [] self) ⌝ }
     {
@@ -197,6 +203,7 @@ fn bytes_left(len: usize, at: usize) -> usize
     if at < len { len - at } else { 0 }
 }
 
+// A byte as a number of 64 bits.
 fn wide(b: u8) -> u64
     ensures { λ r. ⌜ r ≡ b ⌝ }
 {
@@ -215,6 +222,7 @@ fn signed(u: u64) -> i32
     }
 }
 
+// The tag that two bytes are, where the bit stands.
 fn tag_of(bit: u8, t: u16) -> Tag
     ensures { λ r. ⌜ r ≡ pick (eqb bit 1) (TagGiven t) NoTag ⌝ }
 {

@@ -125,6 +125,7 @@ fn within(low: i32, high: i32, z: i32) -> bool
     if low <= z { z <= high } else { false }
 }
 
+// The lowest size of a pair.
 fn lowest_size(p: PairKind) -> i32
     ensures { λ r. ⌜ r ≡ lowestSize p ⌝ }
 {
@@ -135,6 +136,7 @@ fn lowest_size(p: PairKind) -> i32
     }
 }
 
+// The highest size of a pair.
 fn highest_size(p: PairKind) -> i32
     ensures { λ r. ⌜ r ≡ highestSize p ⌝ }
 {
