@@ -1,4 +1,4 @@
-//! The search for an over set, reading included.
+//! The search for an over set, with reading and without.
 
 use pattern_bench::timing::Contender;
 use pattern_bench::{cases, plain, table};
@@ -9,6 +9,7 @@ fn main() {
     #[cfg(feature = "yardstick")]
     contenders.push(with("yardstick", pattern_bench::yardstick::over));
     table::print("over", &cases::for_over(), &mut contenders);
+    table::print_less_reading("over", &cases::for_over(), &mut contenders);
 }
 
 /// A contender with lent places of its own.
