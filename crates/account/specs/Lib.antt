@@ -1,0 +1,2 @@
+-- The report of a sheet's facts.
+pub mod Account
