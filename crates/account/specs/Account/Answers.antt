@@ -33,7 +33,7 @@ use Rattle.report.specs.Report.{overReport}
 use Rattle.account.specs.Account.{Merged, listReport, reportBy, reportOf, faultBy, savedFault, answerBy, afterBy, savedAnswer, savedAfter}
 
 -- the verdict of a list of merges is never over
-later-name : (lines n e : ℕ) (js : List ℕ) (l : ℕ) → verdictNumber (asVerdict (judged lines n e js l)) ≢ 0
+pub later-name : (lines n e : ℕ) (js : List ℕ) (l : ℕ) → verdictNumber (asVerdict (judged lines n e js l)) ≢ 0
 unfolding judged
 later-name lines n e js l = go (angled lines js) (eqb (e + 3) (2 * n)) (eqb l 1)
   where
