@@ -21,6 +21,7 @@ use Rattle.report.specs.Report as lines
 use Rattle.report.specs.Report.{overReport}
 pub mod Laws
 pub mod Answers
+pub mod Room
 
 -- the report of a list of merges of the sheet's constraints, with the list's own verdict, steps and final clusters
 unfoldable pub listReport : Facts → List Merge → List ℕ

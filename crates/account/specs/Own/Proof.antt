@@ -61,10 +61,10 @@ plan-ascends (m ∷ p) s h = ap₂ (λ (x : Merge) (l : List Merge). x ∷ l) (a
 -- ---- an accepted sheet
 
 module _ (f : Facts) (a : Accepted f) where
-  paired : Pairs (clustersOf f)
+  pub paired : Pairs (clustersOf f)
   paired = clusters-pairs f (accepted-most f a) (constraints-most (length (f .constraints)) (a .constraint-count)) (a .no-fault)
 
-  below : Below (length (f .elements)) (clustersOf f)
+  pub below : Below (length (f .elements)) (clustersOf f)
   below = clusters-below f (accepted-most f a) (constraints-most (length (f .constraints)) (a .constraint-count)) (a .no-fault)
 
   finds-none : verdictOf f ≢ over → overOf (length (f .elements)) (clustersOf f) ≡ fine
@@ -101,7 +101,7 @@ module _ (f : Facts) (a : Accepted f) where
       }
 
   -- rule 11 lets through what is not over
-  let-through : (l : List ℕ) → savedFault f l ≡ 0 → overOf (length (f .elements)) (clustersOf f) ≡ fine
+  pub let-through : (l : List ℕ) → savedFault f l ≡ 0 → overOf (length (f .elements)) (clustersOf f) ≡ fine
   unfolding savedFault
   let-through l h = go (overOf (length (f .elements)) (clustersOf f)) refl
     where
@@ -109,7 +109,7 @@ module _ (f : Facts) (a : Accepted f) where
       go fine q = q
       go (first c x) q = absurd (let z : _≡_ {A = ℕ} 11 0 = sym (ap (faultBy f l) q) ∙ h in omega arith)
 
-  saved-maximal : (l : List ℕ) → savedFault f l ≡ 0 → (verdictOf f ≢ over) × (length l % 3 ≡ 0) × Maximal (clustersOf f) (savedSteps l)
+  pub saved-maximal : (l : List ℕ) → savedFault f l ≡ 0 → (verdictOf f ≢ over) × (length l % 3 ≡ 0) × Maximal (clustersOf f) (savedSteps l)
   unfolding savedFault
   saved-maximal l h =
       let q = let-through l h in
@@ -121,7 +121,7 @@ module _ (f : Facts) (a : Accepted f) where
   saved-list l = record {
     accepted = (saved-maximal l, λ h. ap (faultBy f l) (finds-none (h .0)) ∙ accepted-maximal (clustersOf f) l .1 (h .1, h .2));
     same = λ h. let m = saved-maximal l h in
-      sheet-demand3 f a (m .0) .whole .every _ same (planOf (clustersOf f)) (savedSteps l) (plan-of-maximal (clustersOf f) paired) (m .2);
+        sheet-demand3 f a (m .0) .whole .every _ same (planOf (clustersOf f)) (savedSteps l) (plan-of-maximal (clustersOf f) paired) (m .2);
     own = λ h. reports-own f (savedSteps l);
   }
 
