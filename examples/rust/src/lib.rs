@@ -4,7 +4,7 @@
 //! the space as it was.
 //!
 //! ```
-//! use pattern::{Constraint, Facts, Kind, MOST_BYTES};
+//! use pattern::{Constraint, Facts, Kind, MOST_BYTES, MOST_REPORT};
 //!
 //! // three points, 30 mm apart
 //! let constraints = [
@@ -17,8 +17,9 @@
 //! let sheet = pattern::write(&facts, &mut space)?;
 //! assert_eq!(sheet.len(), 28);
 //!
-//! let mut space = [0; MOST_BYTES];
-//! assert_eq!(pattern::rewrite(sheet, &mut space)?, sheet);
+//! let mut space = [0; MOST_REPORT];
+//! let report = pattern::report(sheet, &mut space)?;
+//! assert_eq!(report.lines().next(), Some("verdict well"));
 //! # Ok::<(), pattern::Rule>(())
 //! ```
 
@@ -30,6 +31,12 @@ pub const MOST_ELEMENTS: usize = 64;
 pub const MOST_CONSTRAINTS: usize = 200;
 /// The most bytes of a sheet: with so much space no sheet is refused by rule 17.
 pub const MOST_BYTES: usize = 1814;
+/// The most bytes of a report: with so much space no report is refused by rule 17.
+pub const MOST_REPORT: usize = 3786;
+/// The most numbers of a plan, three a step.
+pub const MOST_PLAN: usize = 186;
+/// The most clusters that are left.
+pub const MOST_CLUSTERS: usize = 125;
 
 /// The functions of `include/pattern.h`.
 mod c {
@@ -53,6 +60,26 @@ mod c {
             room: usize,
         ) -> i32;
         pub fn pattern_over(sheet: *const u8, len: usize, out: *mut u64, room: usize) -> i32;
+        pub fn pattern_verdict(sheet: *const u8, len: usize) -> i32;
+        pub fn pattern_plan(sheet: *const u8, len: usize, out: *mut u16, room: usize) -> i32;
+        pub fn pattern_clusters(sheet: *const u8, len: usize, out: *mut u64, room: usize) -> i32;
+        pub fn pattern_report(sheet: *const u8, len: usize, out: *mut u8, room: usize) -> i32;
+        pub fn pattern_check_plan(
+            sheet: *const u8,
+            len: usize,
+            plan: *const u16,
+            count: usize,
+            out: *mut u8,
+            room: usize,
+        ) -> i32;
+        pub fn pattern_add(
+            sheet: *const u8,
+            len: usize,
+            constraint: *const u8,
+            constraint_len: usize,
+            out: *mut u8,
+            room: usize,
+        ) -> i32;
     }
 }
 
@@ -74,6 +101,12 @@ impl Rule {
             8 => "the map has an unknown bit, or lacks the size of two points or two lines",
             9 => "the size is outside its range",
             10 => "bytes follow the last constraint",
+            11 => "the sheet is over, or the added constraint would make it so",
+            12 => "the count of numbers in the plan is not a multiple of three",
+            13 => "a step names a number that is no living cluster, or one cluster twice",
+            14 => "two clusters of a step share two or more elements",
+            15 => "the clusters of a step do not make an open merge",
+            16 => "after the last step a merge is still open",
             17 => "the lent space is shorter than the answer",
             _ => "no rule of this library",
         }
@@ -109,6 +142,23 @@ impl Constraint {
     /// A constraint with a size and no tag.
     pub fn sized(first: u8, second: u8, size: i32) -> Constraint {
         Constraint { first, second, size: Some(size), tag: None }
+    }
+
+    /// The constraint as its bytes in a sheet, at the front of the space.
+    ///
+    /// ```
+    /// use pattern::Constraint;
+    ///
+    /// let mut space = [0; 9];
+    /// assert_eq!(Constraint::sized(0, 3, 300).bytes(&mut space), b"\0\x03\x01\x2c\x01\0\0");
+    /// ```
+    pub fn bytes<'a>(&self, out: &'a mut [u8; 9]) -> &'a [u8] {
+        let size = self.size.map(i32::to_le_bytes);
+        let tag = self.tag.map(u16::to_le_bytes);
+        let fields = [self.first, self.second, self.map()];
+        let all = fields.iter().chain(size.iter().flatten()).chain(tag.iter().flatten());
+        let count = out.iter_mut().zip(all).map(|(place, &byte)| *place = byte).count();
+        &out[..count]
     }
 
     /// The bit map: bit 0 where the size is given, bit 1 where the tag is.
@@ -226,6 +276,139 @@ pub fn over(sheet: &[u8]) -> Result<Option<Over>, Rule> {
         &[first, set] => Some(Over { first: first as usize, set }),
         _ => None,
     })
+}
+
+/// What is said of a sheet, in the order it is tried.
+#[derive(Clone, Copy, PartialEq, Eq, Debug)]
+pub enum Verdict {
+    /// Some part has a constraint too many.
+    Over,
+    /// Some three lines are held by their angles alone.
+    Angle,
+    /// Fully dimensioned, and built from parts three at a time.
+    Well,
+    /// As many constraints as that needs, but no such construction.
+    Stuck,
+    /// Constraints are missing.
+    Under,
+}
+
+/// The verdict of a sheet.
+///
+/// ```
+/// use pattern::{Rule, Verdict};
+///
+/// assert_eq!(pattern::verdict(b"PF01\x02\0\0")?, Verdict::Under);
+/// assert_eq!(pattern::verdict(b"PF01\x02\0"), Err(Rule(2)));
+/// # Ok::<(), Rule>(())
+/// ```
+pub fn verdict(sheet: &[u8]) -> Result<Verdict, Rule> {
+    // SAFETY: the list is a live slice of its length.
+    let answer = unsafe { c::pattern_verdict(sheet.as_ptr(), sheet.len()) };
+    match answer {
+        0 => Ok(Verdict::Over),
+        1 => Ok(Verdict::Angle),
+        2 => Ok(Verdict::Well),
+        3 => Ok(Verdict::Stuck),
+        4 => Ok(Verdict::Under),
+        rule => Err(Rule(rule.unsigned_abs() as u8)),
+    }
+}
+
+/// The plan of a sheet: three cluster numbers a step, ascending. Constraint i is cluster i; step k makes cluster e + k.
+///
+/// ```
+/// # let mut space = [0; pattern::MOST_BYTES];
+/// # let constraints = [(0, 1), (0, 2), (1, 2)].map(|(a, b)| pattern::Constraint::sized(a, b, 300));
+/// # let facts = pattern::Facts { kinds: &[pattern::Kind::Point; 3], constraints: &constraints };
+/// # let sheet = pattern::write(&facts, &mut space)?;
+/// let mut space = [0; pattern::MOST_PLAN];
+/// assert_eq!(pattern::plan(sheet, &mut space)?, [0, 1, 2]);
+///
+/// let mut space = [0; pattern::MOST_CLUSTERS];
+/// assert_eq!(pattern::clusters(sheet, &mut space)?, [0b111]);
+/// # Ok::<(), pattern::Rule>(())
+/// ```
+pub fn plan<'a>(sheet: &[u8], out: &'a mut [u16]) -> Result<&'a [u16], Rule> {
+    // SAFETY: each list is a live slice of its length, and `out` is borrowed alone.
+    let answer = unsafe { c::pattern_plan(sheet.as_ptr(), sheet.len(), out.as_mut_ptr(), out.len()) };
+    written(answer, out)
+}
+
+/// The clusters that are left when no merge is open, by number: element i as bit i.
+pub fn clusters<'a>(sheet: &[u8], out: &'a mut [u64]) -> Result<&'a [u64], Rule> {
+    // SAFETY: each list is a live slice of its length, and `out` is borrowed alone.
+    let answer = unsafe { c::pattern_clusters(sheet.as_ptr(), sheet.len(), out.as_mut_ptr(), out.len()) };
+    written(answer, out)
+}
+
+/// The report of a sheet.
+///
+/// ```
+/// let mut space = [0; pattern::MOST_REPORT];
+/// assert_eq!(pattern::report(b"PF01\x02\0\0", &mut space)?, "verdict under\nelements 2 constraints 0\n");
+/// # Ok::<(), pattern::Rule>(())
+/// ```
+pub fn report<'a>(sheet: &[u8], out: &'a mut [u8]) -> Result<&'a str, Rule> {
+    // SAFETY: each list is a live slice of its length, and `out` is borrowed alone.
+    let answer = unsafe { c::pattern_report(sheet.as_ptr(), sheet.len(), out.as_mut_ptr(), out.len()) };
+    written(answer, out).map(text)
+}
+
+/// The report for a plan that was saved: its steps in the saved order.
+///
+/// ```
+/// use pattern::Rule;
+///
+/// # let mut space = [0; pattern::MOST_BYTES];
+/// # let constraints = [(0, 1), (0, 2), (1, 2)].map(|(a, b)| pattern::Constraint::sized(a, b, 300));
+/// # let facts = pattern::Facts { kinds: &[pattern::Kind::Point; 3], constraints: &constraints };
+/// # let sheet = pattern::write(&facts, &mut space)?;
+/// let mut space = [0; pattern::MOST_REPORT];
+/// assert!(pattern::check_plan(sheet, &[2, 0, 1], &mut space)?.contains("step 3 from 0 1 2"));
+/// assert_eq!(pattern::check_plan(sheet, &[], &mut space), Err(Rule(16)));
+/// # Ok::<(), Rule>(())
+/// ```
+pub fn check_plan<'a>(sheet: &[u8], plan: &[u16], out: &'a mut [u8]) -> Result<&'a str, Rule> {
+    // SAFETY: each list is a live slice of its length, and `out` is borrowed alone.
+    let answer = unsafe {
+        c::pattern_check_plan(sheet.as_ptr(), sheet.len(), plan.as_ptr(), plan.len(), out.as_mut_ptr(), out.len())
+    };
+    written(answer, out).map(text)
+}
+
+/// The sheet with one more constraint, given as its bytes in a sheet.
+///
+/// ```
+/// use pattern::{Constraint, Rule, Verdict};
+///
+/// let (mut bytes, mut space) = ([0; 9], [0; pattern::MOST_BYTES]);
+/// let more = Constraint::sized(0, 1, 300);
+/// let sheet = pattern::add(b"PF01\x02\0\0", more.bytes(&mut bytes), &mut space)?;
+/// assert_eq!(pattern::verdict(sheet)?, Verdict::Well);
+///
+/// let mut space = [0; pattern::MOST_BYTES];
+/// assert_eq!(pattern::add(sheet, more.bytes(&mut bytes), &mut space), Err(Rule(7)));
+/// # Ok::<(), Rule>(())
+/// ```
+pub fn add<'a>(sheet: &[u8], constraint: &[u8], out: &'a mut [u8]) -> Result<&'a [u8], Rule> {
+    // SAFETY: each list is a live slice of its length, and `out` is borrowed alone.
+    let answer = unsafe {
+        c::pattern_add(
+            sheet.as_ptr(),
+            sheet.len(),
+            constraint.as_ptr(),
+            constraint.len(),
+            out.as_mut_ptr(),
+            out.len(),
+        )
+    };
+    written(answer, out)
+}
+
+/// A report's bytes are ASCII.
+fn text(report: &[u8]) -> &str {
+    std::str::from_utf8(report).expect("a report is ASCII")
 }
 
 /// The fields of the constraints, a list each.
