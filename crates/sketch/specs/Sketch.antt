@@ -3,7 +3,7 @@
 -- gives its number alone, and a held sketch is unchanged.
 use Prim.Native.Nat.{ℕ, zero, suc, _+_}
 use mathlib.Core.Bool.{Bool, true, false}
-use mathlib.Core.List.{List, [], _∷_, _++_}
+use mathlib.Core.List.{[], _∷_, _++_}
 use lib.ListN.{set}
 use Rattle.theory.specs.Verdict as verdicts
 use Rattle.sheet.specs.declared.Constraint.{Constraint}

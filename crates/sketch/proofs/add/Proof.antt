@@ -1,13 +1,12 @@
 use borrow.Author.Needs.{needs}
 use Prim.Native.Nat.{_<_}
 use native.Mathlib.Omega.{arith}
-use mathlib.Core.Path.{_≡_, refl, sym, ap, ap₂, _∙_}
+use mathlib.Core.Path.{_≡_, sym, ap, ap₂, _∙_}
 use lib.ListN.{length, length-map}
 use Rattle.sheet.specs.declared.Sheet.{Sheet}
 use Rattle.sheet.specs.Facts.{Facts, factsOf}
 use Rattle.sheet.specs.Rules.{constraintFault, sheetFault}
 use Rattle.sheet.specs.Graph.{verdictOf}
-use Rattle.answer.specs.declared.Verdict.{Verdict}
 use Rattle.answer.specs.Answer.{asVerdict, verdictNumber}
 use Rattle.judge.specs.declared.Judged.{Judged}
 use Rattle.judge.specs.Listing.{Blocks, blocks}
@@ -15,8 +14,8 @@ use Rattle.judge.specs.Judged.{judgedOf}
 use Rattle.sketch.specs.declared.Taken.{Taken}
 use Rattle.sketch.specs.declared.Taken.the-variants.{Is}
 use Rattle.sketch.specs.declared.Added.{Added}
-use Rattle.sketch.specs.Sketch.{holdFault, extended, stored, addFault}
-use Rattle.sketch.specs.Sketch.Laws.{Sound, blocks-sound, few-held, hold-none, stored-facts, stored-fault, extended-sound, judged-verdict, numbered-over, numbered-other, add-unheld, add-refused, add-last, refused-added, taken-added}
+use Rattle.sketch.specs.Sketch.{holdFault, extended}
+use Rattle.sketch.specs.Sketch.Laws.{blocks-sound, few-held, hold-none, stored-facts, stored-fault, extended-sound, judged-verdict, numbered-over, numbered-other, add-unheld, add-refused, add-last, refused-added, taken-added}
 use Rattle.sketch.proofs.add.Statement.{statement}
 use Rattle.sketch.proofs.add.Tie as tie
 

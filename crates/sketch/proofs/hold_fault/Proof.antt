@@ -1,9 +1,7 @@
 use borrow.Author.Needs.{needs}
-use mathlib.Core.Path.{_≡_, sym, ap, _∙_}
-use Rattle.sheet.specs.Facts.{factsOf}
-use Rattle.sheet.specs.Rules.{or-else}
+use mathlib.Core.Path.{sym, _∙_}
 use Rattle.sheet.specs.Rules.Laws.{or-else-some}
-use Rattle.sketch.specs.Sketch.{overFault, holdFault}
+use Rattle.sketch.specs.Sketch.{holdFault}
 use Rattle.sketch.proofs.hold_fault.Statement.{statement}
 use Rattle.sketch.proofs.hold_fault.Tie as tie
 

@@ -1,5 +1,5 @@
 use borrow.Author.Needs.{needs}
-use mathlib.Core.Path.{_≡_, sym, _∙_}
+use mathlib.Core.Path.{sym, _∙_}
 use lib.ListN.{length-map}
 use Rattle.sheet.specs.Facts.{factsOf}
 use Rattle.judge.specs.Listing.{blocks}

@@ -2,15 +2,14 @@
 use Prim.Native.Nat.{ℕ, zero, suc, _+_, _≤_, _<_}
 use native.Mathlib.Numerals.{add-one}
 use native.Mathlib.Omega.{arith}
-use mathlib.Core.Path.{_≡_, refl, sym, ap, ap₂, _∙_, subst}
+use mathlib.Core.Path.{_≡_, refl, sym, ap, _∙_}
 use mathlib.Core.Logic.{_≢_}
-use mathlib.Core.Bool.{Bool, true, false}
+use mathlib.Core.Bool.{true}
 use mathlib.Core.List.{List, [], _∷_, _++_, append-nil, append-assoc}
-use borrow.Author.Tests.{le-leb, leb-true}
-use lib.Dec.{leb}
-use lib.ListN.{length, take, set, length-set, length-append}
+use borrow.Author.Tests.{le-leb}
+use lib.ListN.{length, take, set, length-append}
 use lib.Seq.{take-suc-set}
-use Rattle.theory.specs.Constraints.{Pairs, Below, NotOver}
+use Rattle.theory.specs.Constraints.{Pairs, Below}
 use Rattle.theory.specs.Over.{Finding, fine, first, overOf}
 use Rattle.theory.specs.Over.Laws.{overOf-fine}
 use Rattle.theory.specs.Verdict as verdicts
@@ -19,7 +18,7 @@ use Rattle.sheet.specs.declared.Element.{Element}
 use Rattle.sheet.specs.declared.Constraint.{Constraint}
 use Rattle.sheet.specs.declared.Sheet.{Sheet}
 use Rattle.sheet.specs.Facts.{Facts, factsOf, linesOf, pick}
-use Rattle.sheet.specs.Rules.{or-else, elementCount, constraintCount, constraintFault, constraintsFault, sheetFault}
+use Rattle.sheet.specs.Rules.{or-else, constraintCount, constraintFault, constraintsFault, sheetFault}
 use Rattle.sheet.specs.Rules.Laws.{or-else-some}
 use Rattle.sheet.specs.Accepted.Laws.{none-else}
 use Rattle.sheet.specs.RoundTrip.Blocks.{sheetFault-none}
