@@ -1,3 +1,4 @@
 -- What the entry points answer, by the bytes of a sheet.
 pub mod Sheets
 pub mod Judgements
+pub mod Sketches
