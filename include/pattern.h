@@ -39,6 +39,7 @@ enum pattern_rule {
     PATTERN_MAP         = 8,  /* an unknown map bit, or no size for two points or two lines */
     PATTERN_SIZE        = 9,  /* the size is outside its range, a written 0 included */
     PATTERN_EXTRA       = 10, /* bytes follow the last constraint */
+    PATTERN_IS_OVER     = 11, /* the sheet is over, or the added constraint would make it so */
     PATTERN_ROOM        = 17  /* `out` is shorter than the answer */
 };
 
@@ -100,6 +101,18 @@ int32_t pattern_plan(const uint8_t *sheet, size_t len, uint16_t *out, size_t roo
  * answers 0. Tries rules 1 to 10, then 17. There are at most 125.
  */
 int32_t pattern_clusters(const uint8_t *sheet, size_t len, uint64_t *out, size_t room);
+
+/*
+ * Adds one constraint to a sketch: writes the sheet with that constraint last. The constraint is
+ * given as its bytes in a sheet: first end, second end, map, then the size and the tag that the map
+ * names. Tries rules 1 to 11 of the sheet, then 2 and 6 to 9 in the order of the constraint's
+ * fields, 10 where bytes follow them, 11, and 17. Answers the count of bytes; pattern_verdict of
+ * them is the sketch's new verdict.
+ */
+int32_t pattern_add(
+    const uint8_t *sheet, size_t len,
+    const uint8_t *constraint, size_t constraint_len,
+    uint8_t *out, size_t room);
 
 #ifdef __cplusplus
 }

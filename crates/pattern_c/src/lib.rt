@@ -5,6 +5,7 @@ ghost use lib.ListN.{getD};
 ghost use Rattle.pattern.specs.Sheets.{rewriteAnswer, rewriteAfter, itemsAnswer, itemsAfter, overOfFacts};
 ghost use Rattle.writer.specs.Write.{writeAnswer, writeAfter};
 ghost use Rattle.pattern.specs.Judgements.{judgementOf};
+ghost use Rattle.pattern.specs.Sketches.{extendAnswer, extendAfter};
 ghost use Rattle.judge.specs.Judged.{planNumbers, finalClusters};
 ghost use Rattle.pattern_c.specs.Numbers.{asCount, asNumber};
 ghost use Rattle.pattern_c.specs.Columns.{sizeIn, tagIn, constraintIn, constraintsIn, sheetIn};
@@ -176,4 +177,12 @@ pub extern "C" fn pattern_clusters(sheet: &[u8], out: &mut [u64]) -> i32
     ensures { λ r. ⌜ (r ≡ asCount (itemsAnswer finalClusters (now (sheet .entry)) (now (out .entry)))) × (now (out .exit) ≡ itemsAfter finalClusters (now (sheet .entry)) (now (out .entry))) ⌝ }
 {
     count(pattern::clusters(sheet, out))
+}
+
+// The sheet with one more constraint, given as its bytes in a sheet, or the rule of 1 to 11 and 17 that refuses them.
+#[no_mangle]
+pub extern "C" fn pattern_add(sheet: &[u8], constraint: &[u8], out: &mut [u8]) -> i32
+    ensures { λ r. ⌜ (r ≡ asCount (extendAnswer (now (sheet .entry)) (now (constraint .entry)) (now (out .entry)))) × (now (out .exit) ≡ extendAfter (now (sheet .entry)) (now (constraint .entry)) (now (out .entry))) ⌝ }
+{
+    count(pattern::extend(sheet, constraint, out))
 }

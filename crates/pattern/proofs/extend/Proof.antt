@@ -13,8 +13,9 @@ use Rattle.sheet.specs.Encode.{sheetBytes}
 use Rattle.reader.specs.declared.ConstraintRead.{ConstraintRead}
 use Rattle.reader.specs.Answers.{outcomeNumber, asConstraint, ruleOf}
 use Rattle.sketch.specs.Sketch.{overFault, extended}
-use Rattle.pattern.specs.Sketches.{lastConstraint}
-use Rattle.pattern.specs.Sketches.Laws.{Holds, holding, unheld, held-none, held-over, last-taken, room, more-facts, more-none, extended-unheld, extended-unread, extended-read, extend-refused, extend-given}
+use Rattle.pattern.specs.Sketches.{heldSheet, lastConstraint}
+use Rattle.pattern.specs.Sheets.Laws.{reading-refused}
+use Rattle.pattern.specs.Sketches.Laws.{Holds, holding, held-none, held-over, last-taken, room, more-facts, more-none, extended-unheld, extended-unread, extended-read, extend-refused, extend-given}
 use Rattle.pattern.proofs.extend.Statement.{statement}
 use Rattle.pattern.proofs.extend.Tie as tie
 
@@ -35,7 +36,7 @@ returns c =
     let a = c .before .before .before .before .before .before .before .args in
     let r = c .before .before .before .hold in
     let t = c .before .enum-told2 .given in
-    let e = extended-unheld (a .bytes .now) (a .constraint .now) (t .0 .0) (unheld (a .bytes .now) (r .result) (r .ensures) (t .0 .0) (t .1)) in
+    let e = extended-unheld (a .bytes .now) (a .constraint .now) (t .0 .0) (reading-refused (heldSheet (a .bytes .now)) (r .result) (r .ensures) (t .0 .0) (t .1)) in
     let g = extend-refused (a .bytes .now) (a .constraint .now) (a .out .now) (t .0 .0) e in
     (ap Refused (c .refusal .ensures ∙ ap outcomeNumber (t .1)) ∙ g .0, g .1)
 
@@ -50,9 +51,9 @@ module _ (c : tie.After-sheet) where
   all-more : Bytes (start .args .constraint .now)
   all-more = record { each = λ i. c .before .before .before .before .before .shared-slice-known2 .given i .fits }
 
-  sketch : Holds (start .args .bytes .now) (c .before .before .before .hold .result) (c .before .before .before .hold .ensures)
+  sketch : Holds (start .args .bytes .now) (c .before .before .before .hold .result)
   sketch =
-      holding (start .args .bytes .now) (c .before .before .before .hold .result) (c .before .before .before .hold .ensures) all (c .before .enum-told .given .1)
+      holding (start .args .bytes .now) (c .before .before .before .hold .result) all (c .before .before .before .hold .ensures) (c .before .enum-told .given .1)
 
 read-last-requires : tie.Need-read-last-requires
 read-last-requires c κs = sketch c .no-fault

@@ -11,7 +11,7 @@ use Rattle.space.specs.Space.{answer, after}
 use Rattle.sheet.specs.declared.Constraint.{Constraint}
 use Rattle.sheet.specs.declared.Sheet.{Sheet}
 use Rattle.sheet.specs.Facts.{Facts, sheetOf, factsOf, pick}
-use Rattle.sheet.specs.Field.{Field, value, refused, demand, Bytes}
+use Rattle.sheet.specs.Field.{value, refused, demand, Bytes}
 use Rattle.sheet.specs.Field.Laws.{next-value, demand-value, value-with, refused-value}
 use Rattle.sheet.specs.Rules.{constraintFault, sheetFault}
 use Rattle.sheet.specs.Decode.{constraint, readSheet}
@@ -22,11 +22,12 @@ use Rattle.sheet.specs.Graph.Laws.{accepted-two, accepted-most}
 use Rattle.sheet.specs.RoundTrip.{written-read}
 use Rattle.sheet.specs.RoundTrip.Read.{constraint-front}
 use Rattle.sheet.specs.RoundTrip.Blocks.{constraints-most, factsOf-sheetOf, sheetOf-fault}
-use Rattle.reader.specs.declared.Outcome.the-variants.{Accepted as Took, Refused as Stopped}
+use Rattle.reader.specs.declared.Outcome.the-variants.{Accepted as Took}
 use Rattle.reader.specs.declared.Reading.{Reading}
 use Rattle.reader.specs.Answers.{asReading}
 use Rattle.sketch.specs.Sketch.{notOver, overFault, extended, stored}
 use Rattle.sketch.specs.Sketch.Laws.{few-held, stored-facts, stored-fault}
+use Rattle.pattern.specs.Sheets.Laws.{reading-accepted}
 use Rattle.pattern.specs.Sketches.{held, heldSheet, ended, lastConstraint, extendedSheet, extendAnswer, extendAfter}
 
 -- ---- rule 11
@@ -61,58 +62,34 @@ pub held-unread : (bytes : List ℕ) (k : ℕ) → readSheet bytes ≡ refused k
 unfolding heldSheet
 held-unread bytes k e = rw e
 
--- ---- a reading of a held sketch
+-- the facts of a sketch that is held
+pub record Holds (bytes : List ℕ) (r : Reading) : Type 0 where
+  pub facts : Facts
+  pub rest : List ℕ
+  pub holds : heldSheet bytes ≡ value facts rest
+  pub accepted : Accepted facts
+  pub no-over : overFault facts ≡ 0
+  pub sheet-is : r .sheet ≡ sheetOf facts
+  pub facts-are : factsOf (r .sheet) ≡ facts
+  pub no-fault : sheetFault (r .sheet) ≡ 0
 
-module _ (bytes : List ℕ) (r : Reading) (e : r ≡ asReading (heldSheet bytes)) where
-  pub unheld : (k : ℕ) → r .outcome ≡ Stopped k → heldSheet bytes ≡ refused k
-  unheld k o = go (heldSheet bytes) refl
-    where
-      go : (f : Field Facts) → heldSheet bytes ≡ f → heldSheet bytes ≡ refused k
-      go (value f rest) q = absurd (never (sym o ∙ ap (λ (x : Reading). x .outcome) (e ∙ ap asReading q)))
-        where
-          never : Stopped k ≡ Took → ⊥
-          never p = let z : _≡_ {A = ℕ} 0 1 = cc in omega arith
-      go (refused j) q =
-          let s : Stopped k ≡ Stopped j = sym o ∙ ap (λ (x : Reading). x .outcome) (e ∙ ap asReading q) in
-          let n : k ≡ j = cc in q ∙ ap refused (sym n)
-
-  -- the facts of a sketch that is held
-  pub record Holds : Type 0 where
-    pub facts : Facts
-    pub rest : List ℕ
-    pub holds : heldSheet bytes ≡ value facts rest
-    pub accepted : Accepted facts
-    pub no-over : overFault facts ≡ 0
-    pub sheet-is : r .sheet ≡ sheetOf facts
-    pub facts-are : factsOf (r .sheet) ≡ facts
-    pub no-fault : sheetFault (r .sheet) ≡ 0
-
-  pub holding : Bytes bytes → r .outcome ≡ Took → Holds
-  unfolding heldSheet
-  holding all o = go (heldSheet bytes) refl
-    where
-      found : (f : Facts) (rest : List ℕ) → heldSheet bytes ≡ value f rest → r .sheet ≡ sheetOf f → Holds
-      found f rest q s =
-          next-value (readSheet bytes) held q (λ g t was e1.
-          let v = held-value g t e1 in
-          let h = written-read bytes f rest all (was ∙ cc) .2 in
-          record {
-            facts = f;
-            rest = rest;
-            holds = q;
-            accepted = h;
-            no-over = ap overFault (sym (v .0)) ∙ v .2;
-            sheet-is = s;
-            facts-are = ap factsOf s ∙ factsOf-sheetOf f;
-            no-fault = ap sheetFault s ∙ sheetOf-fault f h;
-          })
-
-      go : (f : Field Facts) → heldSheet bytes ≡ f → Holds
-      go (value f rest) q = found f rest q (ap (λ (x : Reading). x .sheet) (e ∙ ap asReading q))
-      go (refused k) q = absurd (never (sym o ∙ ap (λ (x : Reading). x .outcome) (e ∙ ap asReading q)))
-        where
-          never : Took ≡ Stopped k → ⊥
-          never p = let z : _≡_ {A = ℕ} 0 1 = cc in omega arith
+pub holding : (bytes : List ℕ) (r : Reading) → Bytes bytes → r ≡ asReading (heldSheet bytes) → r .outcome ≡ Took → Holds bytes r
+unfolding heldSheet
+holding bytes r all e o =
+    let (f, rest, q, s) = reading-accepted (heldSheet bytes) r e o in
+    next-value (readSheet bytes) held q (λ g t was e1.
+    let v = held-value g t e1 in
+    let h = written-read bytes f rest all (was ∙ cc) .2 in
+    record {
+      facts = f;
+      rest = rest;
+      holds = q;
+      accepted = h;
+      no-over = ap overFault (sym (v .0)) ∙ v .2;
+      sheet-is = s;
+      facts-are = ap factsOf s ∙ factsOf-sheetOf f;
+      no-fault = ap sheetFault s ∙ sheetOf-fault f h;
+    })
 
 -- ---- one more constraint
 
