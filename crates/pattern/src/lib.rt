@@ -194,9 +194,9 @@ pub fn hold(bytes: &[u8]) -> Reading
         return reading;
     };
     let sheet = reading.sheet;
-    let fault = sketch::over_fault(sheet);
-    if fault != 0 {
-        return refuse(fault);
+    let over = sketch::over_fault(sheet);
+    if over != 0 {
+        return refuse(over);
     }
     reading
 }

@@ -82,11 +82,21 @@ pub fn store(s: Sheet, c: Constraint) -> Sheet
     requires { ⌜ s .e < 200 ⌝ }
     ensures { λ r. ⌜ r ≡ stored s c ⌝ }
 {
-    let e = s.e;
+    let at = s.e;
     let mut more = s;
-    more.constraints[e] = c;
-    more.e = e + 1;
+    more.constraints[at] = c;
+    more.e = at + 1;
     more
+}
+
+// A refusal leaves the sketch.
+fn refused(s: Sheet, k: u8) -> Added
+    ensures { λ r. ⌜ (r .answer ≡ Taken.Refused k) × (r .sketch ≡ s) ⌝ }
+{
+    Added {
+        answer: Taken::Refused(k),
+        sketch: s,
+    }
 }
 
 // The sketch with one more constraint and its verdict, or the rule that refuses: of a value that no sketch may hold, the one that refuses to hold it.
@@ -95,26 +105,17 @@ pub fn add(s: Sheet, c: Constraint) -> Added
 {
     let held = hold_fault(s);
     if held != 0 {
-        return Added {
-            answer: Taken::Refused(held),
-            sketch: s,
-        };
+        return refused(s, held);
     }
     let last = last_fault(s, c);
     if last != 0 {
-        return Added {
-            answer: Taken::Refused(last),
-            sketch: s,
-        };
+        return refused(s, last);
     }
     let more = store(s, c);
     let judged = judge::judge(more);
     let verdict = judged.verdict;
     if verdict.number() == 0 {
-        return Added {
-            answer: Taken::Refused(11),
-            sketch: s,
-        };
+        return refused(s, 11);
     }
     Added {
         answer: Taken::Is(verdict),

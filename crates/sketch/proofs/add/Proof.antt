@@ -1,8 +1,9 @@
 use borrow.Author.Needs.{needs}
-use Prim.Native.Nat.{_<_}
+use Prim.Native.Nat.{ℕ, _<_}
 use native.Mathlib.Omega.{arith}
 use mathlib.Core.Path.{_≡_, sym, ap, ap₂, _∙_}
 use lib.ListN.{length, length-map}
+use Rattle.sheet.specs.declared.Constraint.{Constraint}
 use Rattle.sheet.specs.declared.Sheet.{Sheet}
 use Rattle.sheet.specs.Facts.{Facts, factsOf}
 use Rattle.sheet.specs.Rules.{constraintFault, sheetFault}
@@ -12,9 +13,9 @@ use Rattle.judge.specs.declared.Judged.{Judged}
 use Rattle.judge.specs.Listing.{Blocks, blocks}
 use Rattle.judge.specs.Judged.{judgedOf}
 use Rattle.sketch.specs.declared.Taken.{Taken}
-use Rattle.sketch.specs.declared.Taken.the-variants.{Is}
+use Rattle.sketch.specs.declared.Taken.the-variants.{Is, Refused}
 use Rattle.sketch.specs.declared.Added.{Added}
-use Rattle.sketch.specs.Sketch.{holdFault, extended}
+use Rattle.sketch.specs.Sketch.{holdFault, extended, addFault, addedOf}
 use Rattle.sketch.specs.Sketch.Laws.{blocks-sound, few-held, hold-none, stored-facts, stored-fault, extended-sound, judged-verdict, numbered-over, numbered-other, add-unheld, add-refused, add-last, refused-added, taken-added}
 use Rattle.sketch.proofs.add.Statement.{statement}
 use Rattle.sketch.proofs.add.Tie as tie
@@ -23,15 +24,21 @@ hold-fault-requires : tie.Need-hold-fault-requires
 hold-fault-requires c κs = search needs
 
 -- an answer and a sketch that are the definition's
-both : {a b : Taken} {s t : Sheet} → (a ≡ b) × (s ≡ t) → _≡_ {A = Added} (record { answer = a; sketch = s }) (record { answer = b; sketch = t })
-both e = ap₂ {C = Added} (λ (a : Taken) (s : Sheet). record { answer = a; sketch = s }) (e .0) (e .1)
+both : {r t : Added} → r .answer ≡ t .answer → r .sketch ≡ t .sketch → r ≡ t
+both {r} {t} e f = ap₂ {C = Added} (λ (a : Taken) (s : Sheet). record { answer = a; sketch = s }) e f
+
+refusal : (r : Added) (s : Sheet) (c : Constraint) (k : ℕ) → (r .answer ≡ Refused k) × (r .sketch ≡ s) → (k ≡ 0 → ⊥) → addFault s c ≡ k → r ≡ addedOf s c
+refusal r s c k e n f = let g = refused-added s c k n f in both (e .0 ∙ g .0) (e .1 ∙ g .1)
+
+refused-requires : tie.Need-refused-requires
+refused-requires c κs = search needs
 
 returns : tie.Need-returns
 returns c =
-    let h = c .before .hold-fault in
-    let a = c .before .before .args in
-    let n : holdFault (a .s) ≡ 0 → ⊥ = λ e. c .if1 .taken (h .ensures ∙ e) in
-    both (refused-added (a .s) (a .c) (h .result) (c .if1 .taken) (add-unheld (a .s) (a .c) n ∙ sym (h .ensures)))
+    let h = c .before .before .hold-fault in
+    let a = c .before .before .before .args in
+    let n : holdFault (a .s) ≡ 0 → ⊥ = λ e. c .before .if1 .taken (h .ensures ∙ e) in
+    refusal (c .refused .result) (a .s) (a .c) (h .result) (c .refused .ensures) (c .before .if1 .taken) (add-unheld (a .s) (a .c) n ∙ sym (h .ensures))
 
 -- the sketch may be held
 module _ (c : tie.Else1) where
@@ -55,12 +62,16 @@ module _ (c : tie.Else1) where
 last-fault-requires : tie.Need-last-fault-requires
 last-fault-requires c κs = hold-none (start c .args .s) (held c) .0
 
+refused-requires-2 : tie.Need-refused-requires-2
+refused-requires-2 c κs = search needs
+
 returns-2 : tie.Need-returns-2
 returns-2 c =
-    let l = c .before .last-fault in
-    let a = start (c .before .before) .args in
-    let n : constraintFault (factsOf (a .s) .elements) (factsOf (a .s) .constraints) (a .c) ≡ 0 → ⊥ = λ e. c .if2 .taken (l .ensures ∙ e) in
-    both (refused-added (a .s) (a .c) (l .result) (c .if2 .taken) (add-refused (a .s) (a .c) (held (c .before .before)) n ∙ sym (l .ensures)))
+    let o = c .before .before .before in
+    let l = c .before .before .last-fault in
+    let a = start o .args in
+    let n : constraintFault (factsOf (a .s) .elements) (factsOf (a .s) .constraints) (a .c) ≡ 0 → ⊥ = λ e. c .before .if2 .taken (l .ensures ∙ e) in
+    refusal (c .refused2 .result) (a .s) (a .c) (l .result) (c .refused2 .ensures) (c .before .if2 .taken) (add-refused (a .s) (a .c) (held o) n ∙ sym (l .ensures))
 
 store-requires : tie.Need-store-requires
 store-requires c κs = room (c .before .before)
@@ -99,13 +110,17 @@ module _ (c : tie.After-judge) where
 number-requires : tie.Need-number-requires
 number-requires c κs = search needs
 
+refused-requires-3 : tie.Need-refused-requires-3
+refused-requires-3 c κs = search needs
+
 returns-3 : tie.Need-returns-3
 returns-3 c =
-    let j = c .before .before in
+    let j = c .before .before .before in
     let o = taking j in
     let a = start (o .before .before) .args in
-    let e : verdictNumber (asVerdict (verdictOf (more j))) ≡ 0 = sym (c .before .number .ensures ∙ ap verdictNumber (verdict-is j)) ∙ c .if3 .taken in
-    both (refused-added (a .s) (a .c) 11 (λ e. omega arith) (add-last (a .s) (a .c) (held (o .before .before)) (none o) ∙ numbered-over (more j) e))
+    let e : verdictNumber (asVerdict (verdictOf (more j))) ≡ 0 = sym (c .before .before .number .ensures ∙ ap verdictNumber (verdict-is j)) ∙ c .before .if3 .taken in
+    refusal (c .refused3 .result) (a .s) (a .c) 11 (c .refused3 .ensures) (λ z. omega arith)
+    (add-last (a .s) (a .c) (held (o .before .before)) (none o) ∙ numbered-over (more j) e)
 
 returns-4 : tie.Need-returns-4
 returns-4 c =
@@ -114,18 +129,21 @@ returns-4 c =
     let a = start (o .before .before) .args in
     let n : verdictNumber (asVerdict (verdictOf (more j))) ≡ 0 → ⊥ = λ e. c .if3 .left (c .before .number .ensures ∙ ap verdictNumber (verdict-is j) ∙ e) in
     let t = taken-added (a .s) (a .c) (add-last (a .s) (a .c) (held (o .before .before)) (none o) ∙ numbered-other (more j) n) in
-    both (ap Is (verdict-is j) ∙ t .0, j .before .store .ensures ∙ t .1)
+    both (ap Is (verdict-is j) ∙ t .0) (j .before .store .ensures ∙ t .1)
 
 pub add-spec : {M : Type 1} → statement M
 add-spec =
     tie.close
     (tie.spec
     hold-fault-requires
+    refused-requires
     returns
     last-fault-requires
+    refused-requires-2
     returns-2
     store-requires
     judge-requires
     number-requires
+    refused-requires-3
     returns-3
     returns-4)
