@@ -14,6 +14,7 @@ use Rattle.sheet.specs.Graph.{verdictOf}
 use Rattle.sketch.specs.Sketch.{notOver, extended}
 use Rattle.pattern.specs.Sheets.{onFacts}
 pub mod Laws
+pub mod Agree
 
 -- rule 11: the verdict is over
 unfoldable pub held : Facts → List ℕ → Field Facts

@@ -73,23 +73,28 @@ pub record Holds (bytes : List ℕ) (r : Reading) : Type 0 where
   pub facts-are : factsOf (r .sheet) ≡ facts
   pub no-fault : sheetFault (r .sheet) ≡ 0
 
-pub holding : (bytes : List ℕ) (r : Reading) → Bytes bytes → r ≡ asReading (heldSheet bytes) → r .outcome ≡ Took → Holds bytes r
+-- no rule refuses the facts
+pub held-accepted : (bytes : List ℕ) (f : Facts) (rest : List ℕ) → Bytes bytes → heldSheet bytes ≡ value f rest → Accepted f × (overFault f ≡ 0)
 unfolding heldSheet
+held-accepted bytes f rest all q =
+    next-value (readSheet bytes) held q (λ g t was e.
+    let v = held-value g t e in
+    (written-read bytes f rest all (was ∙ cc) .2, ap overFault (sym (v .0)) ∙ v .2))
+
+pub holding : (bytes : List ℕ) (r : Reading) → Bytes bytes → r ≡ asReading (heldSheet bytes) → r .outcome ≡ Took → Holds bytes r
 holding bytes r all e o =
     let (f, rest, q, s) = reading-accepted (heldSheet bytes) r e o in
-    next-value (readSheet bytes) held q (λ g t was e1.
-    let v = held-value g t e1 in
-    let h = written-read bytes f rest all (was ∙ cc) .2 in
+    let h = held-accepted bytes f rest all q in
     record {
       facts = f;
       rest = rest;
       holds = q;
-      accepted = h;
-      no-over = ap overFault (sym (v .0)) ∙ v .2;
+      accepted = h .0;
+      no-over = h .1;
       sheet-is = s;
       facts-are = ap factsOf s ∙ factsOf-sheetOf f;
-      no-fault = ap sheetFault s ∙ sheetOf-fault f h;
-    })
+      no-fault = ap sheetFault s ∙ sheetOf-fault f (h .0);
+    }
 
 -- ---- one more constraint
 
