@@ -26,6 +26,7 @@ extern "C" {
 #define PATTERN_MAX_ELEMENTS    64   /* points and lines of a sheet, numbered from 0 */
 #define PATTERN_MAX_CONSTRAINTS 200  /* constraints of a sheet, numbered from 0 */
 #define PATTERN_MAX_SHEET       1814 /* bytes of a sheet: with this room no sheet is refused by 17 */
+#define PATTERN_MAX_REPORT      3786 /* bytes of a report: with this room no report is refused by 17 */
 
 /* The rules that refuse, in checking order. */
 enum pattern_rule {
@@ -39,7 +40,12 @@ enum pattern_rule {
     PATTERN_MAP         = 8,  /* an unknown map bit, or no size for two points or two lines */
     PATTERN_SIZE        = 9,  /* the size is outside its range, a written 0 included */
     PATTERN_EXTRA       = 10, /* bytes follow the last constraint */
-    PATTERN_IS_OVER     = 11, /* the sheet is over, or the added constraint would make it so */
+    PATTERN_IS_OVER     = 11, /* the sheet is over, or an added constraint would make it so */
+    PATTERN_PLAN_COUNT  = 12, /* the count of numbers in a plan is not a multiple of three */
+    PATTERN_NO_CLUSTER  = 13, /* a step names a number that is no living cluster, or one twice */
+    PATTERN_SHARED      = 14, /* two clusters of a step share two or more elements */
+    PATTERN_NOT_OPEN    = 15, /* the clusters of a step do not otherwise make an open merge */
+    PATTERN_UNFINISHED  = 16, /* after the last step a merge is still open */
     PATTERN_ROOM        = 17  /* `out` is shorter than the answer */
 };
 
@@ -101,6 +107,21 @@ int32_t pattern_plan(const uint8_t *sheet, size_t len, uint16_t *out, size_t roo
  * answers 0. Tries rules 1 to 10, then 17. There are at most 125.
  */
 int32_t pattern_clusters(const uint8_t *sheet, size_t len, uint64_t *out, size_t room);
+
+/*
+ * The report of a sheet in ASCII lines: verdict, counts, the steps of the plan and the clusters that
+ * are left; of an over sheet the constraint and the part that pattern_over gives. Tries rules 1 to
+ * 10, then 17. Answers the count of bytes; no zero byte is put at the end.
+ */
+int32_t pattern_report(const uint8_t *sheet, size_t len, uint8_t *out, size_t room);
+
+/*
+ * Checks a plan that another program saved: three cluster numbers a step, in any order within it.
+ * Accepted if every step is an open merge and none is open at the end; then the report is that
+ * plan's, its steps in the saved order. Tries rules 1 to 10, 11, 12, each step by 13, 14 and 15,
+ * then 16, then 17. Answers the count of bytes.
+ */
+int32_t pattern_check_plan(const uint8_t *sheet, size_t len, const uint16_t *plan, size_t count, uint8_t *out, size_t room);
 
 /*
  * Adds one constraint to a sketch: writes the sheet with that constraint last. The constraint is

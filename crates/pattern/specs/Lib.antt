@@ -1,4 +1,5 @@
 -- What the entry points answer, by the bytes of a sheet.
 pub mod Sheets
 pub mod Judgements
+pub mod Plans
 pub mod Sketches

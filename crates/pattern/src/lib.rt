@@ -11,6 +11,8 @@ ghost use Rattle.writer.specs.Write.{writeAnswer, writeAfter};
 ghost use mathlib.Core.List.{[], _∷_};
 ghost use Rattle.space.specs.Space.{answer, after};
 ghost use Rattle.judge.specs.Judged.{planNumbers, finalClusters};
+ghost use Rattle.account.specs.Account.{reportOf};
+ghost use Rattle.pattern.specs.Plans.{checkAnswer, checkAfter};
 ghost use Rattle.pattern.specs.Judgements.{reckoned, judgementOf};
 ghost use Rattle.pattern.specs.Sheets.{rewriteAnswer, rewriteAfter, itemsAnswer, itemsAfter, overOfFacts};
 use answer::Verdict;
@@ -156,6 +158,32 @@ pub fn clusters(bytes: &[u8], out: &mut [u64]) -> Written
     let run = judged.run;
     let slots = run.slots;
     engine::put_clusters(&slots, 192, out)
+}
+
+// The report of a sheet, as bytes in lent space.
+pub fn report(bytes: &[u8], out: &mut [u8]) -> Written
+    ensures { λ r. ⌜ (r ≡ itemsAnswer reportOf (now (bytes .entry)) (now (out .entry))) × (now (out .exit) ≡ itemsAfter reportOf (now (bytes .entry)) (now (out .entry))) ⌝ }
+{
+    let reading = reader::read_sheet(bytes);
+    let outcome = reading.outcome;
+    let Outcome::Accepted = outcome else {
+        return Written::Refused(reader::refusal(outcome));
+    };
+    let sheet = reading.sheet;
+    account::report(sheet, out)
+}
+
+// The check of a saved plan, three numbers a step, against a sheet; the report for that plan, or the rule of 1 to 17 that refuses.
+pub fn check_plan(bytes: &[u8], plan: &[u16], out: &mut [u8]) -> Written
+    ensures { λ r. ⌜ (r ≡ checkAnswer (now (bytes .entry)) (now (plan .entry)) (now (out .entry))) × (now (out .exit) ≡ checkAfter (now (bytes .entry)) (now (plan .entry)) (now (out .entry))) ⌝ }
+{
+    let reading = reader::read_sheet(bytes);
+    let outcome = reading.outcome;
+    let Outcome::Accepted = outcome else {
+        return Written::Refused(reader::refusal(outcome));
+    };
+    let sheet = reading.sheet;
+    account::check_plan(sheet, plan, out)
 }
 
 // ---- a held sketch

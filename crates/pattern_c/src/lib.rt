@@ -4,6 +4,8 @@ ghost use mathlib.Core.Path.{_≡_};
 ghost use lib.ListN.{getD};
 ghost use Rattle.pattern.specs.Sheets.{rewriteAnswer, rewriteAfter, itemsAnswer, itemsAfter, overOfFacts};
 ghost use Rattle.writer.specs.Write.{writeAnswer, writeAfter};
+ghost use Rattle.account.specs.Account.{reportOf};
+ghost use Rattle.pattern.specs.Plans.{checkAnswer, checkAfter};
 ghost use Rattle.pattern.specs.Judgements.{judgementOf};
 ghost use Rattle.pattern.specs.Sketches.{extendAnswer, extendAfter};
 ghost use Rattle.judge.specs.Judged.{planNumbers, finalClusters};
@@ -177,6 +179,22 @@ pub extern "C" fn pattern_clusters(sheet: &[u8], out: &mut [u64]) -> i32
     ensures { λ r. ⌜ (r ≡ asCount (itemsAnswer finalClusters (now (sheet .entry)) (now (out .entry)))) × (now (out .exit) ≡ itemsAfter finalClusters (now (sheet .entry)) (now (out .entry))) ⌝ }
 {
     count(pattern::clusters(sheet, out))
+}
+
+// The report of a sheet, as bytes; or the rule of 1 to 10 and 17 that refuses it.
+#[no_mangle]
+pub extern "C" fn pattern_report(sheet: &[u8], out: &mut [u8]) -> i32
+    ensures { λ r. ⌜ (r ≡ asCount (itemsAnswer reportOf (now (sheet .entry)) (now (out .entry)))) × (now (out .exit) ≡ itemsAfter reportOf (now (sheet .entry)) (now (out .entry))) ⌝ }
+{
+    count(pattern::report(sheet, out))
+}
+
+// The check of a saved plan, three numbers a step: the report for that plan, or the rule of 1 to 17 that refuses.
+#[no_mangle]
+pub extern "C" fn pattern_check_plan(sheet: &[u8], plan: &[u16], out: &mut [u8]) -> i32
+    ensures { λ r. ⌜ (r ≡ asCount (checkAnswer (now (sheet .entry)) (now (plan .entry)) (now (out .entry)))) × (now (out .exit) ≡ checkAfter (now (sheet .entry)) (now (plan .entry)) (now (out .entry))) ⌝ }
+{
+    count(pattern::check_plan(sheet, plan, out))
 }
 
 // The sheet with one more constraint, given as its bytes in a sheet, or the rule of 1 to 11 and 17 that refuses them.

@@ -1,0 +1,91 @@
+use borrow.Author.Needs.{needs}
+use Prim.Native.Nat.{ℕ}
+use native.Mathlib.Omega.{arith}
+use mathlib.Core.Path.{_≡_, refl, sym, ap, _∙_, subst}
+use mathlib.Core.List.{List}
+use lib.ListN.{length, length-map}
+use Rattle.sheet.specs.Facts.{factsOf}
+use Rattle.sheet.specs.Graph.{clustersOf}
+use Rattle.theory.specs.Constraints.{NotOver}
+use Rattle.theory.specs.Over.Laws.{overOf-fine}
+use Rattle.plans.specs.declared.Checked.{Checked}
+use Rattle.plans.specs.Check.{checkOf}
+use Rattle.account.specs.Account.{Merged}
+use Rattle.account.specs.Account.Laws.{Fit, sheeted, fit}
+use Rattle.account.specs.Account.Answers.{saved-refused, Took, saved-taken}
+use Rattle.account.proofs.check_listed.Statement.{statement}
+use Rattle.account.proofs.check_listed.Tie as tie
+
+-- the sheet
+sheet-fits : (c : tie.Start) → Fit (c .args .s)
+sheet-fits c =
+    let h = sheeted (c .args .s) (sym (length-map (c .args .s .elements) _) ∙ c .good .0 .1 .1 .1 .1 .0 .1 .0 .1)
+    (sym (length-map (c .args .s .constraints) _) ∙ c .good .0 .1 .1 .1 .1 .1 .0 .1 .0 .1) (c .pre .0) in
+    fit (c .args .s) h (overOf-fine _ _ (h .paired) (h .below) (c .pre .1))
+
+slots-of-requires : tie.Need-slots-of-requires
+slots-of-requires c κs =
+    let h = sheet-fits (c .before .before .before) in
+    (omega (arith, h .few-constraints), h .ends)
+
+check-plan-requires : tie.Need-check-plan-requires
+check-plan-requires c κs =
+    let o = c .before .before .before .before in
+    let h = sheet-fits o in (
+      h .begins (c .slots-of .result) (c .slots-of .ensures),
+      subst NotOver (sym (h .begins-list (c .slots-of .result) (c .slots-of .ensures))) (h .notOver),
+    )
+
+enum-known-outcome : tie.Need-enum-known-outcome
+enum-known-outcome c = search needs
+
+enum-told : tie.Need-enum-told
+enum-told c = search needs
+
+-- what the check answers is the definition's, of the sheet's constraints
+checked : (c : tie.After-check-plan) → c .check-plan .result ≡ checkOf (clustersOf (factsOf (c .before .before .before .before .before .args .s))) (c .before .before .before .before .before .args .plan .now)
+checked c =
+    let o = c .before .before .before .before .before in
+    c .check-plan .ensures
+    ∙ ap (λ (cs : List ℕ). checkOf cs (o .args .plan .now)) (sheet-fits o .begins-list (c .before .slots-of .result) (c .before .slots-of .ensures))
+
+module _ (c : tie.After-put-list-arg) where
+  abbrev start : tie.Start
+  start = c .before .before .before .before .before .before .before .before .before
+
+  took : Took (factsOf (start .args .s)) (start .args .plan .now) (start .args .out .now) (start .pre .1) (c .before .before .before .before .check-plan .result) (checked (c .before .before .before .before))
+  took =
+      saved-taken (factsOf (start .args .s)) (start .args .plan .now) (start .args .out .now) (start .pre .1) (c .before .before .before .before .check-plan .result) (checked (c .before .before .before .before))
+      (c .before .enum-told .given .1)
+
+put-list-requires : tie.Need-put-list-requires
+put-list-requires c κs = (start c .pre .0, sheet-fits (start c) .notOver, record { p = _; valid = took c .valid; is = took c .is })
+
+returns : tie.Need-returns
+returns c =
+    let o = c .before .before .before .before .before .before .before .before .before in
+    let k = c .before .before .before .before in
+    let g = c .before .outcome .given in
+    saved-refused (factsOf (o .args .s)) (o .args .plan .now) (o .args .out .now) (o .pre .1) (k .check-plan .result) (checked k) (g .0 .0) (g .1)
+
+same-length : tie.Need-same-length
+same-length c = search needs
+
+returns-2 : tie.Need-returns-2
+returns-2 c =
+    let t = took (c .before .before .before) in
+    let w = c .before .before .put-list .ensures _ (t .valid) (t .is) in
+    (w .0 ∙ t .answer-is, w .1 ∙ t .after-is)
+
+pub check-listed-spec : {M : Type 1} → statement M
+check-listed-spec =
+    tie.close
+    (tie.spec
+    slots-of-requires
+    check-plan-requires
+    enum-known-outcome
+    enum-told
+    put-list-requires
+    returns
+    same-length
+    returns-2)

@@ -1,0 +1,96 @@
+use borrow.Author.Needs.{needs}
+use Prim.Native.Nat.{ℕ}
+use native.Mathlib.Omega.{arith}
+use mathlib.Core.Path.{_≡_, refl, sym, ap, _∙_}
+use mathlib.Core.List.{List}
+use lib.ListN.{length, length-map}
+use Rattle.sheet.specs.Facts.{Facts, factsOf}
+use Rattle.space.specs.Space.{answer, after}
+use Rattle.judge.specs.Judged.Laws.{length-clusters}
+use Rattle.report.specs.Report.{overReport}
+use Rattle.account.specs.Account.{Merged, reportOf}
+use Rattle.account.specs.Account.Laws.{Sheeted, sheeted}
+use Rattle.account.specs.Account.Answers.{OverFound, over-found, PlanFound, plan-found}
+use Rattle.account.proofs.report.Statement.{statement}
+use Rattle.account.proofs.report.Tie as tie
+
+judge-requires : tie.Need-judge-requires
+judge-requires c κs = search needs
+
+number-requires : tie.Need-number-requires
+number-requires c κs = search needs
+
+-- the sheet
+fine : (c : tie.Start) → Sheeted (c .args .s)
+fine c =
+    sheeted (c .args .s) (sym (length-map (c .args .s .elements) _) ∙ c .good .0 .1 .1 .1 .1 .0 .1 .0 .1)
+    (sym (length-map (c .args .s .constraints) _) ∙ c .good .0 .1 .1 .1 .1 .1 .0 .1 .0 .1) (c .pre)
+
+-- over
+module _ (c : tie.After-write-over-report-arg) where
+  abbrev start-over : tie.Start
+  start-over = c .before .before .before .before .before
+
+  over : OverFound (factsOf (start-over .args .s)) (fine start-over .paired) (fine start-over .below) (c .before .before .before .judge .result) (c .before .before .before .judge .ensures)
+  over =
+      over-found (factsOf (start-over .args .s)) (fine start-over .paired) (fine start-over .below) (c .before .before .before .judge .result) (c .before .before .before .judge .ensures)
+      (sym (c .before .before .number .ensures) ∙ c .before .if1 .taken)
+
+write-over-report-requires : tie.Need-write-over-report-requires
+write-over-report-requires c κs =
+    let b = fine (start-over c) .in-blocks in
+    (omega (arith, b .elements-most), omega (arith, b .most), omega (arith, over c .first-below, length-clusters (factsOf (start-over c .args .s)), b .count, b .most))
+
+same-length : tie.Need-same-length
+same-length c = search needs
+
+same : {A : Type 0} (g : List ℕ → A) (f : Facts) (n e c x : ℕ) → length (f .elements) ≡ n → length (f .constraints) ≡ e
+    → overReport (length (f .elements)) (length (f .constraints)) c x ≡ reportOf f → g (overReport n e c x) ≡ g (reportOf f)
+same g f n e c x p q h = ap g (rw (p, q) at h)
+
+returns : tie.Need-returns
+returns c =
+    let a = c .before .before .before in
+    let o = start-over a in
+    let b = fine o .in-blocks in
+    let w = c .before .before .write-over-report .ensures in
+    let s = o .args .out .now in (
+      w .0 ∙ same (λ l. answer l s) (factsOf (o .args .s)) _ _ _ _ (b .elements-count) (b .count) (over a .report-is),
+      w .1 ∙ same (λ l. after l s) (factsOf (o .args .s)) _ _ _ _ (b .elements-count) (b .count) (over a .report-is),
+    )
+
+-- not over
+module _ (c : tie.After-put-list-arg) where
+  abbrev start-plan : tie.Start
+  start-plan = c .before .before .before .before .before .before
+
+  plan : PlanFound (factsOf (start-plan .args .s)) (fine start-plan .paired) (fine start-plan .below) (c .before .before .before .before .judge .result) (c .before .before .before .before .judge .ensures)
+  plan =
+      plan-found (factsOf (start-plan .args .s)) (fine start-plan .paired) (fine start-plan .below) (c .before .before .before .before .judge .result) (c .before .before .before .before .judge .ensures)
+      (λ v. c .before .before .if1 .left (c .before .before .before .number .ensures ∙ v))
+
+put-list-requires : tie.Need-put-list-requires
+put-list-requires c κs = (start-plan c .pre, plan c .notOver, record { p = _; valid = plan c .valid; is = plan c .is })
+
+same-length-2 : tie.Need-same-length-2
+same-length-2 c = search needs
+
+returns-2 : tie.Need-returns-2
+returns-2 c =
+    let a = c .before .before .before in
+    let o = start-plan a in
+    let w = c .before .before .put-list .ensures _ (plan a .valid) (plan a .is) in
+    (w .0 ∙ ap (λ (l : List ℕ). answer l (o .args .out .now)) (plan a .report-is), w .1 ∙ ap (λ (l : List ℕ). after l (o .args .out .now)) (plan a .report-is))
+
+pub report-spec : {M : Type 1} → statement M
+report-spec =
+    tie.close
+    (tie.spec
+    judge-requires
+    number-requires
+    write-over-report-requires
+    same-length
+    returns
+    put-list-requires
+    same-length-2
+    returns-2)

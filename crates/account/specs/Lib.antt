@@ -1,0 +1,4 @@
+-- The report of a sheet's facts, and the sheets to try.
+pub mod Account
+pub mod Table
+pub mod Own

@@ -1,0 +1,79 @@
+-- Document 01, "Sheets to try": the sheets marked P, each with its facts and the whole report that it prints, and one theorem over the table.
+use Prim.Native.Nat.{ℕ}
+use mathlib.Core.Path.{_≡_, refl}
+use mathlib.Core.List.{List, [], _∷_, map}
+use lib.IntN.{ℤ, pos}
+use Rattle.space.specs.Text.{ascii}
+use Rattle.sheet.specs.declared.Size.{Size}
+use Rattle.sheet.specs.declared.Size.the-variants.{Given, Missing}
+use Rattle.sheet.specs.declared.Tag.the-variants.{Missing as NoTag}
+use Rattle.sheet.specs.declared.Constraint.{Constraint}
+use Rattle.sheet.specs.Facts.{Facts, sheetOf, elementsOf}
+use Rattle.sheet.specs.Rules.{sheetFault}
+use Rattle.account.specs.Account.{reportOf}
+pub mod Proof
+
+-- n elements, those of the set `lines` lines
+abbrev pub of : ℕ → ℕ → List Constraint → Facts
+of n lines cs = record { elements = elementsOf n lines; constraints = cs }
+
+-- a distance or an angle, and a point on a line
+abbrev pub sized : ℕ → ℕ → ℕ → Constraint
+sized u v size = record { first = u; second = v; size = Given (pos size); tag = NoTag }
+
+abbrev pub on : ℕ → ℕ → Constraint
+on u v = record { first = u; second = v; size = Missing; tag = NoTag }
+
+pub record Row : Type 0 where
+  pub facts : Facts
+  pub prints : List ℕ
+
+abbrev pub row : Facts → List ℕ → Row
+row f text = record { facts = f; prints = text }
+
+-- pairs (0,1), (0,2), (1,2), (1,3), (2,3), all of size 300, and what follows them
+abbrev pub reports : List Constraint → List Constraint
+reports more = sized 0 1 300 ∷ sized 0 2 300 ∷ sized 1 2 300 ∷ sized 1 3 300 ∷ sized 2 3 300 ∷ more
+
+-- three points with these distances
+abbrev pub triangle : ℕ → ℕ → ℕ → Facts
+triangle a b c = of 3 0 (sized 0 1 a ∷ sized 0 2 b ∷ sized 1 2 c ∷ [])
+
+-- line 0 and points 1 and 2, point 1 on the line, point 2 at 300 from it
+abbrev pub foot : ℕ → Facts
+foot d = of 3 1 (on 0 1 ∷ sized 0 2 300 ∷ sized 1 2 d ∷ [])
+
+abbrev pub table : List Row
+table =
+    -- n 2, no constraint: under, no cluster
+    row (of 2 0 []) (ascii "verdict under\nelements 2 constraints 0\n")
+    -- one constraint: well, no step
+    ∷ row (of 2 0 (sized 0 1 300 ∷ [])) (ascii "verdict well\nelements 2 constraints 1\ncluster 0 holds 0 1\n")
+    -- pairs (0,1), (0,2), (0,3): under, three clusters, since all share one point
+    ∷ row (of 4 0 (sized 0 1 300 ∷ sized 0 2 300 ∷ sized 0 3 300 ∷ []))
+    (ascii "verdict under\nelements 4 constraints 3\ncluster 0 holds 0 1\ncluster 1 holds 0 2\ncluster 2 holds 0 3\n")
+    -- three lines, three angles: angle
+    ∷ row (of 3 7 (sized 0 1 6000 ∷ sized 0 2 6000 ∷ sized 1 2 6000 ∷ []))
+    (ascii "verdict angle\nelements 3 constraints 3\nstep 3 from 0 1 2 joint 0 1 2 kind lll ways ?\ncluster 3 holds 0 1 2\n")
+    -- the report's sheet
+    ∷ row (of 4 0 (reports []))
+    (ascii "verdict well\nelements 4 constraints 5\nstep 5 from 0 1 2 joint 0 1 2 kind ppp ways 2\nstep 6 from 3 4 5 joint 1 2 3 kind ppp ways ?\ncluster 6 holds 0 1 2 3\n")
+    -- the same with (0,3) added last: over, first 5, set 0 1 2 3
+    ∷ row (of 4 0 (reports (sized 0 3 300 ∷ []))) (ascii "verdict over\nelements 4 constraints 6\nfirst 5\nset 0 1 2 3\n")
+    -- that with a fifth, unconstrained point: still over, though 6 is below 7
+    ∷ row (of 5 0 (reports (sized 0 3 300 ∷ []))) (ascii "verdict over\nelements 5 constraints 6\nfirst 5\nset 0 1 2 3\n")
+    -- each of 0, 1, 2 with each of 3, 4, 5: stuck, no step
+    ∷ row (of 6 0 (sized 0 3 300 ∷ sized 0 4 300 ∷ sized 0 5 300 ∷ sized 1 3 300 ∷ sized 1 4 300 ∷ sized 1 5 300 ∷ sized 2 3 300 ∷ sized 2 4 300 ∷ sized 2 5 300 ∷ []))
+    (ascii "verdict stuck\nelements 6 constraints 9\ncluster 0 holds 0 3\ncluster 1 holds 0 4\ncluster 2 holds 0 5\ncluster 3 holds 1 3\ncluster 4 holds 1 4\ncluster 5 holds 1 5\ncluster 6 holds 2 3\ncluster 7 holds 2 4\ncluster 8 holds 2 5\n")
+    -- line 0, points 1 and 2; (0,1) without size, (0,2) 300, (1,2) 300: ways 1; (1,2) 299: ways 0
+    ∷ row (foot 300) (ascii "verdict well\nelements 3 constraints 3\nstep 3 from 0 1 2 joint 0 1 2 kind ppl ways 1\ncluster 3 holds 0 1 2\n")
+    ∷ row (foot 299) (ascii "verdict well\nelements 3 constraints 3\nstep 3 from 0 1 2 joint 0 1 2 kind ppl ways 0\ncluster 3 holds 0 1 2\n")
+    -- distances 100, 200, 300: ways 1; 100, 200, 301: ways 0
+    ∷ row (triangle 100 200 300) (ascii "verdict well\nelements 3 constraints 3\nstep 3 from 0 1 2 joint 0 1 2 kind ppp ways 1\ncluster 3 holds 0 1 2\n")
+    ∷ row (triangle 100 200 301) (ascii "verdict well\nelements 3 constraints 3\nstep 3 from 0 1 2 joint 0 1 2 kind ppp ways 0\ncluster 3 holds 0 1 2\n")
+    ∷ []
+
+-- no rule refuses any of them, and each prints its report
+pub record Printed : Type 0 where
+  pub accepted : map (λ (r : Row). sheetFault (sheetOf (r .facts))) table ≡ map (λ (r : Row). 0) table
+  pub prints : map (λ (r : Row). reportOf (r .facts)) table ≡ map (λ (r : Row). r .prints) table

@@ -1,0 +1,63 @@
+use borrow.Author.Needs.{needs}
+use mathlib.Core.Path.{_≡_, refl, sym, ap, _∙_}
+use Rattle.sheet.specs.Facts.{Facts}
+use Rattle.sheet.specs.Field.{Bytes}
+use Rattle.reader.specs.Answers.{outcomeNumber}
+use Rattle.space.specs.declared.Written.the-variants.{Refused}
+use Rattle.space.specs.Space.{answer, after}
+use Rattle.account.specs.Account.{reportOf}
+use Rattle.pattern.specs.Sheets.Laws.{FactsRead, facts-read, refusal-read, items-refused, items-given}
+use Rattle.pattern.proofs.report.Statement.{statement}
+use Rattle.pattern.proofs.report.Tie as tie
+
+read-sheet-requires : tie.Need-read-sheet-requires
+read-sheet-requires c κs = search needs
+
+enum-told : tie.Need-enum-told
+enum-told c = search needs
+
+enum-told-2 : tie.Need-enum-told-2
+enum-told-2 c = search needs
+
+refusal-requires : tie.Need-refusal-requires
+refusal-requires c κs = search needs
+
+returns : tie.Need-returns
+returns c =
+    let a = c .before .before .before .before .before .before .args in
+    let r = c .before .before .before .read-sheet in
+    let t = c .before .enum-told2 .given in
+    let g = items-refused reportOf (a .bytes .now) (a .out .now) (t .0 .0) (refusal-read (a .bytes .now) (r .result) (t .0 .0) (r .ensures) (t .1)) in
+    (ap Refused (c .refusal .ensures ∙ ap outcomeNumber (t .1)) ∙ g .0, g .1)
+
+-- the facts of the sheet
+read : (c : tie.After-report-arg) → FactsRead (c .before .before .before .before .before .before .before .args .bytes .now) (c .before .before .before .before .read-sheet .result)
+read c =
+    let all : Bytes (c .before .before .before .before .before .before .before .args .bytes .now) = record { each = λ i. c .before .before .before .before .before .before .shared-slice-known .given i .fits } in
+    facts-read (c .before .before .before .before .before .before .before .args .bytes .now) (c .before .before .before .before .read-sheet .result) all (c .before .before .before .before .read-sheet .ensures) (c .before .before .enum-told .given .1)
+
+report-requires : tie.Need-report-requires
+report-requires c κs = read c .no-fault
+
+same-length : tie.Need-same-length
+same-length c = search needs
+
+returns-2 : tie.Need-returns-2
+returns-2 c =
+    let f = read (c .before .before .before) in
+    let w = c .before .before .report .ensures in
+    let g = items-given reportOf _ _ (f .facts) (f .rest) _ (f .reads) (sym (ap reportOf (f .facts-are))) in
+    (w .0 ∙ g .0, w .1 ∙ g .1)
+
+pub report-spec : {M : Type 1} → statement M
+report-spec =
+    tie.close
+    (tie.spec
+    read-sheet-requires
+    enum-told
+    enum-told-2
+    refusal-requires
+    returns
+    report-requires
+    same-length
+    returns-2)

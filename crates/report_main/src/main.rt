@@ -1,0 +1,13 @@
+// Reads a sheet from standard input, at most 1,815 bytes, and prints its report; of a refused one the line "refused" and the rule's number.
+use libc::STDIN_FILENO;
+
+// Room for the longest report: rule 17 is never met.
+const ROOM: usize = 3786;
+
+fn main() {
+    let mut sheet = [0u8; 1815];
+    let n = io::read_full(STDIN_FILENO, &mut sheet);
+    let mut out = [0u8; ROOM];
+    let written = pattern::report(&sheet[..n], &mut out);
+    console::print(written, &out);
+}
