@@ -40,7 +40,7 @@ enum pattern_rule {
     PATTERN_MAP         = 8,  /* an unknown map bit, or no size for two points or two lines */
     PATTERN_SIZE        = 9,  /* the size is outside its range, a written 0 included */
     PATTERN_EXTRA       = 10, /* bytes follow the last constraint */
-    PATTERN_IS_OVER     = 11, /* a plan is checked against a sheet whose verdict is over */
+    PATTERN_IS_OVER     = 11, /* the sheet is over, or an added constraint would make it so */
     PATTERN_PLAN_COUNT  = 12, /* the count of numbers in a plan is not a multiple of three */
     PATTERN_NO_CLUSTER  = 13, /* a step names a number that is no living cluster, or one twice */
     PATTERN_SHARED      = 14, /* two clusters of a step share two or more elements */
@@ -122,6 +122,18 @@ int32_t pattern_report(const uint8_t *sheet, size_t len, uint8_t *out, size_t ro
  * then 16, then 17. Answers the count of bytes.
  */
 int32_t pattern_check_plan(const uint8_t *sheet, size_t len, const uint16_t *plan, size_t count, uint8_t *out, size_t room);
+
+/*
+ * Adds one constraint to a sketch: writes the sheet with that constraint last. The constraint is
+ * given as its bytes in a sheet: first end, second end, map, then the size and the tag that the map
+ * names. Tries rules 1 to 11 of the sheet, then 2 and 6 to 9 in the order of the constraint's
+ * fields, 10 where bytes follow them, 11, and 17. Answers the count of bytes; pattern_verdict of
+ * them is the sketch's new verdict.
+ */
+int32_t pattern_add(
+    const uint8_t *sheet, size_t len,
+    const uint8_t *constraint, size_t constraint_len,
+    uint8_t *out, size_t room);
 
 #ifdef __cplusplus
 }

@@ -2,3 +2,4 @@
 pub mod Sheets
 pub mod Judgements
 pub mod Plans
+pub mod Sketches

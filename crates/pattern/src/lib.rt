@@ -1,7 +1,12 @@
 // The public crate: every entry point that a user calls, each with its whole contract and no precondition. specs/ says what each answers.
 ghost use mathlib.Core.Path.{_≡_};
 ghost use Rattle.sheet.specs.Decode.{readSheet};
-ghost use Rattle.reader.specs.Answers.{asReading};
+ghost use Rattle.sheet.specs.Facts.{factsOf};
+ghost use Rattle.sheet.specs.Field.{refused};
+ghost use Rattle.sheet.specs.Rules.{sheetFault};
+ghost use Rattle.reader.specs.Answers.{asReading, asConstraint};
+ghost use Rattle.sketch.specs.Sketch.{addedOf};
+ghost use Rattle.pattern.specs.Sketches.{heldSheet, lastConstraint, extendAnswer, extendAfter};
 ghost use Rattle.writer.specs.Write.{writeAnswer, writeAfter};
 ghost use mathlib.Core.List.{[], _∷_};
 ghost use Rattle.space.specs.Space.{answer, after};
@@ -12,9 +17,17 @@ ghost use Rattle.pattern.specs.Judgements.{reckoned, judgementOf};
 ghost use Rattle.pattern.specs.Sheets.{rewriteAnswer, rewriteAfter, itemsAnswer, itemsAfter, overOfFacts};
 use answer::Verdict;
 use judge::Judged;
+use reader::ConstraintRead;
+use reader::Cursor;
 use reader::Outcome;
 use reader::Reading;
+use sheet::Constraint;
+use sheet::Element;
+use sheet::Kind;
 use sheet::Sheet;
+use sheet::Size;
+use sheet::Tag;
+use sketch::Added;
 use space::Written;
 use sparsity::Over;
 
@@ -171,4 +184,97 @@ pub fn check_plan(bytes: &[u8], plan: &[u16], out: &mut [u8]) -> Written
     };
     let sheet = reading.sheet;
     account::check_plan(sheet, plan, out)
+}
+
+// ---- a held sketch
+
+// A refused reading, with the blank sheet.
+fn refuse(k: u8) -> Reading
+    ensures { λ r. ⌜ r ≡ asReading (refused k) ⌝ }
+{
+    let point = Element { kind: Kind::Point };
+    let none = Constraint {
+        first: 0,
+        second: 0,
+        size: Size::Missing,
+        tag: Tag::Missing,
+    };
+    let elements = [point; 64];
+    let constraints = [none; 200];
+    Reading {
+        outcome: Outcome::Refused(k),
+        sheet: Sheet {
+            n: 0,
+            e: 0,
+            elements,
+            constraints,
+        },
+    }
+}
+
+// The sketch held from a sheet, or the rule of 1 to 11 that refuses it.
+pub fn hold(bytes: &[u8]) -> Reading
+    ensures { λ r. ⌜ r ≡ asReading (heldSheet (now (bytes .entry))) ⌝ }
+{
+    let reading = reader::read_sheet(bytes);
+    let outcome = reading.outcome;
+    let Outcome::Accepted = outcome else {
+        return reading;
+    };
+    let sheet = reading.sheet;
+    let over = sketch::over_fault(sheet);
+    if over != 0 {
+        return refuse(over);
+    }
+    reading
+}
+
+// A held sketch with one more constraint and its verdict, or the rule of 6 to 9 and 11 that refuses it; of a value that no sketch may hold, the rule
+// of 3, 5 to 9 and 11 that refuses to hold it.
+pub fn add(held: Sheet, c: Constraint) -> Added
+    ensures { λ r. ⌜ r ≡ addedOf held c ⌝ }
+{
+    sketch::add(held, c)
+}
+
+// One more constraint of a sheet as bytes, or the rule of 2 and 6 to 10 that refuses it.
+fn read_last(sheet: Sheet, bytes: &[u8]) -> ConstraintRead
+    requires { ⌜ sheetFault sheet ≡ 0 ⌝ }
+    ensures { λ r. ⌜ asConstraint (now (bytes .entry)) r ≡ lastConstraint (factsOf sheet) (now (bytes .entry)) ⌝ }
+{
+    let n = sheet.n;
+    let elements = sheet.elements;
+    let lines = sheet::lines_of(elements, n);
+    let pairs = sketch::pairs_of(sheet);
+    let got = reader::read_constraint(bytes, Cursor { at: 0 }, &pairs, n, lines);
+    let ConstraintRead::Value(_, after) = got else {
+        return got;
+    };
+    let end = after.at;
+    if end < bytes.len() {
+        return ConstraintRead::Refused(10);
+    }
+    got
+}
+
+// A sheet with one more constraint, both as bytes, or the rule of 1 to 11 and 17 that refuses them.
+pub fn extend(bytes: &[u8], constraint: &[u8], out: &mut [u8]) -> Written
+    ensures { λ r. ⌜ (r ≡ extendAnswer (now (bytes .entry)) (now (constraint .entry)) (now (out .entry))) × (now (out .exit) ≡ extendAfter (now (bytes .entry)) (now (constraint .entry)) (now (out .entry))) ⌝ }
+{
+    let reading = hold(bytes);
+    let outcome = reading.outcome;
+    let Outcome::Accepted = outcome else {
+        return Written::Refused(reader::refusal(outcome));
+    };
+    let sheet = reading.sheet;
+    let got = read_last(sheet, constraint);
+    let ConstraintRead::Value(last, _) = got else {
+        return Written::Refused(got.refusal());
+    };
+    let more = sketch::store(sheet, last);
+    let fault = sketch::over_fault(more);
+    if fault != 0 {
+        return Written::Refused(fault);
+    }
+    writer::write_accepted(more, out)
 }

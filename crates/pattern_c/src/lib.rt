@@ -7,6 +7,7 @@ ghost use Rattle.writer.specs.Write.{writeAnswer, writeAfter};
 ghost use Rattle.account.specs.Account.{reportOf};
 ghost use Rattle.pattern.specs.Plans.{checkAnswer, checkAfter};
 ghost use Rattle.pattern.specs.Judgements.{judgementOf};
+ghost use Rattle.pattern.specs.Sketches.{extendAnswer, extendAfter};
 ghost use Rattle.judge.specs.Judged.{planNumbers, finalClusters};
 ghost use Rattle.pattern_c.specs.Numbers.{asCount, asNumber};
 ghost use Rattle.pattern_c.specs.Columns.{sizeIn, tagIn, constraintIn, constraintsIn, sheetIn};
@@ -194,4 +195,12 @@ pub extern "C" fn pattern_check_plan(sheet: &[u8], plan: &[u16], out: &mut [u8])
     ensures { λ r. ⌜ (r ≡ asCount (checkAnswer (now (sheet .entry)) (now (plan .entry)) (now (out .entry)))) × (now (out .exit) ≡ checkAfter (now (sheet .entry)) (now (plan .entry)) (now (out .entry))) ⌝ }
 {
     count(pattern::check_plan(sheet, plan, out))
+}
+
+// The sheet with one more constraint, given as its bytes in a sheet, or the rule of 1 to 11 and 17 that refuses them.
+#[no_mangle]
+pub extern "C" fn pattern_add(sheet: &[u8], constraint: &[u8], out: &mut [u8]) -> i32
+    ensures { λ r. ⌜ (r ≡ asCount (extendAnswer (now (sheet .entry)) (now (constraint .entry)) (now (out .entry)))) × (now (out .exit) ≡ extendAfter (now (sheet .entry)) (now (constraint .entry)) (now (out .entry))) ⌝ }
+{
+    count(pattern::extend(sheet, constraint, out))
 }

@@ -1,5 +1,4 @@
-//! Reports, saved plans and held sketches beside the reference: `pattern_report`, `pattern_check_plan` and
-//! `pattern_add`.
+//! Reports and saved plans beside the reference: `pattern_report` and `pattern_check_plan`.
 
 use std::process::ExitCode;
 
@@ -25,7 +24,6 @@ fn main() -> ExitCode {
             count(&mut run, &sheet, judged);
             plans(&mut run, &sheet, judged);
         }
-        additions(&mut run, &sheet);
         let damaged = damage::aimed(&sheet, &mut run.random);
         calls::report(&mut run, &damaged, &Found::of(&damaged));
         calls::check_plan(&mut run, &damaged, &[0, 1, 2]);
@@ -38,7 +36,6 @@ fn main() -> ExitCode {
     }
     rules((1..=10).chain([17])).for_each(|rule| run.must("pattern_report", &rule, 100));
     rules((1..=13).chain([15, 16, 17])).for_each(|rule| run.must("pattern_check_plan", &rule, 100));
-    rules((1..=11).chain([17])).for_each(|rule| run.must("pattern_add", &rule, 100));
     run.finish()
 }
 
@@ -73,19 +70,4 @@ fn plans(run: &mut Run, sheet: &Sheet, judged: &Judged) {
 fn accepted(run: &mut Run, bytes: &[u8], plan: &[u16]) {
     let refused = calls::check_plan(run, bytes, plan);
     run.same("reference", &format_args!("{plan:?}"), refused, None);
-}
-
-/// Compares a held sketch's next constraint: sound, changed, followed by more, cut, and to a damaged sheet.
-fn additions(run: &mut Run, sheet: &Sheet) {
-    let bytes = writer::bytes(sheet);
-    let sound = writer::constraint_bytes(&dress::next(&sheet.kinds, &mut run.random));
-    calls::add(run, &bytes, &sound);
-    let changed = damage::changed(&sound, &mut run.random);
-    calls::add(run, &bytes, &changed);
-    let appended = damage::appended(&sound, &mut run.random);
-    calls::add(run, &bytes, &appended);
-    let cut = run.random.below(sound.len());
-    calls::add(run, &bytes, &sound[..cut]);
-    let damaged = damage::aimed(sheet, &mut run.random);
-    calls::add(run, &damaged, &sound);
 }

@@ -2,14 +2,12 @@
 use Prim.Native.Nat.{ℕ, _≤_}
 use mathlib.Core.Path.{_≡_, refl, sym, ap, _∙_}
 use native.Mathlib.Omega.{arith}
-use mathlib.Core.List.{List, []}
-use borrow.Author.Tests.{eq-eqb}
+use mathlib.Core.List.{List}
 use lib.ListN.{length}
 use lib.Seq.{sets}
 use Rattle.space.specs.Space.Laws.{put-all, put-after, long-answer}
 use Rattle.space.specs.declared.Written.the-variants.{Done, Refused}
 use Rattle.space.specs.Space.{answer, after}
-use Rattle.sheet.specs.declared.Sheet.{Sheet}
 use Rattle.sheet.specs.Facts.{Facts, sheetOf, factsOf}
 use Rattle.sheet.specs.Rules.{sheetFault}
 use Rattle.sheet.specs.Accepted.{Accepted}
@@ -18,11 +16,37 @@ use Rattle.sheet.specs.Decode.{readSheet}
 use Rattle.sheet.specs.Encode.{sheetBytes}
 use Rattle.sheet.specs.RoundTrip.{written-read}
 use Rattle.sheet.specs.RoundTrip.Blocks.{factsOf-sheetOf, sheetOf-fault}
-use Rattle.reader.specs.declared.Outcome.{Outcome}
 use Rattle.reader.specs.declared.Outcome.the-variants.{Accepted as Took, Refused as Stopped}
 use Rattle.reader.specs.declared.Reading.{Reading}
 use Rattle.reader.specs.Answers.{asReading}
 use Rattle.pattern.specs.Sheets.{rewriteAnswer, rewriteAfter, itemsAnswer, itemsAfter}
+
+-- ---- what a reading says of the field that it answers
+
+module _ (x : Field Facts) (r : Reading) (e : r ≡ asReading x) where
+  -- one that is refused has the number of the rule
+  pub reading-refused : (k : ℕ) → r .outcome ≡ Stopped k → x ≡ refused k
+  reading-refused k o = go x refl
+    where
+      go : (f : Field Facts) → x ≡ f → x ≡ refused k
+      go (value f rest) q = absurd (never (sym o ∙ ap (λ (y : Reading). y .outcome) (e ∙ ap asReading q)))
+        where
+          never : Stopped k ≡ Took → ⊥
+          never p = let z : _≡_ {A = ℕ} 0 1 = cc in omega arith
+      go (refused j) q =
+          let s : Stopped k ≡ Stopped j = sym o ∙ ap (λ (y : Reading). y .outcome) (e ∙ ap asReading q) in
+          let n : k ≡ j = cc in q ∙ ap refused (sym n)
+
+  -- one that is accepted has the facts
+  pub reading-accepted : r .outcome ≡ Took → (f : Facts) × (rest : List ℕ) × (x ≡ value f rest) × (r .sheet ≡ sheetOf f)
+  reading-accepted o = go x refl
+    where
+      go : (f : Field Facts) → x ≡ f → (f : Facts) × (rest : List ℕ) × (x ≡ value f rest) × (r .sheet ≡ sheetOf f)
+      go (value f rest) q = (f, rest, q, ap (λ (y : Reading). y .sheet) (e ∙ ap asReading q))
+      go (refused k) q = absurd (never (sym o ∙ ap (λ (y : Reading). y .outcome) (e ∙ ap asReading q)))
+        where
+          never : Took ≡ Stopped k → ⊥
+          never p = let z : _≡_ {A = ℕ} 0 1 = cc in omega arith
 
 -- a reading that is accepted has the facts of the bytes, and no rule refuses them
 pub record FactsRead (bytes : List ℕ) (r : Reading) : Type 0 where
@@ -35,40 +59,22 @@ pub record FactsRead (bytes : List ℕ) (r : Reading) : Type 0 where
   pub no-fault : sheetFault (r .sheet) ≡ 0
 
 pub facts-read : (bytes : List ℕ) (r : Reading) → Bytes bytes → r ≡ asReading (readSheet bytes) → r .outcome ≡ Took → FactsRead bytes r
-facts-read bytes r all e o = go (readSheet bytes) refl
-  where
-    found : (f : Facts) (rest : List ℕ) → readSheet bytes ≡ value f rest → r .sheet ≡ sheetOf f → FactsRead bytes r
-    found f rest q s =
-        let h = written-read bytes f rest all q .2 in
-        record {
-          facts = f;
-          rest = rest;
-          reads = q;
-          accepted = h;
-          sheet-is = s;
-          facts-are = ap factsOf s ∙ factsOf-sheetOf f;
-          no-fault = ap sheetFault s ∙ sheetOf-fault f h;
-        }
-
-    go : (f : Field Facts) → readSheet bytes ≡ f → FactsRead bytes r
-    go (value f rest) q = found f rest q (ap (λ (x : Reading). x .sheet) (e ∙ ap asReading q))
-    go (refused k) q = absurd (never (sym o ∙ ap (λ (x : Reading). x .outcome) (e ∙ ap asReading q)))
-      where
-        never : Took ≡ Stopped k → ⊥
-        never p = let z : _≡_ {A = ℕ} 0 1 = cc in omega arith
+facts-read bytes r all e o =
+    let (f, rest, q, s) = reading-accepted (readSheet bytes) r e o in
+    let h = written-read bytes f rest all q .2 in
+    record {
+      facts = f;
+      rest = rest;
+      reads = q;
+      accepted = h;
+      sheet-is = s;
+      facts-are = ap factsOf s ∙ factsOf-sheetOf f;
+      no-fault = ap sheetFault s ∙ sheetOf-fault f h;
+    }
 
 -- one that is refused has the number of the rule
 pub refusal-read : (bytes : List ℕ) (r : Reading) (k : ℕ) → r ≡ asReading (readSheet bytes) → r .outcome ≡ Stopped k → readSheet bytes ≡ refused k
-refusal-read bytes r k e o = go (readSheet bytes) refl
-  where
-    go : (f : Field Facts) → readSheet bytes ≡ f → readSheet bytes ≡ refused k
-    go (value f rest) q = absurd (never (sym o ∙ ap (λ (x : Reading). x .outcome) (e ∙ ap asReading q)))
-      where
-        never : Stopped k ≡ Took → ⊥
-        never p = let z : _≡_ {A = ℕ} 0 1 = cc in omega arith
-    go (refused j) q =
-        let s : Stopped k ≡ Stopped j = sym o ∙ ap (λ (x : Reading). x .outcome) (e ∙ ap asReading q) in
-        let n : k ≡ j = cc in q ∙ ap refused (sym n)
+refusal-read bytes r k e o = reading-refused (readSheet bytes) r e k o
 
 -- an accepted sheet's own bytes are written again
 module _ (bytes space : List ℕ) (r : Reading) (all : Bytes bytes) (h : FactsRead bytes r) where

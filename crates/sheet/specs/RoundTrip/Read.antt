@@ -97,13 +97,13 @@ dimension-front a b p s h e =
       rest = g .rest;
     })))))
 
-record ConstraintFront (elements : List Element) (done : List Constraint) (s : List ℕ) (c : Constraint) (t : List ℕ) : Type 0 where
-  front : s ≡ constraintBytes c ++ t
-  taken : constraintFault elements done c ≡ 0
-  below : tagNumber (c .tag) < 2 ^ 16
-  rest : Bytes t
+pub record ConstraintFront (elements : List Element) (done : List Constraint) (s : List ℕ) (c : Constraint) (t : List ℕ) : Type 0 where
+  pub front : s ≡ constraintBytes c ++ t
+  pub taken : constraintFault elements done c ≡ 0
+  pub below : tagNumber (c .tag) < 2 ^ 16
+  pub rest : Bytes t
 
-constraint-front : (elements : List Element) (done : List Constraint) (s : List ℕ) {c : Constraint} {t : List ℕ} → Bytes s
+pub constraint-front : (elements : List Element) (done : List Constraint) (s : List ℕ) {c : Constraint} {t : List ℕ} → Bytes s
     → constraint elements done s ≡ value c t → ConstraintFront elements done s c t
 unfolding constraint constraintBytes constraintFault
 constraint-front elements done s {c} h e =

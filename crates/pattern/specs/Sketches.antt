@@ -1,0 +1,45 @@
+-- A held sketch by bytes: those of a sheet, and those of one more constraint as a sheet has them. Document 01, "A held sketch" and "Refused": rules 1
+-- to 11 of the sheet; then 2 and 6 to 9 of the constraint's fields, 10 of bytes that follow them, and 11.
+use Prim.Native.Nat.{ℕ}
+use mathlib.Core.List.{List, [], _∷_}
+use Rattle.space.specs.declared.Written.{Written}
+use Rattle.space.specs.declared.Written.the-variants.{Refused}
+use Rattle.space.specs.Space.{answer, after}
+use Rattle.sheet.specs.declared.Constraint.{Constraint}
+use Rattle.sheet.specs.Facts.{Facts}
+use Rattle.sheet.specs.Field.{Field, value, refused, next, demand}
+use Rattle.sheet.specs.Decode.{constraint, readSheet}
+use Rattle.sheet.specs.Encode.{sheetBytes}
+use Rattle.sheet.specs.Graph.{verdictOf}
+use Rattle.sketch.specs.Sketch.{notOver, extended}
+use Rattle.pattern.specs.Sheets.{onFacts}
+pub mod Laws
+pub mod Agree
+
+-- rule 11: the verdict is over
+unfoldable pub held : Facts → List ℕ → Field Facts
+held f rest = demand (notOver (verdictOf f)) 11 (value f rest)
+
+-- the sketch held from a sheet
+unfoldable pub heldSheet : List ℕ → Field Facts
+heldSheet bytes = next (readSheet bytes) held
+
+-- rule 10: bytes follow
+abbrev pub ended : Constraint → List ℕ → Field Constraint
+ended c [] = value c []
+ended c (b ∷ rest) = refused 10
+
+-- one more constraint after those of the facts
+unfoldable pub lastConstraint : Facts → List ℕ → Field Constraint
+lastConstraint f bytes = next (constraint (f .elements) (f .constraints) bytes) ended
+
+-- the sketch with that constraint
+unfoldable pub extendedSheet : List ℕ → List ℕ → Field Facts
+extendedSheet bytes more = next (heldSheet bytes) (λ f rest. next (lastConstraint f more) (λ c end. held (extended f c) end))
+
+-- its sheet, written into lent space
+unfoldable pub extendAnswer : List ℕ → List ℕ → List ℕ → Written
+extendAnswer bytes more space = onFacts (extendedSheet bytes more) (λ f. answer (sheetBytes f) space) (λ k. Refused k)
+
+unfoldable pub extendAfter : List ℕ → List ℕ → List ℕ → List ℕ
+extendAfter bytes more space = onFacts (extendedSheet bytes more) (λ f. after (sheetBytes f) space) (λ k. space)

@@ -1,0 +1,173 @@
+-- What is held and extended, step by step. Assumes nothing.
+use Prim.Native.Nat.{ℕ, _≤_, _<_}
+use native.Mathlib.Omega.{arith}
+use mathlib.Core.Path.{_≡_, refl, sym, ap, _∙_}
+use mathlib.Core.Bool.{Bool, true, false}
+use mathlib.Core.List.{List, [], _∷_}
+use lib.ListN.{length, drop, length-append, length-replicate, drop-of-length-le}
+use lib.Seq.{drop-cons}
+use Rattle.space.specs.declared.Written.the-variants.{Refused}
+use Rattle.space.specs.Space.{answer, after}
+use Rattle.sheet.specs.declared.Constraint.{Constraint}
+use Rattle.sheet.specs.declared.Sheet.{Sheet}
+use Rattle.sheet.specs.Facts.{Facts, sheetOf, factsOf, pick}
+use Rattle.sheet.specs.Field.{value, refused, demand, Bytes}
+use Rattle.sheet.specs.Field.Laws.{next-value, demand-value, value-with, refused-value}
+use Rattle.sheet.specs.Rules.{constraintFault, sheetFault}
+use Rattle.sheet.specs.Decode.{constraint, readSheet}
+use Rattle.sheet.specs.Encode.{sheetBytes}
+use Rattle.sheet.specs.Accepted.{Accepted}
+use Rattle.sheet.specs.Graph.{verdictOf}
+use Rattle.sheet.specs.Graph.Laws.{accepted-two, accepted-most}
+use Rattle.sheet.specs.RoundTrip.{written-read}
+use Rattle.sheet.specs.RoundTrip.Read.{constraint-front}
+use Rattle.sheet.specs.RoundTrip.Blocks.{constraints-most, factsOf-sheetOf, sheetOf-fault}
+use Rattle.reader.specs.declared.Outcome.the-variants.{Accepted as Took}
+use Rattle.reader.specs.declared.Reading.{Reading}
+use Rattle.reader.specs.Answers.{asReading}
+use Rattle.sketch.specs.Sketch.{notOver, overFault, extended, stored}
+use Rattle.sketch.specs.Sketch.Laws.{few-held, stored-facts, stored-fault}
+use Rattle.pattern.specs.Sheets.Laws.{reading-accepted}
+use Rattle.pattern.specs.Sketches.{held, heldSheet, ended, lastConstraint, extendedSheet, extendAnswer, extendAfter}
+
+-- ---- rule 11
+
+module _ (f : Facts) (rest : List ℕ) where
+  pub held-none : overFault f ≡ 0 → held f rest ≡ value f rest
+  unfolding overFault held
+  held-none e = go (notOver (verdictOf f)) e
+    where
+      go : (b : Bool) → _≡_ {A = ℕ} (pick b 0 11) 0 → demand b 11 (value f rest) ≡ value f rest
+      go true e = refl
+      go false e = absurd (omega arith)
+
+  pub held-over : (overFault f ≡ 0 → ⊥) → held f rest ≡ refused (overFault f)
+  unfolding overFault held
+  held-over n = go (notOver (verdictOf f)) n
+    where
+      go : (b : Bool) → (_≡_ {A = ℕ} (pick b 0 11) 0 → ⊥) → demand b 11 (value f rest) ≡ refused (pick b 0 11)
+      go true n = absurd (n refl)
+      go false n = refl
+
+  held-value : {g : Facts} {t : List ℕ} → held f rest ≡ value g t → (f ≡ g) × (rest ≡ t) × (overFault f ≡ 0)
+  unfolding overFault held
+  held-value e =
+      demand-value (notOver (verdictOf f)) 11 _ e (λ ok e1. (cc, cc, rw ok))
+
+pub held-read : (bytes : List ℕ) (f : Facts) (rest : List ℕ) → readSheet bytes ≡ value f rest → heldSheet bytes ≡ held f rest
+unfolding heldSheet
+held-read bytes f rest e = rw e
+
+pub held-unread : (bytes : List ℕ) (k : ℕ) → readSheet bytes ≡ refused k → heldSheet bytes ≡ refused k
+unfolding heldSheet
+held-unread bytes k e = rw e
+
+-- the facts of a sketch that is held
+pub record Holds (bytes : List ℕ) (r : Reading) : Type 0 where
+  pub facts : Facts
+  pub rest : List ℕ
+  pub holds : heldSheet bytes ≡ value facts rest
+  pub accepted : Accepted facts
+  pub no-over : overFault facts ≡ 0
+  pub sheet-is : r .sheet ≡ sheetOf facts
+  pub facts-are : factsOf (r .sheet) ≡ facts
+  pub no-fault : sheetFault (r .sheet) ≡ 0
+
+-- no rule refuses the facts
+pub held-accepted : (bytes : List ℕ) (f : Facts) (rest : List ℕ) → Bytes bytes → heldSheet bytes ≡ value f rest → Accepted f × (overFault f ≡ 0)
+unfolding heldSheet
+held-accepted bytes f rest all q =
+    next-value (readSheet bytes) held q (λ g t was e.
+    let v = held-value g t e in
+    (written-read bytes f rest all (was ∙ cc) .2, ap overFault (sym (v .0)) ∙ v .2))
+
+pub holding : (bytes : List ℕ) (r : Reading) → Bytes bytes → r ≡ asReading (heldSheet bytes) → r .outcome ≡ Took → Holds bytes r
+holding bytes r all e o =
+    let (f, rest, q, s) = reading-accepted (heldSheet bytes) r e o in
+    let h = held-accepted bytes f rest all q in
+    record {
+      facts = f;
+      rest = rest;
+      holds = q;
+      accepted = h .0;
+      no-over = h .1;
+      sheet-is = s;
+      facts-are = ap factsOf s ∙ factsOf-sheetOf f;
+      no-fault = ap sheetFault s ∙ sheetOf-fault f (h .0);
+    }
+
+-- ---- one more constraint
+
+module _ (f : Facts) (bytes : List ℕ) where
+  pub last-refused : (k : ℕ) → constraint (f .elements) (f .constraints) bytes ≡ refused k → lastConstraint f bytes ≡ refused k
+  unfolding lastConstraint
+  last-refused k e = rw e
+
+  module _ (c : Constraint) (at : ℕ) (e : constraint (f .elements) (f .constraints) bytes ≡ value c (drop at bytes)) where
+    pub last-followed : at < length bytes → lastConstraint f bytes ≡ refused 10
+    unfolding lastConstraint
+    last-followed l = rw (e, drop-cons bytes at 0 l)
+
+    pub last-ended : length bytes ≤ at → lastConstraint f bytes ≡ value c (drop at bytes)
+    unfolding lastConstraint
+    last-ended l = rw (e, drop-of-length-le bytes l)
+
+  -- no rule of 6 to 9 refuses it
+  pub last-taken : (c : Constraint) (t : List ℕ) → Bytes bytes → lastConstraint f bytes ≡ value c t → constraintFault (f .elements) (f .constraints) c ≡ 0
+  unfolding lastConstraint
+  last-taken c t all e =
+      next-value (constraint (f .elements) (f .constraints) bytes) ended e (λ d rest was e1.
+      go d rest (constraint-front (f .elements) (f .constraints) bytes all was .taken) e1)
+    where
+      go : (d : Constraint) (rest : List ℕ) → constraintFault (f .elements) (f .constraints) d ≡ 0 → ended d rest ≡ value c t
+          → constraintFault (f .elements) (f .constraints) c ≡ 0
+      go d [] h e = value-with (λ x u. constraintFault (f .elements) (f .constraints) x ≡ 0) e h
+      go d (b ∷ rest) h e = refused-value e
+
+-- the constraint stored in the blocks of the sheet
+module _ (f : Facts) (h : Accepted f) (o : overFault f ≡ 0) (s : Sheet) (is : s ≡ sheetOf f) where
+  pub room : s .e < 200
+  unfolding sheetOf
+  room =
+      let m = few-held f (record { two = accepted-two f h; elements = accepted-most f h; constraints = constraints-most (length (f .constraints)) (h .constraint-count); none = h .no-fault }) o in
+      rw is (omega (arith, m))
+
+  long : length (s .constraints) ≡ 200
+  unfolding sheetOf
+  long = rw (is, length-append, length-replicate) (omega (arith, constraints-most (length (f .constraints)) (h .constraint-count)))
+
+  facts-are : factsOf s ≡ f
+  facts-are = ap factsOf is ∙ factsOf-sheetOf f
+
+  pub more-facts : (c : Constraint) → factsOf (stored s c) ≡ extended f c
+  more-facts c = stored-facts s c long room ∙ ap (λ (g : Facts). extended g c) facts-are
+
+  pub more-none : (c : Constraint) → constraintFault (f .elements) (f .constraints) c ≡ 0 → sheetFault (stored s c) ≡ 0
+  more-none c k =
+      stored-fault s c long room (ap sheetFault is ∙ sheetOf-fault f h) (ap (λ (g : Facts). constraintFault (g .elements) (g .constraints) c) facts-are ∙ k)
+
+-- ---- the extended sheet
+
+module _ (bytes more : List ℕ) where
+  pub extended-unheld : (k : ℕ) → heldSheet bytes ≡ refused k → extendedSheet bytes more ≡ refused k
+  unfolding extendedSheet
+  extended-unheld k e = rw e
+
+  module _ (f : Facts) (rest : List ℕ) (e : heldSheet bytes ≡ value f rest) where
+    pub extended-unread : (k : ℕ) → lastConstraint f more ≡ refused k → extendedSheet bytes more ≡ refused k
+    unfolding extendedSheet
+    extended-unread k l = rw (e, l)
+
+    pub extended-read : (c : Constraint) (t : List ℕ) → lastConstraint f more ≡ value c t → extendedSheet bytes more ≡ held (extended f c) t
+    unfolding extendedSheet
+    extended-read c t l = rw (e, l)
+
+  module _ (space : List ℕ) where
+    pub extend-refused : (k : ℕ) → extendedSheet bytes more ≡ refused k → (Refused k ≡ extendAnswer bytes more space) × (space ≡ extendAfter bytes more space)
+    unfolding extendAnswer extendAfter
+    extend-refused k e = rw e (refl, refl)
+
+    pub extend-given : (f : Facts) (t : List ℕ) → extendedSheet bytes more ≡ value f t
+        → (answer (sheetBytes f) space ≡ extendAnswer bytes more space) × (after (sheetBytes f) space ≡ extendAfter bytes more space)
+    unfolding extendAnswer extendAfter
+    extend-given f t e = rw e (refl, refl)

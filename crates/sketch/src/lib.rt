@@ -1,0 +1,124 @@
+// A held sketch by value: the facts of a sheet that is not over, and one constraint more. Document 01, "A held sketch". specs/Sketch.antt says which
+// rule refuses, what is answered and what the sketch is then.
+ghost use mathlib.Core.Path.{_≡_};
+ghost use Prim.Native.Nat.{_<_};
+ghost use Rattle.sheet.specs.Facts.{factsOf};
+ghost use Rattle.sheet.specs.Rules.{constraintFault, sheetFault};
+ghost use Rattle.sheet.specs.Noted.{Noted};
+ghost use Rattle.sketch.specs.Sketch.{overFault, holdFault, stored, addedOf};
+use answer::Verdict;
+use sheet::Constraint;
+use sheet::Sheet;
+use sparsity::Over;
+
+// The answer to an addition: the verdict of the sketch with the constraint, or the rule that refuses it.
+pub enum Taken {
+    Is(Verdict),
+    Refused(u8),
+}
+
+// The answer, and the sketch after it: a refusal leaves it as it was.
+pub struct Added {
+    pub answer: Taken,
+    pub sketch: Sheet,
+}
+
+// Rule 11: 11 of an over sheet, else 0.
+pub fn over_fault(s: Sheet) -> u8
+    requires { ⌜ sheetFault s ≡ 0 ⌝ }
+    ensures { λ r. ⌜ r ≡ overFault (factsOf s) ⌝ }
+{
+    let found = judge::over_of(s);
+    match found {
+        Over::First {
+            constraint: _,
+            set: _,
+        } => 11,
+        Over::Not => 0,
+    }
+}
+
+// The rule of 3, 5 to 9 and 11 that refuses to hold a sketch from the facts, or 0.
+pub fn hold_fault(s: Sheet) -> u8
+    ensures { λ r. ⌜ r ≡ holdFault s ⌝ }
+{
+    let k = sheet::sheet_fault(s);
+    if k != 0 {
+        return k;
+    }
+    over_fault(s)
+}
+
+// The pairs of the constraints, noted for rule 7.
+pub fn pairs_of(s: Sheet) -> [u64; 64]
+    requires { ⌜ sheetFault s ≡ 0 ⌝ }
+    ensures { λ r. ⌜ Noted r (factsOf s .constraints) ⌝ }
+{
+    let e = s.e;
+    let mut pairs = [0u64; 64];
+    let mut i: usize = 0;
+    while i < e {
+        let c = s.constraints[i];
+        sheet::note_pair(&mut pairs, c.first, c.second);
+        i += 1;
+    }
+    pairs
+}
+
+// The rule of 6 to 9 that refuses one more constraint, or 0.
+fn last_fault(s: Sheet, c: Constraint) -> u8
+    requires { ⌜ sheetFault s ≡ 0 ⌝ }
+    ensures { λ r. ⌜ r ≡ constraintFault (factsOf s .elements) (factsOf s .constraints) c ⌝ }
+{
+    let elements = s.elements;
+    let n = s.n;
+    let lines = sheet::lines_of(elements, n);
+    let pairs = pairs_of(s);
+    sheet::constraint_fault(&pairs, n, lines, c)
+}
+
+// The sheet with one constraint more, the last.
+pub fn store(s: Sheet, c: Constraint) -> Sheet
+    requires { ⌜ s .e < 200 ⌝ }
+    ensures { λ r. ⌜ r ≡ stored s c ⌝ }
+{
+    let at = s.e;
+    let mut more = s;
+    more.constraints[at] = c;
+    more.e = at + 1;
+    more
+}
+
+// A refusal leaves the sketch.
+fn refused(s: Sheet, k: u8) -> Added
+    ensures { λ r. ⌜ (r .answer ≡ Taken.Refused k) × (r .sketch ≡ s) ⌝ }
+{
+    Added {
+        answer: Taken::Refused(k),
+        sketch: s,
+    }
+}
+
+// The sketch with one more constraint and its verdict, or the rule that refuses: of a value that no sketch may hold, the one that refuses to hold it.
+pub fn add(s: Sheet, c: Constraint) -> Added
+    ensures { λ r. ⌜ r ≡ addedOf s c ⌝ }
+{
+    let held = hold_fault(s);
+    if held != 0 {
+        return refused(s, held);
+    }
+    let last = last_fault(s, c);
+    if last != 0 {
+        return refused(s, last);
+    }
+    let more = store(s, c);
+    let judged = judge::judge(more);
+    let verdict = judged.verdict;
+    if verdict.number() == 0 {
+        return refused(s, 11);
+    }
+    Added {
+        answer: Taken::Is(verdict),
+        sketch: more,
+    }
+}
