@@ -2,7 +2,6 @@
 ghost use mathlib.Core.Path.{_≡_};
 ghost use Rattle.sheet.specs.Decode.{readSheet};
 ghost use Rattle.sheet.specs.Facts.{factsOf};
-ghost use Rattle.sheet.specs.Field.{refused};
 ghost use Rattle.sheet.specs.Rules.{sheetFault};
 ghost use Rattle.reader.specs.Answers.{asReading, asConstraint};
 ghost use Rattle.sketch.specs.Sketch.{addedOf};
@@ -22,11 +21,7 @@ use reader::Cursor;
 use reader::Outcome;
 use reader::Reading;
 use sheet::Constraint;
-use sheet::Element;
-use sheet::Kind;
 use sheet::Sheet;
-use sheet::Size;
-use sheet::Tag;
 use sketch::Added;
 use space::Written;
 use sparsity::Over;
@@ -188,30 +183,6 @@ pub fn check_plan(bytes: &[u8], plan: &[u16], out: &mut [u8]) -> Written
 
 // ---- a held sketch
 
-// A refused reading, with the blank sheet.
-fn refuse(k: u8) -> Reading
-    ensures { λ r. ⌜ r ≡ asReading (refused k) ⌝ }
-{
-    let point = Element { kind: Kind::Point };
-    let none = Constraint {
-        first: 0,
-        second: 0,
-        size: Size::Missing,
-        tag: Tag::Missing,
-    };
-    let elements = [point; 64];
-    let constraints = [none; 200];
-    Reading {
-        outcome: Outcome::Refused(k),
-        sheet: Sheet {
-            n: 0,
-            e: 0,
-            elements,
-            constraints,
-        },
-    }
-}
-
 // The sketch held from a sheet, or the rule of 1 to 11 that refuses it.
 pub fn hold(bytes: &[u8]) -> Reading
     ensures { λ r. ⌜ r ≡ asReading (heldSheet (now (bytes .entry))) ⌝ }
@@ -224,7 +195,7 @@ pub fn hold(bytes: &[u8]) -> Reading
     let sheet = reading.sheet;
     let over = sketch::over_fault(sheet);
     if over != 0 {
-        return refuse(over);
+        return reader::refuse(over);
     }
     reading
 }

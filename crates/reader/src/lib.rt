@@ -329,7 +329,7 @@ pub fn read_constraint(
 }
 
 // A refused sheet is the blank one.
-fn refuse(k: u8) -> Reading
+pub fn refuse(k: u8) -> Reading
     ensures { λ r. ⌜ r ≡ asReading (refused k) ⌝ }
 {
     let point = Element { kind: Kind::Point };
