@@ -10,16 +10,23 @@ use Rattle.theory.specs.Over.Listed.{ends, masks}
 pub mod Laws
 pub mod Neighbours
 pub mod Peeling
+pub mod Merging
 
 -- within u, element x has at most k constraints
 pub record Few (cs : List ℕ) (u x k : ℕ) : Type 0 where
   pub few : (a : ℕ) → a ⊑ u → at x a ≡ 1 → carried cs a ≤ carried cs (a - 2 ^ x) + k
 
--- the sets within u tell whether the first c of e constraints are over, and a set's part within u carries all but two for each element that it lacks
+-- every set has an element with at most two constraints in it
+pub record Loose (cs : List ℕ) : Type 0 where
+  pub least : (a : ℕ) → a < 2 ^ 64 → 1 ≤ ones a → (x : ℕ) × (at x a ≡ 1) × (carried cs a ≤ carried cs (a - 2 ^ x) + 2)
+
+-- the sets within u tell whether the first c of e constraints are over, and a set's part within u carries all but two for each element that it lacks; where
+-- nothing is left, the constraints are loose
 pub record Core (us vs : List ℕ) (e u : ℕ) : Type 0 where
   pub small : u < 2 ^ 64
   pub fine : (c : ℕ) → c ≤ e → ((a : ℕ) → a ⊑ u → 2 ≤ ones a → carried (masks us vs c) a + 3 ≤ 2 * ones a) → NotOver (masks us vs c)
   pub cut : (c a : ℕ) → c ≤ e → carried (masks us vs c) a + 2 * ones (a ∩ u) ≤ carried (masks us vs c) (a ∩ u) + 2 * ones a
+  pub loose : u ≡ 0 → Loose (masks us vs e)
 
 -- ---- taking elements away
 
