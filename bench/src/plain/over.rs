@@ -44,7 +44,7 @@ pub fn find(sheet: &Sheet) -> Option<Over> {
 }
 
 /// What is left when elements with at most two constraints are taken off in turn.
-fn core(sheet: &Sheet) -> u64 {
+pub fn core(sheet: &Sheet) -> u64 {
     let mut near = [0u64; 64];
     for constraint in &sheet.constraints[..sheet.e] {
         let (a, b) = (constraint.first & 63, constraint.second & 63);
