@@ -4,7 +4,7 @@
 //! most one element, so a cluster takes part in an open merge if and only if an element outside it is linked to two of
 //! its own.
 
-use super::over::{self, Over};
+use super::over::{self, Over, Peeling};
 use super::sheet::{Sheet, read};
 
 /// The most clusters of a sheet that is not over: 125 constraints and 62 steps.
@@ -153,13 +153,11 @@ fn short_verdict(sheet: &Sheet) -> Option<i32> {
     if used > freedoms {
         return Some(0);
     }
-    if sheet.lines.count_ones() > 2 {
-        return None;
+    if used == freedoms {
+        let Peeling { left, angle } = over::peel(sheet);
+        return (left == 0).then_some(if angle { 1 } else { 2 });
     }
-    if used < freedoms {
-        return Some(if over::find(sheet).is_some() { 0 } else { 4 });
-    }
-    (over::core(sheet) == 0).then_some(2)
+    (sheet.lines.count_ones() <= 2).then(|| if over::find(sheet).is_some() { 0 } else { 4 })
 }
 
 /// The engine's plan into lent space: the count of numbers, or minus the rule.

@@ -1,7 +1,6 @@
 // The judgement of a sheet that no rule refuses. Contracts cite theory's definitions on the sheet's constraint graph.
 ghost use mathlib.Core.Path.{_≡_};
 ghost use mathlib.Core.List.{[]};
-ghost use mathlib.Core.Bool.{true};
 ghost use Prim.Native.Nat.{_+_, _*_, _≤_, _<_};
 ghost use lib.Count.{ones};
 ghost use lib.ListN.{length};
@@ -11,13 +10,14 @@ ghost use Rattle.theory.specs.Over.{overOf};
 ghost use Rattle.sheet.specs.Facts.{factsOf, linesOf};
 ghost use Rattle.sheet.specs.Rules.{sheetFault};
 ghost use Rattle.sheet.specs.Graph.{clustersOf, verdictOf};
-ghost use Rattle.peeling.specs.Core.{Loose};
+ghost use Rattle.peeling.specs.Core.{Told};
 ghost use Rattle.sparsity.specs.Answer.{asOver};
 ghost use Rattle.answer.specs.Answer.{asVerdict};
 ghost use Rattle.judge.specs.Listing.{columnsOf};
 ghost use Rattle.judge.specs.Judged.{planned as plannedOf, overFound, judgedOf};
 use answer::Verdict;
 use merges::Run;
+use peeling::Peeling;
 use sheet::Sheet;
 use sparsity::Over;
 
@@ -55,15 +55,15 @@ pub fn over_of(s: Sheet) -> Over
     sparsity::find_over(&firsts, &seconds, s.e)
 }
 
-// Whether elements with at most two constraints can be taken away one after another until none is left. Such a sheet is not over.
-fn peels(s: Sheet) -> bool
+// What is left of a sheet when elements with at most two constraints are taken away one after another, and whether three lines went so.
+fn peels(s: Sheet, lines: u64) -> Peeling
     requires { ⌜ sheetFault s ≡ 0 ⌝ }
-    ensures { λ r. ⌜ (r ≡ true → NotOver (clustersOf (factsOf s)) × Loose (clustersOf (factsOf s))) ⌝ }
+    ensures { λ r. ⌜ Told (columnsOf (factsOf s) .firsts) (columnsOf (factsOf s) .seconds) (s .e) lines (r .left) (r .angle) ⌝ }
 {
     let columns = columns_of(s);
     let firsts = columns.firsts;
     let seconds = columns.seconds;
-    peeling::core_of(&firsts, &seconds, s.e) == 0
+    peeling::peel_of(&firsts, &seconds, s.e, lines)
 }
 
 // What is judged of a sheet: its verdict; of an over sheet the first constraint and the smallest set, and no merge; else the engine's plan.
@@ -190,33 +190,39 @@ fn sparse_verdict(s: Sheet) -> Verdict
     }
 }
 
-// The verdict of a sheet with two lines or fewer and at most 2n-3 constraints. One of 2n-3 that peels off to the last element is well.
-fn pointed_verdict(s: Sheet) -> Verdict
-    requires { ⌜ (sheetFault s ≡ 0) × (ones (linesOf (factsOf s .elements)) ≤ 2) × (s .e + 3 ≤ 2 * s .n) ⌝ }
+// The verdict of a sheet with 2n-3 constraints. One that peels off to the last element is well, unless three lines went so.
+fn full_verdict(s: Sheet, lines: u64) -> Verdict
+    requires { ⌜ (sheetFault s ≡ 0) × (lines ≡ linesOf (factsOf s .elements)) × (s .e + 3 ≡ 2 * s .n) ⌝ }
     ensures { λ r. ⌜ r ≡ asVerdict (verdictOf (factsOf s)) ⌝ }
 {
-    if s.e + 3 < 2 * s.n {
-        return sparse_verdict(s);
+    let peeling = peels(s, lines);
+    if peeling.left != 0 {
+        return judged_verdict(s);
     }
-    if peels(s) {
-        return Verdict::Well;
+    if peeling.angle {
+        Verdict::Angle
+    } else {
+        Verdict::Well
     }
-    judged_verdict(s)
 }
 
-// The verdict of a sheet. No plan is made where the count of constraints and of lines, or the search for an over set, decides.
+// The verdict of a sheet. No plan is made where counts, peeling or the search for an over set decide.
 pub fn verdict_of(s: Sheet) -> Verdict
     requires { ⌜ sheetFault s ≡ 0 ⌝ }
     ensures { λ r. ⌜ r ≡ asVerdict (verdictOf (factsOf s)) ⌝ }
 {
     let n = s.n;
-    if 2 * n < s.e + 3 {
+    let used = s.e + 3;
+    if 2 * n < used {
         return Verdict::Over;
     }
     let elements = s.elements;
     let lines = sheet::lines_of(elements, n);
+    if used == 2 * n {
+        return full_verdict(s, lines);
+    }
     if 2 < u64::count_ones(lines) {
         return judged_verdict(s);
     }
-    pointed_verdict(s)
+    sparse_verdict(s)
 }

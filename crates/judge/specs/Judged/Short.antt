@@ -1,31 +1,31 @@
 -- A sheet that no rule refuses as theory takes it, and what its counts and columns decide without a plan. Assumes nothing.
 use Prim.Native.Nat.{ℕ, _+_, _*_, _≤_, _<_}
 use native.Mathlib.Omega.{arith}
-use mathlib.Core.Path.{_≡_, sym, ap, _∙_, subst}
-use mathlib.Core.Bool.{true, false}
+use mathlib.Core.Path.{_≡_, sym, ap, ap₂, _∙_, subst}
+use mathlib.Core.Bool.{Bool, true, false}
 use mathlib.Core.List.{List}
 use lib.Count.{ones}
 use lib.ListN.{length}
 use Rattle.theory.specs.Constraints.{Pairs, Below, NotOver}
-use Rattle.theory.specs.Over.{overOf, IsOver}
 use Rattle.theory.specs.Over.Laws.{fine-overOf, fine-most}
 use Rattle.theory.specs.Over.Listed.{masks, Listed}
+use Rattle.theory.specs.Merge.{joints}
 use Rattle.theory.specs.Merge.Count.{steps-left}
 use Rattle.theory.specs.Merge.One.{one-fine}
 use Rattle.theory.specs.Plan.{planOf}
 use Rattle.theory.specs.Plan.Laws.{plan-of-maximal}
-use Rattle.theory.specs.Verdict.{over, well, under}
-use Rattle.theory.specs.Verdict.Short.{verdict-more, verdict-fewer, verdict-one}
+use Rattle.theory.specs.Verdict.{over, angle as angle-name, well, under, angled}
+use Rattle.theory.specs.Verdict.Short.{not-angled, verdict-more, verdict-angle, verdict-fewer, verdict-one}
 use Rattle.sheet.specs.declared.Sheet.{Sheet}
 use Rattle.sheet.specs.Facts.{factsOf, linesOf}
 use Rattle.sheet.specs.Rules.{sheetFault}
 use Rattle.sheet.specs.Graph.{clustersOf, verdictOf}
-use Rattle.peeling.specs.Core.{Core, Loose}
+use Rattle.peeling.specs.Core.{Core, Loose, Told}
 use Rattle.peeling.specs.Core.Peeling.{core-none}
 use Rattle.peeling.specs.Core.Merging.{loose-one}
 use Rattle.merges.specs.Run.{Ran, runOf}
 use Rattle.merges.specs.declared.Run.{Run}
-use Rattle.judge.specs.Listing.{columnsOf, masks-are, listed, clusters-pairs, clusters-below, Blocks, blocks}
+use Rattle.judge.specs.Listing.{columnsOf, masks-are, listed, clusters-pairs, clusters-below, blocks}
 use Rattle.answer.specs.Answer.{asVerdict}
 use Rattle.judge.specs.declared.Judged.{Judged}
 use Rattle.judge.specs.Judged.Lists.{judged-held}
@@ -85,14 +85,6 @@ module _ (s : Sheet) (w : Whole s) where
       most-of : NotOver (clustersOf (factsOf s)) → length (clustersOf (factsOf s)) + 3 ≤ 2 * length (factsOf s .elements)
       most-of = fine-most (length (factsOf s .elements)) (clustersOf (factsOf s)) (omega (arith, w .elements, w .two)) (w .below)
 
-  -- nothing is left of the sheet's elements
-  pub peeled : (u : ℕ) → Core (columnsOf (factsOf s) .firsts) (columnsOf (factsOf s) .seconds) (s .e) u → u ≡ 0
-      → NotOver (clustersOf (factsOf s)) × Loose (clustersOf (factsOf s))
-  peeled u k z = (
-    subst NotOver (w .masks-are) (core-none (columnsOf (factsOf s) .firsts) (columnsOf (factsOf s) .seconds) (s .e) (subst (Core (columnsOf (factsOf s) .firsts) (columnsOf (factsOf s) .seconds) (s .e)) z k)),
-    subst Loose (w .masks-are) (k .loose z),
-  )
-
   -- ---- verdicts without a plan
 
   pub more-is : 2 * s .n < s .e + 3 → verdictOf (factsOf s) ≡ over
@@ -101,18 +93,36 @@ module _ (s : Sheet) (w : Whole s) where
       verdict-more (linesOf (factsOf s .elements)) (length (factsOf s .elements)) (clustersOf (factsOf s)) (omega (arith, w .elements, w .two)) (w .pairs) (w .below)
       (omega (arith, w .elements, w .count))
 
-  module _ (few : ones (linesOf (factsOf s .elements)) ≤ 2) (fine : NotOver (clustersOf (factsOf s))) where
-    pub fewer-is : s .e + 3 < 2 * s .n → verdictOf (factsOf s) ≡ under
-    unfolding verdictOf
-    fewer-is h =
-        verdict-fewer (linesOf (factsOf s .elements)) (length (factsOf s .elements)) few (clustersOf (factsOf s)) (w .pairs) fine
-        (λ e. omega (arith, w .elements, w .count, e))
+  -- fewer than 2n-3 constraints, and no three lines
+  pub fewer-is : ones (linesOf (factsOf s .elements)) ≤ 2 → NotOver (clustersOf (factsOf s)) → s .e + 3 < 2 * s .n → verdictOf (factsOf s) ≡ under
+  unfolding verdictOf
+  fewer-is few fine h =
+      let cs = clustersOf (factsOf s) in
+      verdict-fewer (linesOf (factsOf s .elements)) (length (factsOf s .elements)) cs fine
+      (not-angled (linesOf (factsOf s .elements)) few cs (planOf cs) (plan-of-maximal cs (w .pairs) .valid)) (λ e. omega (arith, w .elements, w .count, e))
 
-    pub loose-is : Loose (clustersOf (factsOf s)) → s .e + 3 ≡ 2 * s .n → verdictOf (factsOf s) ≡ well
+  -- 2n-3 constraints that peel off to the last element
+  module _ (lines left : ℕ) (angle : Bool) (are : lines ≡ linesOf (factsOf s .elements)) (count : s .e + 3 ≡ 2 * s .n)
+      (t : Told (columnsOf (factsOf s) .firsts) (columnsOf (factsOf s) .seconds) (s .e) lines left angle) (none : left ≡ 0) where
+    fine : NotOver (clustersOf (factsOf s))
+    fine =
+        subst NotOver (w .masks-are)
+        (core-none (columnsOf (factsOf s) .firsts) (columnsOf (factsOf s) .seconds) (s .e) (subst (Core (columnsOf (factsOf s) .firsts) (columnsOf (factsOf s) .seconds) (s .e)) none (t .core)))
+
+    angle-is : angle ≡ angled (linesOf (factsOf s .elements)) (joints (clustersOf (factsOf s)) (planOf (clustersOf (factsOf s))))
+    angle-is =
+        t .angle-is none (s .n) (w .two) (w .most) (rw (w .masks-are, ← w .elements) (w .below)) count
+        ∙ ap₂ (λ (z : ℕ) (cs : List ℕ). angled z (joints cs (planOf cs))) are (w .masks-are)
+
+    pub angle-peeled : angle ≡ true → verdictOf (factsOf s) ≡ angle-name
     unfolding verdictOf
-    loose-is loose e =
+    angle-peeled e = verdict-angle (linesOf (factsOf s .elements)) (length (factsOf s .elements)) (clustersOf (factsOf s)) fine (sym angle-is ∙ e)
+
+    pub well-peeled : angle ≡ false → verdictOf (factsOf s) ≡ well
+    unfolding verdictOf
+    well-peeled e =
         let n = length (factsOf s .elements) in
         let cs = clustersOf (factsOf s) in
-        let full : length cs + 3 ≡ 2 * n = omega (arith, w .elements, w .count) in
-        verdict-one (linesOf (factsOf s .elements)) n few cs (w .pairs) fine full
-        (loose-one n cs (omega (arith, w .elements, w .two)) (omega (arith, w .elements, w .most)) (w .pairs) (w .below) fine loose full (planOf cs) (plan-of-maximal cs (w .pairs)))
+        let full : length cs + 3 ≡ 2 * n = omega (arith, w .elements, w .count, count) in
+        verdict-one (linesOf (factsOf s .elements)) n cs fine (sym angle-is ∙ e) full
+        (loose-one n cs (omega (arith, w .elements, w .two)) (omega (arith, w .elements, w .most)) (w .pairs) (w .below) fine (subst Loose (w .masks-are) (t .core .loose none)) full (planOf cs) (plan-of-maximal cs (w .pairs)))

@@ -5,24 +5,23 @@ use mathlib.Core.List.{List, [], _∷_}
 use Prim.Native.Nat.{ℕ, zero, suc, _+_, _*_, _-_, _^_, _≤_, _<_}
 use native.Mathlib.Omega.{arith}
 use native.Mathlib.Decide.{ℕ-discrete, decLe}
-use native.Mathlib.Nat.{le-refl}
 use lib.Count.{ones}
 use lib.ListN.{length, set}
 use lib.Pow.{pow-pos, pow-mono}
 use lib.Seq.{getD-set-other}
 use Rattle.theory.specs.Set.{_∩_, _⊑_, at, full}
-use Rattle.theory.specs.Set.Laws.{at-le, at-zero, bit, zero-ext, size-le, size-eq, size-zero, size-full, sub-refl, sub-trans, other, two-in, both, in-both}
-use Rattle.theory.specs.Constraints.{Among, Pairs, Below, has, carried, NotOver}
+use Rattle.theory.specs.Set.Laws.{at-le, at-zero, bit, zero-ext, size-le, size-eq, size-zero, size-full, sub-refl, other, two-in, both, in-both}
+use Rattle.theory.specs.Constraints.{Among, Pairs, Below, carried, NotOver}
 use Rattle.theory.specs.Constraints.Laws.{Has, inside, outside, has-dec, has-in, carried-pos, carried-small, carried-full, pairs-share}
-use Rattle.theory.specs.Merge.{Open, Three, slot, Merge, Valid, Maximal, final, live, total, living, left, weight, weights}
+use Rattle.theory.specs.Merge.{slot, Merge, Maximal, final, live, total, living, left, weight, weights}
 use Rattle.theory.specs.Merge.Threes.{meet-open}
 use Rattle.theory.specs.Merge.Count.{total-set, weights-kept}
-use Rattle.theory.specs.Merge.Family.{Fam, OpenIn, Good, EndedIn, threes, start}
+use Rattle.theory.specs.Merge.Family.{Fam, Good, EndedIn, threes, start}
 use Rattle.theory.specs.Merge.Family.Invariant.{big, share}
 use Rattle.theory.specs.Merge.Family.Outcome.{kept}
 use Rattle.theory.specs.Merge.Numbered.{zero-at, start-good, start-distinct, good-final, as-ended, as-end}
 use Rattle.peeling.specs.Core.{Loose}
-use Rattle.peeling.specs.Less.{less-same, less-other, less-sub, size-less, sub-less}
+use Rattle.peeling.specs.Less.{less-other, size-less, sub-less}
 
 -- ---- constraints that lie in one set and not in another
 
@@ -34,7 +33,7 @@ pub record Between (cs : List ℕ) (a b m : ℕ) : Type 0 where
 later : {m k a b : ℕ} {cs : List ℕ} → Between cs a b k → Between (m ∷ cs) a b k
 later r = record { among = inr (r .among); in-a = r .in-a; not-b = r .not-b }
 
-one-between : (cs : List ℕ) (a b : ℕ) → carried cs b + 1 ≤ carried cs a → (m : ℕ) × Between cs a b m
+pub one-between : (cs : List ℕ) (a b : ℕ) → carried cs b + 1 ≤ carried cs a → (m : ℕ) × Between cs a b m
 unfolding carried
 one-between [] a b h = absurd (omega arith)
 one-between (m ∷ cs) a b h = go (has-dec m a) (has-dec m b) (one-between cs a b)
@@ -52,7 +51,7 @@ pub record Two (cs : List ℕ) (a b : ℕ) : Type 0 where
   pub k-is : Between cs a b k
   pub twice : m ≡ k → 2 ≤ carried cs m
 
-two-between : (cs : List ℕ) (a b : ℕ) → carried cs b + 2 ≤ carried cs a → Two cs a b
+pub two-between : (cs : List ℕ) (a b : ℕ) → carried cs b + 2 ≤ carried cs a → Two cs a b
 unfolding carried
 two-between [] a b h = absurd (omega arith)
 two-between (m ∷ cs) a b h = go (has-dec m a) (has-dec m b) (two-between cs a b)

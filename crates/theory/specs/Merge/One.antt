@@ -1,17 +1,16 @@
 -- A list of merges that leaves one cluster shows that the constraints are not over: what a set carries is at most the sum of 2m - 3 over its parts in
 -- the living clusters, m being a part's elements, and a merge never lowers that sum. Assumes nothing.
-use mathlib.Core.Path.{_≡_, refl, sym, ap, _∙_, subst}
+use mathlib.Core.Path.{_≡_, refl, ap, _∙_}
 use mathlib.Core.Logic.{inl, inr}
 use mathlib.Core.List.{List, [], _∷_}
-use Prim.Native.Nat.{ℕ, zero, suc, _+_, _*_, _-_, _≤_}
+use Prim.Native.Nat.{ℕ, zero, suc, _+_, _-_, _≤_}
 use native.Mathlib.Omega.{arith}
 use lib.Count.{ones}
-use lib.ListN.{length}
-use Rattle.theory.specs.Set.{_∩_, _∪_, _⊑_}
+use Rattle.theory.specs.Set.{_∩_, _∪_}
 use Rattle.theory.specs.Set.Laws.{size-or, size-le, size-zero, and-or, and-l, and-r, and-mono, or-mono, sub-refl, sub-and, or-l, or-r}
 use Rattle.theory.specs.Constraints.{Pairs, carried, has, NotOver}
 use Rattle.theory.specs.Constraints.Laws.{Has, inside, outside, has-dec}
-use Rattle.theory.specs.Merge.{Open, Three, union, Merge, slot, three, OpenAt, put, Valid, final, total, left, weight}
+use Rattle.theory.specs.Merge.{Open, Three, union, Merge, three, put, Valid, final, total, left, weight}
 use Rattle.theory.specs.Merge.Count.{total-put}
 
 module _ (s : ℕ) where

@@ -14,9 +14,8 @@ use Rattle.theory.specs.Constraints.{Among, Pairs, Below, NotOver}
 use Rattle.theory.specs.Merge.{Merge, three, joint, put, final, joints, left, Valid}
 use Rattle.theory.specs.Merge.Threes.{size-joint}
 use Rattle.theory.specs.Plan.{planOf}
-use Rattle.theory.specs.Plan.Laws.{plan-of-maximal}
 use Rattle.theory.specs.Over.Laws.{more-over, fine-isOver}
-use Rattle.theory.specs.Verdict.{Verdict, over, angle, well, stuck, under, angled, judged, listVerdict, verdict}
+use Rattle.theory.specs.Verdict.{over, angle, well, stuck, under, angled, judged, listVerdict, verdict}
 use Rattle.theory.specs.Verdict.Laws.{angled-is, over-verdict, verdict-is-planned}
 
 -- more constraints than 2n-3
@@ -31,7 +30,7 @@ joint-three (m ∷ p) s v j (inl e) = ap ones e ∙ size-joint (three s m) (v .0
 joint-three (m ∷ p) s v j (inr i) = joint-three p (put s m) (v .1) j i
 
 -- two lines or fewer make no joint of three
-not-angled : (lines : ℕ) → ones lines ≤ 2 → (s : List ℕ) (p : List Merge) → Valid s p → angled lines (joints s p) ≡ false
+pub not-angled : (lines : ℕ) → ones lines ≤ 2 → (s : List ℕ) (p : List Merge) → Valid s p → angled lines (joints s p) ≡ false
 not-angled lines few s p v = go (angled lines (joints s p)) refl
   where
     go : (b : Bool) → angled lines (joints s p) ≡ b → angled lines (joints s p) ≡ false
@@ -40,7 +39,16 @@ not-angled lines few s p v = go (angled lines (joints s p)) refl
         absurd (omega (arith, joint-three p s v (a .0) (a .1), size-le lines (a .0) (a .2)))
     go false e = e
 
-module _ (lines n : ℕ) (few : ones lines ≤ 2) (cs : List ℕ) (pairs : Pairs cs) (fine : NotOver cs) where
+-- some joint of the plan is three lines
+pub verdict-angle : (lines n : ℕ) (cs : List ℕ) → NotOver cs → angled lines (joints cs (planOf cs)) ≡ true → verdict lines n cs ≡ angle
+unfolding listVerdict judged
+verdict-angle lines n cs fine e =
+    let l = eqb (left (final cs (planOf cs))) 1 in
+    verdict-is-planned lines n cs (fine-isOver n cs fine)
+    ∙ ap (λ (a : Bool). elim a [ true ↦ angle | false ↦ elim (eqb (length cs + 3) (2 * n)) [ true ↦ elim l [ true ↦ well | false ↦ stuck ] | false ↦ under ] ]) e
+
+-- none is
+module _ (lines n : ℕ) (cs : List ℕ) (fine : NotOver cs) (none : angled lines (joints cs (planOf cs)) ≡ false) where
   -- what the count of constraints and of clusters left decides
   counted : (b : Bool) → eqb (length cs + 3) (2 * n) ≡ b
       → verdict lines n cs ≡ elim b [ true ↦ elim (eqb (left (final cs (planOf cs))) 1) [ true ↦ well | false ↦ stuck ] | false ↦ under ]
@@ -48,8 +56,7 @@ module _ (lines n : ℕ) (few : ones lines ≤ 2) (cs : List ℕ) (pairs : Pairs
   counted b e =
       let l = eqb (left (final cs (planOf cs))) 1 in
       verdict-is-planned lines n cs (fine-isOver n cs fine)
-      ∙ ap (λ (a : Bool). elim a [ true ↦ angle | false ↦ elim (eqb (length cs + 3) (2 * n)) [ true ↦ elim l [ true ↦ well | false ↦ stuck ] | false ↦ under ] ])
-      (not-angled lines few cs (planOf cs) (plan-of-maximal cs pairs .valid))
+      ∙ ap (λ (a : Bool). elim a [ true ↦ angle | false ↦ elim (eqb (length cs + 3) (2 * n)) [ true ↦ elim l [ true ↦ well | false ↦ stuck ] | false ↦ under ] ]) none
       ∙ ap (λ (a : Bool). elim a [ true ↦ elim l [ true ↦ well | false ↦ stuck ] | false ↦ under ]) e
 
   -- fewer constraints than 2n-3
