@@ -100,6 +100,9 @@ pub fn for_plan() -> Vec<Case> {
     cases.extend([
         case("strip, mixed", PLAIN, true, |_| shapes::strip(64)),
         case("merge tree, lines and tags", lines, true, |random| shapes::merge_tree(64, random)),
+        case("Henneberg, no split, lines", lines, true, |random| shapes::henneberg(64, 0, random)),
+        case("K2,31 closed late, lines", lines, false, |_| shapes::closed_late(64, 31)),
+        case("Henneberg less 1, lines", lines, true, |random| less(shapes::henneberg(64, 0, random), 1, random)),
         case("K2,31 closed late", PLAIN, false, |_| shapes::closed_late(64, 31)),
         case("K2,44 closed late", PLAIN, false, |_| shapes::closed_late(64, 44)),
         case("fan, spokes last", PLAIN, false, |_| reversed(shapes::fan(64))),

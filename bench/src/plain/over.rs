@@ -14,7 +14,7 @@ pub struct Over {
 
 /// The answer of an over sheet.
 pub fn find(sheet: &Sheet) -> Option<Over> {
-    let core = core(sheet);
+    let core = peel(sheet).left;
     if core == 0 {
         return None;
     }
@@ -43,8 +43,14 @@ pub fn find(sheet: &Sheet) -> Option<Over> {
     None
 }
 
-/// What is left when elements with at most two constraints are taken off in turn.
-fn core(sheet: &Sheet) -> u64 {
+/// What is left when elements with at most two constraints are taken off in turn, and whether one that had two made three lines with its neighbours.
+pub struct Peeling {
+    pub left: u64,
+    pub angle: bool,
+}
+
+/// Takes elements with at most two constraints off in turn.
+pub fn peel(sheet: &Sheet) -> Peeling {
     let mut near = [0u64; 64];
     for constraint in &sheet.constraints[..sheet.e] {
         let (a, b) = (constraint.first & 63, constraint.second & 63);
@@ -52,12 +58,15 @@ fn core(sheet: &Sheet) -> u64 {
         near[usize::from(b)] |= 1 << a;
     }
     let mut left = u64::MAX;
+    let mut angle = false;
     let mut todo = 0;
     for (x, &mask) in near.iter().enumerate() {
         todo |= u64::from(light(mask)) << x;
     }
     while todo != 0 {
         let x = todo.trailing_zeros();
+        let around = near[x as usize] & left | 1 << x;
+        angle |= around & !sheet.lines == 0 && around.count_ones() == 3;
         todo &= todo - 1;
         left &= !(1 << x);
         let mut who = near[x as usize] & left;
@@ -67,7 +76,7 @@ fn core(sheet: &Sheet) -> u64 {
             todo |= u64::from(light(near[y as usize] & left)) << y;
         }
     }
-    left
+    Peeling { left, angle }
 }
 
 /// Whether a set has two elements at most.

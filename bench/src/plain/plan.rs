@@ -4,7 +4,7 @@
 //! most one element, so a cluster takes part in an open merge if and only if an element outside it is linked to two of
 //! its own.
 
-use super::over;
+use super::over::{self, Over, Peeling};
 use super::sheet::{Sheet, read};
 
 /// The most clusters of a sheet that is not over: 125 constraints and 62 steps.
@@ -70,7 +70,7 @@ impl Merging {
         let j = self.lowest_meeting(i + 1, a, self.outside(a))?;
         let b = self.sets[j];
         let k = self.lowest_meeting(j + 1, a & !b, b & !a)?;
-        Some([i, j, k])
+        open(a, b, self.sets[k]).then_some([i, j, k])
     }
 
     /// Makes an open merge; the union.
@@ -100,8 +100,23 @@ impl Merging {
     }
 }
 
+/// Whether each two share exactly one element, three different ones in all. It may fail on an over sheet alone.
+fn open(a: u64, b: u64, c: u64) -> bool {
+    let shared = [a & b, b & c, a & c];
+    shared.iter().all(|set| set.is_power_of_two()) && (shared[0] | shared[1] | shared[2]).count_ones() == 3
+}
+
+/// The merges of a sheet, or what makes it over. Where there are 2n-3 constraints, merges that leave one cluster show that it is not.
+pub fn merges_of(sheet: &Sheet) -> Result<Merging, Over> {
+    let merged = (sheet.e + 3 == 2 * sheet.n).then(|| merge_all(sheet));
+    match merged {
+        Some(merging) if sheet.e == 2 * merging.count + 1 => Ok(merging),
+        _ => over::find(sheet).map_or_else(|| Ok(merged.unwrap_or_else(|| merge_all(sheet))), Err),
+    }
+}
+
 /// Takes the first open merge until there is none.
-pub fn merge_all(sheet: &Sheet) -> Merging {
+fn merge_all(sheet: &Sheet) -> Merging {
     let mut merging = Merging::initial(sheet);
     let (mut from, mut last) = (0, 0);
     while let Some(parts) = merging.first_open(from, last) {
@@ -129,10 +144,20 @@ pub fn verdict(bytes: &[u8]) -> i32 {
     if let Err(rule) = read(bytes, &mut sheet) {
         return -i32::from(rule);
     }
-    match over::find(&sheet) {
-        Some(_) => 0,
-        None => verdict_of(&sheet, &merge_all(&sheet)),
+    short_verdict(&sheet).unwrap_or_else(|| merges_of(&sheet).map_or(0, |merging| verdict_of(&sheet, &merging)))
+}
+
+/// The verdict where counts, peeling or the search for an over set decide it. Two lines make no joint of three.
+fn short_verdict(sheet: &Sheet) -> Option<i32> {
+    let (used, freedoms) = (sheet.e + 3, 2 * sheet.n);
+    if used > freedoms {
+        return Some(0);
     }
+    if used == freedoms {
+        let Peeling { left, angle } = over::peel(sheet);
+        return (left == 0).then_some(if angle { 1 } else { 2 });
+    }
+    (sheet.lines.count_ones() <= 2).then(|| if over::find(sheet).is_some() { 0 } else { 4 })
 }
 
 /// The engine's plan into lent space: the count of numbers, or minus the rule.
@@ -141,10 +166,9 @@ pub fn plan(bytes: &[u8], out: &mut [u16]) -> i32 {
     if let Err(rule) = read(bytes, &mut sheet) {
         return -i32::from(rule);
     }
-    if over::find(&sheet).is_some() {
+    let Ok(merging) = merges_of(&sheet) else {
         return 0;
-    }
-    let merging = merge_all(&sheet);
+    };
     let Some(space) = out.get_mut(..3 * merging.count) else {
         return -17;
     };

@@ -1,7 +1,6 @@
 //! The report.
 
-use super::over;
-use super::plan::{Merging, Step, merge_all, verdict_of};
+use super::plan::{Merging, Step, merges_of, verdict_of};
 use super::sheet::{Sheet, read};
 
 /// More bytes than any report has.
@@ -109,15 +108,14 @@ pub fn report(bytes: &[u8], out: &mut [u8]) -> i32 {
         return -i32::from(rule);
     }
     let mut text = Text { bytes: [0; MOST_BYTES], len: 0 };
-    match over::find(&sheet) {
-        Some(over) => {
+    match merges_of(&sheet) {
+        Err(over) => {
             heading(&mut text, &sheet, 0);
             text.list(b"first", [over.first].into_iter());
             text.set(b"\nset", over.set);
             text.put(b"\n");
         }
-        None => {
-            let merging = merge_all(&sheet);
+        Ok(merging) => {
             heading(&mut text, &sheet, verdict_of(&sheet, &merging) as usize);
             text.merges(&sheet, &merging);
         }

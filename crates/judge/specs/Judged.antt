@@ -18,6 +18,7 @@ use Rattle.judge.specs.declared.Judged.{Judged}
 pub mod Laws
 pub mod Found
 pub mod Lists
+pub mod Short
 
 -- a list of merges of the sheet's constraints, with its own verdict
 unfoldable pub listed : Facts → List Merge → Judged

@@ -26,10 +26,15 @@ use Rattle.sheet.specs.Graph.Laws.{ends-sound}
 use Rattle.graph.specs.Arrays.{endAt, endPair}
 use Rattle.graph.specs.Arrays.Laws.{map-append}
 use Rattle.theory.specs.Over.Listed.{ends, masks, Listed}
+use Rattle.judge.specs.declared.Columns.{Columns}
 
 -- the second or the first ends in an array
 abbrev pub endsIn : Bool → List Constraint → List ℕ
 endsIn second cs = block 200 0 (map (endAt second) cs)
+
+-- both columns
+abbrev pub columnsOf : Facts → Columns
+columnsOf f = record { firsts = endsIn false (f .constraints); seconds = endsIn true (f .constraints) }
 
 blank-end : (second : Bool) → endAt second blankConstraint ≡ 0
 blank-end true = refl

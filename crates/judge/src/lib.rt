@@ -1,24 +1,35 @@
 // The judgement of a sheet that no rule refuses. Contracts cite theory's definitions on the sheet's constraint graph.
 ghost use mathlib.Core.Path.{_≡_};
 ghost use mathlib.Core.List.{[]};
+ghost use Prim.Native.Nat.{_+_, _*_, _≤_, _<_};
+ghost use lib.Count.{ones};
 ghost use lib.ListN.{length};
-ghost use Rattle.merges.specs.Run.{runOf};
+ghost use Rattle.merges.specs.Run.{runOf, Ran};
 ghost use Rattle.theory.specs.Constraints.{NotOver};
 ghost use Rattle.theory.specs.Over.{overOf};
-ghost use Rattle.sheet.specs.Facts.{factsOf};
+ghost use Rattle.sheet.specs.Facts.{factsOf, linesOf};
 ghost use Rattle.sheet.specs.Rules.{sheetFault};
-ghost use Rattle.sheet.specs.Graph.{clustersOf};
+ghost use Rattle.sheet.specs.Graph.{clustersOf, verdictOf};
+ghost use Rattle.peeling.specs.Core.{Told};
 ghost use Rattle.sparsity.specs.Answer.{asOver};
+ghost use Rattle.answer.specs.Answer.{asVerdict};
+ghost use Rattle.judge.specs.Listing.{columnsOf};
 ghost use Rattle.judge.specs.Judged.{planned as plannedOf, overFound, judgedOf};
 use answer::Verdict;
 use merges::Run;
+use peeling::Peeling;
 use sheet::Sheet;
 use sparsity::Over;
 
-// The first constraint that makes the sheet over, with the smallest set; Not where it is not over.
-pub fn over_of(s: Sheet) -> Over
+// The ends of a sheet's constraints in two columns, 0 beyond them.
+pub struct Columns {
+    pub firsts: [u8; 200],
+    pub seconds: [u8; 200],
+}
+
+fn columns_of(s: Sheet) -> Columns
     requires { ⌜ sheetFault s ≡ 0 ⌝ }
-    ensures { λ r. ⌜ r ≡ asOver (overOf (length (factsOf s .elements)) (clustersOf (factsOf s))) ⌝ }
+    ensures { λ r. ⌜ r ≡ columnsOf (factsOf s) ⌝ }
 {
     let e = s.e;
     let mut firsts = [0u8; 200];
@@ -30,7 +41,29 @@ pub fn over_of(s: Sheet) -> Over
         seconds[i] = c.second;
         i += 1;
     }
-    sparsity::find_over(&firsts, &seconds, e)
+    Columns { firsts, seconds }
+}
+
+// The first constraint that makes the sheet over, with the smallest set; Not where it is not over.
+pub fn over_of(s: Sheet) -> Over
+    requires { ⌜ sheetFault s ≡ 0 ⌝ }
+    ensures { λ r. ⌜ r ≡ asOver (overOf (length (factsOf s .elements)) (clustersOf (factsOf s))) ⌝ }
+{
+    let columns = columns_of(s);
+    let firsts = columns.firsts;
+    let seconds = columns.seconds;
+    sparsity::find_over(&firsts, &seconds, s.e)
+}
+
+// What is left of a sheet when elements with at most two constraints are taken away one after another, and whether three lines went so.
+fn peels(s: Sheet, lines: u64) -> Peeling
+    requires { ⌜ sheetFault s ≡ 0 ⌝ }
+    ensures { λ r. ⌜ Told (columnsOf (factsOf s) .firsts) (columnsOf (factsOf s) .seconds) (s .e) lines (r .left) (r .angle) ⌝ }
+{
+    let columns = columns_of(s);
+    let firsts = columns.firsts;
+    let seconds = columns.seconds;
+    peeling::peel_of(&firsts, &seconds, s.e, lines)
 }
 
 // What is judged of a sheet: its verdict; of an over sheet the first constraint and the smallest set, and no merge; else the engine's plan.
@@ -65,18 +98,26 @@ pub fn over_found(first: usize, set: u64) -> Judged
     }
 }
 
-// The engine's plan for a sheet that is not over, and its verdict.
-fn plan_of(s: Sheet) -> Judged
-    requires { ⌜ (sheetFault s ≡ 0) × NotOver (clustersOf (factsOf s)) ⌝ }
-    ensures { λ r. ⌜ r ≡ plannedOf (factsOf s) ⌝ }
+// The engine's merges of a sheet's constraints; of an over sheet a list of merges.
+fn run_of(s: Sheet) -> Run
+    requires { ⌜ (sheetFault s ≡ 0) × (s .e ≤ 125) ⌝ }
+    ensures { λ r. ⌜ Ran (clustersOf (factsOf s)) r ⌝ }
 {
     let cs = s.constraints;
+    let e = s.e;
+    let start = graph::slots_of(cs, e);
+    merges::merge_all(start, e)
+}
+
+// The judgement of the engine's merges, where the sheet is not over.
+fn listed_by(s: Sheet, run: Run) -> Judged
+    requires { ⌜ (sheetFault s ≡ 0) × (s .e ≤ 125) × Ran (clustersOf (factsOf s)) run ⌝ }
+    ensures { λ r. ⌜ (NotOver (clustersOf (factsOf s)) → r ≡ plannedOf (factsOf s)) ⌝ }
+{
     let elements = s.elements;
     let n = s.n;
     let e = s.e;
     let lines = sheet::lines_of(elements, n);
-    let start = graph::slots_of(cs, e);
-    let run = merges::merge_all(start, e);
     let joints = run.joints;
     let verdict = engine::settle(&joints, run.steps, n, e, lines);
     Judged {
@@ -87,14 +128,101 @@ fn plan_of(s: Sheet) -> Judged
     }
 }
 
+// The engine's plan for a sheet that is not over, and its verdict.
+fn plan_of(s: Sheet) -> Judged
+    requires { ⌜ (sheetFault s ≡ 0) × NotOver (clustersOf (factsOf s)) ⌝ }
+    ensures { λ r. ⌜ r ≡ plannedOf (factsOf s) ⌝ }
+{
+    let run = run_of(s);
+    listed_by(s, run)
+}
+
+// The judgement of a sheet with 2n-3 constraints. Merges that leave one cluster show that it is not over.
+fn judge_full(s: Sheet) -> Judged
+    requires { ⌜ (sheetFault s ≡ 0) × (s .e + 3 ≡ 2 * s .n) ⌝ }
+    ensures { λ r. ⌜ r ≡ judgedOf (factsOf s) ⌝ }
+{
+    let run = run_of(s);
+    if 2 * run.steps + 1 == s.e {
+        return listed_by(s, run);
+    }
+    let found = over_of(s);
+    match found {
+        Over::First { constraint, set } => over_found(constraint, set),
+        Over::Not => listed_by(s, run),
+    }
+}
+
 // The verdict of a sheet, with what it rests on.
 pub fn judge(s: Sheet) -> Judged
     requires { ⌜ sheetFault s ≡ 0 ⌝ }
     ensures { λ r. ⌜ r ≡ judgedOf (factsOf s) ⌝ }
 {
+    if s.e + 3 == 2 * s.n {
+        return judge_full(s);
+    }
     let found = over_of(s);
     match found {
         Over::First { constraint, set } => over_found(constraint, set),
         Over::Not => plan_of(s),
     }
+}
+
+// The verdict by way of the judgement.
+fn judged_verdict(s: Sheet) -> Verdict
+    requires { ⌜ sheetFault s ≡ 0 ⌝ }
+    ensures { λ r. ⌜ r ≡ asVerdict (verdictOf (factsOf s)) ⌝ }
+{
+    let judged = judge(s);
+    let verdict = judged.verdict;
+    verdict
+}
+
+// The verdict of a sheet with two lines or fewer, of which no joint is three lines, and fewer than 2n-3 constraints.
+fn sparse_verdict(s: Sheet) -> Verdict
+    requires { ⌜ (sheetFault s ≡ 0) × (ones (linesOf (factsOf s .elements)) ≤ 2) × (s .e + 3 < 2 * s .n) ⌝ }
+    ensures { λ r. ⌜ r ≡ asVerdict (verdictOf (factsOf s)) ⌝ }
+{
+    let found = over_of(s);
+    match found {
+        Over::First { .. } => Verdict::Over,
+        Over::Not => Verdict::Under,
+    }
+}
+
+// The verdict of a sheet with 2n-3 constraints. One that peels off to the last element is well, unless three lines went so.
+fn full_verdict(s: Sheet, lines: u64) -> Verdict
+    requires { ⌜ (sheetFault s ≡ 0) × (lines ≡ linesOf (factsOf s .elements)) × (s .e + 3 ≡ 2 * s .n) ⌝ }
+    ensures { λ r. ⌜ r ≡ asVerdict (verdictOf (factsOf s)) ⌝ }
+{
+    let peeling = peels(s, lines);
+    if peeling.left != 0 {
+        return judged_verdict(s);
+    }
+    if peeling.angle {
+        Verdict::Angle
+    } else {
+        Verdict::Well
+    }
+}
+
+// The verdict of a sheet. No plan is made where counts, peeling or the search for an over set decide.
+pub fn verdict_of(s: Sheet) -> Verdict
+    requires { ⌜ sheetFault s ≡ 0 ⌝ }
+    ensures { λ r. ⌜ r ≡ asVerdict (verdictOf (factsOf s)) ⌝ }
+{
+    let n = s.n;
+    let used = s.e + 3;
+    if 2 * n < used {
+        return Verdict::Over;
+    }
+    let elements = s.elements;
+    let lines = sheet::lines_of(elements, n);
+    if used == 2 * n {
+        return full_verdict(s, lines);
+    }
+    if 2 < u64::count_ones(lines) {
+        return judged_verdict(s);
+    }
+    sparse_verdict(s)
 }

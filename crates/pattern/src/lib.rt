@@ -116,13 +116,13 @@ pub enum Judgement {
 pub fn verdict(bytes: &[u8]) -> Judgement
     ensures { λ r. ⌜ r ≡ judgementOf (now (bytes .entry)) ⌝ }
 {
-    let r = reckon(bytes);
-    let outcome = r.outcome;
+    let reading = reader::read_sheet(bytes);
+    let outcome = reading.outcome;
     let Outcome::Accepted = outcome else {
         return Judgement::Refused(reader::refusal(outcome));
     };
-    let judged = r.judged;
-    let is = judged.verdict;
+    let sheet = reading.sheet;
+    let is = judge::verdict_of(sheet);
     Judgement::Is(is)
 }
 

@@ -1,25 +1,40 @@
 -- Elements that are in the way of no over set, and the core that is left without them. Assumes nothing.
 use mathlib.Core.Path.{_≡_}
-use mathlib.Core.List.{List}
+use mathlib.Core.Bool.{Bool, true, false}
+use mathlib.Core.List.{List, [], _∷_}
 use Prim.Native.Nat.{ℕ, _+_, _*_, _-_, _^_, _≤_, _<_}
 use lib.Count.{ones}
+use lib.Dec.{eqb}
 use lib.ListN.{length, getD}
-use Rattle.theory.specs.Set.{_∩_, _⊑_, at, full}
-use Rattle.theory.specs.Constraints.{pair, carried, NotOver}
+use Rattle.theory.specs.Set.{_∩_, _∪_, _⊑_, at, full}
+use Rattle.theory.specs.Constraints.{Below, pair, carried, NotOver}
 use Rattle.theory.specs.Over.Listed.{ends, masks}
+use Rattle.theory.specs.Merge.{joints}
+use Rattle.theory.specs.Plan.{planOf}
+use Rattle.theory.specs.Verdict.{angled}
 pub mod Laws
 pub mod Neighbours
 pub mod Peeling
+pub mod Merging
+pub mod Corner
+pub mod Joints
+pub mod Angle
 
 -- within u, element x has at most k constraints
 pub record Few (cs : List ℕ) (u x k : ℕ) : Type 0 where
   pub few : (a : ℕ) → a ⊑ u → at x a ≡ 1 → carried cs a ≤ carried cs (a - 2 ^ x) + k
 
--- the sets within u tell whether the first c of e constraints are over, and a set's part within u carries all but two for each element that it lacks
+-- every set has an element with at most two constraints in it
+pub record Loose (cs : List ℕ) : Type 0 where
+  pub least : (a : ℕ) → a < 2 ^ 64 → 1 ≤ ones a → (x : ℕ) × (at x a ≡ 1) × (carried cs a ≤ carried cs (a - 2 ^ x) + 2)
+
+-- the sets within u tell whether the first c of e constraints are over, and a set's part within u carries all but two for each element that it lacks; where
+-- nothing is left, the constraints are loose
 pub record Core (us vs : List ℕ) (e u : ℕ) : Type 0 where
   pub small : u < 2 ^ 64
   pub fine : (c : ℕ) → c ≤ e → ((a : ℕ) → a ⊑ u → 2 ≤ ones a → carried (masks us vs c) a + 3 ≤ 2 * ones a) → NotOver (masks us vs c)
   pub cut : (c a : ℕ) → c ≤ e → carried (masks us vs c) a + 2 * ones (a ∩ u) ≤ carried (masks us vs c) (a ∩ u) + 2 * ones a
+  pub loose : u ≡ 0 → Loose (masks us vs e)
 
 -- ---- taking elements away
 
@@ -37,3 +52,23 @@ pub record Light (near : List ℕ) (u todo : ℕ) : Type 0 where
 pub data Peeled (near : List ℕ) : ℕ → Type 0 where
   whole : Peeled near (full 64)
   less : {u : ℕ} (x : ℕ) → Peeled near u → at x u ≡ 1 → ones (getD near x 0 ∩ u) ≤ 2 → Peeled near (u - 2 ^ x)
+
+-- an element taken away, with its neighbours among those left
+abbrev pub corner : List ℕ → ℕ → ℕ → ℕ
+corner near u x = 2 ^ x ∪ (getD near x 0 ∩ u)
+
+-- of those taken away with two neighbours the three elements
+unfoldable pub corners : {near : List ℕ} {u : ℕ} → Peeled near u → List ℕ
+corners whole = []
+corners {near = near} (less {u = v} x p q h) = elim (eqb (ones (corner near v x)) 3) [ true ↦ corner near v x ∷ corners p | false ↦ corners p ]
+
+-- what is left, and whether three lines are among these corners
+pub record Taken (near : List ℕ) (lines left : ℕ) (angle : Bool) : Type 0 where
+  pub peeled : Peeled near left
+  pub angle-is : angle ≡ angled lines (corners peeled)
+
+-- the core; and of 2n-3 constraints that leave none, whether some joint of the plan is three lines
+pub record Told (us vs : List ℕ) (e lines left : ℕ) (angle : Bool) : Type 0 where
+  pub core : Core us vs e left
+  pub angle-is : left ≡ 0 → (n : ℕ) → 2 ≤ n → n ≤ 64 → Below n (masks us vs e) → e + 3 ≡ 2 * n
+      → angle ≡ angled lines (joints (masks us vs e) (planOf (masks us vs e)))

@@ -3,10 +3,13 @@
 // (document 01, "Verdict names: over"). The contracts cite this crate's `Core`.
 ghost use mathlib.Core.Path.{_≡_};
 ghost use Prim.Native.Nat.{_-_, _^_, _≤_, _<_};
+ghost use mathlib.Core.Bool.{_&&_, _||_};
 ghost use lib.Count.{ones};
+ghost use lib.Dec.{eqb};
 ghost use Rattle.theory.specs.Set.{_⊑_, at, full};
 ghost use Rattle.theory.specs.Over.Listed.{Listed};
-ghost use Rattle.peeling.specs.Core.{Core, Near, Light, Peeled};
+ghost use Rattle.theory.specs.Verdict.{allLines};
+ghost use Rattle.peeling.specs.Core.{Core, Near, Light, Taken, Told};
 
 // A byte as an index.
 pub fn wide(x: u8) -> usize
@@ -94,21 +97,57 @@ fn light_of(near: &[u64; 64], left: u64, who: u64) -> u64
     todo
 }
 
-// What is left when elements with two neighbours at most are taken away, one after another.
-fn peel(near: &[u64; 64], low: u64) -> u64
+// Are there three, and all of them lines?
+fn three_lines(around: u64, lines: u64) -> bool
+    ensures { λ r. ⌜ r ≡ eqb (ones around) 3 && allLines lines around ⌝ }
+{
+    if u64::count_ones(around) == 3 {
+        around & lines == around
+    } else {
+        false
+    }
+}
+
+// Is one of the two true?
+fn either(a: bool, b: bool) -> bool
+    ensures { λ r. ⌜ r ≡ a || b ⌝ }
+{
+    if a { true } else { b }
+}
+
+// What is left when elements are taken away, and whether one with two neighbours went that made three lines with them.
+pub struct Peeling {
+    pub left: u64,
+    pub angle: bool,
+}
+
+// Takes elements with two neighbours at most away, one after another.
+fn peel(near: &[u64; 64], low: u64, lines: u64) -> Peeling
     requires { ⌜ Light (now near) (full 64) low ⌝ }
-    ensures { λ r. ⌜ Peeled (now (near .entry)) r ⌝ }
+    ensures { λ r. ⌜ Taken (now (near .entry)) lines (r .left) (r .angle) ⌝ }
 {
     let mut left: u64 = 18446744073709551615;
     let mut todo = low;
+    let mut angle = false;
     while todo != 0 {
         let x = lowest(todo);
         let i = wide(x);
         let bit = single(x);
+        angle = either(three_lines(bit | (near[i] & left), lines), angle);
         left = left - bit;
         todo = (todo - bit) | light_of(near, left, near[i] & left);
     }
-    left
+    Peeling { left, angle }
+}
+
+// The elements that an over set can have; and where there is none, and e is 2n-3 of n elements, whether some joint of the plan is three lines.
+pub fn peel_of(firsts: &[u8; 200], seconds: &[u8; 200], e: usize, lines: u64) -> Peeling
+    requires { ⌜ Listed (now firsts) (now seconds) e ⌝ }
+    ensures { λ r. ⌜ Told (now (firsts .entry)) (now (seconds .entry)) e lines (r .left) (r .angle) ⌝ }
+{
+    let near = near_of(firsts, seconds, e);
+    let low = light_all(&near);
+    peel(&near, low, lines)
 }
 
 // The elements that an over set can have.
@@ -116,7 +155,6 @@ pub fn core_of(firsts: &[u8; 200], seconds: &[u8; 200], e: usize) -> u64
     requires { ⌜ Listed (now firsts) (now seconds) e ⌝ }
     ensures { λ r. ⌜ Core (now (firsts .entry)) (now (seconds .entry)) e r ⌝ }
 {
-    let near = near_of(firsts, seconds, e);
-    let low = light_all(&near);
-    peel(&near, low)
+    let peeling = peel_of(firsts, seconds, e, 0);
+    peeling.left
 }

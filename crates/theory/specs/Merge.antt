@@ -16,6 +16,7 @@ pub mod Family
 pub mod Numbered
 pub mod Count
 pub mod Either
+pub mod One
 
 -- ---- clusters and merges
 

@@ -41,6 +41,28 @@ list-verdict lines n cs p pairs v =
     let l : length cs - 2 * length p ≡ left (final cs p) = omega (arith, steps-left cs pairs p v) in
     rw (take-padded 64 (joints cs p) (length p) (sym (length-joints p cs)), l)
 
+module _ (f : Facts) (elements : length (f .elements) ≤ 64) (constraints : length (f .constraints) ≤ 200)
+    (none : constraintsFault (f .elements) [] (f .constraints) ≡ 0) where
+  pub ends-in-64 : EndsBelow64 (f .constraints)
+  ends-in-64 = record {
+    firsts = λ i d l. let h = each-ends (f .elements) (f .constraints) [] none i d l in omega (arith, h);
+    seconds = λ i d l. let h = each-ends (f .elements) (f .constraints) [] none i d l in omega (arith, h);
+  }
+
+  -- the array of initial clusters
+  module _ (slots : List ℕ) (e : ℕ) (count : e ≡ length (f .constraints)) (are : slots ≡ block 192 0 (map endPair (f .constraints))) where
+    pub start-list : take e slots ≡ clustersOf f
+    start-list =
+        ap (take e) are ∙ take-padded 192 (map endPair (f .constraints)) e (count ∙ sym (simp length-map)) ∙ map-map (f .constraints)
+
+    pub start-begun : length (f .constraints) ≤ 125 → Begun slots e
+    start-begun most = record {
+      few = rw count most;
+      count = rw (start-list, count) (simp length-map);
+      pairs = rw start-list (clusters-pairs f elements constraints none);
+      are = are ∙ ap (padded 192) (map-map (f .constraints) ∙ sym start-list);
+    }
+
 module _ (f : Facts) (elements : length (f .elements) ≤ 64) (two : 2 ≤ length (f .elements)) (constraints : length (f .constraints) ≤ 200)
     (none : constraintsFault (f .elements) [] (f .constraints) ≡ 0) (notOver : NotOver (clustersOf f)) where
   pub few : length (f .constraints) ≤ 125
@@ -49,24 +71,14 @@ module _ (f : Facts) (elements : length (f .elements) ≤ 64) (two : 2 ≤ lengt
       omega (arith, m, length-clusters f)
 
   pub ends-below-64 : EndsBelow64 (f .constraints)
-  ends-below-64 = record {
-    firsts = λ i d l. let h = each-ends (f .elements) (f .constraints) [] none i d l in omega (arith, h);
-    seconds = λ i d l. let h = each-ends (f .elements) (f .constraints) [] none i d l in omega (arith, h);
-  }
+  ends-below-64 = ends-in-64 f elements constraints none
 
-  -- the array of initial clusters
   module _ (slots : List ℕ) (e : ℕ) (count : e ≡ length (f .constraints)) (are : slots ≡ block 192 0 (map endPair (f .constraints))) where
     pub begun-list : take e slots ≡ clustersOf f
-    begun-list =
-        ap (take e) are ∙ take-padded 192 (map endPair (f .constraints)) e (count ∙ sym (simp length-map)) ∙ map-map (f .constraints)
+    begun-list = start-list f elements constraints none slots e count are
 
     pub begun : Begun slots e
-    begun = record {
-      few = rw count few;
-      count = rw (begun-list, count) (simp length-map);
-      pairs = rw begun-list (clusters-pairs f elements constraints none);
-      are = are ∙ ap (padded 192) (map-map (f .constraints) ∙ sym begun-list);
-    }
+    begun = start-begun f elements constraints none slots e count are few
 
 -- ---- the judgement of a list of merges in arrays
 

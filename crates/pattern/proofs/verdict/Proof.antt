@@ -1,15 +1,18 @@
 use borrow.Author.Needs.{needs}
-use mathlib.Core.Path.{_≡_, refl, sym, ap, _∙_}
+use mathlib.Core.Path.{_≡_, ap, _∙_}
+use Rattle.sheet.specs.Facts.{Facts}
 use Rattle.sheet.specs.Field.{Bytes}
+use Rattle.sheet.specs.Graph.{verdictOf}
 use Rattle.reader.specs.Answers.{outcomeNumber}
+use Rattle.answer.specs.Answer.{asVerdict}
 use Rattle.pattern.specs.declared.Judgement.the-variants.{Is, Refused}
 use Rattle.pattern.specs.Judgements.{judgementOf}
-use Rattle.pattern.specs.Judgements.Laws.{judging, stopped}
+use Rattle.pattern.specs.Sheets.Laws.{FactsRead, facts-read, refusal-read}
 use Rattle.pattern.proofs.verdict.Statement.{statement}
 use Rattle.pattern.proofs.verdict.Tie as tie
 
-reckon-requires : tie.Need-reckon-requires
-reckon-requires c κs = search needs
+read-sheet-requires : tie.Need-read-sheet-requires
+read-sheet-requires c κs = search needs
 
 enum-told : tie.Need-enum-told
 enum-told c = search needs
@@ -24,19 +27,33 @@ returns : tie.Need-returns
 unfolding judgementOf
 returns c =
     let a = c .before .before .before .before .before .args in
-    let r = c .before .before .before .reckon in
+    let r = c .before .before .before .read-sheet in
     let t = c .before .enum-told2 .given in
-    rw (stopped (a .bytes .now) (r .result) (t .0 .0) (r .ensures) (t .1)) (ap Refused (c .refusal .ensures ∙ ap outcomeNumber (t .1)))
+    rw (refusal-read (a .bytes .now) (r .result) (t .0 .0) (r .ensures) (t .1)) (ap Refused (c .refusal .ensures ∙ ap outcomeNumber (t .1)))
+
+-- the facts of the sheet
+read : (c : tie.After-sheet) → FactsRead (c .before .before .before .before .before .args .bytes .now) (c .before .before .before .read-sheet .result)
+read c =
+    let all : Bytes (c .before .before .before .before .before .args .bytes .now) = record { each = λ i. c .before .before .before .before .shared-slice-known .given i .fits } in
+    facts-read (c .before .before .before .before .before .args .bytes .now) (c .before .before .before .read-sheet .result) all (c .before .before .before .read-sheet .ensures) (c .before .enum-told .given .1)
+
+verdict-of-requires : tie.Need-verdict-of-requires
+verdict-of-requires c κs = read c .no-fault
 
 returns-2 : tie.Need-returns-2
 unfolding judgementOf
 returns-2 c =
-    let a = c .before .before .before .before .before .args in
-    let all : Bytes (a .bytes .now) = record { each = λ i. c .before .before .before .before .shared-slice-known .given i .fits } in
-    let r = c .before .before .before .reckon in
-    let j = judging (a .bytes .now) (r .result) all (r .ensures) (c .before .enum-told .given .1) in
-    rw (j .reads) (ap Is (j .verdict-is))
+    let f = read (c .before) in
+    rw (f .reads) (ap Is (c .verdict-of .ensures ∙ ap (λ (x : Facts). asVerdict (verdictOf x)) (f .facts-are)))
 
 pub verdict-spec : {M : Type 1} → statement M
 verdict-spec =
-    tie.close (tie.spec reckon-requires enum-told enum-told-2 refusal-requires returns returns-2)
+    tie.close
+    (tie.spec
+    read-sheet-requires
+    enum-told
+    enum-told-2
+    refusal-requires
+    returns
+    verdict-of-requires
+    returns-2)

@@ -1,24 +1,27 @@
 -- `peel` meets its contract. The loop's invariant: elements are taken away down to left, and todo are light there. Assumes nothing.
+use mathlib.Core.Path.{refl}
 use Prim.Native.Nat.{_-_}
 use native.Mathlib.Omega.{arith}
 use lib.ListN.{getD}
-use Rattle.peeling.specs.Core.{Light, Peeled, whole}
-use Rattle.peeling.specs.Core.Peeling.{peel-room, todo-room, peel-less, peel-next, light-next}
-use Rattle.theory.specs.Set.{_∩_, full}
+use Rattle.peeling.specs.Core.{Light, whole, corners, Taken}
+use Rattle.peeling.specs.Core.Peeling.{peel-room, todo-room, peel-less, light-next}
+use Rattle.peeling.specs.Core.Angle.{taken-next}
+use Rattle.theory.specs.Set.{_∩_, _∪_, full}
 use Rattle.theory.specs.Set.Laws.{and-r}
+use Rattle.theory.specs.Verdict.{angled}
 use borrow.Author.Needs.{needs}
 use Rattle.peeling.proofs.peel.Statement.{statement}
 use Rattle.peeling.proofs.peel.Tie as tie
 
 abbrev Inv-loop : tie.InvT-loop
-Inv-loop near low left₀ todo₀ left todo = Peeled near left × Light near left todo
+Inv-loop near low lines left₀ todo₀ angle₀ left todo angle = Taken near lines left angle × Light near left todo
 
 abbrev μ-loop : tie.MeasureT-loop
-μ-loop near low left₀ todo₀ left todo = left
+μ-loop near low lines left₀ todo₀ angle₀ left todo angle = left
 
 loop-holds : tie.Need-loop-holds Inv-loop μ-loop
-unfolding full
-loop-holds c = (whole, c .pre)
+unfolding full corners angled
+loop-holds c = (record { peeled = whole; angle-is = refl }, c .pre)
 
 lowest-requires : tie.Need-lowest-requires Inv-loop μ-loop
 lowest-requires c κs = search needs
@@ -29,45 +32,68 @@ wide-requires c κs = search needs
 single-requires : tie.Need-single-requires Inv-loop μ-loop
 single-requires c κs = c .before .lowest .ensures .0
 
+mul-three-lines : tie.Need-mul-three-lines Inv-loop μ-loop
+mul-three-lines c = omega (arith, c .before .wide .ensures, c .before .before .lowest .ensures .0)
+
+element-copy-out-three-lines : tie.Need-element-copy-out-three-lines Inv-loop μ-loop
+element-copy-out-three-lines c = omega (arith, c .before .wide .ensures, c .before .before .lowest .ensures .0)
+
+three-lines-requires : tie.Need-three-lines-requires Inv-loop μ-loop
+three-lines-requires c κs = search needs
+
+either-requires : tie.Need-either-requires Inv-loop μ-loop
+either-requires c κs = search needs
+
 sub-left : tie.Need-sub-left Inv-loop μ-loop
 sub-left c =
-    let s = c .before .before .before .before .before in
-    let l = c .before .before .before .before .loop in
-    peel-room (s .args .near .now) (l .left) (l .todo) (c .before .before .lowest .result) (c .single .result) (l .inv .0) (l .inv .1) (c .before .before .lowest .ensures .1) (c .single .ensures)
+    let s = c .before .before .before .before .before .before .before .before in
+    let l = c .before .before .before .before .before .before .before .loop in
+    let x = c .before .before .before .before .before .lowest in
+    let b = c .before .before .before .single in
+    peel-room (s .args .near .now) (l .left) (l .todo) (x .result) (b .result) (l .inv .0 .peeled) (l .inv .1) (x .ensures .1) (b .ensures)
 
 sub-todo : tie.Need-sub-todo Inv-loop μ-loop
 sub-todo c =
-    let s = c .before .before .before .before .before in
-    let l = c .before .before .before .before .loop in
-    todo-room (s .args .near .now) (l .left) (l .todo) (c .before .before .lowest .result) (c .single .result) (l .inv .0) (l .inv .1) (c .before .before .lowest .ensures .1) (c .single .ensures)
+    let s = c .before .before .before .before .before .before .before .before in
+    let l = c .before .before .before .before .before .before .before .loop in
+    let x = c .before .before .before .before .before .lowest in
+    let b = c .before .before .before .single in
+    todo-room (s .args .near .now) (l .left) (l .todo) (x .result) (b .result) (l .inv .0 .peeled) (l .inv .1) (x .ensures .1) (b .ensures)
 
 mul-light-of : tie.Need-mul-light-of Inv-loop μ-loop
-mul-light-of c = omega (arith, c .before .wide .ensures, c .before .before .lowest .ensures .0)
+mul-light-of c = omega (arith, c .before .before .before .before .wide .ensures, c .before .before .before .before .before .lowest .ensures .0)
 
 element-copy-out-light-of : tie.Need-element-copy-out-light-of Inv-loop μ-loop
-element-copy-out-light-of c = omega (arith, c .before .wide .ensures, c .before .before .lowest .ensures .0)
+element-copy-out-light-of c = omega (arith, c .before .before .before .before .wide .ensures, c .before .before .before .before .before .lowest .ensures .0)
 
 light-of-requires : tie.Need-light-of-requires Inv-loop μ-loop
 unfolding _∩_
 light-of-requires c κs =
-    let s = c .before .before .before .before .before .before in
-    let l = c .before .before .before .before .before .loop in
-    and-r (getD (s .args .near .now) (c .before .before .wide .result) 0) (l .left - c .before .single .result)
+    let s = c .before .before .before .before .before .before .before .before .before in
+    let l = c .before .before .before .before .before .before .before .before .loop in
+    and-r (getD (s .args .near .now) (c .before .before .before .before .before .wide .result) 0) (l .left - c .before .before .before .before .single .result)
 
 loop-less : tie.Need-loop-less Inv-loop μ-loop
 loop-less c =
-    let s = c .before .before .before .before .before .before .before in
-    let l = c .before .before .before .before .before .before .loop in
-    peel-less (s .args .near .now) (l .left) (l .todo) (c .before .before .before .before .lowest .result) (c .before .before .single .result) (l .inv .0) (l .inv .1) (c .before .before .before .before .lowest .ensures .1) (c .before .before .single .ensures)
+    let s = c .before .before .before .before .before .before .before .before .before .before in
+    let l = c .before .before .before .before .before .before .before .before .before .loop in
+    let x = c .before .before .before .before .before .before .before .lowest in
+    let b = c .before .before .before .before .before .single in
+    peel-less (s .args .near .now) (l .left) (l .todo) (x .result) (b .result) (l .inv .0 .peeled) (l .inv .1) (x .ensures .1) (b .ensures)
 
 loop-again : tie.Need-loop-again Inv-loop μ-loop
+unfolding _∩_ _∪_
 loop-again c =
-    let s = c .before .before .before .before .before .before .before in
-    let l = c .before .before .before .before .before .before .loop in
-    let x = c .before .before .before .before .lowest in
-    let b = c .before .before .single in (
-      peel-next (s .args .near .now) (l .left) (l .todo) (x .result) (b .result) (l .inv .0) (l .inv .1) (x .ensures .1) (b .ensures),
-      light-next (s .args .near .now) (l .left) (l .todo) (x .result) (b .result) (l .inv .0) (l .inv .1) (x .ensures .1) (b .ensures) (c .light-of .result)
+    let s = c .before .before .before .before .before .before .before .before .before .before in
+    let l = c .before .before .before .before .before .before .before .before .before .loop in
+    let x = c .before .before .before .before .before .before .before .lowest in
+    let i = c .before .before .before .before .before .before .wide in
+    let b = c .before .before .before .before .before .single in
+    let t = c .before .before .before .three-lines in
+    let n = c .before .before .either in (
+      taken-next (s .args .near .now) (s .args .lines) (l .left) (l .todo) (l .angle) (l .inv .0) (l .inv .1) (x .result) (b .result) (i .result) (x .ensures .1) (b .ensures)
+          (i .ensures) (t .result) (n .result) (t .ensures) (n .ensures),
+      light-next (s .args .near .now) (l .left) (l .todo) (x .result) (b .result) (l .inv .0 .peeled) (l .inv .1) (x .ensures .1) (b .ensures) (c .light-of .result)
           (c .light-of .ensures),
     )
 
@@ -84,6 +110,10 @@ peel-spec =
     lowest-requires
     wide-requires
     single-requires
+    mul-three-lines
+    element-copy-out-three-lines
+    three-lines-requires
+    either-requires
     sub-left
     sub-todo
     mul-light-of

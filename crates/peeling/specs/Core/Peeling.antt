@@ -18,7 +18,7 @@ use Rattle.theory.specs.Constraints.Laws.{has-mono, carried-cut, not-over-in}
 use Rattle.peeling.specs.Less.{at-below, at-room, less-same, less-other, less-sub, size-less, sub-less}
 use Rattle.theory.specs.Over.Listed.{ends, masks, Listed}
 use Rattle.theory.specs.Over.Listed.Laws.{carried-more, masks-pairs, masks-below, carried-one, listed-part}
-use Rattle.peeling.specs.Core.{Few, Core, Near, Light, Peeled, whole, less}
+use Rattle.peeling.specs.Core.{Few, Loose, Core, Near, Light, Peeled, whole, less}
 use Rattle.peeling.specs.Core.Neighbours.{near-sub, light-or, light-rest}
 
 -- ---- one element taken away
@@ -141,8 +141,29 @@ module _ (us vs : List ℕ) (e : ℕ) (l : Listed us vs e) (near : List ℕ) (n 
               )
           pick (no k) = omega (arith, carried-one us vs e l c h a (omega arith))
 
+  -- a set that does not lie in what is left has an element with at most two constraints in it
+  peeled-loose : (u : ℕ) → Peeled near u → (a : ℕ) → a < 2 ^ 64
+      → (a ⊑ u) ⊎ ((x : ℕ) × (at x a ≡ 1) × (carried (masks us vs e) a ≤ carried (masks us vs e) (a - 2 ^ x) + 2))
+  peeled-loose u whole a h = inl (below-full 64 a h)
+  peeled-loose u (less {u = v} x p q two) a h = go (peeled-loose v p a h) (bit (at x a) (at-le x a))
+    where
+      go : (a ⊑ v) ⊎ ((y : ℕ) × (at y a ≡ 1) × (carried (masks us vs e) a ≤ carried (masks us vs e) (a - 2 ^ y) + 2)) → (at x a ≡ 0) ⊎ (at x a ≡ 1)
+          → (a ⊑ v - 2 ^ x) ⊎ ((y : ℕ) × (at y a ≡ 1) × (carried (masks us vs e) a ≤ carried (masks us vs e) (a - 2 ^ y) + 2))
+      go (inr r) i = inr r
+      go (inl s) (inl z) = inl (sub-less x v a q s z)
+      go (inl s) (inr z) =
+          inr (x, z, omega (arith, n .counts x a (at-below 64 x v (peeled-small v p) q) z, near-sub (getD near x 0) a v s, two))
+
+  all-loose : (u : ℕ) → Peeled near u → u ≡ 0 → Loose (masks us vs e)
+  all-loose u p z = record { least = λ a h some. go a some (peeled-loose u p a h) }
+    where
+      go : (a : ℕ) → 1 ≤ ones a → (a ⊑ u) ⊎ ((x : ℕ) × (at x a ≡ 1) × (carried (masks us vs e) a ≤ carried (masks us vs e) (a - 2 ^ x) + 2))
+          → (x : ℕ) × (at x a ≡ 1) × (carried (masks us vs e) a ≤ carried (masks us vs e) (a - 2 ^ x) + 2)
+      go a some (inl s) = absurd (omega (arith, size-le u a s, ap ones z, size-zero))
+      go a some (inr r) = r
+
   pub core-peeled : (u : ℕ) → Peeled near u → Core us vs e u
-  core-peeled u p = record { small = peeled-small u p; fine = peeled-fine u p; cut = λ c a h. peeled-cut u p c h a }
+  core-peeled u p = record { small = peeled-small u p; fine = peeled-fine u p; cut = λ c a h. peeled-cut u p c h a; loose = all-loose u p }
 
 -- an empty core: the list is not over
 pub core-none : (us vs : List ℕ) (e : ℕ) → Core us vs e 0 → NotOver (masks us vs e)

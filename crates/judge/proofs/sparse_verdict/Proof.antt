@@ -1,0 +1,45 @@
+use borrow.Author.Needs.{needs}
+use mathlib.Core.Path.{_≡_, refl, sym, ap, _∙_}
+use lib.ListN.{length-map}
+use Rattle.sheet.specs.Facts.{factsOf}
+use Rattle.answer.specs.Answer.{asVerdict}
+use Rattle.judge.specs.declared.Judged.{Judged}
+use Rattle.judge.specs.Judged.{judgedOf}
+use Rattle.judge.specs.Judged.Found.{first-found, not-over}
+use Rattle.judge.specs.Judged.Short.{Whole, whole, judged-verdict, fewer-is}
+use Rattle.judge.proofs.sparse_verdict.Statement.{statement}
+use Rattle.judge.proofs.sparse_verdict.Tie as tie
+
+sheet : (c : tie.Start) → Whole (c .args .s)
+sheet c =
+    whole (c .args .s) (sym (length-map (c .args .s .elements) _) ∙ c .good .0 .1 .1 .1 .1 .0 .1 .0 .1)
+    (sym (length-map (c .args .s .constraints) _) ∙ c .good .0 .1 .1 .1 .1 .1 .0 .1 .0 .1) (c .pre .0)
+
+over-of-requires : tie.Need-over-of-requires
+over-of-requires c κs = search needs
+
+enum-told : tie.Need-enum-told
+enum-told c = search needs
+
+enum-told-2 : tie.Need-enum-told-2
+enum-told-2 c = search needs
+
+returns : tie.Need-returns
+returns c =
+    let s = c .before .before .before in
+    let f = factsOf (s .args .s) in
+    let o = c .before .before .over-of in
+    let g = c .enum-told .given in
+    sym (ap (λ (j : Judged). j .verdict) (first-found f (o .result) (o .ensures) (g .0 .0) (g .0 .1 .0) (g .1)))
+    ∙ judged-verdict (s .args .s) (sheet s) (judgedOf f) refl
+
+returns-2 : tie.Need-returns-2
+returns-2 c =
+    let s = c .before .before .before in
+    let f = factsOf (s .args .s) in
+    let o = c .before .before .over-of in
+    let fine = not-over f (o .result) (o .ensures) (sheet s .pairs) (sheet s .below) (c .enum-told2 .given .1) in
+    ap asVerdict (sym (fewer-is (s .args .s) (sheet s) (s .pre .1) fine (s .pre .2)))
+
+pub sparse-verdict-spec : {M : Type 1} → statement M
+sparse-verdict-spec = tie.close (tie.spec over-of-requires enum-told enum-told-2 returns returns-2)

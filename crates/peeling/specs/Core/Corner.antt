@@ -1,0 +1,221 @@
+-- An element put back on what is left without it: with the two constraints at it, the rest merges, and the joint is the element with its two
+-- neighbours. Assumes nothing.
+use mathlib.Core.Path.{_≡_, sym, ap, _∙_, subst}
+use mathlib.Core.Logic.{_≢_, _⊎_, inl, inr, ⊎-elim, Ne·symm}
+use mathlib.Core.List.{List}
+use Prim.Native.Nat.{ℕ, _+_, _-_, _^_, _≤_, _<_}
+use native.Mathlib.Omega.{arith}
+use native.Mathlib.Decide.{ℕ-discrete}
+use lib.Count.{ones}
+use lib.ListN.{getD}
+use Rattle.theory.specs.Set.{_∩_, _∪_, _⊑_, at}
+use Rattle.theory.specs.Set.Laws.{at-or, at-le, at-same, at-other, bit, ext, zero-ext, size-eq, size-pow, size-or, sub-trans, sub-antisymm, or-least, other, some, two-in, both, in-both, in-either, or-left, or-right}
+use Rattle.theory.specs.Constraints.{Among, Pairs, same, carried}
+use Rattle.theory.specs.Constraints.Laws.{carried-pos, carried-small, pairs-share}
+use Rattle.theory.specs.Merge.{Open, Three, union, joint}
+use Rattle.theory.specs.Merge.Threes.{meet-open, size-joint}
+use Rattle.theory.specs.Merge.Family.{Fam, In, Same, after}
+use Rattle.peeling.specs.Less.{less-same, less-other, less-sub, size-less, sub-less}
+use Rattle.peeling.specs.Core.{corner}
+
+-- a set that has just these two elements
+two-are : (s p q : ℕ) → p ≢ q → at p s ≡ 1 → at q s ≡ 1 → ones s ≤ 2 → (z : ℕ) → at z s ≡ 1 → (z ≡ p) ⊎ (z ≡ q)
+two-are s p q n i j h z k = go (ℕ-discrete z p) (ℕ-discrete z q)
+  where
+    go : Dec (z ≡ p) → Dec (z ≡ q) → (z ≡ p) ⊎ (z ≡ q)
+    go (yes e) d = inl e
+    go (no a) (yes e) = inr e
+    go (no a) (no b) =
+        let l = less-other z p s k (Ne·symm a) in
+        let m = less-other z q s k (Ne·symm b) in
+        absurd (omega (arith, two-in (s - 2 ^ z) p q (l ∙ i) (m ∙ j) n, size-less z s k, h))
+
+-- the sets that live when a is merged: a, and the constraints that do not lie in it
+unfoldable pub Parted : List ℕ → ℕ → Fam
+Parted cs a y = (y ≡ a) ⊎ (Among y cs × (y ⊑ a → ⊥))
+
+module _ (cs near : List ℕ) (pairs : Pairs cs)
+    (counts : (x a : ℕ) → x < 64 → at x a ≡ 1 → carried cs a ≤ carried cs (a - 2 ^ x) + ones (getD near x 0 ∩ a))
+    (told : (x y : ℕ) → x < 64 → at y (getD near x 0) ≡ 1 → (m : ℕ) × Among m cs × (at x m ≡ 1) × (at y m ≡ 1) × (y ≢ x)) where
+  -- a neighbour by a constraint
+  has-near : (x p m : ℕ) → x < 64 → Among m cs → at x m ≡ 1 → at p m ≡ 1 → p ≢ x → at p (getD near x 0) ≡ 1
+  unfolding Pairs
+  has-near x p m l i xm pm ne =
+      let s = size-less x m xm in
+      let z = pairs m i in
+      let y = some (getD near x 0 ∩ m) (omega (arith, counts x m l xm, carried-pos cs m i, carried-small cs pairs (m - 2 ^ x) (omega arith))) in
+      let b = in-both (y .0) (getD near x 0) m (y .1) in
+      go (y .0) (b .0) (b .1) (ℕ-discrete p (y .0))
+    where
+      go : (y : ℕ) → at y (getD near x 0) ≡ 1 → at y m ≡ 1 → Dec (p ≡ y) → at p (getD near x 0) ≡ 1
+      go y e f (yes q) = ap (λ (w : ℕ). at w (getD near x 0)) q ∙ e
+      go y e f (no n) =
+          absurd (omega (
+            arith,
+            two-in (m - 2 ^ x) p y (less-other x p m xm ne ∙ pm) (less-other x y m xm (told x y l e .4) ∙ f) n,
+            size-less x m xm,
+            pairs m i,
+          ))
+
+  -- an element x of a put back on what a is without it
+  module _ (v a x : ℕ) (small : x < 64) (within : a ⊑ v) (xa : at x a ≡ 1) (two : ones (getD near x 0 ∩ v) ≤ 2) where
+    abbrev b : ℕ
+    b = a - 2 ^ x
+
+    out : at x b ≡ 0
+    out = less-same x a xa
+
+    b-in-a : b ⊑ a
+    b-in-a = less-sub x a xa
+
+    has-x : (m : ℕ) → m ⊑ a → (m ⊑ b → ⊥) → at x m ≡ 1
+    has-x m i o = pick (bit (at x m) (at-le x m))
+      where
+        pick : (at x m ≡ 0) ⊎ (at x m ≡ 1) → at x m ≡ 1
+        pick (inl e) = absurd (o (sub-less x a m xa i e))
+        pick (inr e) = e
+
+    -- the other end of a constraint at x
+    pub record End (m : ℕ) : Type 0 where
+      pub p : ℕ
+      pub among : Among m cs
+      pub in-a : m ⊑ a
+      pub x-in : at x m ≡ 1
+      pub p-in : at p m ≡ 1
+      pub p≢x : p ≢ x
+      pub p-b : at p b ≡ 1
+      pub p-near : at p (getD near x 0 ∩ v) ≡ 1
+      pub only : (z : ℕ) → at z m ≡ 1 → (z ≡ x) ⊎ (z ≡ p)
+
+    pub end : (m : ℕ) → Among m cs → m ⊑ a → (m ⊑ b → ⊥) → End m
+    unfolding Pairs
+    end m i h o =
+        let xm = has-x m h o in
+        let p = other m x (omega (arith, pairs m i)) in
+        let pa : at (p .0) a ≡ 1 = omega (arith, h .le (p .0), p .1, at-le (p .0) a) in
+        record {
+          p = p .0;
+          among = i;
+          in-a = h;
+          x-in = xm;
+          p-in = p .1;
+          p≢x = p .2;
+          p-b = less-other x (p .0) a xa (p .2) ∙ pa;
+          p-near = both (p .0) (getD near x 0) v (has-near x (p .0) m small i xm (p .1) (p .2)) (omega (arith, within .le (p .0), pa, at-le (p .0) v));
+          only = two-are m x (p .0) (Ne·symm (p .2)) xm (p .1) (omega (arith, pairs m i));
+        }
+
+    -- two constraints at x with the same other end are one
+    same-end : (m k : ℕ) (e : End m) (f : End k) → e .p ≡ f .p → m ≡ k
+    unfolding Pairs
+    same-end m k e f q = go (ℕ-discrete m k)
+      where
+        go : Dec (m ≡ k) → m ≡ k
+        go (yes r) = r
+        go (no r) =
+            absurd (omega (
+              arith,
+              pairs-share m k (pairs m (e .among)) (pairs k (f .among)) r,
+              two-in (m ∩ k) x (e .p) (both x m k (e .x-in) (f .x-in)) (both (e .p) m k (e .p-in) (subst (λ (w : ℕ). at w k ≡ 1) (sym q) (f .p-in))) (Ne·symm (e .p≢x)),
+            ))
+
+    module _ (m k : ℕ) (e : End m) (f : End k) (m≢k : m ≢ k) where
+      differ : e .p ≢ f .p
+      differ q = m≢k (same-end m k e f q)
+
+      -- what the three have in common
+      in-bm : (z : ℕ) → at z b ≡ 1 → at z m ≡ 1 → z ≡ e .p
+      in-bm z i j = ⊎-elim (λ r. absurd (omega (arith, out, ap (λ (w : ℕ). at w b) r, i))) (λ r. r) (e .only z j)
+
+      in-bk : (z : ℕ) → at z b ≡ 1 → at z k ≡ 1 → z ≡ f .p
+      in-bk z i j = ⊎-elim (λ r. absurd (omega (arith, out, ap (λ (w : ℕ). at w b) r, i))) (λ r. r) (f .only z j)
+
+      in-mk : (z : ℕ) → at z m ≡ 1 → at z k ≡ 1 → z ≡ x
+      in-mk z i j = ⊎-elim (λ r. r) (λ r. ⊎-elim (λ s. s) (λ s. absurd (differ (sym r ∙ s))) (f .only z j)) (e .only z i)
+
+      one-of : (s p : ℕ) → at p s ≡ 1 → ((z : ℕ) → at z s ≡ 1 → z ≡ p) → ones s ≡ 1
+      one-of s p i h =
+          ap ones (ext s (2 ^ p) (λ z. digit z (ℕ-discrete z p) (bit (at z s) (at-le z s)))) ∙ size-pow p
+        where
+          digit : (z : ℕ) → Dec (z ≡ p) → (at z s ≡ 0) ⊎ (at z s ≡ 1) → at z s ≡ at z (2 ^ p)
+          digit z (yes r) c = subst (λ (w : ℕ). at w s ≡ at w (2 ^ p)) (sym r) (omega (arith, i, at-same p))
+          digit z (no r) (inl c) = omega (arith, at-other z p r)
+          digit z (no r) (inr c) = absurd (r (h z c))
+
+      abbrev pub t : Three
+      t = record { a = b; b = m; c = k }
+
+      pub isopen : Open b m k
+      isopen =
+          meet-open b m k
+          (one-of (b ∩ m) (e .p) (both (e .p) b m (e .p-b) (e .p-in)) (λ z i. let r = in-both z b m i in in-bm z (r .0) (r .1)))
+          (one-of (m ∩ k) x (both x m k (e .x-in) (f .x-in)) (λ z i. let r = in-both z m k i in in-mk z (r .0) (r .1)))
+          (one-of (b ∩ k) (f .p) (both (f .p) b k (f .p-b) (f .p-in)) (λ z i. let r = in-both z b k i in in-bk z (r .0) (r .1)))
+          (zero-ext (b ∩ m ∩ k) (λ z. none z (bit (at z (b ∩ m ∩ k)) (at-le z (b ∩ m ∩ k)))))
+        where
+          none : (z : ℕ) → (at z (b ∩ m ∩ k) ≡ 0) ⊎ (at z (b ∩ m ∩ k) ≡ 1) → at z (b ∩ m ∩ k) ≡ 0
+          none z (inl i) = i
+          none z (inr i) =
+              let r = in-both z (b ∩ m) k i in
+              let s = in-both z b m (r .0) in
+              absurd (omega (arith, out, ap (λ (w : ℕ). at w b) (in-mk z (s .1) (r .1)), s .0))
+
+      union-is : union t ≡ a
+      unfolding union
+      union-is =
+          sub-antisymm (b ∪ m ∪ k) a (or-least (or-least b-in-a (e .in-a)) (f .in-a)) (record { le = λ z. go z (ℕ-discrete z x) })
+        where
+          go : (z : ℕ) → Dec (z ≡ x) → at z a ≤ at z (b ∪ m ∪ k)
+          go z (yes r) =
+              subst (λ (w : ℕ). at w a ≤ at w (b ∪ m ∪ k)) (sym r) (omega (arith, at-le x a, or-left x (b ∪ m) k (or-right x b m (e .x-in))))
+          go z (no r) = omega (arith, at-or z (b ∪ m) k, at-or z b m, less-other x z a xa r)
+
+      pub knot-is : joint t ≡ corner near v x
+      unfolding joint
+      knot-is =
+          size-eq (corner near v x) (joint t) (record { le = λ z. go z (bit (at z (joint t)) (at-le z (joint t))) })
+          (omega (arith, size-joint t isopen, size-or (2 ^ x) (getD near x 0 ∩ v), size-pow x, two))
+        where
+          near-in : (z : ℕ) → at z (getD near x 0 ∩ v) ≡ 1 → at z (corner near v x) ≡ 1
+          near-in z i = or-right z (2 ^ x) (getD near x 0 ∩ v) i
+
+          inner : (z : ℕ) → (at z (b ∩ m) ≡ 1) ⊎ (at z (m ∩ k) ≡ 1) → at z (corner near v x) ≡ 1
+          inner z (inl i) = let r = in-both z b m i in near-in z (subst (λ (w : ℕ). at w (getD near x 0 ∩ v) ≡ 1) (sym (in-bm z (r .0) (r .1))) (e .p-near))
+          inner z (inr i) =
+              let r = in-both z m k i in
+              or-left z (2 ^ x) (getD near x 0 ∩ v) (subst (λ (w : ℕ). at w (2 ^ x) ≡ 1) (sym (in-mk z (r .0) (r .1))) (at-same x))
+
+          outer : (z : ℕ) → (at z ((b ∩ m) ∪ (m ∩ k)) ≡ 1) ⊎ (at z (b ∩ k) ≡ 1) → at z (corner near v x) ≡ 1
+          outer z (inl i) = inner z (in-either z (b ∩ m) (m ∩ k) i)
+          outer z (inr i) = let r = in-both z b k i in near-in z (subst (λ (w : ℕ). at w (getD near x 0 ∩ v) ≡ 1) (sym (in-bk z (r .0) (r .1))) (f .p-near))
+
+          go : (z : ℕ) → (at z (joint t) ≡ 0) ⊎ (at z (joint t) ≡ 1) → at z (joint t) ≤ at z (corner near v x)
+          go z (inl i) = omega arith
+          go z (inr i) = omega (arith, outer z (in-either z ((b ∩ m) ∪ (m ∩ k)) (b ∩ k) i))
+
+      -- no other constraint in a has x
+      no-third : (y : ℕ) → End y → (y ≡ m) ⊎ (y ≡ k)
+      no-third y g =
+          ⊎-elim (λ r. inl (same-end y m g e r)) (λ r. inr (same-end y k g f r))
+          (two-are (getD near x 0 ∩ v) (e .p) (f .p) differ (e .p-near) (f .p-near) two (g .p) (g .p-near))
+
+      pub merged : (G : Fam) → Same G (Parted cs b) → Same (after G t) (Parted cs a)
+      unfolding Parted
+      merged G s y = (into, from)
+        where
+          into : after G t y → Parted cs a y
+          into (inl q) = inl (q ∙ union-is)
+          into (inr (g, none)) = pick (s y .0 g)
+            where
+              pick : Parted cs b y → Parted cs a y
+              pick (inl q) = absurd (none (inl q))
+              pick (inr (i, o)) = inr (i, λ h. none (inr (no-third y (end y i h o))))
+
+          from : Parted cs a y → after G t y
+          from (inl q) = inl (q ∙ sym union-is)
+          from (inr (i, o)) = inr (s y .1 (inr (i, λ h. o (sub-trans h b-in-a))), not-in)
+            where
+              not-in : In y t → ⊥
+              not-in (inl q) = o (subst (λ (w : ℕ). w ⊑ a) (sym q) b-in-a)
+              not-in (inr (inl q)) = o (subst (λ (w : ℕ). w ⊑ a) (sym q) (e .in-a))
+              not-in (inr (inr q)) = o (subst (λ (w : ℕ). w ⊑ a) (sym q) (f .in-a))

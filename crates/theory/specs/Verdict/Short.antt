@@ -1,0 +1,80 @@
+-- Verdicts that need no list of merges. Assumes nothing.
+use mathlib.Core.Path.{_≡_, refl, sym, ap, _∙_, subst}
+use mathlib.Core.Logic.{_≢_, inl, inr}
+use mathlib.Core.Bool.{Bool, true, false}
+use mathlib.Core.List.{List, [], _∷_}
+use Prim.Native.Nat.{ℕ, _+_, _*_, _≤_, _<_}
+use native.Mathlib.Omega.{arith}
+use lib.Count.{ones}
+use lib.Dec.{T, eqb, eqb→eq}
+use lib.ListN.{length}
+use Rattle.theory.specs.Tests.{eq-test}
+use Rattle.theory.specs.Set.Laws.{size-le}
+use Rattle.theory.specs.Constraints.{Among, Pairs, Below, NotOver}
+use Rattle.theory.specs.Merge.{Merge, three, joint, put, final, joints, left, Valid}
+use Rattle.theory.specs.Merge.Threes.{size-joint}
+use Rattle.theory.specs.Plan.{planOf}
+use Rattle.theory.specs.Over.Laws.{more-over, fine-isOver}
+use Rattle.theory.specs.Verdict.{over, angle, well, stuck, under, angled, judged, listVerdict, verdict}
+use Rattle.theory.specs.Verdict.Laws.{angled-is, over-verdict, verdict-is-planned}
+
+-- more constraints than 2n-3
+pub verdict-more : (lines n : ℕ) (cs : List ℕ) → 2 ≤ n → Pairs cs → Below n cs → 2 * n < length cs + 3 → verdict lines n cs ≡ over
+verdict-more lines n cs two pairs below more = over-verdict lines n cs pairs below (more-over n cs two below more)
+
+-- every joint has three elements
+joint-three : (p : List Merge) (s : List ℕ) → Valid s p → (j : ℕ) → Among j (joints s p) → ones j ≡ 3
+unfolding joints
+joint-three [] s v j i = absurd i
+joint-three (m ∷ p) s v j (inl e) = ap ones e ∙ size-joint (three s m) (v .0 .open3)
+joint-three (m ∷ p) s v j (inr i) = joint-three p (put s m) (v .1) j i
+
+-- two lines or fewer make no joint of three
+pub not-angled : (lines : ℕ) → ones lines ≤ 2 → (s : List ℕ) (p : List Merge) → Valid s p → angled lines (joints s p) ≡ false
+not-angled lines few s p v = go (angled lines (joints s p)) refl
+  where
+    go : (b : Bool) → angled lines (joints s p) ≡ b → angled lines (joints s p) ≡ false
+    go true e =
+        let a = angled-is lines (joints s p) (subst T (sym e) tt) in
+        absurd (omega (arith, joint-three p s v (a .0) (a .1), size-le lines (a .0) (a .2)))
+    go false e = e
+
+-- some joint of the plan is three lines
+pub verdict-angle : (lines n : ℕ) (cs : List ℕ) → NotOver cs → angled lines (joints cs (planOf cs)) ≡ true → verdict lines n cs ≡ angle
+unfolding listVerdict judged
+verdict-angle lines n cs fine e =
+    let l = eqb (left (final cs (planOf cs))) 1 in
+    verdict-is-planned lines n cs (fine-isOver n cs fine)
+    ∙ ap (λ (a : Bool). elim a [ true ↦ angle | false ↦ elim (eqb (length cs + 3) (2 * n)) [ true ↦ elim l [ true ↦ well | false ↦ stuck ] | false ↦ under ] ]) e
+
+-- none is
+module _ (lines n : ℕ) (cs : List ℕ) (fine : NotOver cs) (none : angled lines (joints cs (planOf cs)) ≡ false) where
+  -- what the count of constraints and of clusters left decides
+  counted : (b : Bool) → eqb (length cs + 3) (2 * n) ≡ b
+      → verdict lines n cs ≡ elim b [ true ↦ elim (eqb (left (final cs (planOf cs))) 1) [ true ↦ well | false ↦ stuck ] | false ↦ under ]
+  unfolding listVerdict judged
+  counted b e =
+      let l = eqb (left (final cs (planOf cs))) 1 in
+      verdict-is-planned lines n cs (fine-isOver n cs fine)
+      ∙ ap (λ (a : Bool). elim a [ true ↦ angle | false ↦ elim (eqb (length cs + 3) (2 * n)) [ true ↦ elim l [ true ↦ well | false ↦ stuck ] | false ↦ under ] ]) none
+      ∙ ap (λ (a : Bool). elim a [ true ↦ elim l [ true ↦ well | false ↦ stuck ] | false ↦ under ]) e
+
+  -- fewer constraints than 2n-3
+  pub verdict-fewer : length cs + 3 ≢ 2 * n → verdict lines n cs ≡ under
+  verdict-fewer ne = counted false (go (eqb (length cs + 3) (2 * n)) refl)
+    where
+      go : (b : Bool) → eqb (length cs + 3) (2 * n) ≡ b → eqb (length cs + 3) (2 * n) ≡ false
+      go true e = absurd (ne (eqb→eq (length cs + 3) (2 * n) (subst T (sym e) tt)))
+      go false e = e
+
+  -- 2n-3 constraints, and one cluster is left
+  pub verdict-one : length cs + 3 ≡ 2 * n → left (final cs (planOf cs)) ≡ 1 → verdict lines n cs ≡ well
+  verdict-one full one =
+      counted true (holds (length cs + 3) (2 * n) full) ∙ ap (λ (l : Bool). elim l [ true ↦ well | false ↦ stuck ]) (holds (left (final cs (planOf cs))) 1 one)
+    where
+      holds : (x y : ℕ) → x ≡ y → eqb x y ≡ true
+      holds x y e = go (eqb x y) (eq-test x y e)
+        where
+          go : (b : Bool) → T b → b ≡ true
+          go true t = refl
+          go false t = absurd t
