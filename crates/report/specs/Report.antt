@@ -16,7 +16,6 @@ use Rattle.report.specs.Elements.{elements}
 pub mod Laws
 pub mod Length
 pub mod Bound
-pub mod Examples
 
 -- ---- words and lines
 

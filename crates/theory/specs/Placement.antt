@@ -10,7 +10,6 @@ use lib.ListN.{getD}
 use Rattle.theory.specs.Set.{_∩_}
 use Rattle.theory.specs.Merge.{Merge, slot, three, joint}
 pub mod Laws
-pub mod Examples
 
 -- ---- the kind after the joint
 

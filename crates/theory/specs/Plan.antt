@@ -15,7 +15,6 @@ use Rattle.theory.specs.Merge.{Merge, merge, OpenAt, put, Ended}
 pub mod Order
 pub mod Search
 pub mod Laws
-pub mod Examples
 
 -- ---- by tests that compute
 

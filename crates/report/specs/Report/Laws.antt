@@ -1,4 +1,4 @@
--- Laws of the report's bytes: pieces of its lines, and its length. Assumes nothing.
+-- Laws of the report's bytes: pieces of its lines. Assumes nothing.
 use Prim.Native.Nat.{ℕ, zero, suc, _+_, _-_, _^_, _≤_, _<_}
 use native.Mathlib.Numerals.{add-one}
 use native.Mathlib.Omega.{arith}
