@@ -3,7 +3,7 @@ use Prim.Native.Nat.{ℕ}
 use native.Mathlib.Omega.{arith}
 use mathlib.Core.Path.{_≡_, refl, sym, ap, _∙_, subst}
 use mathlib.Core.List.{List}
-use lib.ListN.{length, length-map}
+use lib.ListN.{length}
 use Rattle.sheet.specs.Facts.{factsOf}
 use Rattle.sheet.specs.Graph.{clustersOf}
 use Rattle.theory.specs.Constraints.{NotOver}
@@ -11,7 +11,8 @@ use Rattle.theory.specs.Over.Laws.{overOf-fine}
 use Rattle.plans.specs.declared.Checked.{Checked}
 use Rattle.plans.specs.Check.{checkOf}
 use Rattle.account.specs.Account.{Merged}
-use Rattle.account.specs.Account.Laws.{Fit, sheeted, fit}
+use Rattle.judge.specs.Listing.{passed-blocks}
+use Rattle.account.specs.Account.Laws.{Fit, fit}
 use Rattle.account.specs.Account.Answers.{saved-refused, Took, saved-taken}
 use Rattle.account.proofs.check_listed.Statement.{statement}
 use Rattle.account.proofs.check_listed.Tie as tie
@@ -19,8 +20,7 @@ use Rattle.account.proofs.check_listed.Tie as tie
 -- the sheet
 sheet-fits : (c : tie.Start) → Fit (c .args .s)
 sheet-fits c =
-    let h = sheeted (c .args .s) (sym (length-map (c .args .s .elements) _) ∙ c .good .0 .1 .1 .1 .1 .0 .1 .0 .1)
-    (sym (length-map (c .args .s .constraints) _) ∙ c .good .0 .1 .1 .1 .1 .1 .0 .1 .0 .1) (c .pre .0) in
+    let h = passed-blocks (c .args .s) (c .good .0) (c .pre .0) in
     fit (c .args .s) h (overOf-fine _ _ (h .paired) (h .below) (c .pre .1))
 
 slots-of-requires : tie.Need-slots-of-requires

@@ -3,14 +3,14 @@ use Prim.Native.Nat.{ℕ, _≤_}
 use native.Mathlib.Omega.{arith}
 use mathlib.Core.Path.{_≡_, refl, sym, ap, _∙_}
 use mathlib.Core.List.{List}
-use lib.ListN.{length-map}
 use Rattle.theory.specs.Merge.{Merge, Valid}
 use Rattle.sheet.specs.Facts.{factsOf}
 use Rattle.sheet.specs.Graph.{clustersOf}
 use Rattle.space.specs.Space.{answer, after}
 use Rattle.merges.specs.Run.{runOf}
 use Rattle.account.specs.Account.{listReport}
-use Rattle.account.specs.Account.Laws.{Fit, sheeted, fit, Told, steps-half, steps-most, knots-long, slots-long, reported, all-small, not-long}
+use Rattle.judge.specs.Listing.{passed-blocks}
+use Rattle.account.specs.Account.Laws.{Fit, fit, Told, steps-half, steps-most, knots-long, slots-long, reported, all-small, not-long}
 use Rattle.account.proofs.put_list.Statement.{statement}
 use Rattle.account.proofs.put_list.Tie as tie
 
@@ -18,11 +18,10 @@ use Rattle.account.proofs.put_list.Tie as tie
 sheet-fits : (c : tie.Start) → Fit (c .args .s)
 sheet-fits c =
     fit (c .args .s)
-    (sheeted (c .args .s) (sym (length-map (c .args .s .elements) _) ∙ c .good .0 .1 .1 .1 .1 .0 .1 .0 .1)
-    (sym (length-map (c .args .s .constraints) _) ∙ c .good .0 .1 .1 .1 .1 .1 .0 .1 .0 .1) (c .pre .0)) (c .pre .1)
+    (passed-blocks (c .args .s) (c .good .0) (c .pre .0)) (c .pre .1)
 
 lines-of-requires : tie.Need-lines-of-requires
-lines-of-requires c κs = sheet-fits (c .before .before) .sheet .in-blocks .elements-most
+lines-of-requires c κs = sheet-fits (c .before .before) .sheet .elements-most
 
 slots-of-requires : tie.Need-slots-of-requires
 slots-of-requires c κs =
@@ -30,7 +29,7 @@ slots-of-requires c κs =
     (omega (arith, h .few-constraints), h .ends)
 
 sizes-of-requires : tie.Need-sizes-of-requires
-sizes-of-requires c κs = sheet-fits (c .before .before .before .before .before) .sheet .in-blocks .most
+sizes-of-requires c κs = sheet-fits (c .before .before .before .before .before) .sheet .most
 
 settle-requires : tie.Need-settle-requires
 settle-requires c κs =
@@ -40,8 +39,8 @@ settle-requires c κs =
     let s = steps-most (o .args .s) h (m .p) (m .valid) (o .args .run) (m .is) in (
       omega (arith, s),
       steps-half (o .args .s) h (m .p) (m .valid) (o .args .run) (m .is),
-      h .sheet .in-blocks .elements-most,
-      h .sheet .in-blocks .most,
+      h .sheet .elements-most,
+      h .sheet .most,
       knots-long (o .args .s) h (m .p) (m .valid) (o .args .run) (m .is),
     )
 
@@ -83,7 +82,7 @@ write-report-requires c κs =
     let h = sheet-fits o in
     let m = o .pre .2 in (
       (
-        omega (arith, h .sheet .in-blocks .elements-most),
+        omega (arith, h .sheet .elements-most),
         omega (arith, h .few-constraints),
         few-steps c,
         omega (arith, few-steps c, h .few-constraints),

@@ -3,13 +3,13 @@ use Prim.Native.Nat.{ℕ}
 use native.Mathlib.Omega.{arith}
 use mathlib.Core.Path.{_≡_, refl, sym, ap, _∙_}
 use mathlib.Core.List.{List}
-use lib.ListN.{length, length-map}
+use lib.ListN.{length}
 use Rattle.sheet.specs.Facts.{Facts, factsOf}
 use Rattle.space.specs.Space.{answer, after}
 use Rattle.judge.specs.Judged.Laws.{length-clusters}
 use Rattle.report.specs.Report.{overReport}
 use Rattle.account.specs.Account.{Merged, reportOf}
-use Rattle.account.specs.Account.Laws.{Sheeted, sheeted}
+use Rattle.judge.specs.Listing.{Blocks, passed-blocks}
 use Rattle.account.specs.Account.Answers.{OverFound, over-found, PlanFound, plan-found}
 use Rattle.account.proofs.report.Statement.{statement}
 use Rattle.account.proofs.report.Tie as tie
@@ -21,10 +21,9 @@ number-requires : tie.Need-number-requires
 number-requires c κs = search needs
 
 -- the sheet
-fine : (c : tie.Start) → Sheeted (c .args .s)
+fine : (c : tie.Start) → Blocks (c .args .s)
 fine c =
-    sheeted (c .args .s) (sym (length-map (c .args .s .elements) _) ∙ c .good .0 .1 .1 .1 .1 .0 .1 .0 .1)
-    (sym (length-map (c .args .s .constraints) _) ∙ c .good .0 .1 .1 .1 .1 .1 .0 .1 .0 .1) (c .pre)
+    passed-blocks (c .args .s) (c .good .0) (c .pre)
 
 -- over
 module _ (c : tie.After-write-over-report-arg) where
@@ -38,7 +37,7 @@ module _ (c : tie.After-write-over-report-arg) where
 
 write-over-report-requires : tie.Need-write-over-report-requires
 write-over-report-requires c κs =
-    let b = fine (start-over c) .in-blocks in
+    let b = fine (start-over c) in
     (omega (arith, b .elements-most), omega (arith, b .most), omega (arith, over c .first-below, length-clusters (factsOf (start-over c .args .s)), b .count, b .most))
 
 same-length : tie.Need-same-length
@@ -52,7 +51,7 @@ returns : tie.Need-returns
 returns c =
     let a = c .before .before .before in
     let o = start-over a in
-    let b = fine o .in-blocks in
+    let b = fine o in
     let w = c .before .before .write-over-report .ensures in
     let s = o .args .out .now in (
       w .0 ∙ same (λ l. answer l s) (factsOf (o .args .s)) _ _ _ _ (b .elements-count) (b .count) (over a .report-is),

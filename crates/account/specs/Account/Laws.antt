@@ -26,7 +26,7 @@ use Rattle.merges.specs.declared.Run.{Run}
 use Rattle.merges.proofs.State.{length-final}
 use Rattle.engine.specs.Steps.{waysBy, stepFrom, Stepped}
 use Rattle.engine.specs.Steps.Laws.{stepped-are}
-use Rattle.judge.specs.Listing.{Blocks, blocks, clusters-pairs, clusters-below}
+use Rattle.judge.specs.Listing.{Blocks}
 use Rattle.judge.specs.declared.Judged.{Judged}
 use Rattle.judge.specs.Judged.{listed}
 use Rattle.judge.specs.Judged.Laws.{few, ends-below-64, begun, begun-list, take-padded, length-clusters, steps-few, joints-long, settled}
@@ -35,50 +35,26 @@ use Rattle.report.specs.Pieces.{AllSmall}
 use Rattle.report.specs.Report.Bound.{report-most, small-steps}
 use Rattle.account.specs.Account.{Merged, listReport}
 
--- ---- a sheet that no rule refuses
+-- ---- a sheet that no rule refuses and that is not over
 
-pub record Sheeted (s : Sheet) : Type 0 where
-  pub in-blocks : Blocks s
-  pub two : 2 ≤ length (factsOf s .elements)
-  pub elements-most : length (factsOf s .elements) ≤ 64
-  pub most : length (factsOf s .constraints) ≤ 200
-  pub paired : Pairs (clustersOf (factsOf s))
-  pub below : Below (length (factsOf s .elements)) (clustersOf (factsOf s))
-
-pub sheeted : (s : Sheet) → length (s .elements) ≡ 64 → length (s .constraints) ≡ 200 → sheetFault s ≡ 0 → Sheeted s
-sheeted s long-elements long none =
-    let b = blocks s long-elements long none in
-    let n : length (factsOf s .elements) ≤ 64 = rw (b .elements-count) (b .elements-most) in
-    let e : length (factsOf s .constraints) ≤ 200 = rw (b .count) (b .most) in
-    record {
-      in-blocks = b;
-      two = rw (b .elements-count) (b .elements-two);
-      elements-most = n;
-      most = e;
-      paired = clusters-pairs (factsOf s) n e (b .fine);
-      below = clusters-below (factsOf s) n e (b .fine);
-    }
-
--- and that is not over
 pub record Fit (s : Sheet) : Type 0 where
-  pub sheet : Sheeted s
+  pub sheet : Blocks s
   pub notOver : NotOver (clustersOf (factsOf s))
   pub few-constraints : s .e ≤ 125
   pub ends : EndsBelow64 (factsOf s .constraints)
   pub begins : (slots : List ℕ) → slots ≡ block 192 0 (map endPair (factsOf s .constraints)) → Begun slots (s .e)
   pub begins-list : (slots : List ℕ) → slots ≡ block 192 0 (map endPair (factsOf s .constraints)) → take (s .e) slots ≡ clustersOf (factsOf s)
 
-pub fit : (s : Sheet) → Sheeted s → NotOver (clustersOf (factsOf s)) → Fit s
-fit s h fine =
-    let b = h .in-blocks in
+pub fit : (s : Sheet) → Blocks s → NotOver (clustersOf (factsOf s)) → Fit s
+fit s b fine =
     let f = factsOf s in
     record {
-      sheet = h;
+      sheet = b;
       notOver = fine;
-      few-constraints = rw (b .count) at (few f (h .elements-most) (h .two) (h .most) (b .fine) fine);
-      ends = ends-below-64 f (h .elements-most) (h .two) (h .most) (b .fine) fine;
-      begins = λ slots are. begun f (h .elements-most) (h .two) (h .most) (b .fine) fine slots (s .e) (sym (b .count)) are;
-      begins-list = λ slots are. begun-list f (h .elements-most) (h .two) (h .most) (b .fine) fine slots (s .e) (sym (b .count)) are;
+      few-constraints = rw (b .count) at (few f (b .elements-few) (b .elements-some) (b .constraints-few) (b .fine) fine);
+      ends = ends-below-64 f (b .elements-few) (b .elements-some) (b .constraints-few) (b .fine) fine;
+      begins = λ slots are. begun f (b .elements-few) (b .elements-some) (b .constraints-few) (b .fine) fine slots (s .e) (sym (b .count)) are;
+      begins-list = λ slots are. begun-list f (b .elements-few) (b .elements-some) (b .constraints-few) (b .fine) fine slots (s .e) (sym (b .count)) are;
     }
 
 -- ---- a missing size, and a place beyond the list, is 0
@@ -138,20 +114,20 @@ module _ (s : Sheet) (h : Fit s) (p : List Merge) (valid : Valid (clustersOf (fa
   f = factsOf s
 
   pub steps-half : 2 * run .steps ≤ s .e
-  steps-half = rw (h .sheet .in-blocks .count) at (steps-few f p (h .sheet .paired) valid run is)
+  steps-half = rw (h .sheet .count) at (steps-few f p (h .sheet .paired) valid run is)
 
   pub steps-most : run .steps ≤ 62
   steps-most = omega (arith, steps-half, h .few-constraints)
 
   pub knots-long : length (run .joints) ≡ 64
-  knots-long = joints-long f p (h .sheet .paired) valid run is (rw (h .sheet .in-blocks .count) (h .few-constraints))
+  knots-long = joints-long f p (h .sheet .paired) valid run is (rw (h .sheet .count) (h .few-constraints))
 
   steps-are : run .steps ≡ length p
   unfolding runOf
   steps-are = ap (λ (r : Run). r .steps) is
 
   final-long : length (final (clustersOf f) p) ≡ s .e + run .steps
-  final-long = length-final p (clustersOf f) ∙ rw (length-clusters f, h .sheet .in-blocks .count, steps-are)
+  final-long = length-final p (clustersOf f) ∙ rw (length-clusters f, h .sheet .count, steps-are)
 
   slots-are : run .slots ≡ padded 192 (final (clustersOf f) p)
   unfolding runOf
@@ -168,11 +144,11 @@ module _ (s : Sheet) (h : Fit s) (p : List Merge) (valid : Valid (clustersOf (fa
     verdict-is : v ≡ asVerdict (listVerdict (linesOf (f .elements)) (length (f .elements)) (clustersOf f) p)
     unfolding listed
     verdict-is =
-        ap (λ (j : Judged). j .verdict) (settled f p (h .sheet .paired) valid run is lines (s .n) (s .e) v (t .lines-are) (sym (h .sheet .in-blocks .elements-count)) (sym (h .sheet .in-blocks .count)) (t .v-is))
+        ap (λ (j : Judged). j .verdict) (settled f p (h .sheet .paired) valid run is lines (s .n) (s .e) v (t .lines-are) (sym (h .sheet .elements-count)) (sym (h .sheet .count)) (t .v-is))
 
     pub steps-list : take (run .steps) steps ≡ stepsOf (linesOf (f .elements)) (s .e) (sizesOf f) (clustersOf f) p
     steps-list =
-        stepped-are lines (s .e) (sizesOf f) (clustersOf f) p run start steps valid is (length-clusters f ∙ h .sheet .in-blocks .count)
+        stepped-are lines (s .e) (sizesOf f) (clustersOf f) p run start steps valid is (length-clusters f ∙ h .sheet .count)
         (h .begins start (t .start-is) .are ∙ ap (padded 192) (h .begins-list start (t .start-is))) (omega (arith, steps-most, steps-are))
         (stepped-sizes lines (s .e) sizes (sizesOf f) start run steps same (t .stepped))
         ∙ ap (λ (x : ℕ). stepsOf x (s .e) (sizesOf f) (clustersOf f) p) (t .lines-are)
@@ -182,14 +158,14 @@ module _ (s : Sheet) (h : Fit s) (p : List Merge) (valid : Valid (clustersOf (fa
 
     pub reported : report (s .n) (s .e) v (take (run .steps) steps) (take (s .e + run .steps) (run .slots)) ≡ listReport f p
     unfolding listReport
-    reported = rw (verdict-is, steps-list, finals, h .sheet .in-blocks .count, h .sheet .in-blocks .elements-count)
+    reported = rw (verdict-is, steps-list, finals, h .sheet .count, h .sheet .elements-count)
 
     pub all-small : AllSmall (take (run .steps) steps)
     all-small =
-        subst AllSmall (sym steps-list) (small-steps (linesOf (f .elements)) (s .e) (sizesOf f) (clustersOf f) p valid (omega (arith, length-clusters f, h .sheet .in-blocks .count, h .few-constraints, steps-most, steps-are)))
+        subst AllSmall (sym steps-list) (small-steps (linesOf (f .elements)) (s .e) (sizesOf f) (clustersOf f) p valid (omega (arith, length-clusters f, h .sheet .count, h .few-constraints, steps-most, steps-are)))
 
     pub not-long : length (report (s .n) (s .e) v (take (run .steps) steps) (take (s .e + run .steps) (run .slots))) ≤ 3786
     unfolding listReport
     not-long =
         rw (reported, ← length-clusters f)
-        (report-most (length (f .elements)) (linesOf (f .elements)) (sizesOf f) (clustersOf f) (h .sheet .paired) p valid _ (h .sheet .two) (h .sheet .elements-most) (h .sheet .below) (h .notOver))
+        (report-most (length (f .elements)) (linesOf (f .elements)) (sizesOf f) (clustersOf f) (h .sheet .paired) p valid _ (h .sheet .elements-some) (h .sheet .elements-few) (h .sheet .below) (h .notOver))

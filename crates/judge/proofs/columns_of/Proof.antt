@@ -3,10 +3,11 @@ use native.Mathlib.Omega.{arith}
 use mathlib.Core.Path.{_≡_, sym, ap₂, _∙_}
 use mathlib.Core.Bool.{true, false}
 use mathlib.Core.List.{List}
-use lib.ListN.{length, length-map}
+use lib.ListN.{length}
+use Rattle.sheet.proofs.Passed.{constraints-long}
 use Rattle.graph.specs.Arrays.{endAt}
 use Rattle.graph.specs.Arrays.Laws.{Filling, filling-none, filling-more, filling-all}
-use Rattle.judge.specs.Listing.{Blocks, blocks}
+use Rattle.judge.specs.Listing.{Blocks, passed-blocks}
 use Rattle.judge.proofs.columns_of.Statement.{statement}
 use Rattle.judge.proofs.columns_of.Tie as tie
 
@@ -19,10 +20,10 @@ abbrev μ-loop : tie.MeasureT-loop
 
 module _ (c : tie.Start Inv-loop μ-loop) where
   long : length (c .args .t1 .constraints) ≡ 200
-  long = sym (length-map (c .args .t1 .constraints) _) ∙ c .good .0 .1 .1 .1 .1 .1 .0 .1 .0 .1
+  long = constraints-long (c .args .t1) (c .good .0)
 
   in-blocks : Blocks (c .args .t1)
-  in-blocks = blocks (c .args .t1) (sym (length-map (c .args .t1 .elements) _) ∙ c .good .0 .1 .1 .1 .1 .0 .1 .0 .1) long (c .pre)
+  in-blocks = passed-blocks (c .args .t1) (c .good .0) (c .pre)
 
   room : c .args .t1 .e ≤ length (c .args .t1 .constraints)
   room = rw long (in-blocks .most)

@@ -1,7 +1,6 @@
 use borrow.Author.Needs.{needs}
 use native.Mathlib.Omega.{arith}
 use mathlib.Core.Path.{_≡_, sym, ap, _∙_}
-use lib.ListN.{length-map}
 use Rattle.answer.specs.Answer.{asVerdict}
 use Rattle.judge.specs.Judged.Short.{Whole, whole, angle-peeled, well-peeled}
 use Rattle.judge.proofs.full_verdict.Statement.{statement}
@@ -9,8 +8,7 @@ use Rattle.judge.proofs.full_verdict.Tie as tie
 
 sheet : (c : tie.Start) → Whole (c .args .s)
 sheet c =
-    whole (c .args .s) (sym (length-map (c .args .s .elements) _) ∙ c .good .0 .1 .1 .1 .1 .0 .1 .0 .1)
-    (sym (length-map (c .args .s .constraints) _) ∙ c .good .0 .1 .1 .1 .1 .1 .0 .1 .0 .1) (c .pre .0)
+    whole (c .args .s) (c .good .0) (c .pre .0)
 
 peels-requires : tie.Need-peels-requires
 peels-requires c κs = search needs

@@ -1,7 +1,6 @@
 use borrow.Author.Needs.{needs}
 use native.Mathlib.Omega.{arith}
 use mathlib.Core.Path.{_≡_, sym, ap, _∙_}
-use lib.ListN.{length-map}
 use Rattle.sheet.specs.Facts.{factsOf}
 use Rattle.judge.specs.Judged.Found.{not-found, first-found, not-over}
 use Rattle.judge.specs.Judged.Short.{Whole, whole}
@@ -10,14 +9,13 @@ use Rattle.judge.proofs.judge.Tie as tie
 
 sheet : (c : tie.Start) → Whole (c .args .s)
 sheet c =
-    whole (c .args .s) (sym (length-map (c .args .s .elements) _) ∙ c .good .0 .1 .1 .1 .1 .0 .1 .0 .1)
-    (sym (length-map (c .args .s .constraints) _) ∙ c .good .0 .1 .1 .1 .1 .1 .0 .1 .0 .1) (c .pre)
+    whole (c .args .s) (c .good .0) (c .pre)
 
 add-if1 : tie.Need-add-if1
 add-if1 c = omega (arith, sheet (c .before) .columns .few)
 
 mul-if1 : tie.Need-mul-if1
-mul-if1 c = omega (arith, sheet (c .before .before) .most)
+mul-if1 c = omega (arith, sheet (c .before .before) .in-blocks .elements-most)
 
 judge-full-requires : tie.Need-judge-full-requires
 judge-full-requires c κs = search needs
@@ -41,7 +39,7 @@ plan-of-requires : tie.Need-plan-of-requires
 plan-of-requires c κs =
     let s = c .before .before .before .before .before .before in
     let o = c .before .before .over-of in
-    (s .pre, not-over (factsOf (s .args .s)) (o .result) (o .ensures) (sheet s .pairs) (sheet s .below) (c .enum-told .given .1))
+    (s .pre, not-over (factsOf (s .args .s)) (o .result) (o .ensures) (sheet s .in-blocks .paired) (sheet s .in-blocks .below) (c .enum-told .given .1))
 
 returns-2 : tie.Need-returns-2
 returns-2 c =

@@ -1,7 +1,6 @@
 use borrow.Author.Needs.{needs}
 use native.Mathlib.Omega.{arith}
 use mathlib.Core.Path.{_≡_, sym, ap, _∙_}
-use lib.ListN.{length-map}
 use Rattle.sheet.specs.Facts.{factsOf}
 use Rattle.judge.specs.Judged.Found.{not-found, first-found, not-over}
 use Rattle.judge.specs.Judged.Short.{Whole, whole, steps-room, one-left, fine-judged}
@@ -10,11 +9,10 @@ use Rattle.judge.proofs.judge_full.Tie as tie
 
 sheet : (c : tie.Start) → Whole (c .args .s)
 sheet c =
-    whole (c .args .s) (sym (length-map (c .args .s .elements) _) ∙ c .good .0 .1 .1 .1 .1 .0 .1 .0 .1)
-    (sym (length-map (c .args .s .constraints) _) ∙ c .good .0 .1 .1 .1 .1 .1 .0 .1 .0 .1) (c .pre .0)
+    whole (c .args .s) (c .good .0) (c .pre .0)
 
 run-of-requires : tie.Need-run-of-requires
-run-of-requires c κs = (c .pre .0, omega (arith, c .pre .1, sheet c .most))
+run-of-requires c κs = (c .pre .0, omega (arith, c .pre .1, sheet c .in-blocks .elements-most))
 
 mul-if1 : tie.Need-mul-if1
 mul-if1 c =
@@ -29,7 +27,7 @@ add-if1 c =
 listed-by-requires : tie.Need-listed-by-requires
 listed-by-requires c κs =
     let s = c .before .before .before .before in
-    (s .pre .0, omega (arith, s .pre .1, sheet s .most), c .before .before .before .run-of .ensures)
+    (s .pre .0, omega (arith, s .pre .1, sheet s .in-blocks .elements-most), c .before .before .before .run-of .ensures)
 
 returns : tie.Need-returns
 returns c =
@@ -53,7 +51,7 @@ enum-told c = search needs
 listed-by-requires-2 : tie.Need-listed-by-requires-2
 listed-by-requires-2 c κs =
     let s = c .before .before .before .before .before .before .before in
-    (s .pre .0, omega (arith, s .pre .1, sheet s .most), c .before .before .before .before .before .before .run-of .ensures)
+    (s .pre .0, omega (arith, s .pre .1, sheet s .in-blocks .elements-most), c .before .before .before .before .before .before .run-of .ensures)
 
 returns-2 : tie.Need-returns-2
 returns-2 c =
@@ -67,7 +65,7 @@ returns-3 c =
     let o = c .before .before .before .over-of in
     let f = factsOf (s .args .s) in
     let t = c .before .enum-told .given .1 in
-    c .listed-by2 .ensures (not-over f (o .result) (o .ensures) (sheet s .pairs) (sheet s .below) t) ∙ sym (not-found f (o .result) (o .ensures) t)
+    c .listed-by2 .ensures (not-over f (o .result) (o .ensures) (sheet s .in-blocks .paired) (sheet s .in-blocks .below) t) ∙ sym (not-found f (o .result) (o .ensures) t)
 
 pub judge-full-spec : {M : Type 1} → statement M
 judge-full-spec =

@@ -1,14 +1,10 @@
 use borrow.Author.Needs.{needs}
-use mathlib.Core.Path.{_≡_, sym, _∙_}
-use lib.ListN.{length-map}
 use Rattle.judge.specs.Judged.Short.{Whole, whole, judged-verdict}
 use Rattle.judge.proofs.judged_verdict.Statement.{statement}
 use Rattle.judge.proofs.judged_verdict.Tie as tie
 
 sheet : (c : tie.Start) → Whole (c .args .s)
-sheet c =
-    whole (c .args .s) (sym (length-map (c .args .s .elements) _) ∙ c .good .0 .1 .1 .1 .1 .0 .1 .0 .1)
-    (sym (length-map (c .args .s .constraints) _) ∙ c .good .0 .1 .1 .1 .1 .1 .0 .1 .0 .1) (c .pre)
+sheet c = whole (c .args .s) (c .good .0) (c .pre)
 
 judge-requires : tie.Need-judge-requires
 judge-requires c κs = search needs

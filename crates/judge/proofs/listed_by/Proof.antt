@@ -1,12 +1,12 @@
 use Prim.Native.Nat.{ℕ, _≤_}
 use native.Mathlib.Omega.{arith}
 use mathlib.Core.Path.{_≡_, sym, ap, _∙_}
-use lib.ListN.{length, length-map}
+use lib.ListN.{length}
 use Rattle.theory.specs.Constraints.{Pairs}
 use Rattle.sheet.specs.Facts.{Facts, factsOf}
 use Rattle.sheet.specs.Graph.{clustersOf}
 use Rattle.merges.specs.Run.{Ran}
-use Rattle.judge.specs.Listing.{Blocks, blocks, clusters-pairs}
+use Rattle.judge.specs.Listing.{Blocks, clusters-pairs, passed-blocks}
 use Rattle.judge.specs.Judged.{listed}
 use Rattle.judge.specs.Judged.Laws.{steps-few, joints-long, settled}
 use Rattle.judge.proofs.listed_by.Statement.{statement}
@@ -19,17 +19,7 @@ module _ (c : tie.Start) where
 
   in-blocks : Blocks (c .args .s)
   in-blocks =
-      blocks (c .args .s) (sym (length-map (c .args .s .elements) _) ∙ c .good .0 .1 .1 .1 .1 .0 .1 .0 .1)
-      (sym (length-map (c .args .s .constraints) _) ∙ c .good .0 .1 .1 .1 .1 .1 .0 .1 .0 .1) (c .pre .0)
-
-  elements-most : length (facts .elements) ≤ 64
-  elements-most = rw (in-blocks .elements-count) (in-blocks .elements-most)
-
-  most : length (facts .constraints) ≤ 200
-  most = rw (in-blocks .count) (in-blocks .most)
-
-  paired : Pairs (clustersOf facts)
-  paired = clusters-pairs facts elements-most most (in-blocks .fine)
+      passed-blocks (c .args .s) (c .good .0) (c .pre .0)
 
   ran : Ran (clustersOf facts) (c .args .run)
   ran = c .pre .2
@@ -40,18 +30,18 @@ lines-of-requires c κs = in-blocks (c .before) .elements-most
 settle-requires : tie.Need-settle-requires
 settle-requires c κs =
     let s = c .before .before .before .before in
-    let h = steps-few (facts s) (ran s .p) (paired s) (ran s .valid) (s .args .run) (ran s .is) in (
+    let h = steps-few (facts s) (ran s .p) (in-blocks s .paired) (ran s .valid) (s .args .run) (ran s .is) in (
       omega (arith, h, in-blocks s .count, s .pre .1),
       omega (arith, h, in-blocks s .count),
       in-blocks s .elements-most,
       in-blocks s .most,
-      joints-long (facts s) (ran s .p) (paired s) (ran s .valid) (s .args .run) (ran s .is) (rw (in-blocks s .count) (s .pre .1)),
+      joints-long (facts s) (ran s .p) (in-blocks s .paired) (ran s .valid) (s .args .run) (ran s .is) (rw (in-blocks s .count) (s .pre .1)),
     )
 
 returns : tie.Need-returns
 returns c fine =
     let s = c .before .before .before .before .before in
-    settled (facts s) (ran s .p) (paired s) (ran s .valid) (s .args .run) (ran s .is) _ _ _ (c .settle .result)
+    settled (facts s) (ran s .p) (in-blocks s .paired) (ran s .valid) (s .args .run) (ran s .is) _ _ _ (c .settle .result)
     (c .before .before .before .lines-of .ensures) (sym (in-blocks s .elements-count)) (sym (in-blocks s .count)) (c .settle .ensures)
     ∙ ap (listed (facts s)) (ran s .plan fine)
 

@@ -1,7 +1,7 @@
 use borrow.Author.Needs.{needs}
 use mathlib.Core.Path.{_≡_, sym, ap, _∙_, subst}
 use mathlib.Core.List.{List}
-use lib.ListN.{length, length-map}
+use lib.ListN.{length}
 use Rattle.theory.specs.Constraints.{Below}
 use Rattle.theory.specs.Over.{overOf}
 use Rattle.theory.specs.Over.Listed.{masks, Listed}
@@ -14,8 +14,7 @@ use Rattle.judge.proofs.over_of.Tie as tie
 
 sheet : (c : tie.Start) → Whole (c .args .s)
 sheet c =
-    whole (c .args .s) (sym (length-map (c .args .s .elements) _) ∙ c .good .0 .1 .1 .1 .1 .0 .1 .0 .1)
-    (sym (length-map (c .args .s .constraints) _) ∙ c .good .0 .1 .1 .1 .1 .1 .0 .1 .0 .1) (c .pre)
+    whole (c .args .s) (c .good .0) (c .pre)
 
 columns-of-requires : tie.Need-columns-of-requires
 columns-of-requires c κs = search needs
@@ -33,7 +32,7 @@ returns c =
     let r = c .before .before .before .before .before .columns-of in
     let m =
     ap (λ (r : Columns). masks (r .firsts) (r .seconds) (s .args .s .e)) (r .ensures) ∙ sheet s .masks-are in
-    c .find-over .ensures n (subst (Below n) (sym m) (sheet s .below)) ∙ ap (λ (cs : List _). asOver (overOf n cs)) m
+    c .find-over .ensures n (subst (Below n) (sym m) (sheet s .in-blocks .below)) ∙ ap (λ (cs : List _). asOver (overOf n cs)) m
 
 pub over-of-spec : {M : Type 1} → statement M
 over-of-spec = tie.close (tie.spec columns-of-requires find-over-requires returns)

@@ -1,6 +1,5 @@
 use borrow.Author.Needs.{needs}
 use mathlib.Core.Path.{_≡_, sym, _∙_, subst}
-use lib.ListN.{length-map}
 use Rattle.theory.specs.Over.Listed.{Listed}
 use Rattle.peeling.specs.Core.{Told}
 use Rattle.judge.specs.declared.Columns.{Columns}
@@ -10,8 +9,7 @@ use Rattle.judge.proofs.peels.Tie as tie
 
 sheet : (c : tie.Start) → Whole (c .args .s)
 sheet c =
-    whole (c .args .s) (sym (length-map (c .args .s .elements) _) ∙ c .good .0 .1 .1 .1 .1 .0 .1 .0 .1)
-    (sym (length-map (c .args .s .constraints) _) ∙ c .good .0 .1 .1 .1 .1 .1 .0 .1 .0 .1) (c .pre)
+    whole (c .args .s) (c .good .0) (c .pre)
 
 columns-of-requires : tie.Need-columns-of-requires
 columns-of-requires c κs = search needs

@@ -2,10 +2,10 @@ use Prim.Native.Nat.{ℕ, _≤_}
 use native.Mathlib.Omega.{arith}
 use mathlib.Core.Path.{_≡_, sym, ap, _∙_, subst}
 use mathlib.Core.List.{List}
-use lib.ListN.{length, take, length-map}
+use lib.ListN.{length, take}
 use Rattle.sheet.specs.Facts.{Facts, factsOf}
 use Rattle.merges.specs.Run.{Ran}
-use Rattle.judge.specs.Listing.{Blocks, blocks}
+use Rattle.judge.specs.Listing.{Blocks, passed-blocks}
 use Rattle.judge.specs.Judged.Laws.{ends-in-64, start-list, start-begun}
 use Rattle.judge.proofs.run_of.Statement.{statement}
 use Rattle.judge.proofs.run_of.Tie as tie
@@ -17,24 +17,17 @@ module _ (c : tie.Start) where
 
   in-blocks : Blocks (c .args .s)
   in-blocks =
-      blocks (c .args .s) (sym (length-map (c .args .s .elements) _) ∙ c .good .0 .1 .1 .1 .1 .0 .1 .0 .1)
-      (sym (length-map (c .args .s .constraints) _) ∙ c .good .0 .1 .1 .1 .1 .1 .0 .1 .0 .1) (c .pre .0)
-
-  elements-most : length (facts .elements) ≤ 64
-  elements-most = rw (in-blocks .elements-count) (in-blocks .elements-most)
-
-  most : length (facts .constraints) ≤ 200
-  most = rw (in-blocks .count) (in-blocks .most)
+      passed-blocks (c .args .s) (c .good .0) (c .pre .0)
 
 slots-of-requires : tie.Need-slots-of-requires
 slots-of-requires c κs =
     let s = c .before in
-    (omega (arith, s .pre .1), ends-in-64 (facts s) (elements-most s) (most s) (in-blocks s .fine))
+    (omega (arith, s .pre .1), ends-in-64 (facts s) (in-blocks s .elements-few) (in-blocks s .constraints-few) (in-blocks s .fine))
 
 merge-all-requires : tie.Need-merge-all-requires
 merge-all-requires c κs =
     let s = c .before .before in
-    start-begun (facts s) (elements-most s) (most s) (in-blocks s .fine) (c .slots-of .result) (s .args .s .e) (sym (in-blocks s .count)) (c .slots-of .ensures)
+    start-begun (facts s) (in-blocks s .elements-few) (in-blocks s .constraints-few) (in-blocks s .fine) (c .slots-of .result) (s .args .s .e) (sym (in-blocks s .count)) (c .slots-of .ensures)
     (rw (in-blocks s .count) (s .pre .1))
 
 returns : tie.Need-returns
@@ -42,7 +35,7 @@ returns c =
     let s = c .before .before .before in
     let g = c .before .slots-of in
     subst (λ (cs : List ℕ). Ran cs (c .merge-all .result))
-    (start-list (facts s) (elements-most s) (most s) (in-blocks s .fine) (g .result) (s .args .s .e) (sym (in-blocks s .count)) (g .ensures)) (c .merge-all .ensures)
+    (start-list (facts s) (in-blocks s .elements-few) (in-blocks s .constraints-few) (in-blocks s .fine) (g .result) (s .args .s .e) (sym (in-blocks s .count)) (g .ensures)) (c .merge-all .ensures)
 
 pub run-of-spec : {M : Type 1} → statement M
 run-of-spec = tie.close (tie.spec slots-of-requires merge-all-requires returns)

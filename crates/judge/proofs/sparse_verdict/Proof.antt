@@ -1,6 +1,5 @@
 use borrow.Author.Needs.{needs}
 use mathlib.Core.Path.{_≡_, refl, sym, ap, _∙_}
-use lib.ListN.{length-map}
 use Rattle.sheet.specs.Facts.{factsOf}
 use Rattle.answer.specs.Answer.{asVerdict}
 use Rattle.judge.specs.declared.Judged.{Judged}
@@ -12,8 +11,7 @@ use Rattle.judge.proofs.sparse_verdict.Tie as tie
 
 sheet : (c : tie.Start) → Whole (c .args .s)
 sheet c =
-    whole (c .args .s) (sym (length-map (c .args .s .elements) _) ∙ c .good .0 .1 .1 .1 .1 .0 .1 .0 .1)
-    (sym (length-map (c .args .s .constraints) _) ∙ c .good .0 .1 .1 .1 .1 .1 .0 .1 .0 .1) (c .pre .0)
+    whole (c .args .s) (c .good .0) (c .pre .0)
 
 over-of-requires : tie.Need-over-of-requires
 over-of-requires c κs = search needs
@@ -38,7 +36,7 @@ returns-2 c =
     let s = c .before .before .before in
     let f = factsOf (s .args .s) in
     let o = c .before .before .over-of in
-    let fine = not-over f (o .result) (o .ensures) (sheet s .pairs) (sheet s .below) (c .enum-told2 .given .1) in
+    let fine = not-over f (o .result) (o .ensures) (sheet s .in-blocks .paired) (sheet s .in-blocks .below) (c .enum-told2 .given .1) in
     ap asVerdict (sym (fewer-is (s .args .s) (sheet s) (s .pre .1) fine (s .pre .2)))
 
 pub sparse-verdict-spec : {M : Type 1} → statement M

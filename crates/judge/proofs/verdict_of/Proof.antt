@@ -2,7 +2,6 @@ use borrow.Author.Needs.{needs}
 use native.Mathlib.Omega.{arith}
 use mathlib.Core.Path.{_≡_, sym, ap, _∙_}
 use lib.Count.{ones}
-use lib.ListN.{length-map}
 use Rattle.answer.specs.Answer.{asVerdict}
 use Rattle.judge.specs.Judged.Short.{Whole, whole, more-is}
 use Rattle.judge.proofs.verdict_of.Statement.{statement}
@@ -10,14 +9,13 @@ use Rattle.judge.proofs.verdict_of.Tie as tie
 
 sheet : (c : tie.Start) → Whole (c .args .s)
 sheet c =
-    whole (c .args .s) (sym (length-map (c .args .s .elements) _) ∙ c .good .0 .1 .1 .1 .1 .0 .1 .0 .1)
-    (sym (length-map (c .args .s .constraints) _) ∙ c .good .0 .1 .1 .1 .1 .1 .0 .1 .0 .1) (c .pre)
+    whole (c .args .s) (c .good .0) (c .pre)
 
 add-used : tie.Need-add-used
 add-used c = omega (arith, sheet (c .before) .columns .few)
 
 mul-if1 : tie.Need-mul-if1
-mul-if1 c = omega (arith, sheet (c .before) .most)
+mul-if1 c = omega (arith, sheet (c .before) .in-blocks .elements-most)
 
 returns : tie.Need-returns
 returns c =
@@ -25,10 +23,10 @@ returns c =
     ap asVerdict (sym (more-is (s .args .s) (sheet s) (c .if1 .taken)))
 
 lines-of-requires : tie.Need-lines-of-requires
-lines-of-requires c κs = sheet (c .before .before .before) .most
+lines-of-requires c κs = sheet (c .before .before .before) .in-blocks .elements-most
 
 mul-if2 : tie.Need-mul-if2
-mul-if2 c = omega (arith, sheet (c .before .before .before .before) .most)
+mul-if2 c = omega (arith, sheet (c .before .before .before .before) .in-blocks .elements-most)
 
 full-verdict-requires : tie.Need-full-verdict-requires
 full-verdict-requires c κs = search needs

@@ -25,37 +25,29 @@ use Rattle.peeling.specs.Core.Peeling.{core-none}
 use Rattle.peeling.specs.Core.Merging.{loose-one}
 use Rattle.merges.specs.Run.{Ran, runOf}
 use Rattle.merges.specs.declared.Run.{Run}
-use Rattle.judge.specs.Listing.{columnsOf, masks-are, listed, clusters-pairs, clusters-below, blocks}
+use Rattle.judge.specs.Listing.{columnsOf, masks-are, listed, Blocks, passed-blocks}
+use Rattle.sheet.proofs.Passed.{Passed}
 use Rattle.answer.specs.Answer.{asVerdict}
 use Rattle.judge.specs.declared.Judged.{Judged}
 use Rattle.judge.specs.Judged.Lists.{judged-held}
 use Rattle.judge.specs.Judged.{planned, judgedBy, judgedOf}
 use Rattle.judge.specs.Judged.Laws.{length-clusters}
 
+-- with its ends in columns
 pub record Whole (s : Sheet) : Type 0 where
-  pub most : s .n ≤ 64
-  pub two : 2 ≤ s .n
-  pub elements : length (factsOf s .elements) ≡ s .n
+  pub in-blocks : Blocks s
   pub count : length (clustersOf (factsOf s)) ≡ s .e
-  pub pairs : Pairs (clustersOf (factsOf s))
-  pub below : Below (length (factsOf s .elements)) (clustersOf (factsOf s))
   pub columns : Listed (columnsOf (factsOf s) .firsts) (columnsOf (factsOf s) .seconds) (s .e)
   pub masks-are : masks (columnsOf (factsOf s) .firsts) (columnsOf (factsOf s) .seconds) (s .e) ≡ clustersOf (factsOf s)
 
-pub whole : (s : Sheet) → length (s .elements) ≡ 64 → length (s .constraints) ≡ 200 → sheetFault s ≡ 0 → Whole s
-whole s long-elements long none =
+pub whole : (s : Sheet) → Passed s → sheetFault s ≡ 0 → Whole s
+whole s g none =
     let f = factsOf s in
-    let b = blocks s long-elements long none in
-    let n : length (f .elements) ≤ 64 = rw (b .elements-count) (b .elements-most) in
-    let e : length (f .constraints) ≤ 200 = rw (b .count) (b .most) in
+    let b = passed-blocks s g none in
     record {
-      most = b .elements-most;
-      two = b .elements-two;
-      elements = b .elements-count;
+      in-blocks = b;
       count = length-clusters f ∙ b .count;
-      pairs = clusters-pairs f n e (b .fine);
-      below = clusters-below f n e (b .fine);
-      columns = rw (b .count) at (listed f n e (b .fine));
+      columns = rw (b .count) at (listed f (b .elements-few) (b .constraints-few) (b .fine));
       masks-are = rw (b .count) at (masks-are f);
     }
 
@@ -63,35 +55,35 @@ module _ (s : Sheet) (w : Whole s) where
   pub steps-room : (run : Run) → Ran (clustersOf (factsOf s)) run → 2 * run .steps ≤ s .e
   unfolding runOf
   steps-room run ran =
-      omega (arith, steps-left (clustersOf (factsOf s)) (w .pairs) (ran .p) (ran .valid), w .count, ap (λ (r : Run). r .steps) (ran .is))
+      omega (arith, steps-left (clustersOf (factsOf s)) (w .in-blocks .paired) (ran .p) (ran .valid), w .count, ap (λ (r : Run). r .steps) (ran .is))
 
   -- merges that leave one cluster show that the sheet is not over
   pub one-left : (run : Run) → Ran (clustersOf (factsOf s)) run → 2 * run .steps + 1 ≡ s .e → NotOver (clustersOf (factsOf s))
   unfolding runOf
   one-left run ran one =
-      one-fine (clustersOf (factsOf s)) (w .pairs) (ran .p) (ran .valid)
-      (omega (arith, steps-left (clustersOf (factsOf s)) (w .pairs) (ran .p) (ran .valid), w .count, one, ap (λ (r : Run). r .steps) (ran .is)))
+      one-fine (clustersOf (factsOf s)) (w .in-blocks .paired) (ran .p) (ran .valid)
+      (omega (arith, steps-left (clustersOf (factsOf s)) (w .in-blocks .paired) (ran .p) (ran .valid), w .count, one, ap (λ (r : Run). r .steps) (ran .is)))
 
   pub fine-judged : NotOver (clustersOf (factsOf s)) → judgedOf (factsOf s) ≡ planned (factsOf s)
   unfolding judgedOf
-  fine-judged fine = ap (judgedBy (factsOf s)) (fine-overOf (length (factsOf s .elements)) (clustersOf (factsOf s)) (w .pairs) (w .below) fine)
+  fine-judged fine = ap (judgedBy (factsOf s)) (fine-overOf (length (factsOf s .elements)) (clustersOf (factsOf s)) (w .in-blocks .paired) (w .in-blocks .below) fine)
 
   -- the judgement's verdict
   pub judged-verdict : (j : Judged) → j ≡ judgedOf (factsOf s) → j .verdict ≡ asVerdict (verdictOf (factsOf s))
   judged-verdict j e =
       ap (λ (x : Judged). x .verdict) e
-      ∙ judged-held (factsOf s) (w .pairs) (w .below) (λ fine. omega (arith, most-of fine, w .elements, w .most, length-clusters (factsOf s))) .verdict-is
+      ∙ judged-held (factsOf s) (w .in-blocks .paired) (w .in-blocks .below) (λ fine. omega (arith, most-of fine, w .in-blocks .elements-count, w .in-blocks .elements-most, length-clusters (factsOf s))) .verdict-is
     where
       most-of : NotOver (clustersOf (factsOf s)) → length (clustersOf (factsOf s)) + 3 ≤ 2 * length (factsOf s .elements)
-      most-of = fine-most (length (factsOf s .elements)) (clustersOf (factsOf s)) (omega (arith, w .elements, w .two)) (w .below)
+      most-of = fine-most (length (factsOf s .elements)) (clustersOf (factsOf s)) (omega (arith, w .in-blocks .elements-count, w .in-blocks .elements-two)) (w .in-blocks .below)
 
   -- ---- verdicts without a plan
 
   pub more-is : 2 * s .n < s .e + 3 → verdictOf (factsOf s) ≡ over
   unfolding verdictOf
   more-is h =
-      verdict-more (linesOf (factsOf s .elements)) (length (factsOf s .elements)) (clustersOf (factsOf s)) (omega (arith, w .elements, w .two)) (w .pairs) (w .below)
-      (omega (arith, w .elements, w .count))
+      verdict-more (linesOf (factsOf s .elements)) (length (factsOf s .elements)) (clustersOf (factsOf s)) (omega (arith, w .in-blocks .elements-count, w .in-blocks .elements-two)) (w .in-blocks .paired) (w .in-blocks .below)
+      (omega (arith, w .in-blocks .elements-count, w .count))
 
   -- fewer than 2n-3 constraints, and no three lines
   pub fewer-is : ones (linesOf (factsOf s .elements)) ≤ 2 → NotOver (clustersOf (factsOf s)) → s .e + 3 < 2 * s .n → verdictOf (factsOf s) ≡ under
@@ -99,7 +91,7 @@ module _ (s : Sheet) (w : Whole s) where
   fewer-is few fine h =
       let cs = clustersOf (factsOf s) in
       verdict-fewer (linesOf (factsOf s .elements)) (length (factsOf s .elements)) cs fine
-      (not-angled (linesOf (factsOf s .elements)) few cs (planOf cs) (plan-of-maximal cs (w .pairs) .valid)) (λ e. omega (arith, w .elements, w .count, e))
+      (not-angled (linesOf (factsOf s .elements)) few cs (planOf cs) (plan-of-maximal cs (w .in-blocks .paired) .valid)) (λ e. omega (arith, w .in-blocks .elements-count, w .count, e))
 
   -- 2n-3 constraints that peel off to the last element
   module _ (lines left : ℕ) (angle : Bool) (are : lines ≡ linesOf (factsOf s .elements)) (count : s .e + 3 ≡ 2 * s .n)
@@ -111,7 +103,7 @@ module _ (s : Sheet) (w : Whole s) where
 
     angle-is : angle ≡ angled (linesOf (factsOf s .elements)) (joints (clustersOf (factsOf s)) (planOf (clustersOf (factsOf s))))
     angle-is =
-        t .angle-is none (s .n) (w .two) (w .most) (rw (w .masks-are, ← w .elements) (w .below)) count
+        t .angle-is none (s .n) (w .in-blocks .elements-two) (w .in-blocks .elements-most) (rw (w .masks-are, ← w .in-blocks .elements-count) (w .in-blocks .below)) count
         ∙ ap₂ (λ (z : ℕ) (cs : List ℕ). angled z (joints cs (planOf cs))) are (w .masks-are)
 
     pub angle-peeled : angle ≡ true → verdictOf (factsOf s) ≡ angle-name
@@ -123,6 +115,6 @@ module _ (s : Sheet) (w : Whole s) where
     well-peeled e =
         let n = length (factsOf s .elements) in
         let cs = clustersOf (factsOf s) in
-        let full : length cs + 3 ≡ 2 * n = omega (arith, w .elements, w .count, count) in
+        let full : length cs + 3 ≡ 2 * n = omega (arith, w .in-blocks .elements-count, w .count, count) in
         verdict-one (linesOf (factsOf s .elements)) n cs fine (sym angle-is ∙ e) full
-        (loose-one n cs (omega (arith, w .elements, w .two)) (omega (arith, w .elements, w .most)) (w .pairs) (w .below) fine (subst Loose (w .masks-are) (t .core .loose none)) full (planOf cs) (plan-of-maximal cs (w .pairs)))
+        (loose-one n cs (omega (arith, w .in-blocks .elements-count, w .in-blocks .elements-two)) (omega (arith, w .in-blocks .elements-count, w .in-blocks .elements-most)) (w .in-blocks .paired) (w .in-blocks .below) fine (subst Loose (w .masks-are) (t .core .loose none)) full (planOf cs) (plan-of-maximal cs (w .in-blocks .paired)))

@@ -1,9 +1,8 @@
 use borrow.Author.Needs.{needs}
 use mathlib.Core.Path.{_≡_, sym, ap, _∙_}
-use lib.ListN.{length-map}
 use Rattle.sheet.specs.Facts.{factsOf}
 use Rattle.sheet.specs.Decode.{constraint}
-use Rattle.judge.specs.Listing.{Blocks, blocks}
+use Rattle.judge.specs.Listing.{Blocks, passed-blocks}
 use Rattle.reader.specs.Answers.{asConstraint}
 use Rattle.pattern.specs.Sketches.Laws.{last-refused, last-followed, last-ended}
 use Rattle.pattern.proofs.read_last.Statement.{statement}
@@ -12,8 +11,7 @@ use Rattle.pattern.proofs.read_last.Tie as tie
 in-blocks : (c : tie.Start) → Blocks (c .args .sheet)
 in-blocks c =
     let s = c .args .sheet in
-    blocks s (sym (length-map (s .elements) _) ∙ c .good .0 .1 .1 .1 .1 .0 .1 .0 .1)
-    (sym (length-map (s .constraints) _) ∙ c .good .0 .1 .1 .1 .1 .1 .0 .1 .0 .1) (c .pre)
+    passed-blocks s (c .good .0) (c .pre)
 
 lines-of-requires : tie.Need-lines-of-requires
 lines-of-requires c κs = in-blocks (c .before .before) .elements-most

@@ -6,10 +6,11 @@ use mathlib.Core.List.{List, [], _∷_, _++_}
 use borrow.Author.Needs.{needs}
 use borrow.Author.Tests.{not-true, not-false, leb-true}
 use lib.Dec.{leb}
-use lib.ListN.{length, take, drop, getD, length-map}
+use lib.ListN.{length, take, drop, getD}
 use lib.Seq.{length-take-le, take-suc}
 use lib.IntN.{pos}
 use native.Mathlib.Numerals.{add-one}
+use Rattle.sheet.proofs.Passed.{elements-long, constraints-long}
 use Rattle.sheet.specs.declared.Element.{Element}
 use Rattle.sheet.specs.declared.Size.the-variants.{Given}
 use Rattle.sheet.specs.declared.Tag.the-variants.{Given as TagGiven}
@@ -61,10 +62,10 @@ lines-of-requires : tie.Need-lines-of-requires Inv-loop μ-loop
 lines-of-requires c κs = few-elements (c .before .before .before .before)
 
 long : (c : tie.Start Inv-loop μ-loop) → length (c .args .s .constraints) ≡ 200
-long c = sym (length-map (c .args .s .constraints) _) ∙ c .good .0 .1 .1 .1 .1 .1 .0 .1 .0 .1
+long c = constraints-long (c .args .s) (c .good .0)
 
 long-elements : (c : tie.Start Inv-loop μ-loop) → length (c .args .s .elements) ≡ 64
-long-elements c = sym (length-map (c .args .s .elements) _) ∙ c .good .0 .1 .1 .1 .1 .0 .1 .0 .1
+long-elements c = elements-long (c .args .s) (c .good .0)
 
 loop-holds : tie.Need-loop-holds Inv-loop μ-loop
 loop-holds c =

@@ -2,7 +2,8 @@ use borrow.Author.Needs.{needs}
 use Prim.Native.Nat.{ℕ, _<_}
 use native.Mathlib.Omega.{arith}
 use mathlib.Core.Path.{_≡_, sym, ap, ap₂, _∙_}
-use lib.ListN.{length, length-map}
+use lib.ListN.{length}
+use Rattle.sheet.proofs.Passed.{constraints-long}
 use Rattle.sheet.specs.declared.Constraint.{Constraint}
 use Rattle.sheet.specs.declared.Sheet.{Sheet}
 use Rattle.sheet.specs.Facts.{Facts, factsOf}
@@ -10,7 +11,7 @@ use Rattle.sheet.specs.Rules.{constraintFault, sheetFault}
 use Rattle.sheet.specs.Graph.{verdictOf}
 use Rattle.answer.specs.Answer.{asVerdict, verdictNumber}
 use Rattle.judge.specs.declared.Judged.{Judged}
-use Rattle.judge.specs.Listing.{Blocks, blocks}
+use Rattle.judge.specs.Listing.{Blocks, passed-blocks}
 use Rattle.judge.specs.Judged.{judgedOf}
 use Rattle.sketch.specs.declared.Taken.{Taken}
 use Rattle.sketch.specs.declared.Taken.the-variants.{Is, Refused}
@@ -49,11 +50,11 @@ module _ (c : tie.Else1) where
   held = sym (c .before .hold-fault .ensures) ∙ c .if1 .left
 
   long : length (start .args .s .constraints) ≡ 200
-  long = sym (length-map (start .args .s .constraints) _) ∙ start .good .0 .1 .1 .1 .1 .1 .0 .1 .0 .1
+  long = constraints-long (start .args .s) (start .good .0)
 
   in-blocks : Blocks (start .args .s)
   in-blocks =
-      blocks (start .args .s) (sym (length-map (start .args .s .elements) _) ∙ start .good .0 .1 .1 .1 .1 .0 .1 .0 .1) long (hold-none (start .args .s) held .0)
+      passed-blocks (start .args .s) (start .good .0) (hold-none (start .args .s) held .0)
 
   room : start .args .s .e < 200
   room =

@@ -1,16 +1,14 @@
 use borrow.Author.Needs.{needs}
 use mathlib.Core.Path.{sym, _∙_}
-use lib.ListN.{length-map}
 use Rattle.sheet.specs.Facts.{factsOf}
-use Rattle.judge.specs.Listing.{Blocks, blocks}
+use Rattle.judge.specs.Listing.{Blocks, passed-blocks}
 use Rattle.sketch.proofs.last_fault.Statement.{statement}
 use Rattle.sketch.proofs.last_fault.Tie as tie
 
 in-blocks : (c : tie.Start) → Blocks (c .args .s)
 in-blocks c =
     let s = c .args .s in
-    blocks s (sym (length-map (s .elements) _) ∙ c .good .0 .1 .1 .1 .1 .0 .1 .0 .1)
-    (sym (length-map (s .constraints) _) ∙ c .good .0 .1 .1 .1 .1 .1 .0 .1 .0 .1) (c .pre)
+    passed-blocks s (c .good .0) (c .pre)
 
 lines-of-requires : tie.Need-lines-of-requires
 lines-of-requires c κs = in-blocks (c .before) .elements-most

@@ -1,8 +1,7 @@
 use borrow.Author.Needs.{needs}
 use mathlib.Core.Path.{sym, _∙_}
-use lib.ListN.{length-map}
 use Rattle.sheet.specs.Facts.{factsOf}
-use Rattle.judge.specs.Listing.{blocks}
+use Rattle.judge.specs.Listing.{passed-blocks}
 use Rattle.judge.specs.Judged.Found.{found-none, found-first}
 use Rattle.sketch.specs.Sketch.Laws.{Sound, blocks-sound, none-found, first-found}
 use Rattle.sketch.proofs.over_fault.Statement.{statement}
@@ -20,8 +19,7 @@ enum-told-2 c = search needs
 sound : (c : tie.Start) → Sound (factsOf (c .args .s))
 sound c =
     let s = c .args .s in
-    blocks-sound s (blocks s (sym (length-map (s .elements) _) ∙ c .good .0 .1 .1 .1 .1 .0 .1 .0 .1)
-    (sym (length-map (s .constraints) _) ∙ c .good .0 .1 .1 .1 .1 .1 .0 .1 .0 .1) (c .pre))
+    blocks-sound s (passed-blocks s (c .good .0) (c .pre))
 
 returns : tie.Need-returns
 returns c =

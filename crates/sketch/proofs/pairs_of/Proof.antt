@@ -4,15 +4,16 @@ use native.Mathlib.Numerals.{add-one}
 use mathlib.Core.Path.{_≡_, refl, sym, _∙_, subst}
 use mathlib.Core.List.{[]}
 use lib.IntN.{pos}
-use lib.ListN.{length, take, getD, length-map}
+use lib.ListN.{length, take, getD}
 use lib.Seq.{take-suc, getD-take}
+use Rattle.sheet.proofs.Passed.{constraints-long}
 use Rattle.sheet.specs.declared.Constraint.{Constraint}
 use Rattle.sheet.specs.declared.Size.the-variants.{Given}
 use Rattle.sheet.specs.declared.Tag.the-variants.{Given as TagGiven}
 use Rattle.sheet.specs.Facts.{factsOf}
 use Rattle.sheet.specs.Noted.{Noted}
 use Rattle.sheet.specs.Noted.Laws.{noted-none}
-use Rattle.judge.specs.Listing.{Blocks, blocks, each-ends}
+use Rattle.judge.specs.Listing.{Blocks, each-ends, passed-blocks}
 use Rattle.sketch.proofs.pairs_of.Statement.{statement}
 use Rattle.sketch.proofs.pairs_of.Tie as tie
 
@@ -28,10 +29,10 @@ abbrev μ-loop : tie.MeasureT-loop
 
 module _ (c : tie.Start Inv-loop μ-loop) where
   long : length (c .args .t1 .constraints) ≡ 200
-  long = sym (length-map (c .args .t1 .constraints) _) ∙ c .good .0 .1 .1 .1 .1 .1 .0 .1 .0 .1
+  long = constraints-long (c .args .t1) (c .good .0)
 
   in-blocks : Blocks (c .args .t1)
-  in-blocks = blocks (c .args .t1) (sym (length-map (c .args .t1 .elements) _) ∙ c .good .0 .1 .1 .1 .1 .0 .1 .0 .1) long (c .pre)
+  in-blocks = passed-blocks (c .args .t1) (c .good .0) (c .pre)
 
   -- the ends of a constraint of the sheet
   ends-below : (i : ℕ) → i < c .args .t1 .e → (getD (c .args .t1 .constraints) i zeros .first < 64) × (getD (c .args .t1 .constraints) i zeros .second < 64)
