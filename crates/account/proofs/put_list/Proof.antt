@@ -9,7 +9,7 @@ use Rattle.sheet.specs.Graph.{clustersOf}
 use Rattle.space.specs.Space.{answer, after}
 use Rattle.merges.specs.Run.{runOf}
 use Rattle.account.specs.Account.{listReport}
-use Rattle.judge.specs.Listing.{passed-blocks}
+use Rattle.judge.specs.Listing.Blocks.{passed-blocks}
 use Rattle.account.specs.Account.Laws.{Fit, fit, Told, steps-half, steps-most, knots-long, slots-long, reported, all-small, not-long}
 use Rattle.account.proofs.put_list.Statement.{statement}
 use Rattle.account.proofs.put_list.Tie as tie

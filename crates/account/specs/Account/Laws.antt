@@ -26,7 +26,7 @@ use Rattle.merges.specs.declared.Run.{Run}
 use Rattle.merges.proofs.State.{length-final}
 use Rattle.engine.specs.Steps.{waysBy, stepFrom, Stepped}
 use Rattle.engine.specs.Steps.Laws.{stepped-are}
-use Rattle.judge.specs.Listing.{Blocks}
+use Rattle.judge.specs.Listing.Blocks.{Blocks}
 use Rattle.judge.specs.declared.Judged.{Judged}
 use Rattle.judge.specs.Judged.{listed}
 use Rattle.judge.specs.Judged.Laws.{few, ends-below-64, begun, begun-list, take-padded, length-clusters, steps-few, joints-long, settled}

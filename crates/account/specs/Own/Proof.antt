@@ -26,7 +26,7 @@ use Rattle.answer.specs.declared.Step.{Step}
 use Rattle.answer.specs.Answer.{asVerdict, verdictNumber, stepOf, stepsOf}
 use Rattle.merges.specs.Held.{flat}
 use Rattle.engine.specs.Lists.{livingOf}
-use Rattle.judge.specs.Listing.{clusters-pairs, clusters-below}
+use Rattle.judge.specs.Listing.Laws.{clusters-pairs, clusters-below}
 use Rattle.judge.specs.Judged.{planBy, planOfFacts, planNumbers, finalsBy, finalClusters}
 use Rattle.plans.specs.Check.{savedSteps, planFault}
 use Rattle.plans.specs.Check.Laws.{accepted-maximal}

@@ -7,7 +7,7 @@ use lib.ListN.{length}
 use Rattle.sheet.proofs.Passed.{constraints-long}
 use Rattle.graph.specs.Arrays.{endAt}
 use Rattle.graph.specs.Arrays.Laws.{Filling, filling-none, filling-more, filling-all}
-use Rattle.judge.specs.Listing.{Blocks, passed-blocks}
+use Rattle.judge.specs.Listing.Blocks.{Blocks, passed-blocks}
 use Rattle.judge.proofs.columns_of.Statement.{statement}
 use Rattle.judge.proofs.columns_of.Tie as tie
 

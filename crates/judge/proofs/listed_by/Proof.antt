@@ -6,7 +6,8 @@ use Rattle.theory.specs.Constraints.{Pairs}
 use Rattle.sheet.specs.Facts.{Facts, factsOf}
 use Rattle.sheet.specs.Graph.{clustersOf}
 use Rattle.merges.specs.Run.{Ran}
-use Rattle.judge.specs.Listing.{Blocks, clusters-pairs, passed-blocks}
+use Rattle.judge.specs.Listing.Laws.{clusters-pairs}
+use Rattle.judge.specs.Listing.Blocks.{Blocks, passed-blocks}
 use Rattle.judge.specs.Judged.{listed}
 use Rattle.judge.specs.Judged.Laws.{steps-few, joints-long, settled}
 use Rattle.judge.proofs.listed_by.Statement.{statement}

@@ -2,7 +2,7 @@ use Prim.Native.Nat.{_≤_}
 use mathlib.Core.Path.{_≡_, sym, _∙_}
 use lib.ListN.{length}
 use Rattle.sheet.specs.Facts.{Facts, factsOf}
-use Rattle.judge.specs.Listing.{Blocks, passed-blocks}
+use Rattle.judge.specs.Listing.Blocks.{Blocks, passed-blocks}
 use Rattle.judge.specs.Judged.Laws.{few}
 use Rattle.judge.proofs.plan_of.Statement.{statement}
 use Rattle.judge.proofs.plan_of.Tie as tie

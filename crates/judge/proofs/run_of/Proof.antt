@@ -5,7 +5,7 @@ use mathlib.Core.List.{List}
 use lib.ListN.{length, take}
 use Rattle.sheet.specs.Facts.{Facts, factsOf}
 use Rattle.merges.specs.Run.{Ran}
-use Rattle.judge.specs.Listing.{Blocks, passed-blocks}
+use Rattle.judge.specs.Listing.Blocks.{Blocks, passed-blocks}
 use Rattle.judge.specs.Judged.Laws.{ends-in-64, start-list, start-begun}
 use Rattle.judge.proofs.run_of.Statement.{statement}
 use Rattle.judge.proofs.run_of.Tie as tie

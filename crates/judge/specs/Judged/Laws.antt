@@ -24,7 +24,7 @@ use Rattle.merges.specs.declared.Run.{Run}
 use Rattle.judge.specs.declared.Judged.{Judged}
 use Rattle.judge.specs.Judged.{listed}
 use Rattle.merges.proofs.State.{length-joints}
-use Rattle.judge.specs.Listing.{each-ends, map-map, clusters-below, clusters-pairs}
+use Rattle.judge.specs.Listing.Laws.{each-ends, map-map, clusters-below, clusters-pairs}
 
 -- the first places of a padded list
 pub take-padded : (k : ℕ) (l : List ℕ) (n : ℕ) → n ≡ length l → take n (padded k l) ≡ l

@@ -25,7 +25,9 @@ use Rattle.peeling.specs.Core.Peeling.{core-none}
 use Rattle.peeling.specs.Core.Merging.{loose-one}
 use Rattle.merges.specs.Run.{Ran, runOf}
 use Rattle.merges.specs.declared.Run.{Run}
-use Rattle.judge.specs.Listing.{columnsOf, masks-are, listed, Blocks, passed-blocks}
+use Rattle.judge.specs.Listing.{columnsOf}
+use Rattle.judge.specs.Listing.Laws.{masks-are, listed}
+use Rattle.judge.specs.Listing.Blocks.{Blocks, passed-blocks}
 use Rattle.sheet.proofs.Passed.{Passed}
 use Rattle.answer.specs.Answer.{asVerdict}
 use Rattle.judge.specs.declared.Judged.{Judged}

@@ -2,7 +2,7 @@ use borrow.Author.Needs.{needs}
 use mathlib.Core.Path.{_≡_, sym, ap, _∙_}
 use Rattle.sheet.specs.Facts.{factsOf}
 use Rattle.sheet.specs.Decode.{constraint}
-use Rattle.judge.specs.Listing.{Blocks, passed-blocks}
+use Rattle.judge.specs.Listing.Blocks.{Blocks, passed-blocks}
 use Rattle.reader.specs.Answers.{asConstraint}
 use Rattle.pattern.specs.Sketches.Laws.{last-refused, last-followed, last-ended}
 use Rattle.pattern.proofs.read_last.Statement.{statement}

@@ -17,7 +17,7 @@ use Rattle.sheet.specs.RoundTrip.Blocks.{constraints-most}
 use Rattle.sheet.specs.Accepted.{Accepted}
 use Rattle.reader.specs.declared.Outcome.{Outcome}
 use Rattle.reader.specs.declared.Outcome.the-variants.{Accepted as Took, Refused as Stopped}
-use Rattle.judge.specs.Listing.{clusters-pairs, clusters-below}
+use Rattle.judge.specs.Listing.Laws.{clusters-pairs, clusters-below}
 use Rattle.judge.specs.Judged.{judgedOf, planNumbers, finalClusters}
 use Rattle.judge.specs.Judged.Laws.{few}
 use Rattle.judge.specs.Judged.Lists.{Held, judged-held}

@@ -11,7 +11,7 @@ use Rattle.sheet.specs.Rules.{constraintFault, sheetFault}
 use Rattle.sheet.specs.Graph.{verdictOf}
 use Rattle.answer.specs.Answer.{asVerdict, verdictNumber}
 use Rattle.judge.specs.declared.Judged.{Judged}
-use Rattle.judge.specs.Listing.{Blocks, passed-blocks}
+use Rattle.judge.specs.Listing.Blocks.{Blocks, passed-blocks}
 use Rattle.judge.specs.Judged.{judgedOf}
 use Rattle.sketch.specs.declared.Taken.{Taken}
 use Rattle.sketch.specs.declared.Taken.the-variants.{Is, Refused}

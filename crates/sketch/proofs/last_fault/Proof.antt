@@ -1,7 +1,7 @@
 use borrow.Author.Needs.{needs}
 use mathlib.Core.Path.{sym, _∙_}
 use Rattle.sheet.specs.Facts.{factsOf}
-use Rattle.judge.specs.Listing.{Blocks, passed-blocks}
+use Rattle.judge.specs.Listing.Blocks.{Blocks, passed-blocks}
 use Rattle.sketch.proofs.last_fault.Statement.{statement}
 use Rattle.sketch.proofs.last_fault.Tie as tie
 

@@ -1,7 +1,7 @@
 use borrow.Author.Needs.{needs}
 use mathlib.Core.Path.{sym, _∙_}
 use Rattle.sheet.specs.Facts.{factsOf}
-use Rattle.judge.specs.Listing.{passed-blocks}
+use Rattle.judge.specs.Listing.Blocks.{passed-blocks}
 use Rattle.judge.specs.Judged.Found.{found-none, found-first}
 use Rattle.sketch.specs.Sketch.Laws.{Sound, blocks-sound, none-found, first-found}
 use Rattle.sketch.proofs.over_fault.Statement.{statement}

@@ -13,7 +13,8 @@ use Rattle.sheet.specs.declared.Tag.the-variants.{Given as TagGiven}
 use Rattle.sheet.specs.Facts.{factsOf}
 use Rattle.sheet.specs.Noted.{Noted}
 use Rattle.sheet.specs.Noted.Laws.{noted-none}
-use Rattle.judge.specs.Listing.{Blocks, each-ends, passed-blocks}
+use Rattle.judge.specs.Listing.Laws.{each-ends}
+use Rattle.judge.specs.Listing.Blocks.{Blocks, passed-blocks}
 use Rattle.sketch.proofs.pairs_of.Statement.{statement}
 use Rattle.sketch.proofs.pairs_of.Tie as tie
 

@@ -20,7 +20,7 @@ use Rattle.sheet.specs.Accepted.{tagNumber, Accepted}
 use Rattle.sheet.specs.Accepted.Laws.{none-else}
 use Rattle.sheet.specs.RoundTrip.Blocks.{factsOf-accepted}
 use Rattle.sheet.specs.Graph.{verdictOf}
-use Rattle.judge.specs.Listing.{Blocks, blocks}
+use Rattle.judge.specs.Listing.Blocks.{Blocks, blocks}
 use Rattle.sketch.specs.Sketch.{notOver, overFault, holdFault, extended, nextFault, addFault, addAnswer, stored, addAfter}
 use Rattle.sketch.specs.Sketch.Laws.{blocks-sound, few-held, hold-none, stored-facts, stored-fault, fault-not-over, refused-added, taken-added}
 use Rattle.sketch.specs.Runs.{Tagged, Held, afterAll, takenBy, takenOf, Next, takes, refuses, Run}

@@ -25,7 +25,8 @@ use Rattle.sheet.specs.RoundTrip.Blocks.{sheetFault-none}
 use Rattle.sheet.specs.Graph.{clustersOf, verdictOf}
 use Rattle.answer.specs.declared.Verdict.the-variants.{Over}
 use Rattle.answer.specs.Answer.{asVerdict, verdictNumber}
-use Rattle.judge.specs.Listing.{Blocks, clusters-pairs, clusters-below}
+use Rattle.judge.specs.Listing.Laws.{clusters-pairs, clusters-below}
+use Rattle.judge.specs.Listing.Blocks.{Blocks}
 use Rattle.judge.specs.Judged.{judgedBy, judgedOf}
 use Rattle.judge.specs.Judged.Laws.{few}
 use Rattle.judge.specs.Judged.Lists.{judged-held}
