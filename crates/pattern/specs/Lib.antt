@@ -2,4 +2,5 @@
 pub mod Sheets
 pub mod Judgements
 pub mod Plans
+pub mod Refusals
 pub mod Sketches

@@ -9,3 +9,4 @@ pub mod Noted
 pub mod Accepted
 pub mod RoundTrip
 pub mod Graph
+pub mod Refusals

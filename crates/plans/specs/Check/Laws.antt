@@ -207,3 +207,35 @@ why cs l = go (eqb (length l % 3) 0) refl (stepsFault cs (savedSteps l)) (why-st
     go true h r (stopped rule x) = stopped rule (eqb-true (length l % 3) 0 h) x
     go true h r (unended x) = unended (eqb-true (length l % 3) 0 h) x
     go true h r (accepted x) = accepted (eqb-true (length l % 3) 0 h) x
+
+-- ---- only rules 12 to 16 refuse a plan
+
+step-range : (s : List ℕ) (m : Merge) (r : ℕ) → stepFault s m ≡ suc r → (13 ≤ suc r) × (suc r ≤ 15)
+unfolding stepFault faultOf
+step-range s m r e = go (misnamed a b c m) (overlapping a b c) (openTest a b c) e
+  where
+    a : ℕ
+    a = slot s (m .i)
+
+    b : ℕ
+    b = slot s (m .j)
+
+    c : ℕ
+    c = slot s (m .k)
+
+    go : (x y z : Bool) → elim x [ true ↦ 13 | false ↦ elim y [ true ↦ 14 | false ↦ elim z [ true ↦ 0 | false ↦ 15 ] ] ] ≡ suc r → (13 ≤ suc r) × (suc r ≤ 15)
+    go true y z h = (omega arith, omega arith)
+    go false true z h = (omega arith, omega arith)
+    go false false true h = absurd (omega arith)
+    go false false false h = (omega arith, omega arith)
+
+pub fault-range : (cs l : List ℕ) (r : ℕ) → planFault cs l ≡ suc r → (12 ≤ suc r) × (suc r ≤ 16)
+fault-range cs l r e = go (planFault cs l) (why cs l) e
+  where
+    go : (k : ℕ) → Why cs l k → k ≡ suc r → (12 ≤ suc r) × (suc r ≤ 16)
+    go k (count h) q = (omega arith, omega arith)
+    go k (stopped rule h x) q =
+        let s = step-range (final cs (x .before)) (x .step) rule (x .refuses) in
+        (omega (arith, s .0), omega (arith, s .1))
+    go k (unended h x) q = (omega arith, omega arith)
+    go k (accepted h x) q = absurd (omega arith)

@@ -1,0 +1,158 @@
+-- Each entry point refuses by its numbered rules alone. Assumes nothing.
+use Prim.Native.Nat.{ℕ, zero, suc, _≤_, _<_, _%_}
+use native.Mathlib.Omega.{arith}
+use borrow.Author.Tests.{ltb-true}
+use mathlib.Core.Path.{_≡_, refl, sym, ap, _∙_, subst}
+use mathlib.Core.Logic.{_⊎_, inl, inr}
+use mathlib.Core.Bool.{Bool, true, false, cond}
+use mathlib.Core.List.{List, [], _∷_}
+use lib.Dec.{ltb, eqb}
+use lib.ListN.{length}
+use Rattle.theory.specs.Over.{Finding, fine, first, overOf}
+use Rattle.space.specs.declared.Written.{Written}
+use Rattle.space.specs.declared.Written.the-variants.{Done, Refused}
+use Rattle.space.specs.Space.{answer}
+use Rattle.sheet.specs.declared.Constraint.{Constraint}
+use Rattle.sheet.specs.Facts.{Facts}
+use Rattle.sheet.specs.Field.{Field, value, refused, next, demand, Bytes}
+use Rattle.sheet.specs.Decode.{constraint, readSheet}
+use Rattle.sheet.specs.Encode.{sheetBytes}
+use Rattle.sheet.specs.Graph.{clustersOf, verdictOf}
+use Rattle.sheet.specs.RoundTrip.{written-read}
+use Rattle.sheet.specs.Refusals.{Rule, By, given, ruled}
+use Rattle.sheet.specs.Refusals.Laws.{by-next, by-demand, by-wider, which, by-constraint, by-sheet, refused-by}
+use Rattle.answer.specs.Answer.{asVerdict}
+use Rattle.plans.specs.Check.{planFault, savedSteps}
+use Rattle.plans.specs.Check.Laws.{fault-range}
+use Rattle.sketch.specs.Sketch.{notOver, extended}
+use Rattle.account.specs.Account.{listReport, reportOf, faultBy, savedFault, answerBy, savedAnswer}
+use Rattle.account.specs.Account.Room.{report-room}
+use Rattle.pattern.specs.declared.Judgement.{Judgement}
+use Rattle.pattern.specs.declared.Judgement.the-variants.{Is, Refused as No}
+use Rattle.pattern.specs.Sheets.{onFacts, rewriteAnswer, itemsAnswer}
+use Rattle.pattern.specs.Judgements.{judgementOf}
+use Rattle.pattern.specs.Plans.{checkAnswer}
+use Rattle.pattern.specs.Sketches.{held, heldSheet, ended, lastConstraint, extendedSheet, extendAnswer}
+use Rattle.pattern.specs.Refusals.{Short, Refusal, Refusals}
+
+number : (j k : ℕ) → Refused j ≡ Refused k → j ≡ k
+number j k e = cc
+
+-- items into lent space: 17 alone, where it is shorter
+short : (items space : List ℕ) (k : ℕ) → answer items space ≡ Refused k → (k ≡ 17) × (length space < length items)
+unfolding answer
+short items space k e = go (ltb (length space) (length items)) refl e
+  where
+    go : (b : Bool) → ltb (length space) (length items) ≡ b → cond b (Refused 17) (Done (length items)) ≡ Refused k → (k ≡ 17) × (length space < length items)
+    go true p h = (sym (number 17 k h), ltb-true (length space) (length items) p)
+    go false p h = absurd (let z : _≡_ {A = ℕ} 0 1 = cc in omega arith)
+
+-- what is answered of the facts that are read, or the rule that refuses them
+module _ (high : ℕ) (read : Field Facts) (items : Facts → List ℕ) (space : List ℕ) (k : ℕ) where
+  seventeen : (x : Facts) (rest : List ℕ) → read ≡ value x rest → answer (items x) space ≡ Refused k → Refusal high read items space k
+  seventeen x rest p q =
+      let h = short (items x) space k q in
+      inr (h .0, record { facts = x; rest = rest; reads = p; longer = h .1 })
+
+  on : (g : Facts → Written) → By 1 high read → ((x : Facts) (rest : List ℕ) → read ≡ value x rest → g x ≡ Refused k → Refusal high read items space k)
+      → onFacts read g (λ r. Refused r) ≡ Refused k → Refusal high read items space k
+  on g h l e = go read refl h e
+    where
+      go : (f : Field Facts) → read ≡ f → By 1 high f → onFacts f g (λ r. Refused r) ≡ Refused k → Refusal high read items space k
+      go (value x rest) p h q = l x rest p q
+      go (refused r) p h q = inl (subst (Rule 1 high) (number r k q) (which h))
+
+-- ---- the entry points
+
+judged : (bytes : List ℕ) (k : ℕ) → judgementOf bytes ≡ No k → Rule 1 10 k
+unfolding judgementOf
+judged bytes k e = go (readSheet bytes) (by-sheet bytes) e
+  where
+    go : (f : Field Facts) → By 1 10 f → onFacts f (λ x. Is (asVerdict (verdictOf x))) (λ r. No r) ≡ No k → Rule 1 10 k
+    go (value x rest) h q = absurd (let z : _≡_ {A = ℕ} 0 1 = cc in omega arith)
+    go (refused r) h q = let n : r ≡ k = cc in subst (Rule 1 10) n (which h)
+
+rewritten : (bytes space : List ℕ) (k : ℕ) → rewriteAnswer bytes space ≡ Refused k → Refusal 10 (readSheet bytes) (λ f. bytes) space k
+unfolding rewriteAnswer
+rewritten bytes space k e =
+    on 10 (readSheet bytes) (λ f. bytes) space k (λ f. answer bytes space) (by-sheet bytes) (seventeen 10 (readSheet bytes) (λ f. bytes) space k) e
+
+listed : (what : Facts → List ℕ) (bytes space : List ℕ) (k : ℕ) → itemsAnswer what bytes space ≡ Refused k → Refusal 10 (readSheet bytes) what space k
+unfolding itemsAnswer
+listed what bytes space k e =
+    on 10 (readSheet bytes) what space k (λ f. answer (what f) space) (by-sheet bytes) (seventeen 10 (readSheet bytes) what space k) e
+
+-- 3,786 bytes take every report
+printed : (bytes space : List ℕ) (k : ℕ) → Bytes bytes → 3786 ≤ length space → itemsAnswer reportOf bytes space ≡ Refused k → Rule 1 10 k
+printed bytes space k all room e = go (listed reportOf bytes space k e)
+  where
+    fits : (s : Short (readSheet bytes) reportOf space) → length (reportOf (s .facts)) ≤ 3786
+    fits s = report-room (s .facts) (written-read bytes (s .facts) (s .rest) all (s .reads) .2)
+
+    go : Refusal 10 (readSheet bytes) reportOf space k → Rule 1 10 k
+    go (inl h) = h
+    go (inr h) = absurd (omega (arith, fits (h .1), h .1 .longer))
+
+-- the check of a saved plan
+module _ (bytes plan space : List ℕ) (k : ℕ) where
+  abbrev Wrong : Type 0
+  Wrong = Refusal 16 (readSheet bytes) (λ f. listReport f (savedSteps plan)) space k
+
+  by-rule : (r : ℕ) → 11 ≤ r → r ≤ 16 → Refused r ≡ Refused k → Wrong
+  by-rule r l h q = inl (record { from = omega (arith, number r k q); to = omega (arith, number r k q) })
+
+  saved : (f : Facts) (rest : List ℕ) → readSheet bytes ≡ value f rest → savedAnswer f plan space ≡ Refused k → Wrong
+  unfolding savedAnswer savedFault
+  saved f rest reads e = go (overOf (length (f .elements)) (clustersOf f)) e
+    where
+      by : (r : ℕ) → planFault (clustersOf f) plan ≡ r → answerBy f plan space r ≡ Refused k → Wrong
+      by zero p q = seventeen 16 (readSheet bytes) (λ f. listReport f (savedSteps plan)) space k f rest reads q
+      by (suc r) p q = let h = fault-range (clustersOf f) plan r p in by-rule (suc r) (omega (arith, h .0)) (h .1) q
+
+      go : (o : Finding) → answerBy f plan space (faultBy f plan o) ≡ Refused k → Wrong
+      go fine q = by (planFault (clustersOf f) plan) refl q
+      go (first c x) q = by-rule 11 (omega arith) (omega arith) q
+
+  checked : checkAnswer bytes plan space ≡ Refused k → Wrong
+  unfolding checkAnswer
+  checked e =
+      on 16 (readSheet bytes) (λ f. listReport f (savedSteps plan)) space k (λ f. savedAnswer f plan space) (by-wider (omega arith) (by-sheet bytes)) saved e
+
+-- a held sketch
+eleven : Rule 1 11 11
+eleven = record { from = omega arith; to = omega arith }
+
+by-over : (f : Facts) (rest : List ℕ) → By 1 11 (held f rest)
+unfolding held
+by-over f rest = by-demand (notOver (verdictOf f)) eleven given
+
+by-held : (bytes : List ℕ) → By 1 11 (heldSheet bytes)
+unfolding heldSheet
+by-held bytes = by-next (by-wider (omega arith) (by-sheet bytes)) (λ f rest. by-over f rest)
+
+by-ended : (c : Constraint) (s : List ℕ) → By 1 11 (ended c s)
+by-ended c [] = given
+by-ended c (b ∷ s) = ruled {k = 10} (record { from = omega arith; to = omega arith })
+
+by-extended : (bytes more : List ℕ) → By 1 11 (extendedSheet bytes more)
+unfolding extendedSheet lastConstraint
+by-extended bytes more =
+    by-next (by-held bytes) (λ f rest.
+    by-next (by-next (by-wider (omega arith) (by-constraint (f .elements) (f .constraints) more)) (λ c s. by-ended c s)) (λ c end. by-over (extended f c) end))
+
+grown : (bytes more space : List ℕ) (k : ℕ) → extendAnswer bytes more space ≡ Refused k → Refusal 11 (extendedSheet bytes more) sheetBytes space k
+unfolding extendAnswer
+grown bytes more space k e =
+    on 11 (extendedSheet bytes more) sheetBytes space k (λ f. answer (sheetBytes f) space) (by-extended bytes more) (seventeen 11 (extendedSheet bytes more) sheetBytes space k) e
+
+pub refusals : Refusals
+refusals = record {
+  read = refused-by;
+  verdict = judged;
+  rewrite = rewritten;
+  items = listed;
+  check = checked;
+  hold = λ bytes k e. which (subst (By 1 11) e (by-held bytes));
+  extend = grown;
+  program = printed;
+}
