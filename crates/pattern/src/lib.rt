@@ -12,10 +12,9 @@ ghost use Rattle.space.specs.Space.{answer, after};
 ghost use Rattle.judge.specs.Judged.{planNumbers, finalClusters};
 ghost use Rattle.account.specs.Account.{reportOf};
 ghost use Rattle.pattern.specs.Plans.{checkAnswer, checkAfter};
-ghost use Rattle.pattern.specs.Judgements.{reckoned, judgementOf};
+ghost use Rattle.pattern.specs.Judgements.{judgementOf};
 ghost use Rattle.pattern.specs.Sheets.{rewriteAnswer, rewriteAfter, itemsAnswer, itemsAfter, overOfFacts};
 use answer::Verdict;
-use judge::Judged;
 use reader::ConstraintRead;
 use reader::Cursor;
 use reader::Outcome;
@@ -82,30 +81,6 @@ pub fn over(bytes: &[u8], out: &mut [u64]) -> Written
     put_two(constraint as u64, set, out)
 }
 
-// The judgement of a sheet given as bytes, or the rule that refuses it.
-pub struct Reckoning {
-    pub outcome: Outcome,
-    pub judged: Judged,
-}
-
-// Reads a sheet and judges it.
-fn reckon(bytes: &[u8]) -> Reckoning
-    ensures { λ r. ⌜ r ≡ reckoned (readSheet (now (bytes .entry))) ⌝ }
-{
-    let reading = reader::read_sheet(bytes);
-    let outcome = reading.outcome;
-    let Outcome::Accepted = outcome else {
-        let judged = judge::over_found(0, 0);
-        return Reckoning { outcome, judged };
-    };
-    let sheet = reading.sheet;
-    let judged = judge::judge(sheet);
-    Reckoning {
-        outcome: Outcome::Accepted,
-        judged,
-    }
-}
-
 // The answer to a call for a verdict.
 pub enum Judgement {
     Is(Verdict),
@@ -130,12 +105,13 @@ pub fn verdict(bytes: &[u8]) -> Judgement
 pub fn plan(bytes: &[u8], out: &mut [u16]) -> Written
     ensures { λ r. ⌜ (r ≡ itemsAnswer planNumbers (now (bytes .entry)) (now (out .entry))) × (now (out .exit) ≡ itemsAfter planNumbers (now (bytes .entry)) (now (out .entry))) ⌝ }
 {
-    let r = reckon(bytes);
-    let outcome = r.outcome;
+    let reading = reader::read_sheet(bytes);
+    let outcome = reading.outcome;
     let Outcome::Accepted = outcome else {
         return Written::Refused(reader::refusal(outcome));
     };
-    let judged = r.judged;
+    let sheet = reading.sheet;
+    let judged = judge::judge(sheet);
     let run = judged.run;
     engine::put_plan(run, out)
 }
@@ -144,12 +120,13 @@ pub fn plan(bytes: &[u8], out: &mut [u16]) -> Written
 pub fn clusters(bytes: &[u8], out: &mut [u64]) -> Written
     ensures { λ r. ⌜ (r ≡ itemsAnswer finalClusters (now (bytes .entry)) (now (out .entry))) × (now (out .exit) ≡ itemsAfter finalClusters (now (bytes .entry)) (now (out .entry))) ⌝ }
 {
-    let r = reckon(bytes);
-    let outcome = r.outcome;
+    let reading = reader::read_sheet(bytes);
+    let outcome = reading.outcome;
     let Outcome::Accepted = outcome else {
         return Written::Refused(reader::refusal(outcome));
     };
-    let judged = r.judged;
+    let sheet = reading.sheet;
+    let judged = judge::judge(sheet);
     let run = judged.run;
     let slots = run.slots;
     engine::put_clusters(&slots, 192, out)
