@@ -6,12 +6,17 @@ use mathlib.Core.Logic.{_⊎_}
 use mathlib.Core.List.{List}
 use lib.ListN.{length}
 use Rattle.space.specs.declared.Written.the-variants.{Refused}
-use Rattle.sheet.specs.Facts.{Facts}
+use Rattle.sheet.specs.declared.Constraint.{Constraint}
+use Rattle.sheet.specs.declared.Sheet.{Sheet}
+use Rattle.sheet.specs.Facts.{Facts, factsOf}
 use Rattle.sheet.specs.Field.{Field, value, refused, Bytes}
 use Rattle.sheet.specs.Decode.{readSheet}
 use Rattle.sheet.specs.Encode.{sheetBytes}
 use Rattle.sheet.specs.Refusals.{Rule}
+use Rattle.writer.specs.Write.{writeAnswer}
 use Rattle.plans.specs.Check.{savedSteps}
+use Rattle.sketch.specs.declared.Taken.the-variants.{Refused as Not}
+use Rattle.sketch.specs.Sketch.{addAnswer}
 use Rattle.account.specs.Account.{listReport, reportOf}
 use Rattle.pattern.specs.declared.Judgement.the-variants.{Refused as No}
 use Rattle.pattern.specs.Sheets.{rewriteAnswer, itemsAnswer}
@@ -35,6 +40,9 @@ pub record Refusals : Type 0 where
   pub read : (bytes : List ℕ) (k : ℕ) → readSheet bytes ≡ refused k → Rule 1 10 k
   pub verdict : (bytes : List ℕ) (k : ℕ) → judgementOf bytes ≡ No k → Rule 1 10 k
   pub rewrite : (bytes space : List ℕ) (k : ℕ) → rewriteAnswer bytes space ≡ Refused k → Refusal 10 (readSheet bytes) (λ f. bytes) space k
+  -- the writer, and an addition to a held sketch
+  pub write : (s : Sheet) (space : List ℕ) (k : ℕ) → writeAnswer s space ≡ Refused k → Rule 3 9 k ⊎ ((k ≡ 17) × (length space < length (sheetBytes (factsOf s))))
+  pub add : (s : Sheet) (c : Constraint) (k : ℕ) → addAnswer s c ≡ Not k → Rule 3 11 k
   -- over, plan, clusters and report
   pub items : (what : Facts → List ℕ) (bytes space : List ℕ) (k : ℕ) → itemsAnswer what bytes space ≡ Refused k → Refusal 10 (readSheet bytes) what space k
   pub check : (bytes plan space : List ℕ) (k : ℕ) → checkAnswer bytes plan space ≡ Refused k

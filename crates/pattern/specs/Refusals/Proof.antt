@@ -1,7 +1,7 @@
 -- Each entry point refuses by its numbered rules alone. Assumes nothing.
 use Prim.Native.Nat.{ℕ, zero, suc, _≤_, _<_, _%_}
 use native.Mathlib.Omega.{arith}
-use borrow.Author.Tests.{ltb-true}
+use borrow.Author.Tests.{ltb-true, ne-eqb}
 use mathlib.Core.Path.{_≡_, refl, sym, ap, _∙_, subst}
 use mathlib.Core.Logic.{_⊎_, inl, inr}
 use mathlib.Core.Bool.{Bool, true, false, cond}
@@ -13,18 +13,22 @@ use Rattle.space.specs.declared.Written.{Written}
 use Rattle.space.specs.declared.Written.the-variants.{Done, Refused}
 use Rattle.space.specs.Space.{answer}
 use Rattle.sheet.specs.declared.Constraint.{Constraint}
-use Rattle.sheet.specs.Facts.{Facts}
+use Rattle.sheet.specs.declared.Sheet.{Sheet}
+use Rattle.sheet.specs.Facts.{Facts, factsOf, pick}
+use Rattle.sheet.specs.Rules.{or-else, constraintFault, sheetFault}
 use Rattle.sheet.specs.Field.{Field, value, refused, next, demand, Bytes}
 use Rattle.sheet.specs.Decode.{constraint, readSheet}
 use Rattle.sheet.specs.Encode.{sheetBytes}
 use Rattle.sheet.specs.Graph.{clustersOf, verdictOf}
 use Rattle.sheet.specs.RoundTrip.{written-read}
-use Rattle.sheet.specs.Refusals.{Rule, By, given, ruled}
-use Rattle.sheet.specs.Refusals.Laws.{by-next, by-demand, by-wider, which, by-constraint, by-sheet, refused-by}
+use Rattle.sheet.specs.Refusals.{Rule, By, given, ruled, Fault}
+use Rattle.sheet.specs.Refusals.Laws.{by-next, by-demand, by-wider, which, by-constraint, by-sheet, refused-by, fault-else, fault-constraint, fault-sheet, fault-wider}
 use Rattle.answer.specs.Answer.{asVerdict}
 use Rattle.plans.specs.Check.{planFault, savedSteps}
 use Rattle.plans.specs.Check.Laws.{fault-range}
-use Rattle.sketch.specs.Sketch.{notOver, extended}
+use Rattle.writer.specs.Write.{writeAnswer}
+use Rattle.sketch.specs.declared.Taken.the-variants.{Refused as Not}
+use Rattle.sketch.specs.Sketch.{notOver, overFault, holdFault, extended, nextFault, addFault, asTaken, addAnswer}
 use Rattle.account.specs.Account.{listReport, reportOf, faultBy, savedFault, answerBy, savedAnswer}
 use Rattle.account.specs.Account.Room.{report-room}
 use Rattle.pattern.specs.declared.Judgement.{Judgement}
@@ -76,6 +80,41 @@ rewritten : (bytes space : List ℕ) (k : ℕ) → rewriteAnswer bytes space ≡
 unfolding rewriteAnswer
 rewritten bytes space k e =
     on 10 (readSheet bytes) (λ f. bytes) space k (λ f. answer bytes space) (by-sheet bytes) (seventeen 10 (readSheet bytes) (λ f. bytes) space k) e
+
+written : (s : Sheet) (space : List ℕ) (k : ℕ) → writeAnswer s space ≡ Refused k → Rule 3 9 k ⊎ ((k ≡ 17) × (length space < length (sheetBytes (factsOf s))))
+unfolding writeAnswer
+written s space k e = go (sheetFault s) (fault-sheet s) e
+  where
+    go : (j : ℕ) → Fault 3 9 j → pick (eqb j 0) (answer (sheetBytes (factsOf s)) space) (Refused j) ≡ Refused k → Rule 3 9 k ⊎ ((k ≡ 17) × (length space < length (sheetBytes (factsOf s))))
+    go zero h q = inr (short (sheetBytes (factsOf s)) space k q)
+    go (suc j) h q =
+        let z = ap (λ (b : Bool). pick b (answer (sheetBytes (factsOf s)) space) (Refused (suc j))) (ne-eqb (suc j) 0 (λ p. omega arith)) in
+        inl (subst (Rule 3 9) (number (suc j) k (sym z ∙ q)) h)
+
+fault-over : (f : Facts) → Fault 3 11 (overFault f)
+unfolding overFault
+fault-over f = go (notOver (verdictOf f))
+  where
+    go : (b : Bool) → Fault 3 11 (pick b 0 11)
+    go true = tt
+    go false = record { from = omega arith; to = omega arith }
+
+fault-add : (s : Sheet) (c : Constraint) → Fault 3 11 (addFault s c)
+unfolding addFault holdFault nextFault
+fault-add s c =
+    fault-else 3 11 (or-else (sheetFault s) (overFault (factsOf s))) _
+    (fault-else 3 11 (sheetFault s) (overFault (factsOf s)) (fault-wider 3 9 11 (sheetFault s) (omega arith) (fault-sheet s)) (fault-over (factsOf s)))
+    (fault-else 3 11 (constraintFault (factsOf s .elements) (factsOf s .constraints) c) (overFault (extended (factsOf s) c))
+    (fault-wider 3 9 11 (constraintFault (factsOf s .elements) (factsOf s .constraints) c) (omega arith) (fault-constraint (factsOf s .elements) (factsOf s .constraints) c))
+    (fault-over (extended (factsOf s) c)))
+
+added : (s : Sheet) (c : Constraint) (k : ℕ) → addAnswer s c ≡ Not k → Rule 3 11 k
+unfolding addAnswer
+added s c k e = go (addFault s c) (fault-add s c) e
+  where
+    go : (j : ℕ) → Fault 3 11 j → asTaken j (verdictOf (extended (factsOf s) c)) ≡ Not k → Rule 3 11 k
+    go zero h q = absurd (let z : _≡_ {A = ℕ} 0 1 = cc in omega arith)
+    go (suc j) h q = let n : suc j ≡ k = cc in subst (Rule 3 11) n h
 
 listed : (what : Facts → List ℕ) (bytes space : List ℕ) (k : ℕ) → itemsAnswer what bytes space ≡ Refused k → Refusal 10 (readSheet bytes) what space k
 unfolding itemsAnswer
@@ -150,6 +189,8 @@ refusals = record {
   read = refused-by;
   verdict = judged;
   rewrite = rewritten;
+  write = written;
+  add = added;
   items = listed;
   check = checked;
   hold = λ bytes k e. which (subst (By 1 11) e (by-held bytes));

@@ -10,11 +10,14 @@ use lib.ListN.{length, take, drop}
 use Rattle.sheet.specs.declared.Element.{Element}
 use Rattle.sheet.specs.declared.PairKind.{PairKind}
 use Rattle.sheet.specs.declared.Constraint.{Constraint}
-use Rattle.sheet.specs.Facts.{pick}
+use Rattle.sheet.specs.declared.Size.{Size}
+use Rattle.sheet.specs.declared.Size.the-variants.{Given, Missing}
+use Rattle.sheet.specs.declared.Sheet.{Sheet}
+use Rattle.sheet.specs.Facts.{factsOf, pick}
 use Rattle.sheet.specs.Field.{Field, value, refused, next, demand, field, byte, signed32, openingBytes, begins}
 use Rattle.sheet.specs.Decode.{opening, kindBytes, size, tag, dimension, constraint, constraints, readConstraints, readKinds, readSheet}
-use Rattle.sheet.specs.Rules.{elementCount, kindBits, constraintCount, ends, stands, pairAt, bitMap, sizeRange}
-use Rattle.sheet.specs.Refusals.{Rule, By, given, ruled}
+use Rattle.sheet.specs.Rules.{elementCount, kindBits, constraintCount, ends, stands, pairAt, optional, bitMap, sizeRange, sizeFault, or-else, constraintFault, constraintsFault, sheetFault}
+use Rattle.sheet.specs.Refusals.{Rule, By, given, ruled, Fault}
 
 module _ {low high : ℕ} where
   -- ---- fields one after another, and what a rule demands of them
@@ -40,13 +43,16 @@ module _ {low high : ℕ} where
 
 -- ---- the fields of a sheet, by 1 to 10
 
-rule : (k : ℕ) → T (leb 1 k && leb k 10) → Rule 1 10 k
-rule k t = go (leb 1 k) refl (leb k 10) refl t
+between : (low high k : ℕ) → T (leb low k && leb k high) → Rule low high k
+between low high k t = go (leb low k) refl (leb k high) refl t
   where
-    go : (a : Bool) → leb 1 k ≡ a → (b : Bool) → leb k 10 ≡ b → T (a && b) → Rule 1 10 k
-    go true p true q t = record { from = leb-true 1 k p; to = leb-true k 10 q }
+    go : (a : Bool) → leb low k ≡ a → (b : Bool) → leb k high ≡ b → T (a && b) → Rule low high k
+    go true p true q t = record { from = leb-true low k p; to = leb-true k high q }
     go true p false q t = absurd t
     go false p b q t = absurd t
+
+rule : (k : ℕ) → T (leb 1 k && leb k 10) → Rule 1 10 k
+rule k t = between 1 10 k t
 
 by-byte : (s : List ℕ) → By 1 10 (byte s)
 by-byte [] = ruled (rule 2 tt)
@@ -107,3 +113,41 @@ by-sheet s =
 -- a sheet is refused by one of rules 1 to 10
 pub refused-by : (s : List ℕ) (k : ℕ) → readSheet s ≡ refused k → Rule 1 10 k
 refused-by s k e = which (subst (By 1 10) e (by-sheet s))
+
+-- ---- facts are refused by one of rules 3 to 9
+
+fault-pick : (low high : ℕ) (b : Bool) (j k : ℕ) → Fault low high j → Fault low high k → Fault low high (pick b j k)
+fault-pick low high true j k h l = h
+fault-pick low high false j k h l = l
+
+pub fault-else : (low high j k : ℕ) → Fault low high j → Fault low high k → Fault low high (or-else j k)
+fault-else low high zero k h l = l
+fault-else low high (suc j) k h l = h
+
+fault-size : (p : PairKind) (z : Size) → Fault 3 9 (sizeFault p z)
+fault-size p Missing = fault-pick 3 9 (optional p) 0 8 tt (between 3 9 8 tt)
+fault-size p (Given z) = fault-pick 3 9 (sizeRange p z) 0 9 tt (between 3 9 9 tt)
+
+pub fault-constraint : (es : List Element) (done : List Constraint) (c : Constraint) → Fault 3 9 (constraintFault es done c)
+unfolding constraintFault
+fault-constraint es done c =
+    fault-pick 3 9 (ends (length es) (c .first) (c .second)) (pick (stands done (c .first) (c .second)) 7 (sizeFault (pairAt es (c .first) (c .second)) (c .size))) 6
+    (fault-pick 3 9 (stands done (c .first) (c .second)) 7 (sizeFault (pairAt es (c .first) (c .second)) (c .size)) (between 3 9 7 tt) (fault-size (pairAt es (c .first) (c .second)) (c .size)))
+    (between 3 9 6 tt)
+
+fault-constraints : (es : List Element) (cs done : List Constraint) → Fault 3 9 (constraintsFault es done cs)
+unfolding constraintsFault
+fault-constraints es [] done = tt
+fault-constraints es (c ∷ cs) done =
+    fault-else 3 9 (constraintFault es done c) (constraintsFault es (done ++ c ∷ []) cs) (fault-constraint es done c) (fault-constraints es cs (done ++ c ∷ []))
+
+pub fault-sheet : (s : Sheet) → Fault 3 9 (sheetFault s)
+unfolding sheetFault
+fault-sheet s =
+    fault-pick 3 9 (elementCount (s .n)) (pick (constraintCount (s .e)) (constraintsFault (factsOf s .elements) [] (factsOf s .constraints)) 5) 3
+    (fault-pick 3 9 (constraintCount (s .e)) (constraintsFault (factsOf s .elements) [] (factsOf s .constraints)) 5 (fault-constraints (factsOf s .elements) (factsOf s .constraints) []) (between 3 9 5 tt))
+    (between 3 9 3 tt)
+
+pub fault-wider : (low high more k : ℕ) → high ≤ more → Fault low high k → Fault low more k
+fault-wider low high more zero l h = tt
+fault-wider low high more (suc k) l h = record { from = h .from; to = omega (arith, h .to) }
