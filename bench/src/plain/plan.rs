@@ -8,7 +8,8 @@ use super::over::{self, Over, Peeling};
 use super::sheet::{Sheet, read};
 
 /// The most clusters of a sheet that is not over: 125 constraints and 62 steps.
-const MOST_CLUSTERS: usize = 187;
+const MOST_CLUSTERS: usize = 192;
+const BS: usize = 4;
 /// The most steps of a plan.
 const MOST_STEPS: usize = 62;
 
@@ -27,6 +28,7 @@ pub struct Merging {
     made: usize,
     /// For each element those that are linked to it, and itself.
     links: [u64; 64],
+    sums: [u64; 192/BS],
     steps: [Step; MOST_STEPS],
     count: usize,
 }
@@ -36,9 +38,10 @@ impl Merging {
     fn initial(sheet: &Sheet) -> Merging {
         let none = Step { parts: [0; 3], joint: 0 };
         let mut merging =
-            Merging { sets: [0; MOST_CLUSTERS], made: sheet.e, links: [0; 64], steps: [none; MOST_STEPS], count: 0 };
-        for (set, c) in merging.sets.iter_mut().zip(&sheet.constraints[..sheet.e]) {
+            Merging { sets: [0; MOST_CLUSTERS], made: sheet.e, links: [0; 64], sums: [0; 192/BS], steps: [none; MOST_STEPS], count: 0 };
+        for (i, (set, c)) in merging.sets.iter_mut().zip(&sheet.constraints[..sheet.e]).enumerate() {
             *set = 1 << c.first | 1 << c.second;
+            merging.sums[i / BS] |= *set;
             merging.links[usize::from(c.first & 63)] |= *set;
             merging.links[usize::from(c.second & 63)] |= *set;
         }
@@ -47,7 +50,11 @@ impl Merging {
 
     /// The elements outside a set that are linked to two of its own.
     fn outside(&self, set: u64) -> u64 {
-        let (mut once, mut twice, mut rest) = (0, 0, set);
+        let r1 = set & set.wrapping_sub(1);
+        if r1 == 0 { return 0; }
+        let l = self.links[set.trailing_zeros() as usize & 63];
+        let m = self.links[r1.trailing_zeros() as usize & 63];
+        let (mut once, mut twice, mut rest) = (l | m, l & m, r1 & (r1 - 1));
         while rest != 0 {
             let links = self.links[rest.trailing_zeros() as usize & 63];
             twice |= once & links;
@@ -57,15 +64,39 @@ impl Merging {
         twice & !set
     }
 
-    /// The lowest cluster from `from` on that meets both sets.
+
     fn lowest_meeting(&self, from: usize, a: u64, b: u64) -> Option<usize> {
-        (from..self.made).find(|&i| self.sets[i] & a != 0 && self.sets[i] & b != 0)
+        let mut c = from;
+        while c < self.made {
+            let s = self.sums[c / BS];
+            if s & a != 0 && s & b != 0 {
+                let x = self.sets[c];
+                if x & a != 0 && x & b != 0 { return Some(c); }
+                c += 1;
+            } else {
+                c = c / BS * BS + BS;
+            }
+        }
+        None
+    }
+    fn lowest_reaching(&self, from: usize, last: u64) -> Option<usize> {
+        let mut c = 0;
+        while c < from {
+            if self.sums[c / BS] & last != 0 {
+                let x = self.sets[c];
+                if x & last != 0 && self.outside(x) != 0 { return Some(c); }
+                c += 1;
+            } else {
+                c = c / BS * BS + BS;
+            }
+        }
+        if c > from { c = from; }
+        (c..self.made).find(|&i| self.outside(self.sets[i]) != 0)
     }
 
     /// The first open merge, where below `from` only clusters that meet `last` take part in any.
     fn first_open(&self, from: usize, last: u64) -> Option<[usize; 3]> {
-        let may = |&i: &usize| i >= from || self.sets[i] & last != 0;
-        let i = (0..self.made).filter(may).find(|&i| self.outside(self.sets[i]) != 0)?;
+        let i = self.lowest_reaching(from, last)?;
         let a = self.sets[i];
         let j = self.lowest_meeting(i + 1, a, self.outside(a))?;
         let b = self.sets[j];
@@ -78,15 +109,20 @@ impl Merging {
         let [a, b, c] = parts.map(|i| std::mem::take(&mut self.sets[i]));
         let union = a | b | c;
         let mut rest = union;
+        let (mut once, mut twice) = (0, 0);
         while rest != 0 {
+            let l = self.links[rest.trailing_zeros() as usize & 63];
+            twice |= once & l; once |= l;
             self.links[rest.trailing_zeros() as usize & 63] |= union;
             rest &= rest - 1;
         }
         self.sets[self.made] = union;
         self.steps[self.count] = Step { parts, joint: a & b | a & c | b & c };
+        for p in parts { let b = p / BS * BS; self.sums[p / BS] = self.sets[b..b + BS].iter().fold(0, |a, b| a | b); }
+        self.sums[self.made / BS] |= union;
         self.made += 1;
         self.count += 1;
-        union
+        twice & !union
     }
 
     /// The steps made.
@@ -120,8 +156,9 @@ fn merge_all(sheet: &Sheet) -> Merging {
     let mut merging = Merging::initial(sheet);
     let (mut from, mut last) = (0, 0);
     while let Some(parts) = merging.first_open(from, last) {
-        last = merging.merge(parts);
-        from = parts[0];
+        let u = merging.merge(parts);
+        let o = u;
+        if parts[0] < from { last |= o; } else { last = o; from = parts[0]; }
     }
     merging
 }

@@ -1,4 +1,5 @@
 -- Laws that the proofs of several functions share.
+pub mod Blocks
 pub mod Branch
 pub mod Digits
 pub mod Gather

@@ -1,30 +1,34 @@
--- Looking for the lowest number with a property, one number after another. Assumes nothing.
+-- Looking for the lowest number with a property, one number or one run of numbers after another. Assumes nothing.
 use mathlib.Core.Path.{_≡_, subst}
 use Prim.Native.Nat.{ℕ, _+_, _≤_, _<_}
 use native.Mathlib.Omega.{arith}
-use native.Mathlib.Decide.{ℕ-discrete}
+use native.Mathlib.Decide.{ℕ-discrete, decLt}
 use Rattle.merges.specs.Links.{Lowest}
 
--- none from lo on and below c has the property
+-- none from lo on and below c and hi has the property
 pub record Passed (P : ℕ → Type 0) (lo hi c : ℕ) : Type 0 where
   pub low : lo ≤ c
-  pub high : c ≤ hi
-  pub none : (d : ℕ) → lo ≤ d → d < c → P d → ⊥
+  pub none : (d : ℕ) → lo ≤ d → d < c → d < hi → P d → ⊥
 
 module _ (P : ℕ → Type 0) (lo hi : ℕ) where
-  pub passed-start : lo ≤ hi → Passed P lo hi lo
-  passed-start h = record { low = omega arith; high = h; none = λ d l m p. omega arith }
+  pub passed-start : Passed P lo hi lo
+  passed-start = record { low = omega arith; none = λ d l m h p. omega arith }
 
   module _ (c : ℕ) (w : Passed P lo hi c) where
-    pub passed-next : c < hi → (P c → ⊥) → Passed P lo hi (c + 1)
-    passed-next h n = record { low = omega (arith, w .low); high = omega arith; none = λ d l m p. last d l m p (ℕ-discrete d c) }
+    -- a run of numbers more
+    pub passed-run : (r : ℕ) → c ≤ r → ((d : ℕ) → c ≤ d → d < r → d < hi → P d → ⊥) → Passed P lo hi r
+    passed-run r h n = record { low = omega (arith, w .low); none = λ d l m k p. go d l m k p (decLt d c) }
       where
-        last : (d : ℕ) → lo ≤ d → d < c + 1 → P d → Dec (d ≡ c) → ⊥
-        last d l m p (yes e) = n (subst P e p)
-        last d l m p (no k) = w .none d l (omega arith) p
+        go : (d : ℕ) → lo ≤ d → d < r → d < hi → P d → Dec (d < c) → ⊥
+        go d l m k p (yes e) = w .none d l e k p
+        go d l m k p (no e) = n d (omega arith) m k p
 
-    pub passed-here : P c → Lowest P lo hi c
-    passed-here p = record { low = w .low; high = w .high; here = λ h. p; none = w .none }
+    -- one number more
+    pub passed-next : (P c → ⊥) → Passed P lo hi (c + 1)
+    passed-next n = passed-run (c + 1) (omega arith) (λ d l m k p. n (subst P (omega arith) p))
 
-    pub passed-end : hi ≤ c → Lowest P lo hi c
-    passed-end h = record { low = w .low; high = w .high; here = λ l. absurd (omega arith); none = w .none }
+    pub passed-here : c < hi → P c → Lowest P lo hi c
+    passed-here h p = record { low = w .low; high = omega arith; here = λ l. p; none = λ d l m q. w .none d l m (omega arith) q }
+
+    pub passed-end : lo ≤ hi → hi ≤ c → Lowest P lo hi hi
+    passed-end l h = record { low = l; high = omega arith; here = λ m. absurd (omega arith); none = λ d k m p. w .none d k (omega arith) m p }

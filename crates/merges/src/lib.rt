@@ -1,10 +1,11 @@
 // Living clusters as masks by number, the links between their elements, and the search for the first open merge.
 ghost use mathlib.Core.Path.{_≡_};
-ghost use Prim.Native.Nat.{_+_, _≤_, _<_};
+ghost use Prim.Native.Nat.{_+_, _/_, _≤_, _<_};
 ghost use lib.ListN.{length, take, replicate};
 ghost use Rattle.theory.specs.Merge.{merge as numbers};
 ghost use Rattle.theory.specs.Plan.{openTest, firstOf};
 ghost use Rattle.merges.specs.Links.{Outs, Lowest, Reaching, Meeting, Ready, Links, Linking};
+ghost use Rattle.merges.specs.Sums.{Sum, Sums, Resums};
 ghost use Rattle.merges.specs.Search.{Sound, told, Merging};
 ghost use Rattle.merges.specs.Run.{Begun, Ran, Noted};
 
@@ -25,18 +26,84 @@ pub fn outs(links: &[u64; 64], x: u64) -> u64
     twice ^ (twice & x)
 }
 
+// The union of the clusters of a block: numbers 8b to 8b + 7.
+fn sum(slots: &[u64; 192], b: usize) -> u64
+    requires { ⌜ b < 24 ⌝ }
+    ensures { λ r. ⌜ Sum (now (slots .entry)) b r ⌝ }
+{
+    let mut all: u64 = 0;
+    let mut c = 8 * b;
+    while c < 8 * b + 8 {
+        all = all | slots[c];
+        c += 1;
+    }
+    all
+}
+
+// The union of each block.
+pub fn sums_of(slots: &[u64; 192]) -> [u64; 24]
+    ensures { λ r. ⌜ Sums (now (slots .entry)) r ⌝ }
+{
+    let mut sums = [0u64; 24];
+    let mut b: usize = 0;
+    while b < 24 {
+        let s = sum(slots, b);
+        sums[b] = s;
+        b += 1;
+    }
+    sums
+}
+
+// The unions of the blocks after clusters i, j, k and n changed.
+fn resum(sums: &mut [u64; 24], slots: &[u64; 192], i: usize, j: usize, k: usize, n: usize)
+    requires { ⌜ (i < 192) × (j < 192) × (k < 192) × (n < 192) ⌝ }
+    ensures { λ r. ⌜ Resums (now (slots .entry)) (now (sums .entry)) i j k n (now (sums .exit)) ⌝ }
+{
+    let a = i / 8;
+    let b = j / 8;
+    let c = k / 8;
+    let d = n / 8;
+    let p = sum(slots, a);
+    let q = sum(slots, b);
+    let r = sum(slots, c);
+    let s = sum(slots, d);
+    sums[a] = p;
+    sums[b] = q;
+    sums[c] = r;
+    sums[d] = s;
+}
+
+// The lowest number from `from` on whose block meets both a and b; `used` if there is none.
+fn skip(sums: &[u64; 24], used: usize, from: usize, a: u64, b: u64) -> usize
+    requires { ⌜ (from ≤ used) × (used ≤ 192) ⌝ }
+    ensures { λ r. ⌜ Lowest (λ c. Meeting (now (sums .entry)) a b (c / 8)) from used r ⌝ }
+{
+    let mut c = from;
+    while c < used {
+        let s = sums[c / 8];
+        if s & a != 0 {
+            if s & b != 0 {
+                return c;
+            }
+        }
+        c = 8 * (c / 8) + 8;
+    }
+    used
+}
+
 // The lowest cluster that reaches an element, below `from` only among those that meet `last`; `used` if there is none.
 pub fn lowest_reaching(
     slots: &[u64; 192],
+    sums: &[u64; 24],
     links: &[u64; 64],
     used: usize,
     from: usize,
     last: u64,
 ) -> usize
-    requires { ⌜ used ≤ 192 ⌝ }
+    requires { ⌜ (from ≤ used) × (used ≤ 192) × Sums (now slots) (now sums) ⌝ }
     ensures { λ r. ⌜ Lowest (Reaching (now (slots .entry)) (now (links .entry)) from last) 0 used r ⌝ }
 {
-    let mut c: usize = 0;
+    let mut c = skip(sums, from, 0, last, last);
     while c < used {
         let x = slots[c];
         let near = if c < from { x & last } else { x };
@@ -47,16 +114,26 @@ pub fn lowest_reaching(
             }
         }
         c += 1;
+        if c < from {
+            c = skip(sums, from, c, last, last);
+        }
     }
-    c
+    used
 }
 
 // The lowest cluster from `from` on that meets both a and b; `used` if there is none.
-pub fn lowest_meeting(slots: &[u64; 192], used: usize, from: usize, a: u64, b: u64) -> usize
-    requires { ⌜ (from ≤ used) × (used ≤ 192) ⌝ }
+pub fn lowest_meeting(
+    slots: &[u64; 192],
+    sums: &[u64; 24],
+    used: usize,
+    from: usize,
+    a: u64,
+    b: u64,
+) -> usize
+    requires { ⌜ (from ≤ used) × (used ≤ 192) × Sums (now slots) (now sums) ⌝ }
     ensures { λ r. ⌜ Lowest (Meeting (now (slots .entry)) a b) from used r ⌝ }
 {
-    let mut c = from;
+    let mut c = skip(sums, used, from, a, b);
     while c < used {
         let x = slots[c];
         if x & a != 0 {
@@ -64,9 +141,9 @@ pub fn lowest_meeting(slots: &[u64; 192], used: usize, from: usize, a: u64, b: u
                 return c;
             }
         }
-        c += 1;
+        c = skip(sums, used, c + 1, a, b);
     }
-    c
+    used
 }
 
 // Does each two of the three share exactly one element, three different ones in all?
@@ -103,27 +180,28 @@ pub enum Found {
 // The first open merge. Where two living clusters may share two elements, an open merge or nothing.
 pub fn first_open(
     slots: &[u64; 192],
+    sums: &[u64; 24],
     links: &[u64; 64],
     used: usize,
     from: usize,
     last: u64,
 ) -> Found
-    requires { ⌜ used ≤ 192 ⌝ }
+    requires { ⌜ (from ≤ used) × (used ≤ 192) × Sums (now slots) (now sums) ⌝ }
     ensures sound { λ r. ⌜ Sound (now (slots .entry)) used r ⌝ }
     ensures first { λ r. ⌜ (Ready (now (slots .entry)) (now (links .entry)) used from last → told r ≡ firstOf 0 (now (slots .entry))) ⌝ }
 {
-    let i = lowest_reaching(slots, links, used, from, last);
+    let i = lowest_reaching(slots, sums, links, used, from, last);
     if used <= i {
         return Found::Nothing;
     }
     let x = slots[i];
     let o = outs(links, x);
-    let j = lowest_meeting(slots, used, i + 1, x, o);
+    let j = lowest_meeting(slots, sums, used, i + 1, x, o);
     if used <= j {
         return Found::Nothing;
     }
     let y = slots[j];
-    let k = lowest_meeting(slots, used, j + 1, x ^ (x & y), y ^ (y & x));
+    let k = lowest_meeting(slots, sums, used, j + 1, x ^ (x & y), y ^ (y & x));
     if used <= k {
         return Found::Nothing;
     }
@@ -232,6 +310,7 @@ pub fn merge_all(start: [u64; 192], e: usize) -> Run
     ensures { λ r. ⌜ Ran (take e start) r ⌝ }
 {
     let mut slots = start;
+    let mut sums = sums_of(&slots);
     let mut links = link_all(&slots, e);
     let mut parts = no_parts();
     let mut joints = no_joints();
@@ -240,7 +319,7 @@ pub fn merge_all(start: [u64; 192], e: usize) -> Run
     let mut last: u64 = 0;
     loop {
         let used = e + steps;
-        let found = first_open(&slots, &links, used, from, last);
+        let found = first_open(&slots, &sums, &links, used, from, last);
         let Found::At(i, j, k) = found else {
             return Run {
                 steps,
@@ -251,6 +330,7 @@ pub fn merge_all(start: [u64; 192], e: usize) -> Run
         };
         note(&mut parts, &mut joints, &slots, steps, i, j, k);
         last = merge(&mut slots, &mut links, used, i, j, k);
+        resum(&mut sums, &slots, i, j, k, used);
         from = i;
         steps += 1;
     }

@@ -144,7 +144,8 @@ fn some_open(slots: &[u64; 192], links: &[u64; 64], used: usize) -> bool
     requires { ⌜ used ≤ 192 ⌝ }
     ensures { λ r. ⌜ (Ready (now (slots .entry)) (now (links .entry)) used 0 0 → r ≡ isSome (firstOf 0 (now (slots .entry)))) ⌝ }
 {
-    match merges::first_open(slots, links, used, 0, 0) {
+    let sums = merges::sums_of(slots);
+    match merges::first_open(slots, &sums, links, used, 0, 0) {
         Found::At(_, _, _) => true,
         Found::Nothing => false,
     }
