@@ -2,14 +2,15 @@
 //!
 //! Two elements are linked if a living cluster holds both. On a sheet that is not over two living clusters share at
 //! most one element, so a cluster takes part in an open merge if and only if an element outside it is linked to two of
-//! its own.
+//! its own. The union of each block of clusters tells where to look for one that meets a set.
 
 use super::over::{self, Over, Peeling};
 use super::sheet::{Sheet, read};
 
-/// The most clusters of a sheet that is not over: 125 constraints and 62 steps.
-const MOST_CLUSTERS: usize = 192;
-const BS: usize = 4;
+/// Clusters in a block.
+const BLOCK: usize = 8;
+/// The most clusters of a sheet that is not over, 125 constraints and 62 steps, in whole blocks.
+const MOST_CLUSTERS: usize = 187_usize.next_multiple_of(BLOCK);
 /// The most steps of a plan.
 const MOST_STEPS: usize = 62;
 
@@ -26,9 +27,10 @@ pub struct Merging {
     sets: [u64; MOST_CLUSTERS],
     /// How many clusters have a number.
     made: usize,
+    /// The union of each block of clusters.
+    sums: [u64; MOST_CLUSTERS / BLOCK],
     /// For each element those that are linked to it, and itself.
     links: [u64; 64],
-    sums: [u64; 192/BS],
     steps: [Step; MOST_STEPS],
     count: usize,
 }
@@ -37,24 +39,32 @@ impl Merging {
     /// The initial clusters of a sheet that is not over.
     fn initial(sheet: &Sheet) -> Merging {
         let none = Step { parts: [0; 3], joint: 0 };
-        let mut merging =
-            Merging { sets: [0; MOST_CLUSTERS], made: sheet.e, links: [0; 64], sums: [0; 192/BS], steps: [none; MOST_STEPS], count: 0 };
+        let mut merging = Merging {
+            sets: [0; MOST_CLUSTERS],
+            made: sheet.e,
+            sums: [0; MOST_CLUSTERS / BLOCK],
+            links: [0; 64],
+            steps: [none; MOST_STEPS],
+            count: 0,
+        };
         for (i, (set, c)) in merging.sets.iter_mut().zip(&sheet.constraints[..sheet.e]).enumerate() {
             *set = 1 << c.first | 1 << c.second;
-            merging.sums[i / BS] |= *set;
+            merging.sums[i / BLOCK] |= *set;
             merging.links[usize::from(c.first & 63)] |= *set;
             merging.links[usize::from(c.second & 63)] |= *set;
         }
         merging
     }
 
-    /// The elements outside a set that are linked to two of its own.
+    /// The elements outside a set that are linked to two of its own. The loop is for sets of more than two.
     fn outside(&self, set: u64) -> u64 {
-        let r1 = set & set.wrapping_sub(1);
-        if r1 == 0 { return 0; }
-        let l = self.links[set.trailing_zeros() as usize & 63];
-        let m = self.links[r1.trailing_zeros() as usize & 63];
-        let (mut once, mut twice, mut rest) = (l | m, l & m, r1 & (r1 - 1));
+        let rest = set & set.wrapping_sub(1);
+        if rest == 0 {
+            return 0;
+        }
+        let a = self.links[set.trailing_zeros() as usize & 63];
+        let b = self.links[rest.trailing_zeros() as usize & 63];
+        let (mut once, mut twice, mut rest) = (a | b, a & b, rest & (rest - 1));
         while rest != 0 {
             let links = self.links[rest.trailing_zeros() as usize & 63];
             twice |= once & links;
@@ -64,34 +74,41 @@ impl Merging {
         twice & !set
     }
 
-
-    fn lowest_meeting(&self, from: usize, a: u64, b: u64) -> Option<usize> {
-        let mut c = from;
-        while c < self.made {
-            let s = self.sums[c / BS];
-            if s & a != 0 && s & b != 0 {
-                let x = self.sets[c];
-                if x & a != 0 && x & b != 0 { return Some(c); }
-                c += 1;
-            } else {
-                c = c / BS * BS + BS;
+    /// The lowest number from `from` on and below `to` whose block meets both sets; `to` if there is none.
+    fn skip(&self, from: usize, to: usize, a: u64, b: u64) -> usize {
+        let mut i = from;
+        while i < to {
+            let sum = self.sums[i / BLOCK];
+            if sum & a != 0 && sum & b != 0 {
+                return i;
             }
+            i = (i / BLOCK + 1) * BLOCK;
+        }
+        to
+    }
+
+    /// The lowest cluster from `from` on and below `to` that meets both sets and passes a test.
+    fn lowest(&self, from: usize, to: usize, a: u64, b: u64, test: impl Fn(u64) -> bool) -> Option<usize> {
+        let mut i = self.skip(from, to, a, b);
+        while i < to {
+            let set = self.sets[i];
+            if set & a != 0 && set & b != 0 && test(set) {
+                return Some(i);
+            }
+            i = self.skip(i + 1, to, a, b);
         }
         None
     }
+
+    /// The lowest cluster from `from` on that meets both sets.
+    fn lowest_meeting(&self, from: usize, a: u64, b: u64) -> Option<usize> {
+        self.lowest(from, self.made, a, b, |_| true)
+    }
+
+    /// The lowest cluster that reaches an element outside it, below `from` only among those that meet `last`.
     fn lowest_reaching(&self, from: usize, last: u64) -> Option<usize> {
-        let mut c = 0;
-        while c < from {
-            if self.sums[c / BS] & last != 0 {
-                let x = self.sets[c];
-                if x & last != 0 && self.outside(x) != 0 { return Some(c); }
-                c += 1;
-            } else {
-                c = c / BS * BS + BS;
-            }
-        }
-        if c > from { c = from; }
-        (c..self.made).find(|&i| self.outside(self.sets[i]) != 0)
+        let reaches = |set| self.outside(set) != 0;
+        self.lowest(0, from, last, last, reaches).or_else(|| (from..self.made).find(|&i| reaches(self.sets[i])))
     }
 
     /// The first open merge, where below `from` only clusters that meet `last` take part in any.
@@ -109,20 +126,19 @@ impl Merging {
         let [a, b, c] = parts.map(|i| std::mem::take(&mut self.sets[i]));
         let union = a | b | c;
         let mut rest = union;
-        let (mut once, mut twice) = (0, 0);
         while rest != 0 {
-            let l = self.links[rest.trailing_zeros() as usize & 63];
-            twice |= once & l; once |= l;
             self.links[rest.trailing_zeros() as usize & 63] |= union;
             rest &= rest - 1;
         }
         self.sets[self.made] = union;
+        for i in [parts[0], parts[1], parts[2], self.made] {
+            let block = i / BLOCK;
+            self.sums[block] = self.sets[block * BLOCK..(block + 1) * BLOCK].iter().fold(0, |sum, set| sum | set);
+        }
         self.steps[self.count] = Step { parts, joint: a & b | a & c | b & c };
-        for p in parts { let b = p / BS * BS; self.sums[p / BS] = self.sets[b..b + BS].iter().fold(0, |a, b| a | b); }
-        self.sums[self.made / BS] |= union;
         self.made += 1;
         self.count += 1;
-        twice & !union
+        union
     }
 
     /// The steps made.
@@ -156,9 +172,8 @@ fn merge_all(sheet: &Sheet) -> Merging {
     let mut merging = Merging::initial(sheet);
     let (mut from, mut last) = (0, 0);
     while let Some(parts) = merging.first_open(from, last) {
-        let u = merging.merge(parts);
-        let o = u;
-        if parts[0] < from { last |= o; } else { last = o; from = parts[0]; }
+        last = merging.merge(parts);
+        from = parts[0];
     }
     merging
 }
