@@ -58,13 +58,7 @@ impl Merging {
 
     /// The elements outside a set that are linked to two of its own. The loop is for sets of more than two.
     fn outside(&self, set: u64) -> u64 {
-        let rest = set & set.wrapping_sub(1);
-        if rest == 0 {
-            return 0;
-        }
-        let a = self.links[set.trailing_zeros() as usize & 63];
-        let b = self.links[rest.trailing_zeros() as usize & 63];
-        let (mut once, mut twice, mut rest) = (a | b, a & b, rest & (rest - 1));
+        let (mut once, mut twice, mut rest) = (0, 0, set);
         while rest != 0 {
             let links = self.links[rest.trailing_zeros() as usize & 63];
             twice |= once & links;
