@@ -129,8 +129,9 @@ constraint-front elements done s {c} {t} h e =
     demand-value (not (stands done a b)) 7 _ e3 (λ new e4.
     let f = dimension-front a b (pairAt elements a b) s2 (fb .rest) e4 in
     let front : s ≡ c .first ∷ c .second ∷ f .map ∷ sizeBytes (c .size) ++ f .tag-bytes ++ t = cc in
+    let step = dropTags-front (c .first) (c .second) (f .map) (sizeBytes (c .size)) (f .tag-bytes) t (f .size-long) (f .tag-long) in
     record {
-      walk = λ k. rw (front, dropTags-front k (c .first) (c .second) (f .map) (sizeBytes (c .size)) (f .tag-bytes) t (f .size-long) (f .tag-long), f .size-bit);
+      walk = λ k. rw (front, step k, f .size-bit);
       most = rw front (simp length-append (omega (arith, f .size-long, f .tag-long)));
       taken = rw (f .ends-are .0, f .ends-are .1, ascend, not-true (stands done a b) new, f .taken);
       rest = f .rest;
@@ -203,7 +204,8 @@ pub record Read (s : List ℕ) (f : Facts) (t : List ℕ) : Type 0 where
 module _ {s s1 s2 s3 s4 t : List ℕ} {n k : ℕ} {elements : List Element} {cs new : List Constraint} where
   assembled : s ≡ openingBytes ++ s1 → s1 ≡ n ∷ s2 → s2 ≡ digits (kindBytes n) (linesOf elements) ++ s3 → s3 ≡ k ∷ s4
       → dropTags k s4 ≡ constraintsBytes new → length s4 ≤ 9 * k
-      → cs ≡ new → length elements ≡ n → length new ≡ k → elementCount n ≡ true → constraintCount k ≡ true → constraintsFault elements [] new ≡ 0 → t ≡ []
+      → cs ≡ new → length elements ≡ n → length new ≡ k → elementCount n ≡ true → constraintCount k ≡ true
+      → constraintsFault elements [] new ≡ 0 → t ≡ []
       → Read s (record { elements = elements; constraints = cs }) t
   unfolding sheetBytes
   assembled a b c d walk most is n-is k-is n-ok k-ok taken spent =

@@ -162,5 +162,6 @@ pub sheet-untagged : (f : Facts) → untagged (sheetBytes f) ≡ true
 unfolding sheetBytes
 sheet-untagged f =
     let n = length (f .elements) in
-    untagged-front n (length (f .constraints)) (digits (kindBytes n) (linesOf (f .elements))) (constraintsBytes (f .constraints)) (length-digits (kindBytes n) (linesOf (f .elements)))
-    ∙ constraints-untagged (f .constraints)
+    let m = linesOf (f .elements) in
+    let cs = f .constraints in
+    untagged-front n (length cs) (digits (kindBytes n) m) (constraintsBytes cs) (length-digits (kindBytes n) m) ∙ constraints-untagged cs

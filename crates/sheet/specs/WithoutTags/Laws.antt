@@ -14,13 +14,13 @@ use Rattle.sheet.specs.WithoutTags.{sizeLength, tagLength, withoutBit1, 
 
 -- ---- one constraint: its size and its tag stand in front of what is left
 
-module _ (e a b map : ℕ) (size tag s : List ℕ) (size-long : length size ≡ sizeLength map) (tag-long : length tag ≡ tagLength map) where
+module _ (a b map : ℕ) (size tag s : List ℕ) (size-long : length size ≡ sizeLength map) (tag-long : length tag ≡ tagLength map) where
   passed : drop (sizeLength map + tagLength map) (size ++ tag ++ s) ≡ s
   passed = drop-at (size ++ tag) s (sizeLength map + tagLength map) (rw (length-append, size-long, tag-long))
 
-  pub dropTags-front : dropTags (suc e) (a ∷ b ∷ map ∷ size ++ tag ++ s) ≡ a ∷ b ∷ withoutBit1 map ∷ size ++ dropTags e s
+  pub dropTags-front : (e : ℕ) → dropTags (suc e) (a ∷ b ∷ map ∷ size ++ tag ++ s) ≡ a ∷ b ∷ withoutBit1 map ∷ size ++ dropTags e s
   unfolding dropTags
-  dropTags-front = rw (passed, append-assoc size tag s, take-at size (tag ++ s) (sizeLength map) size-long)
+  dropTags-front e = rw (passed, append-assoc size tag s, take-at size (tag ++ s) (sizeLength map) size-long)
 
 -- ---- where no map has bit 1, every byte stays
 
