@@ -32,14 +32,14 @@ loop-less c = omega (arith, c .before .before .loop .inv .within)
 
 loop-again : tie.Need-loop-again Inv-loop μ-loop
 loop-again c =
-    let a = c .before .before .before .before .before .before .before .args in
+    let a = c .before .before .before .before .before .before .args in
     let l = c .before .before .loop in
     rw (c .constraint-at .ensures)
     (filling-more (a .firsts .now) (a .seconds .now) (a .maps .now) (a .sizes .now) (l .i) (l .cs) (omega (arith, c .before .loop-test .taken)) (l .inv))
 
 returns : tie.Need-returns Inv-loop μ-loop
 returns c =
-    let a = c .before .before .before .before .before .before .args in
+    let a = c .before .before .before .before .before .args in
     filling-all (a .firsts .now) (a .seconds .now) (a .maps .now) (a .sizes .now) (c .before .loop .i) (c .before .loop .cs) (c .loop-test .left) (c .before .loop .inv)
 
 pub constraints-in-spec : {M : Type 1} → statement M
