@@ -80,7 +80,8 @@ judged bytes k e = go (readSheet bytes) (by-sheet bytes) e
 rewritten : (bytes space : List ℕ) (k : ℕ) → rewriteAnswer bytes space ≡ Refused k → Refusal 10 (readSheet bytes) (λ f. withoutTags bytes) space k
 unfolding rewriteAnswer
 rewritten bytes space k e =
-    on 10 (readSheet bytes) (λ f. withoutTags bytes) space k (λ f. answer (withoutTags bytes) space) (by-sheet bytes) (seventeen 10 (readSheet bytes) (λ f. withoutTags bytes) space k) e
+    on 10 (readSheet bytes) (λ f. withoutTags bytes) space k (λ f. answer (withoutTags bytes) space) (by-sheet bytes)
+    (seventeen 10 (readSheet bytes) (λ f. withoutTags bytes) space k) e
 
 written : (s : Sheet) (space : List ℕ) (k : ℕ) → writeAnswer s space ≡ Refused k → Rule 3 9 k ⊎ ((k ≡ 17) × (length space < length (sheetBytes (factsOf s))))
 unfolding writeAnswer

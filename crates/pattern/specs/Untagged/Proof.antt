@@ -1,6 +1,6 @@
 -- Every entry point goes through `readSheet`, so that sheets which read alike are answered alike. Assumes nothing.
 use Prim.Native.Nat.{ℕ}
-use mathlib.Core.Path.{_≡_, refl, sym, ap, _∙_}
+use mathlib.Core.Path.{_≡_, refl, sym}
 use mathlib.Core.List.{List}
 use Rattle.sheet.specs.declared.Constraint.{Constraint}
 use Rattle.sheet.specs.Facts.{Facts}
@@ -13,7 +13,7 @@ use Rattle.pattern.specs.Sheets.{rewriteAnswer, rewriteAfter, itemsAnswe
 use Rattle.pattern.specs.Judgements.{judgementOf}
 use Rattle.pattern.specs.Plans.{checkAnswer, checkAfter}
 use Rattle.pattern.specs.Sketches.{heldSheet, ended, lastConstraint, extendedSheet, extendAnswer, extendAfter}
-use Rattle.pattern.specs.Untagged.{SameAnswers, Untagged}
+use Rattle.pattern.specs.Untagged.{Alike, SameAnswers, Untagged}
 
 -- ---- sheets that read alike, and that are alike without their tags
 
@@ -26,19 +26,19 @@ module _ (a b : List ℕ) (reads : readSheet a ≡ readSheet b) where
   unfolding judgementOf
   same-verdict = rw reads
 
-  same-items : (what : Facts → List ℕ) (space : List ℕ) → (itemsAnswer what a space ≡ itemsAnswer what b space) × (itemsAfter what a space ≡ itemsAfter what b space)
+  same-items : (what : Facts → List ℕ) → Alike (itemsAnswer what) (itemsAfter what) a b
   unfolding itemsAnswer itemsAfter
   same-items what space = rw reads (refl, refl)
 
-  same-rewrite : withoutTags a ≡ withoutTags b → (space : List ℕ) → (rewriteAnswer a space ≡ rewriteAnswer b space) × (rewriteAfter a space ≡ rewriteAfter b space)
+  same-rewrite : withoutTags a ≡ withoutTags b → Alike rewriteAnswer rewriteAfter a b
   unfolding rewriteAnswer rewriteAfter
   same-rewrite same space = rw (reads, same) (refl, refl)
 
-  same-check : (plan space : List ℕ) → (checkAnswer a plan space ≡ checkAnswer b plan space) × (checkAfter a plan space ≡ checkAfter b plan space)
+  same-check : (plan : List ℕ) → Alike (λ s. checkAnswer s plan) (λ s. checkAfter s plan) a b
   unfolding checkAnswer checkAfter
   same-check plan space = rw reads (refl, refl)
 
-  same-extend : (more space : List ℕ) → (extendAnswer a more space ≡ extendAnswer b more space) × (extendAfter a more space ≡ extendAfter b more space)
+  same-extend : (more : List ℕ) → Alike (λ s. extendAnswer s more) (λ s. extendAfter s more) a b
   unfolding extendAnswer extendAfter extendedSheet
   same-extend more space = rw same-hold (refl, refl)
 
@@ -55,20 +55,20 @@ module _ (a b : List ℕ) (reads : readSheet a ≡ readSheet b) where
 
 -- ---- one more constraint
 
-same-last : (f : Facts) (more : List ℕ) (c : Constraint) (end : List ℕ) → Bytes more → lastConstraint f more ≡ value c end → lastConstraint f more ≡ lastConstraint f (dropTags 1 more)
-unfolding lastConstraint
-same-last f more c end all e =
-    next-value (constraint (f .elements) (f .constraints) more) ended e (λ d t was e1.
-    rw (was, constraint-without-tag (f .elements) (f .constraints) more d t all was))
+module _ (f : Facts) (more : List ℕ) (c : Constraint) (end : List ℕ) (all : Bytes more) (last : lastConstraint f more ≡ value c end) where
+  same-last : lastConstraint f more ≡ lastConstraint f (dropTags 1 more)
+  unfolding lastConstraint
+  same-last =
+      next-value (constraint (f .elements) (f .constraints) more) ended last (λ d t was e.
+      rw (was, constraint-without-tag (f .elements) (f .constraints) more d t all was))
 
-module _ (bytes : List ℕ) (f : Facts) (rest more : List ℕ) (c : Constraint) (end space : List ℕ) (all : Bytes more) where
-  same-constraint : heldSheet bytes ≡ value f rest → lastConstraint f more ≡ value c end
-      → (extendAnswer bytes more space ≡ extendAnswer bytes (dropTags 1 more) space) × (extendAfter bytes more space ≡ extendAfter bytes (dropTags 1 more) space)
+  same-constraint : (bytes rest : List ℕ) → heldSheet bytes ≡ value f rest → Alike (extendAnswer bytes) (extendAfter bytes) more (dropTags 1 more)
   unfolding extendAnswer extendAfter extendedSheet
-  same-constraint held last = rw (held, same-last f more c end all last) (refl, refl)
+  same-constraint bytes rest held space = rw (held, same-last) (refl, refl)
 
 pub untagged : Untagged
 untagged = record {
-  sheet = λ bytes f rest all e. same-answers bytes (withoutTags bytes) (sym (read-without-tags bytes f rest all e)) (sym (without-tags-again bytes f rest all e));
-  constraint = same-constraint;
+  sheet = λ bytes f rest all e.
+      same-answers bytes (withoutTags bytes) (sym (read-without-tags bytes f rest all e)) (sym (without-tags-again bytes f rest all e));
+  constraint = λ bytes f rest held more c end all last. same-constraint f more c end all last bytes rest held;
 }

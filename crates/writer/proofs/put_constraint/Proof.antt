@@ -20,7 +20,8 @@ same-length c = search needs
 returns : tie.Need-returns
 unfolding constraintBytes
 returns c =
-    put-as (rw (c .before .before .before .before .before .before .before .size-bit .ensures)) (c .before .before .before .before .before .before .put-head .ensures then c .before .before .put-size .ensures)
+    let h = c .before .before .before .before .before .before in
+    put-as (rw (h .before .size-bit .ensures)) (h .put-head .ensures then c .before .before .put-size .ensures)
 
 pub put-constraint-spec : {M : Type 1} → statement M
 put-constraint-spec =
