@@ -146,9 +146,10 @@ module _ (bytes plan space : List ℕ) (k : ℕ) where
   saved f rest reads e = by-finding (overOf (length (f .elements)) (clustersOf f)) e
     where
       by-plan : (r : ℕ) → planFault (clustersOf f) plan ≡ r → answerBy f plan space r ≡ Refused k → Wrong
-      by-plan zero p q =
-          (seventeen 16 (readSheet bytes) (λ f. listReport f (savedSteps plan)) space k f rest reads q,
-          λ z. omega (arith, short (listReport f (savedSteps plan)) space k q .0))
+      by-plan zero p q = (
+        seventeen 16 (readSheet bytes) (λ f. listReport f (savedSteps plan)) space k f rest reads q,
+        λ z. omega (arith, short (listReport f (savedSteps plan)) space k q .0),
+      )
       by-plan (suc r) p q = let h = fault-range (clustersOf f) plan r p in by-rule (suc r) (number (suc r) k q) (omega arith) (h .1) (h .2)
 
       by-finding : (o : Finding) → answerBy f plan space (faultBy f plan o) ≡ Refused k → Wrong
