@@ -4,7 +4,7 @@ use Prim.Native.Nat.{ℕ, zero, suc}
 use mathlib.Core.Path.{_≡_}
 use mathlib.Core.List.{List}
 use lib.ListN.{length}
-use Rattle.theory.specs.Over.{Finding, fine, first, overOf}
+use Rattle.theory.specs.Over.{overOf}
 use Rattle.theory.specs.Merge.{Merge, Valid, final}
 use Rattle.theory.specs.Plan.{planOf}
 use Rattle.theory.specs.Verdict.{listVerdict}
@@ -13,7 +13,9 @@ use Rattle.sheet.specs.Graph.{clustersOf, sizesOf}
 use Rattle.space.specs.declared.Written.{Written}
 use Rattle.space.specs.declared.Written.the-variants.{Refused}
 use Rattle.space.specs.Space.{answer, after}
-use Rattle.answer.specs.Answer.{asVerdict, stepsOf}
+use Rattle.theory.specs.Step.{stepsOf}
+use Rattle.theory.specs.declared.Finding.{Finding}
+use Rattle.theory.specs.declared.Finding.the-variants.{Fine, First}
 use Rattle.merges.specs.Run.{runOf}
 use Rattle.merges.specs.declared.Run.{Run}
 use Rattle.plans.specs.Check.{savedSteps, planFault}
@@ -27,14 +29,14 @@ pub mod Room
 unfoldable pub listReport : Facts → List Merge → List ℕ
 listReport f p =
     lines.report (length (f .elements)) (length (f .constraints))
-    (asVerdict (listVerdict (linesOf (f .elements)) (length (f .elements)) (clustersOf f) p))
+    (listVerdict (linesOf (f .elements)) (length (f .elements)) (clustersOf f) p)
     (stepsOf (linesOf (f .elements)) (length (f .constraints)) (sizesOf f) (clustersOf f) p)
     (final (clustersOf f) p)
 
 -- of a sheet that is not over, the report of the engine's plan; else the first constraint and the smallest set
 abbrev pub reportBy : Facts → Finding → List ℕ
-reportBy f fine = listReport f (planOf (clustersOf f))
-reportBy f (first c x) = overReport (length (f .elements)) (length (f .constraints)) c x
+reportBy f Fine = listReport f (planOf (clustersOf f))
+reportBy f (First c x) = overReport (length (f .elements)) (length (f .constraints)) c x
 
 unfoldable pub reportOf : Facts → List ℕ
 reportOf f = reportBy f (overOf (length (f .elements)) (clustersOf f))
@@ -43,8 +45,8 @@ reportOf f = reportBy f (overOf (length (f .elements)) (clustersOf f))
 
 -- the rule that refuses it, 0 if none: 11, then those of the plan check
 abbrev pub faultBy : Facts → List ℕ → Finding → ℕ
-faultBy f l fine = planFault (clustersOf f) l
-faultBy f l (first c x) = 11
+faultBy f l Fine = planFault (clustersOf f) l
+faultBy f l (First c x) = 11
 
 unfoldable pub savedFault : Facts → List ℕ → ℕ
 savedFault f l = faultBy f l (overOf (length (f .elements)) (clustersOf f))

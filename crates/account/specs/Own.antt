@@ -8,12 +8,13 @@ use mathlib.Core.List.{List, map}
 use lib.ListN.{length}
 use Rattle.theory.specs.Merge.{Merge, Maximal, final, joints}
 use Rattle.theory.specs.Plan.{planOf}
-use Rattle.theory.specs.Verdict.{over, listVerdict}
+use Rattle.theory.specs.Verdict.{listVerdict}
 use Rattle.theory.specs.Demand.{Agree}
 use Rattle.sheet.specs.Facts.{Facts, linesOf}
 use Rattle.sheet.specs.Graph.{clustersOf, sizesOf, verdictOf}
-use Rattle.answer.specs.declared.Step.{Step}
-use Rattle.answer.specs.Answer.{stepsOf}
+use Rattle.theory.specs.Step.{stepsOf}
+use Rattle.theory.specs.declared.Verdict.the-variants.{Over}
+use Rattle.theory.specs.declared.Step.{Step}
 use Rattle.merges.specs.Held.{flat}
 use Rattle.engine.specs.Lists.{livingOf}
 use Rattle.judge.specs.Judged.{planNumbers, finalClusters}
@@ -43,12 +44,12 @@ pub record EngineList (f : Facts) : Type 0 where
 
 -- a saved plan is accepted if and only if it is a maximal list of merges of a sheet that is not over; it then comes to the same as the engine's
 pub record SavedList (f : Facts) (l : List ℕ) : Type 0 where
-  pub accepted : (savedFault f l ≡ 0) ↔ ((verdictOf f ≢ over) × (length l % 3 ≡ 0) × Maximal (clustersOf f) (savedSteps l))
+  pub accepted : (savedFault f l ≡ 0) ↔ ((verdictOf f ≢ Over) × (length l % 3 ≡ 0) × Maximal (clustersOf f) (savedSteps l))
   pub same : savedFault f l ≡ 0 → Agree (linesOf (f .elements)) (length (f .elements)) (clustersOf f) (clustersOf f) (planOf (clustersOf f)) (savedSteps l)
   pub own : savedFault f l ≡ 0 → ReportsOwn f (savedSteps l)
 
 pub record OwnLists (f : Facts) : Type 0 where
-  pub engine : verdictOf f ≢ over → EngineList f
+  pub engine : verdictOf f ≢ Over → EngineList f
   pub saved : (l : List ℕ) → SavedList f l
   -- request 2026-06: two living clusters never share two elements, and the plan check answers every list of numbers as it did with rule 14
-  pub rule-14 : verdictOf f ≢ over → Never14 (clustersOf f)
+  pub rule-14 : verdictOf f ≢ Over → Never14 (clustersOf f)

@@ -3,8 +3,9 @@ ghost use mathlib.Core.Path.{_≡_};
 ghost use mathlib.Core.List.{List};
 ghost use lib.ListN.{length};
 ghost use Rattle.theory.specs.Constraints.{NotOver};
-ghost use Rattle.theory.specs.Over.{fine, overOf};
+ghost use Rattle.theory.specs.Over.{overOf};
 ghost use Rattle.theory.specs.Merge.{Merge, Valid};
+ghost use Rattle.theory.specs.declared.Finding.the-variants.{Fine};
 ghost use Rattle.sheet.specs.Facts.{factsOf};
 ghost use Rattle.sheet.specs.Rules.{sheetFault};
 ghost use Rattle.sheet.specs.Graph.{clustersOf};
@@ -15,7 +16,7 @@ use merges::Run;
 use plans::Outcome;
 use sheet::Sheet;
 use space::Written;
-use sparsity::Over;
+use theory::Finding;
 
 // The report of a list of merges of the sheet's constraints, with its own verdict.
 fn put_list(s: Sheet, run: Run, out: &mut [u8]) -> Written
@@ -55,7 +56,7 @@ pub fn report(s: Sheet, out: &mut [u8]) -> Written
 
 // The check of a saved plan against a sheet that is not over, and the report for that plan.
 fn check_listed(s: Sheet, plan: &[u16], out: &mut [u8]) -> Written
-    requires { ⌜ (sheetFault s ≡ 0) × (overOf (length (factsOf s .elements)) (clustersOf (factsOf s)) ≡ fine) ⌝ }
+    requires { ⌜ (sheetFault s ≡ 0) × (overOf (length (factsOf s .elements)) (clustersOf (factsOf s)) ≡ Fine) ⌝ }
     ensures { λ r. ⌜ (r ≡ savedAnswer (factsOf s) (now (plan .entry)) (now (out .entry))) × (now (out .exit) ≡ savedAfter (factsOf s) (now (plan .entry)) (now (out .entry))) ⌝ }
 {
     let e = s.e;
@@ -76,7 +77,7 @@ pub fn check_plan(s: Sheet, plan: &[u16], out: &mut [u8]) -> Written
     ensures { λ r. ⌜ (r ≡ savedAnswer (factsOf s) (now (plan .entry)) (now (out .entry))) × (now (out .exit) ≡ savedAfter (factsOf s) (now (plan .entry)) (now (out .entry))) ⌝ }
 {
     let found = judge::over_of(s);
-    let Over::Not = found else {
+    let Finding::Fine = found else {
         return Written::Refused(11);
     };
     check_listed(s, plan, out)

@@ -3,14 +3,15 @@
 use Prim.Native.Nat.{ℕ}
 use mathlib.Core.List.{List, [], map}
 use lib.ListN.{length}
-use Rattle.theory.specs.Over.{Finding, fine, first, overOf}
+use Rattle.theory.specs.Over.{overOf}
 use Rattle.theory.specs.Merge.{Merge, final}
 use Rattle.theory.specs.Plan.{planOf, ascending}
 use Rattle.theory.specs.Verdict.{listVerdict}
+use Rattle.theory.specs.declared.Finding.{Finding}
+use Rattle.theory.specs.declared.Finding.the-variants.{Fine, First}
+use Rattle.theory.specs.declared.Verdict.the-variants.{Over}
 use Rattle.sheet.specs.Facts.{Facts, linesOf}
 use Rattle.sheet.specs.Graph.{clustersOf}
-use Rattle.answer.specs.declared.Verdict.the-variants.{Over}
-use Rattle.answer.specs.Answer.{asVerdict}
 use Rattle.merges.specs.Run.{runOf}
 use Rattle.merges.specs.Held.{flat}
 use Rattle.engine.specs.Lists.{livingOf}
@@ -23,7 +24,7 @@ pub mod Short
 -- a list of merges of the sheet's constraints, with its own verdict
 unfoldable pub listed : Facts → List Merge → Judged
 listed f p = record {
-  verdict = asVerdict (listVerdict (linesOf (f .elements)) (length (f .elements)) (clustersOf f) p);
+  verdict = listVerdict (linesOf (f .elements)) (length (f .elements)) (clustersOf f) p;
   first = 0;
   set = 0;
   run = runOf (clustersOf f) p;
@@ -37,8 +38,8 @@ abbrev pub overFound : ℕ → ℕ → Judged
 overFound c x = record { verdict = Over; first = c; set = x; run = runOf [] [] }
 
 abbrev pub judgedBy : Facts → Finding → Judged
-judgedBy f fine = planned f
-judgedBy f (first c x) = overFound c x
+judgedBy f Fine = planned f
+judgedBy f (First c x) = overFound c x
 
 unfoldable pub judgedOf : Facts → Judged
 judgedOf f = judgedBy f (overOf (length (f .elements)) (clustersOf f))
@@ -47,8 +48,8 @@ judgedOf f = judgedBy f (overOf (length (f .elements)) (clustersOf f))
 
 -- the engine's plan: none is made of an over sheet
 abbrev pub planBy : Facts → Finding → List Merge
-planBy f fine = planOf (clustersOf f)
-planBy f (first c x) = []
+planBy f Fine = planOf (clustersOf f)
+planBy f (First c x) = []
 
 unfoldable pub planOfFacts : Facts → List Merge
 planOfFacts f = planBy f (overOf (length (f .elements)) (clustersOf f))
@@ -59,8 +60,8 @@ planNumbers f = flat (map ascending (planOfFacts f))
 
 -- the final clusters: none is given of an over sheet
 abbrev pub finalsBy : Facts → Finding → List ℕ
-finalsBy f fine = livingOf (final (clustersOf f) (planOf (clustersOf f)))
-finalsBy f (first c x) = []
+finalsBy f Fine = livingOf (final (clustersOf f) (planOf (clustersOf f)))
+finalsBy f (First c x) = []
 
 unfoldable pub finalClusters : Facts → List ℕ
 finalClusters f = finalsBy f (overOf (length (f .elements)) (clustersOf f))

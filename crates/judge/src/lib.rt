@@ -11,15 +11,13 @@ ghost use Rattle.sheet.specs.Facts.{factsOf, linesOf};
 ghost use Rattle.sheet.specs.Rules.{sheetFault};
 ghost use Rattle.sheet.specs.Graph.{clustersOf, verdictOf};
 ghost use Rattle.peeling.specs.Core.{Told};
-ghost use Rattle.sparsity.specs.Answer.{asOver};
-ghost use Rattle.answer.specs.Answer.{asVerdict};
 ghost use Rattle.judge.specs.Listing.{columnsOf};
 ghost use Rattle.judge.specs.Judged.{planned as plannedOf, overFound, judgedOf};
-use answer::Verdict;
 use merges::Run;
 use peeling::Peeling;
 use sheet::Sheet;
-use sparsity::Over;
+use theory::Finding;
+use theory::Verdict;
 
 // The ends of a sheet's constraints in two columns, 0 beyond them.
 pub struct Columns {
@@ -44,10 +42,10 @@ fn columns_of(s: Sheet) -> Columns
     Columns { firsts, seconds }
 }
 
-// The first constraint that makes the sheet over, with the smallest set; Not where it is not over.
-pub fn over_of(s: Sheet) -> Over
+// The first constraint that makes the sheet over, with the smallest set; Fine where it is not over.
+pub fn over_of(s: Sheet) -> Finding
     requires { ⌜ sheetFault s ≡ 0 ⌝ }
-    ensures { λ r. ⌜ r ≡ asOver (overOf (length (factsOf s .elements)) (clustersOf (factsOf s))) ⌝ }
+    ensures { λ r. ⌜ r ≡ overOf (length (factsOf s .elements)) (clustersOf (factsOf s)) ⌝ }
 {
     let columns = columns_of(s);
     let firsts = columns.firsts;
@@ -148,8 +146,8 @@ fn judge_full(s: Sheet) -> Judged
     }
     let found = over_of(s);
     match found {
-        Over::First { constraint, set } => over_found(constraint, set),
-        Over::Not => listed_by(s, run),
+        Finding::First { constraint, set } => over_found(constraint, set),
+        Finding::Fine => listed_by(s, run),
     }
 }
 
@@ -163,15 +161,15 @@ pub fn judge(s: Sheet) -> Judged
     }
     let found = over_of(s);
     match found {
-        Over::First { constraint, set } => over_found(constraint, set),
-        Over::Not => plan_of(s),
+        Finding::First { constraint, set } => over_found(constraint, set),
+        Finding::Fine => plan_of(s),
     }
 }
 
 // The verdict by way of the judgement.
 fn judged_verdict(s: Sheet) -> Verdict
     requires { ⌜ sheetFault s ≡ 0 ⌝ }
-    ensures { λ r. ⌜ r ≡ asVerdict (verdictOf (factsOf s)) ⌝ }
+    ensures { λ r. ⌜ r ≡ verdictOf (factsOf s) ⌝ }
 {
     let judged = judge(s);
     let verdict = judged.verdict;
@@ -181,19 +179,19 @@ fn judged_verdict(s: Sheet) -> Verdict
 // The verdict of a sheet with two lines or fewer, of which no joint is three lines, and fewer than 2n-3 constraints.
 fn sparse_verdict(s: Sheet) -> Verdict
     requires { ⌜ (sheetFault s ≡ 0) × (ones (linesOf (factsOf s .elements)) ≤ 2) × (s .e + 3 < 2 * s .n) ⌝ }
-    ensures { λ r. ⌜ r ≡ asVerdict (verdictOf (factsOf s)) ⌝ }
+    ensures { λ r. ⌜ r ≡ verdictOf (factsOf s) ⌝ }
 {
     let found = over_of(s);
     match found {
-        Over::First { .. } => Verdict::Over,
-        Over::Not => Verdict::Under,
+        Finding::First { .. } => Verdict::Over,
+        Finding::Fine => Verdict::Under,
     }
 }
 
 // The verdict of a sheet with 2n-3 constraints. One that peels off to the last element is well, unless three lines went so.
 fn full_verdict(s: Sheet, lines: u64) -> Verdict
     requires { ⌜ (sheetFault s ≡ 0) × (lines ≡ linesOf (factsOf s .elements)) × (s .e + 3 ≡ 2 * s .n) ⌝ }
-    ensures { λ r. ⌜ r ≡ asVerdict (verdictOf (factsOf s)) ⌝ }
+    ensures { λ r. ⌜ r ≡ verdictOf (factsOf s) ⌝ }
 {
     let peeling = peels(s, lines);
     if peeling.left != 0 {
@@ -209,7 +207,7 @@ fn full_verdict(s: Sheet, lines: u64) -> Verdict
 // The verdict of a sheet. No plan is made where counts, peeling or the search for an over set decide.
 pub fn verdict_of(s: Sheet) -> Verdict
     requires { ⌜ sheetFault s ≡ 0 ⌝ }
-    ensures { λ r. ⌜ r ≡ asVerdict (verdictOf (factsOf s)) ⌝ }
+    ensures { λ r. ⌜ r ≡ verdictOf (factsOf s) ⌝ }
 {
     let n = s.n;
     let used = s.e + 3;

@@ -2,7 +2,9 @@
 use Prim.Native.Nat.{ℕ}
 use mathlib.Core.List.{List, [], _∷_}
 use lib.ListN.{length}
-use Rattle.theory.specs.Over.{Finding, fine, first, overOf}
+use Rattle.theory.specs.Over.{overOf}
+use Rattle.theory.specs.declared.Finding.{Finding}
+use Rattle.theory.specs.declared.Finding.the-variants.{Fine, First}
 use Rattle.space.specs.declared.Written.{Written}
 use Rattle.space.specs.declared.Written.the-variants.{Refused}
 use Rattle.space.specs.Space.{answer, after}
@@ -35,8 +37,8 @@ rewriteAfter bytes space = onFacts (readSheet bytes) (λ f. after bytes space) (
 -- ---- over (document 01, "Verdict names"): the first constraint and the smallest set; no item where the sheet is not over
 
 abbrev pub overItems : Finding → List ℕ
-overItems fine = []
-overItems (first c x) = c ∷ x ∷ []
+overItems Fine = []
+overItems (First c x) = c ∷ x ∷ []
 
 unfoldable pub overOfFacts : Facts → List ℕ
 overOfFacts f = overItems (overOf (length (f .elements)) (clustersOf f))

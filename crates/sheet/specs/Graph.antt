@@ -6,8 +6,10 @@ use lib.IntN.{ℤ, pos}
 use lib.ListN.{length}
 use Rattle.theory.specs.Constraints.{Ends, clusters, Perm}
 use Rattle.theory.specs.Merge.{Merge, Maximal}
-use Rattle.theory.specs.Verdict.{Verdict, over, verdict}
+use Rattle.theory.specs.Verdict.{verdict}
 use Rattle.theory.specs.Demand.{Agree, Demand3}
+use Rattle.theory.specs.declared.Verdict.{Verdict}
+use Rattle.theory.specs.declared.Verdict.the-variants.{Over}
 use mathlib.Core.Logic.{_≢_}
 use Rattle.sheet.specs.declared.Size.{Size}
 use Rattle.sheet.specs.declared.Size.the-variants.{Given, Missing}
@@ -46,7 +48,7 @@ reordered f ds = record { elements = f .elements; constraints = ds }
 
 pub record SheetDemand3 (f : Facts) : Type 0 where
   -- in every order it is accepted, and its verdict isn't over
-  pub orders : (ds : List Constraint) → Perm (f .constraints) ds → Accepted (reordered f ds) × (verdictOf (reordered f ds) ≢ over)
+  pub orders : (ds : List Constraint) → Perm (f .constraints) ds → Accepted (reordered f ds) × (verdictOf (reordered f ds) ≢ Over)
   -- every two maximal lists of merges, one from each order, have the same final clusters, joints, verdict and number of steps
   pub every : (ds : List Constraint) → Perm (f .constraints) ds → (p q : List Merge) → Maximal (clustersOf f) p → Maximal (clustersOf (reordered f ds)) q
       → Agree (linesOf (f .elements)) (length (f .elements)) (clustersOf f) (clustersOf (reordered f ds)) p q

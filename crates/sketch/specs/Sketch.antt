@@ -5,13 +5,13 @@ use Prim.Native.Nat.{ℕ, zero, suc, _+_}
 use mathlib.Core.Bool.{Bool, true, false}
 use mathlib.Core.List.{[], _∷_, _++_}
 use lib.ListN.{set}
-use Rattle.theory.specs.Verdict as verdicts
+use Rattle.theory.specs.declared.Verdict.{Verdict}
+use Rattle.theory.specs.declared.Verdict.the-variants.{Over, Angle, Well, Stuck, Under}
 use Rattle.sheet.specs.declared.Constraint.{Constraint}
 use Rattle.sheet.specs.declared.Sheet.{Sheet}
 use Rattle.sheet.specs.Facts.{Facts, factsOf, pick}
 use Rattle.sheet.specs.Rules.{or-else, constraintFault, sheetFault}
 use Rattle.sheet.specs.Graph.{verdictOf}
-use Rattle.answer.specs.Answer.{asVerdict}
 use Rattle.sketch.specs.declared.Taken.{Taken}
 use Rattle.sketch.specs.declared.Taken.the-variants.{Is, Refused}
 use Rattle.sketch.specs.declared.Added.{Added}
@@ -19,12 +19,12 @@ pub mod Laws
 
 -- ---- which rule refuses: its number, 0 where none does
 
-abbrev pub notOver : verdicts.Verdict → Bool
-notOver verdicts.over = false
-notOver verdicts.angle = true
-notOver verdicts.well = true
-notOver verdicts.stuck = true
-notOver verdicts.under = true
+abbrev pub notOver : Verdict → Bool
+notOver Over = false
+notOver Angle = true
+notOver Well = true
+notOver Stuck = true
+notOver Under = true
 
 -- 11 refuses facts whose verdict is over
 unfoldable pub overFault : Facts → ℕ
@@ -49,8 +49,8 @@ addFault s c = or-else (holdFault s) (nextFault (factsOf s) c)
 -- ---- the answer, and the sketch after it
 
 -- the rule that refuses, else the verdict
-abbrev pub asTaken : ℕ → verdicts.Verdict → Taken
-asTaken zero v = Is (asVerdict v)
+abbrev pub asTaken : ℕ → Verdict → Taken
+asTaken zero v = Is v
 asTaken (suc k) v = Refused (suc k)
 
 unfoldable pub addAnswer : Sheet → Constraint → Taken

@@ -6,10 +6,10 @@ ghost use Rattle.sheet.specs.Facts.{factsOf};
 ghost use Rattle.sheet.specs.Rules.{constraintFault, sheetFault};
 ghost use Rattle.sheet.specs.Noted.{Noted};
 ghost use Rattle.sketch.specs.Sketch.{overFault, holdFault, stored, addedOf};
-use answer::Verdict;
 use sheet::Constraint;
 use sheet::Sheet;
-use sparsity::Over;
+use theory::Finding;
+use theory::Verdict;
 
 // The answer to an addition: the verdict of the sketch with the constraint, or the rule that refuses it.
 pub enum Taken {
@@ -30,11 +30,11 @@ pub fn over_fault(s: Sheet) -> u8
 {
     let found = judge::over_of(s);
     match found {
-        Over::First {
+        Finding::First {
             constraint: _,
             set: _,
         } => 11,
-        Over::Not => 0,
+        Finding::Fine => 0,
     }
 }
 

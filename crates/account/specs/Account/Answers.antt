@@ -8,18 +8,19 @@ use mathlib.Core.List.{List}
 use lib.Dec.{eqb}
 use lib.ListN.{length}
 use Rattle.theory.specs.Constraints.{Pairs, Below, NotOver}
-use Rattle.theory.specs.Over.{Finding, fine, first, overOf}
+use Rattle.theory.specs.Over.{overOf}
 use Rattle.theory.specs.Over.Laws.{overOf-fine, overOf-first}
 use Rattle.theory.specs.Merge.{Merge, Valid, joints, left, final}
 use Rattle.theory.specs.Plan.{planOf}
 use Rattle.theory.specs.Plan.Laws.{plan-of-maximal}
-use Rattle.theory.specs.Verdict as verdicts
-use Rattle.theory.specs.Verdict.{angled, judged, listVerdict}
+use Rattle.theory.specs.Verdict.{verdictNumber, angled, judged, listVerdict}
 use Rattle.sheet.specs.Facts.{Facts, linesOf}
 use Rattle.sheet.specs.Graph.{clustersOf}
 use Rattle.space.specs.declared.Written.the-variants.{Refused}
 use Rattle.space.specs.Space.{answer, after}
-use Rattle.answer.specs.Answer.{asVerdict, verdictNumber}
+use Rattle.theory.specs.declared.Finding.{Finding}
+use Rattle.theory.specs.declared.Finding.the-variants.{Fine, First}
+use Rattle.theory.specs.declared.Verdict.the-variants.{Angle, Well, Stuck, Under}
 use Rattle.merges.specs.Run.{runOf}
 use Rattle.merges.specs.declared.Run.{Run}
 use Rattle.judge.specs.declared.Judged.{Judged}
@@ -33,15 +34,15 @@ use Rattle.report.specs.Report.{overReport}
 use Rattle.account.specs.Account.{Merged, listReport, reportBy, reportOf, faultBy, savedFault, answerBy, afterBy, savedAnswer, savedAfter}
 
 -- the verdict of a list of merges is never over
-pub later-name : (lines n e : ℕ) (js : List ℕ) (l : ℕ) → verdictNumber (asVerdict (judged lines n e js l)) ≢ 0
+pub later-name : (lines n e : ℕ) (js : List ℕ) (l : ℕ) → verdictNumber (judged lines n e js l) ≢ 0
 unfolding judged
 later-name lines n e js l = go (angled lines js) (eqb (e + 3) (2 * n)) (eqb l 1)
   where
     go : (a b c : Bool)
-        → _≢_ {A = ℕ} (verdictNumber (asVerdict (elim a [
-          | true ↦ verdicts.angle
-          | false ↦ elim b [ true ↦ elim c [ true ↦ verdicts.well | false ↦ verdicts.stuck ] | false ↦ verdicts.under ]
-        ]))) 0
+        → _≢_ {A = ℕ} (verdictNumber (elim a [
+          | true ↦ Angle
+          | false ↦ elim b [ true ↦ elim c [ true ↦ Well | false ↦ Stuck ] | false ↦ Under ]
+        ])) 0
     go true b c h = omega arith
     go false true true h = omega arith
     go false true false h = omega arith
@@ -60,8 +61,8 @@ module _ (f : Facts) (paired : Pairs (clustersOf f)) (below : Below (length (f .
   over-found v = go (overOf (length (f .elements)) (clustersOf f)) refl
     where
       go : (o : Finding) → overOf (length (f .elements)) (clustersOf f) ≡ o → OverFound
-      go fine q = absurd (later-name (linesOf (f .elements)) (length (f .elements)) (length (clustersOf f)) (joints (clustersOf f) (planOf (clustersOf f))) (left (final (clustersOf f) (planOf (clustersOf f)))) (sym (ap (λ (x : Judged). verdictNumber (x .verdict)) (e ∙ ap (judgedBy f) q)) ∙ v))
-      go (first c x) q =
+      go Fine q = absurd (later-name (linesOf (f .elements)) (length (f .elements)) (length (clustersOf f)) (joints (clustersOf f) (planOf (clustersOf f))) (left (final (clustersOf f) (planOf (clustersOf f)))) (sym (ap (λ (x : Judged). verdictNumber (x .verdict)) (e ∙ ap (judgedBy f) q)) ∙ v))
+      go (First c x) q =
           let i : j ≡ overFound c x = e ∙ ap (judgedBy f) q in
           record {
             first-below = rw i (omega (arith, overOf-first (length (f .elements)) (clustersOf f) paired below c x q .listed));
@@ -80,22 +81,22 @@ module _ (f : Facts) (paired : Pairs (clustersOf f)) (below : Below (length (f .
   plan-found v = go (overOf (length (f .elements)) (clustersOf f)) refl
     where
       go : (o : Finding) → overOf (length (f .elements)) (clustersOf f) ≡ o → PlanFound
-      go fine q = record {
+      go Fine q = record {
         notOver = overOf-fine (length (f .elements)) (clustersOf f) paired below q;
         valid = plan-of-maximal (clustersOf f) paired .valid;
         is = ap (λ (x : Judged). x .run) (e ∙ ap (judgedBy f) q);
         report-is = sym (ap (reportBy f) q);
       }
-      go (first c x) q = absurd (v (ap (λ (x : Judged). verdictNumber (x .verdict)) (e ∙ ap (judgedBy f) q)))
+      go (First c x) q = absurd (v (ap (λ (x : Judged). verdictNumber (x .verdict)) (e ∙ ap (judgedBy f) q)))
 
 -- ---- the check of a saved plan
 
 module _ (f : Facts) (l space : List ℕ) where
-  pub saved-over : (c x : ℕ) → overOf (length (f .elements)) (clustersOf f) ≡ first c x → (Refused 11 ≡ savedAnswer f l space) × (space ≡ savedAfter f l space)
+  pub saved-over : (c x : ℕ) → overOf (length (f .elements)) (clustersOf f) ≡ First c x → (Refused 11 ≡ savedAnswer f l space) × (space ≡ savedAfter f l space)
   unfolding savedAnswer savedAfter savedFault
   saved-over c x q = rw q (refl, refl)
 
-  module _ (q : overOf (length (f .elements)) (clustersOf f) ≡ fine) (r : Checked) (e : r ≡ checkOf (clustersOf f) l) where
+  module _ (q : overOf (length (f .elements)) (clustersOf f) ≡ Fine) (r : Checked) (e : r ≡ checkOf (clustersOf f) l) where
     pub saved-refused : (k : ℕ) → r .outcome ≡ Stopped k → (Refused k ≡ savedAnswer f l space) × (space ≡ savedAfter f l space)
     unfolding savedAnswer savedAfter savedFault checkOf
     saved-refused k o = rw q (go (planFault (clustersOf f) l) (sym o ∙ ap (λ (x : Checked). x .outcome) e))

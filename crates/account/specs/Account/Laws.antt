@@ -10,15 +10,15 @@ use lib.ListN.{length, getD, take, replicate, length-map, length-append, length-
 use Rattle.theory.specs.Constraints.{NotOver, Pairs, Below}
 use Rattle.theory.specs.Merge.{Merge, merge, slot, Valid, final}
 use Rattle.theory.specs.Verdict.{judged, listVerdict}
-use Rattle.theory.specs.Placement as placement
 use Rattle.theory.specs.Placement.{placed, jointKind}
 use Rattle.sheet.specs.declared.Sheet.{Sheet}
 use Rattle.sheet.specs.Facts.{Facts, factsOf, block, linesOf}
 use Rattle.sheet.specs.Rules.{sheetFault}
 use Rattle.sheet.specs.Graph.{clustersOf, sizesOf}
-use Rattle.answer.specs.declared.Verdict.{Verdict}
-use Rattle.answer.specs.declared.Step.{Step}
-use Rattle.answer.specs.Answer.{asVerdict, asKind, asWays, stepsOf}
+use Rattle.theory.specs.Step.{stepsOf}
+use Rattle.theory.specs.declared.Verdict.{Verdict}
+use Rattle.theory.specs.declared.Ways.the-variants.{Unknown}
+use Rattle.theory.specs.declared.Step.{Step}
 use Rattle.graph.specs.Arrays.{constraintSize, endPair, EndsBelow64}
 use Rattle.merges.specs.Held.{padded}
 use Rattle.merges.specs.Run.{Begun, runOf}
@@ -84,11 +84,11 @@ sizes-same lines e a b cs made parts knots t g =
       j = j;
       k = k;
       joint = x;
-      kind = asKind (jointKind lines x);
-      ways = asWays (elim (ltb i e && (ltb j e && ltb k e)) [
+      kind = jointKind lines x;
+      ways = elim (ltb i e && (ltb j e && ltb k e)) [
         | true ↦ placed lines (jointKind lines x) (slot cs i) (slot cs j) (g i z) (g j z) (g k z)
-        | false ↦ placement.unknown
-      ]);
+        | false ↦ Unknown
+      ];
     }
 
 stepped-sizes : (lines e : ℕ) (a b : List ℤ) (cs : List ℕ) (run : Run) (steps : List Step) → ((i : ℕ) → getD a i (pos 0) ≡ getD b i (pos 0))
@@ -104,7 +104,7 @@ stepped-sizes lines e a b cs run steps g h = record {
 -- what is made of the arrays of a sheet and of a run
 pub record Told (s : Sheet) (run : Run) (lines : ℕ) (v : Verdict) (start : List ℕ) (sizes : List ℤ) (steps : List Step) : Type 0 where
   pub lines-are : lines ≡ linesOf (factsOf s .elements)
-  pub v-is : v ≡ asVerdict (judged lines (s .n) (s .e) (take (run .steps) (run .joints)) (s .e - 2 * run .steps))
+  pub v-is : v ≡ judged lines (s .n) (s .e) (take (run .steps) (run .joints)) (s .e - 2 * run .steps)
   pub start-is : start ≡ block 192 0 (map endPair (factsOf s .constraints))
   pub sizes-are : sizes ≡ block 200 (pos 0) (map constraintSize (factsOf s .constraints))
   pub stepped : Stepped lines (s .e) sizes start run steps
@@ -141,7 +141,7 @@ module _ (s : Sheet) (h : Fit s) (p : List Merge) (valid : Valid (clustersOf (fa
 
   -- what they give is the list's own
   module _ (lines : ℕ) (v : Verdict) (start : List ℕ) (sizes : List ℤ) (steps : List Step) (t : Told s run lines v start sizes steps) where
-    verdict-is : v ≡ asVerdict (listVerdict (linesOf (f .elements)) (length (f .elements)) (clustersOf f) p)
+    verdict-is : v ≡ listVerdict (linesOf (f .elements)) (length (f .elements)) (clustersOf f) p
     unfolding listed
     verdict-is =
         ap (λ (j : Judged). j .verdict) (settled f p (h .sheet .paired) valid run is lines (s .n) (s .e) v (t .lines-are) (sym (h .sheet .elements-count)) (sym (h .sheet .count)) (t .v-is))

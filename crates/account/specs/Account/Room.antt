@@ -5,11 +5,13 @@ use mathlib.Core.Path.{_≡_, refl, sym, ap, _∙_}
 use mathlib.Core.List.{List}
 use lib.ListN.{length, length-map}
 use Rattle.theory.specs.Constraints.{Pairs, Below, NotOver}
-use Rattle.theory.specs.Over.{Finding, fine, first, overOf}
+use Rattle.theory.specs.Over.{overOf}
 use Rattle.theory.specs.Over.Laws.{overOf-fine}
 use Rattle.theory.specs.Merge.{Merge, Valid}
 use Rattle.theory.specs.Plan.{planOf}
 use Rattle.theory.specs.Plan.Laws.{plan-of-maximal}
+use Rattle.theory.specs.declared.Finding.{Finding}
+use Rattle.theory.specs.declared.Finding.the-variants.{Fine, First}
 use Rattle.sheet.specs.Facts.{Facts, linesOf}
 use Rattle.sheet.specs.Accepted.{Accepted}
 use Rattle.sheet.specs.Graph.{clustersOf, sizesOf}
@@ -34,8 +36,8 @@ module _ (f : Facts) (a : Accepted f) where
   report-room = go (overOf (length (f .elements)) (clustersOf f)) refl
     where
       go : (o : Finding) → overOf (length (f .elements)) (clustersOf f) ≡ o → length (reportBy f o) ≤ 3786
-      go fine q = list-room (overOf-fine (length (f .elements)) (clustersOf f) (paired f a) (below f a) q) (planOf (clustersOf f)) (plan-of-maximal (clustersOf f) (paired f a) .valid)
-      go (first c x) q = omega (arith, over-long (length (f .elements)) (length (f .constraints)) c x)
+      go Fine q = list-room (overOf-fine (length (f .elements)) (clustersOf f) (paired f a) (below f a) q) (planOf (clustersOf f)) (plan-of-maximal (clustersOf f) (paired f a) .valid)
+      go (First c x) q = omega (arith, over-long (length (f .elements)) (length (f .constraints)) c x)
 
   pub saved-room : (l : List ℕ) → savedFault f l ≡ 0 → length (listReport f (savedSteps l)) ≤ 3786
   saved-room l h =

@@ -8,13 +8,13 @@ use lib.IntN.{ℤ}
 use lib.ListN.{length}
 use Rattle.theory.specs.Constraints.{Pairs, Below, NotOver}
 use Rattle.theory.specs.Constraints.Perm.{same}
-use Rattle.theory.specs.Over.{Finding, fine, first, IsOver, overOf}
+use Rattle.theory.specs.Over.{IsOver, overOf}
 use Rattle.theory.specs.Over.Laws.{over-or-fine, fine-overOf, overOf-fine, over-isOver, fine-isOver}
 use Rattle.theory.specs.Merge.{Merge, three, joint, put, Valid, Maximal, final, joints}
 use Rattle.theory.specs.Plan.{planOf, ascending, IsPlan}
 use Rattle.theory.specs.Plan.Laws.{ascending-same, plan-of-is, plan-of-maximal}
 use Rattle.theory.specs.Plan.Order.{joint-ascending}
-use Rattle.theory.specs.Verdict.{Verdict, over, listVerdict, verdict}
+use Rattle.theory.specs.Verdict.{verdictNumber, listVerdict, verdict}
 use Rattle.theory.specs.Verdict.Laws.{verdict-is-over, verdict-is-planned}
 use Rattle.theory.specs.Demand.{Agree}
 use Rattle.sheet.specs.Facts.{Facts, linesOf}
@@ -22,8 +22,11 @@ use Rattle.sheet.specs.Accepted.{Accepted}
 use Rattle.sheet.specs.Graph.{clustersOf, sizesOf, verdictOf}
 use Rattle.sheet.specs.Graph.Laws.{accepted-most, sheet-demand3}
 use Rattle.sheet.specs.RoundTrip.Blocks.{constraints-most}
-use Rattle.answer.specs.declared.Step.{Step}
-use Rattle.answer.specs.Answer.{asVerdict, verdictNumber, stepOf, stepsOf}
+use Rattle.theory.specs.Step.{stepOf, stepsOf}
+use Rattle.theory.specs.declared.Finding.{Finding}
+use Rattle.theory.specs.declared.Finding.the-variants.{Fine, First}
+use Rattle.theory.specs.declared.Verdict.the-variants.{Over}
+use Rattle.theory.specs.declared.Step.{Step}
 use Rattle.merges.specs.Held.{flat}
 use Rattle.engine.specs.Lists.{livingOf}
 use Rattle.judge.specs.Listing.Laws.{clusters-pairs, clusters-below}
@@ -69,26 +72,26 @@ module _ (f : Facts) (a : Accepted f) where
   pub below : Below (length (f .elements)) (clustersOf f)
   below = clusters-below f (accepted-most f a) (constraints-most (length (f .constraints)) (a .constraint-count)) (a .no-fault)
 
-  finds-none : verdictOf f ≢ over → overOf (length (f .elements)) (clustersOf f) ≡ fine
+  finds-none : verdictOf f ≢ Over → overOf (length (f .elements)) (clustersOf f) ≡ Fine
   unfolding verdictOf
   finds-none v = go (over-or-fine (length (f .elements)) (clustersOf f) paired below)
     where
-      go : IsOver (clustersOf f) ⊎ NotOver (clustersOf f) → overOf (length (f .elements)) (clustersOf f) ≡ fine
+      go : IsOver (clustersOf f) ⊎ NotOver (clustersOf f) → overOf (length (f .elements)) (clustersOf f) ≡ Fine
       go (inl h) = absurd (v (verdict-is-over (linesOf (f .elements)) (length (f .elements)) (clustersOf f) (over-isOver (length (f .elements)) (clustersOf f) paired below h)))
       go (inr h) = fine-overOf (length (f .elements)) (clustersOf f) paired below h
 
-  module _ (q : overOf (length (f .elements)) (clustersOf f) ≡ fine) where
+  module _ (q : overOf (length (f .elements)) (clustersOf f) ≡ Fine) where
     planned : verdictOf f ≡ listVerdict (linesOf (f .elements)) (length (f .elements)) (clustersOf f) (planOf (clustersOf f))
     unfolding verdictOf
     planned =
         verdict-is-planned (linesOf (f .elements)) (length (f .elements)) (clustersOf f)
         (fine-isOver (length (f .elements)) (clustersOf f) (overOf-fine (length (f .elements)) (clustersOf f) paired below q))
 
-    not-over : verdictOf f ≢ over
+    not-over : verdictOf f ≢ Over
     unfolding listVerdict
-    not-over h = later-name _ _ _ _ _ (ap (λ (v : Verdict). verdictNumber (asVerdict v)) (sym planned ∙ h))
+    not-over h = later-name _ _ _ _ _ (ap verdictNumber (sym planned ∙ h))
 
-  engine-list : verdictOf f ≢ over → EngineList f
+  engine-list : verdictOf f ≢ Over → EngineList f
   unfolding planNumbers planOfFacts finalClusters reportOf
   engine-list v =
       let q = finds-none v in
@@ -103,15 +106,15 @@ module _ (f : Facts) (a : Accepted f) where
       }
 
   -- rule 11 lets through what is not over
-  pub let-through : (l : List ℕ) → savedFault f l ≡ 0 → overOf (length (f .elements)) (clustersOf f) ≡ fine
+  pub let-through : (l : List ℕ) → savedFault f l ≡ 0 → overOf (length (f .elements)) (clustersOf f) ≡ Fine
   unfolding savedFault
   let-through l h = go (overOf (length (f .elements)) (clustersOf f)) refl
     where
-      go : (o : Finding) → overOf (length (f .elements)) (clustersOf f) ≡ o → overOf (length (f .elements)) (clustersOf f) ≡ fine
-      go fine q = q
-      go (first c x) q = absurd (let z : _≡_ {A = ℕ} 11 0 = sym (ap (faultBy f l) q) ∙ h in omega arith)
+      go : (o : Finding) → overOf (length (f .elements)) (clustersOf f) ≡ o → overOf (length (f .elements)) (clustersOf f) ≡ Fine
+      go Fine q = q
+      go (First c x) q = absurd (let z : _≡_ {A = ℕ} 11 0 = sym (ap (faultBy f l) q) ∙ h in omega arith)
 
-  pub saved-maximal : (l : List ℕ) → savedFault f l ≡ 0 → (verdictOf f ≢ over) × (length l % 3 ≡ 0) × Maximal (clustersOf f) (savedSteps l)
+  pub saved-maximal : (l : List ℕ) → savedFault f l ≡ 0 → (verdictOf f ≢ Over) × (length l % 3 ≡ 0) × Maximal (clustersOf f) (savedSteps l)
   unfolding savedFault
   saved-maximal l h =
       let q = let-through l h in
@@ -127,7 +130,7 @@ module _ (f : Facts) (a : Accepted f) where
     own = λ h. reports-own f (savedSteps l);
   }
 
-  rule-14 : verdictOf f ≢ over → Never14 (clustersOf f)
+  rule-14 : verdictOf f ≢ Over → Never14 (clustersOf f)
   rule-14 v = never-14 (clustersOf f) (λ p h. record { share = sheet-demand3 f a v .whole .counts p h .share })
 
   pub own-lists : OwnLists f

@@ -12,7 +12,7 @@ use Rattle.theory.specs.Placement.{jointKind, against, triangle, strip, stripOf
 use Rattle.space.specs.Text.{decimal}
 use Rattle.sheet.specs.Facts.{sheetOf, elementsOf, linesOf}
 use Rattle.sheet.specs.Rules.{sheetFault, constraintFault, constraintsFault, stands}
-use Rattle.answer.specs.Answer.{stepOf, stepsOf}
+use Rattle.theory.specs.Step.{stepOf, stepsOf}
 use Rattle.report.specs.Elements.{among, elements}
 use Rattle.report.specs.Report.{stepLine, clusterLine, stepLines, slotLine, clusterLines, report, overReport}
 use Rattle.account.specs.Account.{listReport, reportOf}

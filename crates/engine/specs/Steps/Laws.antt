@@ -14,10 +14,12 @@ use Rattle.theory.specs.Merge.{slot, Merge, merge, three, joint, OpenAt, put, V
 use Rattle.theory.specs.Merge.Numbered.{Place, new, old, place, length-put}
 use Rattle.theory.specs.Plan.{ascending}
 use Rattle.theory.specs.Plan.Order.{open-ascending, joint-ascending}
-use Rattle.theory.specs.Placement as placement
 use Rattle.theory.specs.Placement.{placed, jointKind, ways}
-use Rattle.answer.specs.Answer.{asKind, asWays, stepOf, stepsOf}
-use Rattle.answer.specs.declared.Step.{Step}
+use Rattle.theory.specs.Step.{stepOf, stepsOf}
+use Rattle.theory.specs.declared.JointKind.{JointKind}
+use Rattle.theory.specs.declared.Ways.{Ways}
+use Rattle.theory.specs.declared.Ways.the-variants.{Unknown}
+use Rattle.theory.specs.declared.Step.{Step}
 use Rattle.merges.specs.Held.{padded, flat}
 use Rattle.merges.specs.Run.{runOf}
 use Rattle.merges.specs.declared.Run.{Run}
@@ -38,21 +40,21 @@ initial-put e cs s m h k n l z = go (place s m n z)
     go (old q f) = f ∙ k n l (λ y. z (f ∙ y))
 
 module _ (lines e : ℕ) (sizes : List ℤ) (cs s : List ℕ) (k : Initial e cs s) where
-  ways-same : (kind : placement.JointKind) (m : Merge) → slot s (m .i) ≢ 0 → slot s (m .j) ≢ 0
+  ways-same : (kind : JointKind) (m : Merge) → slot s (m .i) ≢ 0 → slot s (m .j) ≢ 0
       → waysBy lines kind e sizes cs m
       ≡ elim (ltb (m .i) e && (ltb (m .j) e && ltb (m .k) e)) [
         | true ↦ placed lines kind (slot s (m .i)) (slot s (m .j)) (getD sizes (m .i) (pos 0)) (getD sizes (m .j) (pos 0)) (getD sizes (m .k) (pos 0))
-        | false ↦ placement.unknown
+        | false ↦ Unknown
       ]
   unfolding waysBy
   ways-same kind m li lj = go (ltb (m .i) e) refl (ltb (m .j) e) refl (ltb (m .k) e)
     where
-      at : ℕ → ℕ → placement.Ways
+      at : ℕ → ℕ → Ways
       at a b = placed lines kind a b (getD sizes (m .i) (pos 0)) (getD sizes (m .j) (pos 0)) (getD sizes (m .k) (pos 0))
 
       go : (a : Bool) → ltb (m .i) e ≡ a → (b : Bool) → ltb (m .j) e ≡ b → (c : Bool)
-          → _≡_ {A = placement.Ways} (elim (a && (b && c)) [ true ↦ at (slot cs (m .i)) (slot cs (m .j)) | false ↦ placement.unknown ])
-          (elim (a && (b && c)) [ true ↦ at (slot s (m .i)) (slot s (m .j)) | false ↦ placement.unknown ])
+          → _≡_ {A = Ways} (elim (a && (b && c)) [ true ↦ at (slot cs (m .i)) (slot cs (m .j)) | false ↦ Unknown ])
+          (elim (a && (b && c)) [ true ↦ at (slot s (m .i)) (slot s (m .j)) | false ↦ Unknown ])
       go false p b q c = refl
       go true p false q c = refl
       go true p true q false = refl
@@ -66,15 +68,15 @@ module _ (lines e : ℕ) (sizes : List ℤ) (cs s : List ℕ) (k : Initial e cs 
       let a = open-ascending s m o in
       let j : joint (three s m) ≡ joint (three s (ascending m)) = sym (joint-ascending s m) in
       let made : base + 0 ≡ length s = omega arith in
-      let w = ap (λ (x : ℕ). asWays (waysBy lines (jointKind lines x) e sizes cs (ascending m))) j
-      ∙ ap asWays (ways-same (jointKind lines (joint (three s (ascending m)))) (ascending m) (a .livei) (a .livej)) in
+      let w = ap (λ (x : ℕ). waysBy lines (jointKind lines x) e sizes cs (ascending m)) j
+      ∙ ways-same (jointKind lines (joint (three s (ascending m)))) (ascending m) (a .livei) (a .livej) in
       λ z. record {
         made = made z;
         i = ascending m .i;
         j = ascending m .j;
         k = ascending m .k;
         joint = j z;
-        kind = asKind (jointKind lines (j z));
+        kind = jointKind lines (j z);
         ways = w z;
       }
 
@@ -96,8 +98,8 @@ later lines e sizes cs made x i j k parts knots t =
       j = getD l (p1 z) 0;
       k = getD l (p2 z) 0;
       joint = getD knots t 0;
-      kind = asKind (jointKind lines (getD knots t 0));
-      ways = asWays (waysBy lines (jointKind lines (getD knots t 0)) e sizes cs (merge (getD l (p0 z) 0) (getD l (p1 z) 0) (getD l (p2 z) 0)));
+      kind = jointKind lines (getD knots t 0);
+      ways = waysBy lines (jointKind lines (getD knots t 0)) e sizes cs (merge (getD l (p0 z) 0) (getD l (p1 z) 0) (getD l (p2 z) 0));
     }
 
 steps-from : (lines e : ℕ) (sizes : List ℤ) (cs : List ℕ) (p : List Merge) (s : List ℕ) (base t : ℕ) → Valid s p → Initial e cs s → e ≤ length s → base ≡ length s → t < length p
@@ -130,9 +132,9 @@ read-lists lines e sizes cs parts knots t =
     (λ z. waysBy lines (jointKind lines (x z)) e sizes (padded 192 cs) (merge (i z) (j z) (k z)))
     ∙ (λ z. elim (ltb (m .i) e && (ltb (m .j) e && ltb (m .k) e)) [
       | true ↦ placed lines (jointKind lines (slot knots t)) (slot-padded 192 cs (m .i) z) (slot-padded 192 cs (m .j) z) (getD sizes (m .i) (pos 0)) (getD sizes (m .j) (pos 0)) (getD sizes (m .k) (pos 0))
-      | false ↦ placement.unknown
+      | false ↦ Unknown
     ]) in
-    λ z. record { made = e + t; i = i z; j = j z; k = k z; joint = x z; kind = asKind (jointKind lines (x z)); ways = asWays (w z) }
+    λ z. record { made = e + t; i = i z; j = j z; k = k z; joint = x z; kind = jointKind lines (x z); ways = w z }
 
 -- the steps that the arrays of a run give are those of its list of merges
 pub stepped-are : (lines e : ℕ) (sizes : List ℤ) (cs : List ℕ) (p : List Merge) (run : Run) (start : List ℕ) (steps : List Step)

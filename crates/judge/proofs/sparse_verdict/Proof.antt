@@ -1,7 +1,6 @@
 use borrow.Author.Needs.{needs}
 use mathlib.Core.Path.{_≡_, refl, sym, ap, _∙_}
 use Rattle.sheet.specs.Facts.{factsOf}
-use Rattle.answer.specs.Answer.{asVerdict}
 use Rattle.judge.specs.declared.Judged.{Judged}
 use Rattle.judge.specs.Judged.{judgedOf}
 use Rattle.judge.specs.Judged.Found.{first-found, not-over}
@@ -37,7 +36,7 @@ returns-2 c =
     let f = factsOf (s .args .s) in
     let o = c .before .before .over-of in
     let fine = not-over f (o .result) (o .ensures) (sheet s .in-blocks .paired) (sheet s .in-blocks .below) (c .enum-told2 .given .1) in
-    ap asVerdict (sym (fewer-is (s .args .s) (sheet s) (s .pre .1) fine (s .pre .2)))
+    sym (fewer-is (s .args .s) (sheet s) (s .pre .1) fine (s .pre .2))
 
 pub sparse-verdict-spec : {M : Type 1} → statement M
 sparse-verdict-spec = tie.close (tie.spec over-of-requires enum-told enum-told-2 returns returns-2)

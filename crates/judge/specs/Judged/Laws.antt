@@ -6,15 +6,16 @@ use mathlib.Core.List.{List, [], _∷_, map}
 use lib.ListN.{length, take, getD, length-map, replicate, length-append, length-replicate}
 use lib.Seq.{take-append-seam, getD-take, length-take-le, take-at}
 use Rattle.theory.specs.Constraints.{NotOver, Pairs, Below, clusters}
-use Rattle.theory.specs.Over.{Finding, fine, first, overOf}
+use Rattle.theory.specs.Over.{overOf}
 use Rattle.theory.specs.Over.Laws.{fine-most}
 use Rattle.theory.specs.Merge.{Merge, Valid, final, joints, left}
 use Rattle.theory.specs.Merge.Count.{steps-left}
 use Rattle.theory.specs.Verdict.{judged, listVerdict}
+use Rattle.theory.specs.declared.Finding.{Finding}
+use Rattle.theory.specs.declared.Finding.the-variants.{Fine, First}
+use Rattle.theory.specs.declared.Verdict.{Verdict}
 use Rattle.sheet.specs.declared.Constraint.{Constraint}
 use Rattle.sheet.specs.Facts.{Facts, block, linesOf}
-use Rattle.answer.specs.declared.Verdict.{Verdict}
-use Rattle.answer.specs.Answer.{asVerdict}
 use Rattle.sheet.specs.Rules.{constraintsFault}
 use Rattle.sheet.specs.Graph.{clustersOf}
 use Rattle.graph.specs.Arrays.{endPair, EndsBelow64}
@@ -95,10 +96,10 @@ module _ (f : Facts) (p : List Merge) (paired : Pairs (clustersOf f)) (valid : V
       rw (is, length-append, length-replicate) (omega arith)
 
   pub settled : (lines n e : ℕ) (v : Verdict) → lines ≡ linesOf (f .elements) → n ≡ length (f .elements) → e ≡ length (f .constraints)
-      → v ≡ asVerdict (judged lines n e (take (run .steps) (run .joints)) (e - 2 * run .steps))
+      → v ≡ judged lines n e (take (run .steps) (run .joints)) (e - 2 * run .steps)
       → record { verdict = v; first = 0; set = 0; run = run } ≡ listed f p
   unfolding runOf listed
   settled lines n e v l m k h =
-      let a : v ≡ asVerdict (listVerdict (linesOf (f .elements)) (length (f .elements)) (clustersOf f) p) =
-      h ∙ rw (is, l, m, k, ← length-clusters f) (ap asVerdict (list-verdict (linesOf (f .elements)) (length (f .elements)) (clustersOf f) p paired valid)) in
+      let a : v ≡ listVerdict (linesOf (f .elements)) (length (f .elements)) (clustersOf f) p =
+      h ∙ rw (is, l, m, k, ← length-clusters f) (list-verdict (linesOf (f .elements)) (length (f .elements)) (clustersOf f) p paired valid) in
       cc

@@ -7,7 +7,7 @@ use mathlib.Core.List.{List, [], _∷_, _++_, map}
 use lib.ListN.{length, take, replicate, length-map, length-append, length-replicate}
 use lib.Seq.{take-all}
 use Rattle.theory.specs.Constraints.{Pairs, Below, NotOver}
-use Rattle.theory.specs.Over.{Finding, fine, first, IsOver, overOf}
+use Rattle.theory.specs.Over.{IsOver, overOf}
 use Rattle.theory.specs.Verdict.Laws.{verdict-is-over, verdict-is-planned}
 use native.Mathlib.Nat.{le-refl}
 use Rattle.theory.specs.Over.Laws.{overOf-fine, overOf-first, fine-isOver, over-isOver, over-longer}
@@ -15,11 +15,11 @@ use Rattle.theory.specs.Merge.{Merge, Valid, final, joints}
 use Rattle.theory.specs.Merge.Count.{steps-left}
 use Rattle.theory.specs.Plan.{planOf, ascending}
 use Rattle.theory.specs.Plan.Laws.{plan-of-maximal}
-use Rattle.theory.specs.Verdict as verdicts
 use Rattle.theory.specs.Verdict.{verdict, listVerdict}
+use Rattle.theory.specs.declared.Finding.{Finding}
+use Rattle.theory.specs.declared.Finding.the-variants.{Fine, First}
 use Rattle.sheet.specs.Facts.{Facts, linesOf}
 use Rattle.sheet.specs.Graph.{clustersOf, verdictOf}
-use Rattle.answer.specs.Answer.{asVerdict}
 use Rattle.merges.specs.Held.{padded, flat}
 use Rattle.merges.specs.Run.{runOf}
 use Rattle.merges.proofs.State.{length-flat, length-final}
@@ -47,12 +47,12 @@ module _ (f : Facts) (paired : Pairs (clustersOf f)) (below : Below (length (f .
     pub slots-long : length (j .run .slots) ≡ 192
     pub numbers : take (3 * j .run .steps) (j .run .parts) ≡ planNumbers f
     pub finals : livingOf (take 192 (j .run .slots)) ≡ finalClusters f
-    pub verdict-is : j .verdict ≡ asVerdict (verdictOf f)
+    pub verdict-is : j .verdict ≡ verdictOf f
 
   padded-long : (k : ℕ) (l : List ℕ) → length l ≤ k → length (padded k l) ≡ k
   padded-long k l h = rw (length-append, length-replicate) (omega arith)
 
-  plan-held : overOf (length (f .elements)) (clustersOf f) ≡ fine → Held (planned f)
+  plan-held : overOf (length (f .elements)) (clustersOf f) ≡ Fine → Held (planned f)
   unfolding listed runOf planNumbers planOfFacts finalClusters verdictOf verdict
   plan-held q =
       let cs = clustersOf f in
@@ -70,15 +70,15 @@ module _ (f : Facts) (paired : Pairs (clustersOf f)) (below : Below (length (f .
         slots-long = padded-long 192 (final cs p) (omega arith);
         numbers = take-padded 192 (flat (map ascending p)) (3 * length p) (sym l) ∙ sym (ap (λ (o : Finding). flat (map ascending (planBy f o))) q);
         finals = ap livingOf (take-all 192 (padded 192 (final cs p)) (omega (arith, padded-long 192 (final cs p) (omega arith)))) ∙ living-append (final cs p) (192 - length (final cs p)) ∙ sym (ap (finalsBy f) q);
-        verdict-is = ap asVerdict (sym (verdict-is-planned (linesOf (f .elements)) (length (f .elements)) cs (fine-isOver (length (f .elements)) cs none)));
+        verdict-is = sym (verdict-is-planned (linesOf (f .elements)) (length (f .elements)) cs (fine-isOver (length (f .elements)) cs none));
       }
 
-  whole-over : (c x : ℕ) → overOf (length (f .elements)) (clustersOf f) ≡ first c x → IsOver (clustersOf f)
+  whole-over : (c x : ℕ) → overOf (length (f .elements)) (clustersOf f) ≡ First c x → IsOver (clustersOf f)
   whole-over c x q =
       let h = overOf-first (length (f .elements)) (clustersOf f) paired below c x q in
       subst IsOver (take-all (length (clustersOf f)) (clustersOf f) (le-refl (length (clustersOf f)))) (over-longer (clustersOf f) (suc c) (length (clustersOf f)) (h .listed) (h .over))
 
-  over-held : (c x : ℕ) → overOf (length (f .elements)) (clustersOf f) ≡ first c x → Held (overFound c x)
+  over-held : (c x : ℕ) → overOf (length (f .elements)) (clustersOf f) ≡ First c x → Held (overFound c x)
   unfolding runOf planNumbers planOfFacts finalClusters verdictOf verdict flat joints
   over-held c x q =
       record {
@@ -87,7 +87,7 @@ module _ (f : Facts) (paired : Pairs (clustersOf f)) (below : Below (length (f .
         slots-long = refl;
         numbers = sym (ap (λ (o : Finding). flat (map ascending (planBy f o))) q);
         finals = living-none 192 ∙ sym (ap (finalsBy f) q);
-        verdict-is = ap asVerdict (sym (verdict-is-over (linesOf (f .elements)) (length (f .elements)) (clustersOf f) (over-isOver (length (f .elements)) (clustersOf f) paired below (whole-over c x q))));
+        verdict-is = sym (verdict-is-over (linesOf (f .elements)) (length (f .elements)) (clustersOf f) (over-isOver (length (f .elements)) (clustersOf f) paired below (whole-over c x q)));
       }
 
   pub judged-held : Held (judgedOf f)
@@ -95,5 +95,5 @@ module _ (f : Facts) (paired : Pairs (clustersOf f)) (below : Below (length (f .
   judged-held = go (overOf (length (f .elements)) (clustersOf f)) refl
     where
       go : (o : Finding) → overOf (length (f .elements)) (clustersOf f) ≡ o → Held (judgedBy f (overOf (length (f .elements)) (clustersOf f)))
-      go fine q = subst (λ (o : Finding). Held (judgedBy f o)) (sym q) (plan-held q)
-      go (first c x) q = subst (λ (o : Finding). Held (judgedBy f o)) (sym q) (over-held c x q)
+      go Fine q = subst (λ (o : Finding). Held (judgedBy f o)) (sym q) (plan-held q)
+      go (First c x) q = subst (λ (o : Finding). Held (judgedBy f o)) (sym q) (over-held c x q)

@@ -14,8 +14,9 @@ use Rattle.theory.specs.Merge.Count.{steps-left}
 use Rattle.theory.specs.Merge.One.{one-fine}
 use Rattle.theory.specs.Plan.{planOf}
 use Rattle.theory.specs.Plan.Laws.{plan-of-maximal}
-use Rattle.theory.specs.Verdict.{over, angle as angle-name, well, under, angled}
+use Rattle.theory.specs.Verdict.{angled}
 use Rattle.theory.specs.Verdict.Short.{not-angled, verdict-more, verdict-angle, verdict-fewer, verdict-one}
+use Rattle.theory.specs.declared.Verdict.the-variants.{Over, Angle, Well, Under}
 use Rattle.sheet.specs.declared.Sheet.{Sheet}
 use Rattle.sheet.specs.Facts.{factsOf, linesOf}
 use Rattle.sheet.specs.Rules.{sheetFault}
@@ -29,7 +30,6 @@ use Rattle.judge.specs.Listing.{columnsOf}
 use Rattle.judge.specs.Listing.Laws.{masks-are, listed}
 use Rattle.judge.specs.Listing.Blocks.{Blocks, passed-blocks}
 use Rattle.sheet.proofs.Passed.{Passed}
-use Rattle.answer.specs.Answer.{asVerdict}
 use Rattle.judge.specs.declared.Judged.{Judged}
 use Rattle.judge.specs.Judged.Lists.{judged-held}
 use Rattle.judge.specs.Judged.{planned, judgedBy, judgedOf}
@@ -71,7 +71,7 @@ module _ (s : Sheet) (w : Whole s) where
   fine-judged fine = ap (judgedBy (factsOf s)) (fine-overOf (length (factsOf s .elements)) (clustersOf (factsOf s)) (w .in-blocks .paired) (w .in-blocks .below) fine)
 
   -- the judgement's verdict
-  pub judged-verdict : (j : Judged) → j ≡ judgedOf (factsOf s) → j .verdict ≡ asVerdict (verdictOf (factsOf s))
+  pub judged-verdict : (j : Judged) → j ≡ judgedOf (factsOf s) → j .verdict ≡ verdictOf (factsOf s)
   judged-verdict j e =
       ap (λ (x : Judged). x .verdict) e
       ∙ judged-held (factsOf s) (w .in-blocks .paired) (w .in-blocks .below) (λ fine. omega (arith, most-of fine, w .in-blocks .elements-count, w .in-blocks .elements-most, length-clusters (factsOf s))) .verdict-is
@@ -81,14 +81,14 @@ module _ (s : Sheet) (w : Whole s) where
 
   -- ---- verdicts without a plan
 
-  pub more-is : 2 * s .n < s .e + 3 → verdictOf (factsOf s) ≡ over
+  pub more-is : 2 * s .n < s .e + 3 → verdictOf (factsOf s) ≡ Over
   unfolding verdictOf
   more-is h =
       verdict-more (linesOf (factsOf s .elements)) (length (factsOf s .elements)) (clustersOf (factsOf s)) (omega (arith, w .in-blocks .elements-count, w .in-blocks .elements-two)) (w .in-blocks .paired) (w .in-blocks .below)
       (omega (arith, w .in-blocks .elements-count, w .count))
 
   -- fewer than 2n-3 constraints, and no three lines
-  pub fewer-is : ones (linesOf (factsOf s .elements)) ≤ 2 → NotOver (clustersOf (factsOf s)) → s .e + 3 < 2 * s .n → verdictOf (factsOf s) ≡ under
+  pub fewer-is : ones (linesOf (factsOf s .elements)) ≤ 2 → NotOver (clustersOf (factsOf s)) → s .e + 3 < 2 * s .n → verdictOf (factsOf s) ≡ Under
   unfolding verdictOf
   fewer-is few fine h =
       let cs = clustersOf (factsOf s) in
@@ -108,11 +108,11 @@ module _ (s : Sheet) (w : Whole s) where
         t .angle-is none (s .n) (w .in-blocks .elements-two) (w .in-blocks .elements-most) (rw (w .masks-are, ← w .in-blocks .elements-count) (w .in-blocks .below)) count
         ∙ ap₂ (λ (z : ℕ) (cs : List ℕ). angled z (joints cs (planOf cs))) are (w .masks-are)
 
-    pub angle-peeled : angle ≡ true → verdictOf (factsOf s) ≡ angle-name
+    pub angle-peeled : angle ≡ true → verdictOf (factsOf s) ≡ Angle
     unfolding verdictOf
     angle-peeled e = verdict-angle (linesOf (factsOf s .elements)) (length (factsOf s .elements)) (clustersOf (factsOf s)) fine (sym angle-is ∙ e)
 
-    pub well-peeled : angle ≡ false → verdictOf (factsOf s) ≡ well
+    pub well-peeled : angle ≡ false → verdictOf (factsOf s) ≡ Well
     unfolding verdictOf
     well-peeled e =
         let n = length (factsOf s .elements) in

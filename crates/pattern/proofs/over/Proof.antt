@@ -7,7 +7,6 @@ use Rattle.sheet.specs.Facts.{Facts}
 use Rattle.sheet.specs.Field.{Bytes}
 use Rattle.sheet.specs.Graph.{clustersOf}
 use Rattle.reader.specs.Answers.{outcomeNumber}
-use Rattle.sparsity.specs.Answer.{asOver}
 use native.Mathlib.Omega.{arith}
 use Rattle.space.specs.declared.Written.the-variants.{Refused}
 use Rattle.pattern.specs.Sheets.{overOfFacts}
@@ -53,8 +52,8 @@ enum-told-3 : tie.Need-enum-told-3
 enum-told-3 c = search needs
 
 -- what is found is the definition's, of the facts that were read
-found : (c : tie.After-over-of) → c .over-of .result ≡ asOver (overOf (length (read (c .before) .facts .elements)) (clustersOf (read (c .before) .facts)))
-found c = c .over-of .ensures ∙ ap (λ (f : Facts). asOver (overOf (length (f .elements)) (clustersOf f))) (read (c .before) .facts-are)
+found : (c : tie.After-over-of) → c .over-of .result ≡ overOf (length (read (c .before) .facts .elements)) (clustersOf (read (c .before) .facts))
+found c = c .over-of .ensures ∙ ap (λ (f : Facts). overOf (length (f .elements)) (clustersOf f)) (read (c .before) .facts-are)
 
 returns-2 : tie.Need-returns-2
 returns-2 c =

@@ -8,7 +8,9 @@ use mathlib.Core.Bool.{Bool, true, false, cond}
 use mathlib.Core.List.{List, [], _∷_}
 use lib.Dec.{ltb, eqb}
 use lib.ListN.{length}
-use Rattle.theory.specs.Over.{Finding, fine, first, overOf}
+use Rattle.theory.specs.Over.{overOf}
+use Rattle.theory.specs.declared.Finding.{Finding}
+use Rattle.theory.specs.declared.Finding.the-variants.{Fine, First}
 use Rattle.space.specs.declared.Written.{Written}
 use Rattle.space.specs.declared.Written.the-variants.{Done, Refused}
 use Rattle.space.specs.Space.{answer}
@@ -23,7 +25,6 @@ use Rattle.sheet.specs.Graph.{clustersOf, verdictOf}
 use Rattle.sheet.specs.RoundTrip.{written-read}
 use Rattle.sheet.specs.Refusals.{Rule, By, given, ruled, Fault}
 use Rattle.sheet.specs.Refusals.Laws.{by-next, by-demand, by-wider, which, by-constraint, by-sheet, refused-by, fault-else, fault-constraint, fault-sheet, fault-wider}
-use Rattle.answer.specs.Answer.{asVerdict}
 use Rattle.plans.specs.Check.{planFault, savedSteps}
 use Rattle.plans.specs.Check.Laws.{fault-range}
 use Rattle.writer.specs.Write.{writeAnswer}
@@ -73,7 +74,7 @@ judged : (bytes : List ℕ) (k : ℕ) → judgementOf bytes ≡ No k → Rule 1 
 unfolding judgementOf
 judged bytes k e = go (readSheet bytes) (by-sheet bytes) e
   where
-    go : (f : Field Facts) → By 1 10 f → onFacts f (λ x. Is (asVerdict (verdictOf x))) (λ r. No r) ≡ No k → Rule 1 10 k
+    go : (f : Field Facts) → By 1 10 f → onFacts f (λ x. Is (verdictOf x)) (λ r. No r) ≡ No k → Rule 1 10 k
     go (value x rest) h q = absurd (let z : _≡_ {A = ℕ} 0 1 = cc in omega arith)
     go (refused r) h q = let n : r ≡ k = cc in subst (Rule 1 10) n (which h)
 
@@ -153,8 +154,8 @@ module _ (bytes plan space : List ℕ) (k : ℕ) where
       by-plan (suc r) p q = let h = fault-range (clustersOf f) plan r p in by-rule (suc r) (number (suc r) k q) (omega arith) (h .1) (h .2)
 
       by-finding : (o : Finding) → answerBy f plan space (faultBy f plan o) ≡ Refused k → Wrong
-      by-finding fine q = by-plan (planFault (clustersOf f) plan) refl q
-      by-finding (first c x) q = by-rule 11 (number 11 k q) (omega arith) (omega arith) (λ z. omega arith)
+      by-finding Fine q = by-plan (planFault (clustersOf f) plan) refl q
+      by-finding (First c x) q = by-rule 11 (number 11 k q) (omega arith) (omega arith) (λ z. omega arith)
 
   checked : checkAnswer bytes plan space ≡ Refused k → Wrong
   unfolding checkAnswer

@@ -20,12 +20,15 @@ use Rattle.theory.specs.Merge.Numbered.{alive-lt, length-put}
 use Rattle.theory.specs.Merge.Threes.{size-joint}
 use Rattle.theory.specs.Plan.{ascending}
 use Rattle.theory.specs.Plan.Order.{open-ascending}
-use Rattle.theory.specs.Placement.{JointKind, ppp, ppl, pll, lll, byOrder, against, triangle, strip, stripOf, placed, sizeAt, initial, unknown, jointKind, ways}
+use Rattle.theory.specs.Placement.{byOrder, against, triangle, strip, stripOf, placed, sizeAt, initial, jointKind, ways}
 use Rattle.space.specs.Text.{decimal}
 use Rattle.space.specs.Text.Laws.{decimal-1}
-use Rattle.answer.specs.Answer.{asWays, stepOf, stepsOf}
-use Rattle.answer.specs.declared.Verdict.{Verdict}
-use Rattle.answer.specs.declared.Step.{Step}
+use Rattle.theory.specs.Step.{stepOf, stepsOf}
+use Rattle.theory.specs.declared.Verdict.{Verdict}
+use Rattle.theory.specs.declared.JointKind.{JointKind}
+use Rattle.theory.specs.declared.JointKind.the-variants.{Ppp, Ppl, Pll, Lll}
+use Rattle.theory.specs.declared.Ways.the-variants.{Unknown}
+use Rattle.theory.specs.declared.Step.{Step}
 use Rattle.report.specs.Elements.Laws.{elements-size}
 use Rattle.report.specs.Report.{waysName, verdictLine, elementsLine, stepLine, slotLine, stepLines, clusterLines, report}
 use Rattle.report.specs.Pieces.{Small, AllSmall}
@@ -108,23 +111,23 @@ strip-two lines a b x y z = go (eqb (a ∩ lines) 0) (eqb (b ∩ lines) 0)
 one-digit : (w : ℕ) → w ≤ 2 → length (decimal w) ≤ 1
 one-digit w h = rw (decimal-1 w (omega arith)) (omega arith)
 
-placed-one : (lines : ℕ) (k : JointKind) (a b : ℕ) (x y z : ℤ) → length (waysName (asWays (placed lines k a b x y z))) ≤ 1
+placed-one : (lines : ℕ) (k : JointKind) (a b : ℕ) (x y z : ℤ) → length (waysName (placed lines k a b x y z)) ≤ 1
 unfolding placed triangle
-placed-one lines ppp a b x y z = one-digit _ (against-two _ _)
-placed-one lines ppl a b x y z = one-digit _ (strip-two lines a b x y z)
-placed-one lines pll a b x y z = one-digit 1 (omega arith)
-placed-one lines lll a b x y z = omega arith
+placed-one lines Ppp a b x y z = one-digit _ (against-two _ _)
+placed-one lines Ppl a b x y z = one-digit _ (strip-two lines a b x y z)
+placed-one lines Pll a b x y z = one-digit 1 (omega arith)
+placed-one lines Lll a b x y z = omega arith
 
-ways-one-digit : (lines e : ℕ) (sizes : List ℤ) (s : List ℕ) (m : Merge) → length (waysName (asWays (ways lines e sizes s m))) ≤ 1
+ways-one-digit : (lines e : ℕ) (sizes : List ℤ) (s : List ℕ) (m : Merge) → length (waysName (ways lines e sizes s m)) ≤ 1
 unfolding ways
 ways-one-digit lines e sizes s m = go (initial e m)
   where
     go : (b : Bool)
-        → length (waysName (asWays (elim b [
+        → length (waysName (elim b [
           | true ↦
               placed lines (jointKind lines (joint (three s m))) (slot s (m .i)) (slot s (m .j)) (sizeAt sizes (m .i)) (sizeAt sizes (m .j)) (sizeAt sizes (m .k))
-          | false ↦ unknown
-        ])))
+          | false ↦ Unknown
+        ]))
         ≤ 1
     go true = placed-one lines (jointKind lines (joint (three s m))) (slot s (m .i)) (slot s (m .j)) (sizeAt sizes (m .i)) (sizeAt sizes (m .j)) (sizeAt sizes (m .k))
     go false = omega arith

@@ -9,9 +9,9 @@ use lib.Dec.{leb}
 use lib.ListN.{length}
 use Rattle.theory.specs.Constraints.{Sound, Perm}
 use Rattle.theory.specs.Constraints.Laws.{perm-map}
-use Rattle.theory.specs.Verdict.{over}
 use Rattle.theory.specs.Demand as demand
 use Rattle.theory.specs.Demand.Proof.{demand3}
+use Rattle.theory.specs.declared.Verdict.the-variants.{Over}
 use Rattle.sheet.specs.declared.Element.{Element}
 use Rattle.sheet.specs.declared.Constraint.{Constraint}
 use Rattle.sheet.specs.Facts.{Facts, linesOf}
@@ -40,11 +40,11 @@ pub accepted-most : (f : Facts) → Accepted f → length (f .elements) ≤ 64
 accepted-most f h = leb-true (length (f .elements)) 64 (and-true (leb 2 (length (f .elements))) (leb (length (f .elements)) 64) (h .element-count) .1)
 
 -- what theory calls accepted
-pub in-theory : (f : Facts) → Accepted f → verdictOf f ≢ over → demand.Accepted (linesOf (f .elements)) (length (f .elements)) (listedEnds f)
+pub in-theory : (f : Facts) → Accepted f → verdictOf f ≢ Over → demand.Accepted (linesOf (f .elements)) (length (f .elements)) (listedEnds f)
 unfolding verdictOf
 in-theory f h v = record { two = accepted-two f h; sound = accepted-sound f h; not-over = v }
 
-pub sheet-demand3 : (f : Facts) → Accepted f → verdictOf f ≢ over → SheetDemand3 f
+pub sheet-demand3 : (f : Facts) → Accepted f → verdictOf f ≢ Over → SheetDemand3 f
 unfolding verdictOf
 sheet-demand3 f h v =
     let d = demand3 (linesOf (f .elements)) (length (f .elements)) (listedEnds f) (in-theory f h v) in

@@ -9,7 +9,7 @@ use Rattle.sheet.specs.declared.Sheet.{Sheet}
 use Rattle.sheet.specs.Facts.{Facts, factsOf}
 use Rattle.sheet.specs.Rules.{constraintFault, sheetFault}
 use Rattle.sheet.specs.Graph.{verdictOf}
-use Rattle.answer.specs.Answer.{asVerdict, verdictNumber}
+use Rattle.theory.specs.Verdict.{verdictNumber}
 use Rattle.judge.specs.declared.Judged.{Judged}
 use Rattle.judge.specs.Listing.Blocks.{Blocks, passed-blocks}
 use Rattle.judge.specs.Judged.{judgedOf}
@@ -99,7 +99,7 @@ module _ (c : tie.After-judge) where
   abbrev more : Facts
   more = extended (factsOf (sketch taking)) (start (taking .before .before) .args .c)
 
-  verdict-is : c .judge .result .verdict ≡ asVerdict (verdictOf more)
+  verdict-is : c .judge .result .verdict ≡ verdictOf more
   verdict-is =
       let o = taking .before .before in
       let s = start o .args .s in
@@ -119,7 +119,7 @@ returns-3 c =
     let j = c .before .before .before in
     let o = taking j in
     let a = start (o .before .before) .args in
-    let e : verdictNumber (asVerdict (verdictOf (more j))) ≡ 0 = sym (c .before .before .number .ensures ∙ ap verdictNumber (verdict-is j)) ∙ c .before .if3 .taken in
+    let e : verdictNumber (verdictOf (more j)) ≡ 0 = sym (c .before .before .number .ensures ∙ ap verdictNumber (verdict-is j)) ∙ c .before .if3 .taken in
     refusal (c .refused3 .result) (a .s) (a .c) 11 (c .refused3 .ensures) (λ z. omega arith)
     (add-last (a .s) (a .c) (held (o .before .before)) (none o) ∙ numbered-over (more j) e)
 
@@ -128,7 +128,7 @@ returns-4 c =
     let j = c .before .before in
     let o = taking j in
     let a = start (o .before .before) .args in
-    let n : verdictNumber (asVerdict (verdictOf (more j))) ≡ 0 → ⊥ = λ e. c .if3 .left (c .before .number .ensures ∙ ap verdictNumber (verdict-is j) ∙ e) in
+    let n : verdictNumber (verdictOf (more j)) ≡ 0 → ⊥ = λ e. c .if3 .left (c .before .number .ensures ∙ ap verdictNumber (verdict-is j) ∙ e) in
     let t = taken-added (a .s) (a .c) (add-last (a .s) (a .c) (held (o .before .before)) (none o) ∙ numbered-other (more j) n) in
     both (ap Is (verdict-is j) ∙ t .0) (j .before .store .ensures ∙ t .1)
 

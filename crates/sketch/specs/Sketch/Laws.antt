@@ -10,9 +10,8 @@ use borrow.Author.Tests.{le-leb}
 use lib.ListN.{length, take, set, length-append}
 use lib.Seq.{take-suc-set}
 use Rattle.theory.specs.Constraints.{Pairs, Below}
-use Rattle.theory.specs.Over.{Finding, fine, first, overOf}
+use Rattle.theory.specs.Over.{overOf}
 use Rattle.theory.specs.Over.Laws.{overOf-fine}
-use Rattle.theory.specs.Verdict as verdicts
 use Rattle.theory.specs.Verdict.Laws.{fine-verdict, verdict-fine}
 use Rattle.sheet.specs.declared.Element.{Element}
 use Rattle.sheet.specs.declared.Constraint.{Constraint}
@@ -23,8 +22,11 @@ use Rattle.sheet.specs.Rules.Laws.{or-else-some}
 use Rattle.sheet.specs.Accepted.Laws.{none-else}
 use Rattle.sheet.specs.RoundTrip.Blocks.{sheetFault-none}
 use Rattle.sheet.specs.Graph.{clustersOf, verdictOf}
-use Rattle.answer.specs.declared.Verdict.the-variants.{Over}
-use Rattle.answer.specs.Answer.{asVerdict, verdictNumber}
+use Rattle.theory.specs.Verdict.{verdictNumber}
+use Rattle.theory.specs.declared.Finding.{Finding}
+use Rattle.theory.specs.declared.Finding.the-variants.{Fine, First}
+use Rattle.theory.specs.declared.Verdict.{Verdict}
+use Rattle.theory.specs.declared.Verdict.the-variants.{Over, Angle, Well, Stuck, Under}
 use Rattle.judge.specs.Listing.Laws.{clusters-pairs, clusters-below}
 use Rattle.judge.specs.Listing.Blocks.{Blocks}
 use Rattle.judge.specs.Judged.{judgedBy, judgedOf}
@@ -35,38 +37,31 @@ use Rattle.sketch.specs.Sketch.{notOver, overFault, holdFault, extended,
 
 -- ---- the verdict over by its name
 
-pub named-over : (v : verdicts.Verdict) → asVerdict v ≡ Over → v ≡ verdicts.over
-named-over verdicts.over e = refl
-named-over verdicts.angle e = absurd (let z : _≡_ {A = ℕ} 0 1 = cc in omega arith)
-named-over verdicts.well e = absurd (let z : _≡_ {A = ℕ} 0 1 = cc in omega arith)
-named-over verdicts.stuck e = absurd (let z : _≡_ {A = ℕ} 0 1 = cc in omega arith)
-named-over verdicts.under e = absurd (let z : _≡_ {A = ℕ} 0 1 = cc in omega arith)
-
-not-named : (v : verdicts.Verdict) → v ≢ verdicts.over → notOver v ≡ true
-not-named verdicts.over n = absurd (n refl)
-not-named verdicts.angle n = refl
-not-named verdicts.well n = refl
-not-named verdicts.stuck n = refl
-not-named verdicts.under n = refl
+not-named : (v : Verdict) → v ≢ Over → notOver v ≡ true
+not-named Over n = absurd (n refl)
+not-named Angle n = refl
+not-named Well n = refl
+not-named Stuck n = refl
+not-named Under n = refl
 
 -- 11 or 0 by the verdict's number
-pub numbered-over : (f : Facts) → verdictNumber (asVerdict (verdictOf f)) ≡ 0 → overFault f ≡ 11
+pub numbered-over : (f : Facts) → verdictNumber (verdictOf f) ≡ 0 → overFault f ≡ 11
 unfolding overFault
 numbered-over f e = go (verdictOf f) e
   where
-    go : (v : verdicts.Verdict) → verdictNumber (asVerdict v) ≡ 0 → _≡_ {A = ℕ} (pick (notOver v) 0 11) 11
-    go verdicts.over e = refl
-    go verdicts.angle e = absurd (omega arith)
-    go verdicts.well e = absurd (omega arith)
-    go verdicts.stuck e = absurd (omega arith)
-    go verdicts.under e = absurd (omega arith)
+    go : (v : Verdict) → verdictNumber v ≡ 0 → _≡_ {A = ℕ} (pick (notOver v) 0 11) 11
+    go Over e = refl
+    go Angle e = absurd (omega arith)
+    go Well e = absurd (omega arith)
+    go Stuck e = absurd (omega arith)
+    go Under e = absurd (omega arith)
 
-pub numbered-other : (f : Facts) → (verdictNumber (asVerdict (verdictOf f)) ≡ 0 → ⊥) → overFault f ≡ 0
+pub numbered-other : (f : Facts) → (verdictNumber (verdictOf f) ≡ 0 → ⊥) → overFault f ≡ 0
 unfolding overFault
-numbered-other f n = rw (not-named (verdictOf f) (λ e. n (ap (λ (v : verdicts.Verdict). verdictNumber (asVerdict v)) e)))
+numbered-other f n = rw (not-named (verdictOf f) (λ e. n (ap verdictNumber e)))
 
 -- none of 11 says that the verdict isn't over
-pub fault-not-over : (f : Facts) → overFault f ≡ 0 → verdictOf f ≢ verdicts.over
+pub fault-not-over : (f : Facts) → overFault f ≡ 0 → verdictOf f ≢ Over
 unfolding overFault
 fault-not-over f e o = absurd (let k : _≡_ {A = ℕ} 11 0 = rw o at e in omega arith)
 
@@ -93,20 +88,20 @@ module _ (f : Facts) (h : Sound f) where
   below : Below (length (f .elements)) (clustersOf f)
   below = clusters-below f (h .elements) (h .constraints) (h .none)
 
-  pub judged-verdict : judgedOf f .verdict ≡ asVerdict (verdictOf f)
+  pub judged-verdict : judgedOf f .verdict ≡ verdictOf f
   judged-verdict = judged-held f paired below (few f (h .elements) (h .two) (h .constraints) (h .none)) .verdict-is
 
   -- what the search for an over set finds decides
-  pub none-found : overOf (length (f .elements)) (clustersOf f) ≡ fine → overFault f ≡ 0
+  pub none-found : overOf (length (f .elements)) (clustersOf f) ≡ Fine → overFault f ≡ 0
   unfolding overFault verdictOf
   none-found e =
       rw (not-named (verdictOf f) (fine-verdict (linesOf (f .elements)) (length (f .elements)) (clustersOf f) (overOf-fine (length (f .elements)) (clustersOf f) paired below e)))
 
-  pub first-found : (c x : ℕ) → overOf (length (f .elements)) (clustersOf f) ≡ first c x → overFault f ≡ 11
+  pub first-found : (c x : ℕ) → overOf (length (f .elements)) (clustersOf f) ≡ First c x → overFault f ≡ 11
   unfolding overFault judgedOf
   first-found c x e =
-      let v : asVerdict (verdictOf f) ≡ Over = sym judged-verdict ∙ ap (λ (o : Finding). judgedBy f o .verdict) e in
-      rw (named-over (verdictOf f) v)
+      let v : verdictOf f ≡ Over = sym judged-verdict ∙ ap (λ (o : Finding). judgedBy f o .verdict) e in
+      rw v
 
   -- facts that are not over have few constraints
   pub few-held : overFault f ≡ 0 → length (f .constraints) ≤ 125
@@ -188,6 +183,6 @@ module _ (s : Sheet) (c : Constraint) where
   refused-added zero n e = absurd (n refl)
   refused-added (suc k) n e = rw e (refl, refl)
 
-  pub taken-added : addFault s c ≡ 0 → (Is (asVerdict (verdictOf (extended (factsOf s) c))) ≡ addAnswer s c) × (stored s c ≡ addAfter s c)
+  pub taken-added : addFault s c ≡ 0 → (Is (verdictOf (extended (factsOf s) c)) ≡ addAnswer s c) × (stored s c ≡ addAfter s c)
   unfolding addAnswer addAfter
   taken-added e = rw e (refl, refl)

@@ -20,7 +20,9 @@ use Rattle.theory.specs.Plan.{planOf}
 use Rattle.theory.specs.Plan.Laws.{plan-of-maximal}
 use Rattle.theory.specs.Over.{IsOver, isOver}
 use Rattle.theory.specs.Over.Laws.{fine-most, isOver-over, isOver-fine, fine-isOver, over-isOver}
-use Rattle.theory.specs.Verdict.{Verdict, over, angle, well, stuck, under, allLines, angled, judged, Angle, Meets, meets-angle, meets-well, meets-stuck, meets-under, listVerdict, verdict}
+use Rattle.theory.specs.Verdict.{allLines, angled, judged, Angled, Meets, meets-angle, meets-well, meets-stuck, meets-under, listVerdict, verdict}
+use Rattle.theory.specs.declared.Verdict.{Verdict}
+use Rattle.theory.specs.declared.Verdict.the-variants.{Over, Angle, Well, Stuck, Under}
 
 -- ---- what the names say
 
@@ -48,21 +50,21 @@ some-angled lines (j ∷ js) x (inr i) t = go (allLines lines j) (some-angled li
     go false t = t
 
 -- some joint is three lines
-pub angled-is : (lines : ℕ) (js : List ℕ) → T (angled lines js) → Angle lines js
+pub angled-is : (lines : ℕ) (js : List ℕ) → T (angled lines js) → Angled lines js
 angled-is lines js t = let r = angled-some lines js t in (r .0, r .1, and-sub (r .0) lines (eqb→eq (r .0 ∩ lines) (r .0) (r .2)))
 
-pub is-angled : (lines : ℕ) (js : List ℕ) → Angle lines js → T (angled lines js)
+pub is-angled : (lines : ℕ) (js : List ℕ) → Angled lines js → T (angled lines js)
 is-angled lines js (j, i, h) = some-angled lines js j i (eq-test (j ∩ lines) j (sub-and j lines h))
 
 pub judged-meets : (lines n e : ℕ) (js : List ℕ) (l : ℕ) → Meets lines n e js l (judged lines n e js l)
 unfolding judged
 judged-meets lines n e js l = go (angled lines js) (eqb (e + 3) (2 * n)) (eqb l 1) refl refl refl
   where
-    none : angled lines js ≡ false → Angle lines js → ⊥
+    none : angled lines js ≡ false → Angled lines js → ⊥
     none q h = subst T q (is-angled lines js h)
 
     go : (a b c : Bool) → angled lines js ≡ a → eqb (e + 3) (2 * n) ≡ b → eqb l 1 ≡ c
-        → Meets lines n e js l (elim a [ true ↦ angle | false ↦ elim b [ true ↦ elim c [ true ↦ well | false ↦ stuck ] | false ↦ under ] ])
+        → Meets lines n e js l (elim a [ true ↦ Angle | false ↦ elim b [ true ↦ elim c [ true ↦ Well | false ↦ Stuck ] | false ↦ Under ] ])
     go true b c p q r = meets-angle (angled-is lines js (subst T (sym p) tt))
     go false true true p q r = meets-well (none p) (eqb→eq (e + 3) (2 * n) (subst T (sym q) tt)) (eqb→eq l 1 (subst T (sym r) tt))
     go false true false p q r = meets-stuck (none p) (eqb→eq (e + 3) (2 * n) (subst T (sym q) tt)) (false-ne l 1 r)
@@ -87,7 +89,7 @@ angled-same lines js ks h =
 judged-same : (lines n e : ℕ) (js ks : List ℕ) (l : ℕ) → angled lines js ≡ angled lines ks → judged lines n e js l ≡ judged lines n e ks l
 unfolding judged
 judged-same lines n e js ks l h =
-    ap (λ (a : Bool). elim a [ true ↦ angle | false ↦ elim (eqb (e + 3) (2 * n)) [ true ↦ elim (eqb l 1) [ true ↦ well | false ↦ stuck ] | false ↦ under ] ]) h
+    ap (λ (a : Bool). elim a [ true ↦ Angle | false ↦ elim (eqb (e + 3) (2 * n)) [ true ↦ elim (eqb l 1) [ true ↦ Well | false ↦ Stuck ] | false ↦ Under ] ]) h
 
 pub same-verdict : (lines n : ℕ) (cs : List ℕ) → Pairs cs → NotOver cs → (ds : List ℕ) → Perm cs ds → (p q : List Merge)
     → Maximal cs p → Maximal ds q → listVerdict lines n cs p ≡ listVerdict lines n ds q
@@ -99,10 +101,10 @@ same-verdict lines n cs pairs fine ds r p q v w =
 
 -- ---- the verdict of a sheet
 
-not-over : (lines n e : ℕ) (js : List ℕ) (l : ℕ) → judged lines n e js l ≡ over → ⊥
+not-over : (lines n e : ℕ) (js : List ℕ) (l : ℕ) → judged lines n e js l ≡ Over → ⊥
 not-over lines n e js l q = go (judged lines n e js l) (judged-meets lines n e js l) q
   where
-    go : (v : Verdict) → Meets lines n e js l v → v ≡ over → ⊥
+    go : (v : Verdict) → Meets lines n e js l v → v ≡ Over → ⊥
     go v (meets-angle h) r = let z : _≡_ {A = ℕ} 0 1 = cc in omega arith
     go v (meets-well a b c) r = let z : _≡_ {A = ℕ} 0 1 = cc in omega arith
     go v (meets-stuck a b c) r = let z : _≡_ {A = ℕ} 0 1 = cc in omega arith
@@ -110,32 +112,32 @@ not-over lines n e js l q = go (judged lines n e js l) (judged-meets lines n e j
 
 module _ (lines n : ℕ) (cs : List ℕ) where
   -- over where the test says so, else that of the engine's plan
-  pub verdict-is-over : isOver n cs ≡ true → verdict lines n cs ≡ over
+  pub verdict-is-over : isOver n cs ≡ true → verdict lines n cs ≡ Over
   unfolding verdict
-  verdict-is-over e = ap (λ (b : Bool). elim b [ true ↦ over | false ↦ listVerdict lines n cs (planOf cs) ]) e
+  verdict-is-over e = ap (λ (b : Bool). elim b [ true ↦ Over | false ↦ listVerdict lines n cs (planOf cs) ]) e
 
   pub verdict-is-planned : isOver n cs ≡ false → verdict lines n cs ≡ listVerdict lines n cs (planOf cs)
   unfolding verdict
-  verdict-is-planned e = ap (λ (b : Bool). elim b [ true ↦ over | false ↦ listVerdict lines n cs (planOf cs) ]) e
+  verdict-is-planned e = ap (λ (b : Bool). elim b [ true ↦ Over | false ↦ listVerdict lines n cs (planOf cs) ]) e
 
   -- over if and only if some set carries too much
-  pub fine-verdict : NotOver cs → verdict lines n cs ≢ over
+  pub fine-verdict : NotOver cs → verdict lines n cs ≢ Over
   unfolding listVerdict
   fine-verdict f e =
       not-over lines n (length cs) (joints cs (planOf cs)) (left (final cs (planOf cs))) (sym (verdict-is-planned (fine-isOver n cs f)) ∙ e)
 
   module _ (pairs : Pairs cs) (below : Below n cs) where
-    pub over-verdict : IsOver cs → verdict lines n cs ≡ over
+    pub over-verdict : IsOver cs → verdict lines n cs ≡ Over
     over-verdict o = verdict-is-over (over-isOver n cs pairs below o)
 
-    pub verdict-fine : verdict lines n cs ≢ over → NotOver cs
+    pub verdict-fine : verdict lines n cs ≢ Over → NotOver cs
     verdict-fine ne = go (isOver n cs) refl
       where
         go : (b : Bool) → isOver n cs ≡ b → NotOver cs
         go true e = absurd (ne (verdict-is-over e))
         go false e = isOver-fine n cs pairs below e
 
-    pub verdict-over : verdict lines n cs ≡ over → IsOver cs
+    pub verdict-over : verdict lines n cs ≡ Over → IsOver cs
     verdict-over e = go (isOver n cs) refl
       where
         go : (b : Bool) → isOver n cs ≡ b → IsOver cs

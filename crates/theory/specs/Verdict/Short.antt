@@ -15,11 +15,12 @@ use Rattle.theory.specs.Merge.{Merge, three, joint, put, final, joints, 
 use Rattle.theory.specs.Merge.Threes.{size-joint}
 use Rattle.theory.specs.Plan.{planOf}
 use Rattle.theory.specs.Over.Laws.{more-over, fine-isOver}
-use Rattle.theory.specs.Verdict.{over, angle, well, stuck, under, angled, judged, listVerdict, verdict}
+use Rattle.theory.specs.Verdict.{angled, judged, listVerdict, verdict}
 use Rattle.theory.specs.Verdict.Laws.{angled-is, over-verdict, verdict-is-planned}
+use Rattle.theory.specs.declared.Verdict.the-variants.{Over, Angle, Well, Stuck, Under}
 
 -- more constraints than 2n-3
-pub verdict-more : (lines n : ℕ) (cs : List ℕ) → 2 ≤ n → Pairs cs → Below n cs → 2 * n < length cs + 3 → verdict lines n cs ≡ over
+pub verdict-more : (lines n : ℕ) (cs : List ℕ) → 2 ≤ n → Pairs cs → Below n cs → 2 * n < length cs + 3 → verdict lines n cs ≡ Over
 verdict-more lines n cs two pairs below more = over-verdict lines n cs pairs below (more-over n cs two below more)
 
 -- every joint has three elements
@@ -40,27 +41,27 @@ not-angled lines few s p v = go (angled lines (joints s p)) refl
     go false e = e
 
 -- some joint of the plan is three lines
-pub verdict-angle : (lines n : ℕ) (cs : List ℕ) → NotOver cs → angled lines (joints cs (planOf cs)) ≡ true → verdict lines n cs ≡ angle
+pub verdict-angle : (lines n : ℕ) (cs : List ℕ) → NotOver cs → angled lines (joints cs (planOf cs)) ≡ true → verdict lines n cs ≡ Angle
 unfolding listVerdict judged
 verdict-angle lines n cs fine e =
     let l = eqb (left (final cs (planOf cs))) 1 in
     verdict-is-planned lines n cs (fine-isOver n cs fine)
-    ∙ ap (λ (a : Bool). elim a [ true ↦ angle | false ↦ elim (eqb (length cs + 3) (2 * n)) [ true ↦ elim l [ true ↦ well | false ↦ stuck ] | false ↦ under ] ]) e
+    ∙ ap (λ (a : Bool). elim a [ true ↦ Angle | false ↦ elim (eqb (length cs + 3) (2 * n)) [ true ↦ elim l [ true ↦ Well | false ↦ Stuck ] | false ↦ Under ] ]) e
 
 -- none is
 module _ (lines n : ℕ) (cs : List ℕ) (fine : NotOver cs) (none : angled lines (joints cs (planOf cs)) ≡ false) where
   -- what the count of constraints and of clusters left decides
   counted : (b : Bool) → eqb (length cs + 3) (2 * n) ≡ b
-      → verdict lines n cs ≡ elim b [ true ↦ elim (eqb (left (final cs (planOf cs))) 1) [ true ↦ well | false ↦ stuck ] | false ↦ under ]
+      → verdict lines n cs ≡ elim b [ true ↦ elim (eqb (left (final cs (planOf cs))) 1) [ true ↦ Well | false ↦ Stuck ] | false ↦ Under ]
   unfolding listVerdict judged
   counted b e =
       let l = eqb (left (final cs (planOf cs))) 1 in
       verdict-is-planned lines n cs (fine-isOver n cs fine)
-      ∙ ap (λ (a : Bool). elim a [ true ↦ angle | false ↦ elim (eqb (length cs + 3) (2 * n)) [ true ↦ elim l [ true ↦ well | false ↦ stuck ] | false ↦ under ] ]) none
-      ∙ ap (λ (a : Bool). elim a [ true ↦ elim l [ true ↦ well | false ↦ stuck ] | false ↦ under ]) e
+      ∙ ap (λ (a : Bool). elim a [ true ↦ Angle | false ↦ elim (eqb (length cs + 3) (2 * n)) [ true ↦ elim l [ true ↦ Well | false ↦ Stuck ] | false ↦ Under ] ]) none
+      ∙ ap (λ (a : Bool). elim a [ true ↦ elim l [ true ↦ Well | false ↦ Stuck ] | false ↦ Under ]) e
 
   -- fewer constraints than 2n-3
-  pub verdict-fewer : length cs + 3 ≢ 2 * n → verdict lines n cs ≡ under
+  pub verdict-fewer : length cs + 3 ≢ 2 * n → verdict lines n cs ≡ Under
   verdict-fewer ne = counted false (go (eqb (length cs + 3) (2 * n)) refl)
     where
       go : (b : Bool) → eqb (length cs + 3) (2 * n) ≡ b → eqb (length cs + 3) (2 * n) ≡ false
@@ -68,9 +69,9 @@ module _ (lines n : ℕ) (cs : List ℕ) (fine : NotOver cs) (none : angled line
       go false e = e
 
   -- 2n-3 constraints, and one cluster is left
-  pub verdict-one : length cs + 3 ≡ 2 * n → left (final cs (planOf cs)) ≡ 1 → verdict lines n cs ≡ well
+  pub verdict-one : length cs + 3 ≡ 2 * n → left (final cs (planOf cs)) ≡ 1 → verdict lines n cs ≡ Well
   verdict-one full one =
-      counted true (holds (length cs + 3) (2 * n) full) ∙ ap (λ (l : Bool). elim l [ true ↦ well | false ↦ stuck ]) (holds (left (final cs (planOf cs))) 1 one)
+      counted true (holds (length cs + 3) (2 * n) full) ∙ ap (λ (l : Bool). elim l [ true ↦ Well | false ↦ Stuck ]) (holds (left (final cs (planOf cs))) 1 one)
     where
       holds : (x y : ℕ) → x ≡ y → eqb x y ≡ true
       holds x y e = go (eqb x y) (eq-test x y e)
