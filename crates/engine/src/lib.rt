@@ -1,23 +1,24 @@
-// The engine: the verdict of a list of merges, and its steps with their kinds and placements. Contracts cite theory's definitions in the terms of
-// `answer`, and this crate's specs.
+// The engine: the verdict of a list of merges, and its steps with their kinds and placements. Contracts cite theory's definitions and this crate's
+// specs.
 ghost use mathlib.Core.Path.{_≡_};
-ghost use Prim.Native.Nat.{_+_, _-_, _*_, _≤_, _<_};
+ghost use mathlib.Core.List.{List};
+ghost use Prim.Native.Nat.{ℕ, _+_, _*_, _≤_, _<_};
 ghost use lib.ListN.{length, take, replicate};
 ghost use lib.IntN.{natAbs, _-ℤ_};
 ghost use Rattle.theory.specs.Verdict.{angled as someLines, judged};
 ghost use Rattle.theory.specs.Placement.{jointKind, against as comparison, triangle as triangleWays, stripOf, placed};
-ghost use Rattle.theory.specs.Merge.{merge as numbers};
+ghost use Rattle.theory.specs.Merge.{left, merge as numbers};
 ghost use Rattle.engine.specs.Steps.{waysBy, stepAt, blankStep, Stepped};
 ghost use Rattle.space.specs.Space.{answer, after};
 ghost use Rattle.engine.specs.Lists.{livingOf};
-use theory::JointKind;
-use theory::Step;
-use theory::Verdict;
-use theory::Ways;
 use merges::Run;
 use space::Written;
 use space::put_number16;
 use space::put_number64;
+use theory::JointKind;
+use theory::Step;
+use theory::Verdict;
+use theory::Ways;
 
 // Is some joint three lines?
 pub fn angled(joints: &[u64; 64], steps: usize, lines: u64) -> bool
@@ -35,10 +36,10 @@ pub fn angled(joints: &[u64; 64], steps: usize, lines: u64) -> bool
     false
 }
 
-// The verdict of a list of merges, after "over": e constraints less two a step are the clusters left.
+// The verdict of a list of merges, after "over", for its final clusters: e less two a step are left.
 pub fn settle(joints: &[u64; 64], steps: usize, n: usize, e: usize, lines: u64) -> Verdict
     requires { ⌜ (steps ≤ 64) × (2 * steps ≤ e) × (n ≤ 64) × (e ≤ 200) × (length (now joints) ≡ 64) ⌝ }
-    ensures { λ r. ⌜ r ≡ judged lines n e (take steps (now (joints .entry))) (e - 2 * steps) ⌝ }
+    ensures { λ r. ⌜ ((finals : List ℕ) → left finals + 2 * steps ≡ e → r ≡ judged lines n e (take steps (now (joints .entry))) finals) ⌝ }
 {
     if angled(joints, steps, lines) {
         return Verdict::Angle;

@@ -13,7 +13,7 @@ ghost use Rattle.judge.specs.Judged.{planNumbers, finalClusters};
 ghost use Rattle.account.specs.Account.{reportOf};
 ghost use Rattle.pattern.specs.Plans.{checkAnswer, checkAfter};
 ghost use Rattle.pattern.specs.Judgements.{judgementOf};
-ghost use Rattle.pattern.specs.Sheets.{rewriteAnswer, rewriteAfter, itemsAnswer, itemsAfter, overOfFacts};
+ghost use Rattle.pattern.specs.Sheets.{rewriteAnswer, rewriteAfter, itemsAnswer, itemsAfter, overNumbers};
 use reader::ConstraintRead;
 use reader::Cursor;
 use reader::Outcome;
@@ -66,7 +66,7 @@ fn put_two(a: u64, b: u64, out: &mut [u64]) -> Written
 
 // Whether a sheet is over: the first constraint that makes it so and the smallest set, or no item where it is not over.
 pub fn over(bytes: &[u8], out: &mut [u64]) -> Written
-    ensures { λ r. ⌜ (r ≡ itemsAnswer overOfFacts (now (bytes .entry)) (now (out .entry))) × (now (out .exit) ≡ itemsAfter overOfFacts (now (bytes .entry)) (now (out .entry))) ⌝ }
+    ensures { λ r. ⌜ (r ≡ itemsAnswer overNumbers (now (bytes .entry)) (now (out .entry))) × (now (out .exit) ≡ itemsAfter overNumbers (now (bytes .entry)) (now (out .entry))) ⌝ }
 {
     let reading = reader::read_sheet(bytes);
     let outcome = reading.outcome;

@@ -5,7 +5,8 @@ ghost use Prim.Native.Nat.{_<_};
 ghost use Rattle.sheet.specs.Facts.{factsOf};
 ghost use Rattle.sheet.specs.Rules.{constraintFault, sheetFault};
 ghost use Rattle.sheet.specs.Noted.{Noted};
-ghost use Rattle.sketch.specs.Sketch.{overFault, holdFault, stored, addedOf};
+ghost use Rattle.sheet.specs.Graph.{graphOf, overFault};
+ghost use Rattle.sketch.specs.Sketch.{holdFault, stored, addedOf};
 use sheet::Constraint;
 use sheet::Sheet;
 use theory::Finding;
@@ -26,7 +27,7 @@ pub struct Added {
 // Rule 11: 11 of an over sheet, else 0.
 pub fn over_fault(s: Sheet) -> u8
     requires { ⌜ sheetFault s ≡ 0 ⌝ }
-    ensures { λ r. ⌜ r ≡ overFault (factsOf s) ⌝ }
+    ensures { λ r. ⌜ r ≡ overFault (graphOf (factsOf s)) ⌝ }
 {
     let found = judge::over_of(s);
     match found {

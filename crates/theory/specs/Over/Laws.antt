@@ -366,14 +366,6 @@ module _ (n : ℕ) (cs : List ℕ) (pairs : Pairs cs) (below : Below n cs) where
 pub overOf-same : (n m : ℕ) (cs : List ℕ) → Pairs cs → Below n cs → Below m cs → overOf n cs ≡ overOf m cs
 overOf-same n m cs pairs bn bm = finds-overOf m cs pairs bm (overOf n cs) (overOf-finds n cs pairs bn)
 
--- every list is over or not
-pub over-or-fine : (n : ℕ) (cs : List ℕ) → Pairs cs → Below n cs → IsOver cs ⊎ NotOver cs
-over-or-fine n cs pairs below = go (isOver n cs) refl
-  where
-    go : (b : Bool) → isOver n cs ≡ b → IsOver cs ⊎ NotOver cs
-    go true e = inl (isOver-over n cs e)
-    go false e = inr (isOver-fine n cs pairs below e)
-
 -- what is found says whether the list is over
 pub fine-overOf : (n : ℕ) (cs : List ℕ) → Pairs cs → Below n cs → NotOver cs → overOf n cs ≡ Fine
 fine-overOf n cs pairs below f = sym (finds-overOf n cs pairs below Fine f)
@@ -383,3 +375,8 @@ overOf-fine n cs pairs below e = subst (Finds cs) e (overOf-finds n cs pairs bel
 
 pub overOf-first : (n : ℕ) (cs : List ℕ) → Pairs cs → Below n cs → (c x : ℕ) → overOf n cs ≡ First c x → FirstOver cs c x
 overOf-first n cs pairs below c x e = subst (Finds cs) e (overOf-finds n cs pairs below)
+
+pub overOf-over : (n : ℕ) (cs : List ℕ) → Pairs cs → Below n cs → (c x : ℕ) → overOf n cs ≡ First c x → IsOver cs
+overOf-over n cs pairs below c x e =
+    let h = overOf-first n cs pairs below c x e in
+    subst IsOver (take-length cs) (over-longer cs (suc c) (length cs) (h .listed) (h .over))
