@@ -8,12 +8,10 @@ use mathlib.Core.List.{List, map}
 use lib.ListN.{length}
 use Rattle.theory.specs.Merge.{Merge, Maximal, final, joints}
 use Rattle.theory.specs.Plan.{planOf}
-use Rattle.theory.specs.Verdict.{over, listVerdict}
+use Rattle.theory.specs.Graph.{Graph, listVerdict, verdictOf, stepsOf}
 use Rattle.theory.specs.Demand.{Agree}
-use Rattle.sheet.specs.Facts.{Facts, linesOf}
-use Rattle.sheet.specs.Graph.{clustersOf, sizesOf, verdictOf}
-use Rattle.answer.specs.declared.Step.{Step}
-use Rattle.answer.specs.Answer.{stepsOf}
+use Rattle.theory.specs.declared.Verdict.the-variants.{Over}
+use Rattle.theory.specs.declared.Step.{Step}
 use Rattle.merges.specs.Held.{flat}
 use Rattle.engine.specs.Lists.{livingOf}
 use Rattle.judge.specs.Judged.{planNumbers, finalClusters}
@@ -22,33 +20,29 @@ use Rattle.plans.specs.Rule14.{Never14}
 use Rattle.account.specs.Account.{listReport, reportOf, savedFault}
 pub mod Proof
 
--- the steps in the report of a list of merges
-abbrev pub stepsIn : Facts → List Merge → List Step
-stepsIn f p = stepsOf (linesOf (f .elements)) (length (f .constraints)) (sizesOf f) (clustersOf f) p
-
 -- the report of a list of merges has the list's own joints and number of steps
-pub record ReportsOwn (f : Facts) (p : List Merge) : Type 0 where
-  pub knots : map (λ (s : Step). s .joint) (stepsIn f p) ≡ joints (clustersOf f) p
-  pub steps : length (stepsIn f p) ≡ length p
+pub record ReportsOwn (g : Graph) (p : List Merge) : Type 0 where
+  pub knots : map (λ (s : Step). s .joint) (stepsOf g p) ≡ joints (g .clusters) p
+  pub steps : length (stepsOf g p) ≡ length p
 
 -- one maximal list of merges stands behind all that the engine answers of a sheet
-pub record EngineList (f : Facts) : Type 0 where
+pub record EngineList (g : Graph) : Type 0 where
   pub p : List Merge
-  pub maximal : Maximal (clustersOf f) p
-  pub plan : planNumbers f ≡ flat p
-  pub clusters : finalClusters f ≡ livingOf (final (clustersOf f) p)
-  pub verdict : verdictOf f ≡ listVerdict (linesOf (f .elements)) (length (f .elements)) (clustersOf f) p
-  pub report : reportOf f ≡ listReport f p
-  pub own : ReportsOwn f p
+  pub maximal : Maximal (g .clusters) p
+  pub plan : planNumbers g ≡ flat p
+  pub clusters : finalClusters g ≡ livingOf (final (g .clusters) p)
+  pub verdict : verdictOf g ≡ listVerdict g p
+  pub report : reportOf g ≡ listReport g p
+  pub own : ReportsOwn g p
 
 -- a saved plan is accepted if and only if it is a maximal list of merges of a sheet that is not over; it then comes to the same as the engine's
-pub record SavedList (f : Facts) (l : List ℕ) : Type 0 where
-  pub accepted : (savedFault f l ≡ 0) ↔ ((verdictOf f ≢ over) × (length l % 3 ≡ 0) × Maximal (clustersOf f) (savedSteps l))
-  pub same : savedFault f l ≡ 0 → Agree (linesOf (f .elements)) (length (f .elements)) (clustersOf f) (clustersOf f) (planOf (clustersOf f)) (savedSteps l)
-  pub own : savedFault f l ≡ 0 → ReportsOwn f (savedSteps l)
+pub record SavedList (g : Graph) (l : List ℕ) : Type 0 where
+  pub accepted : (savedFault g l ≡ 0) ↔ ((verdictOf g ≢ Over) × (length l % 3 ≡ 0) × Maximal (g .clusters) (savedSteps l))
+  pub same : savedFault g l ≡ 0 → Agree g g (planOf (g .clusters)) (savedSteps l)
+  pub own : savedFault g l ≡ 0 → ReportsOwn g (savedSteps l)
 
-pub record OwnLists (f : Facts) : Type 0 where
-  pub engine : verdictOf f ≢ over → EngineList f
-  pub saved : (l : List ℕ) → SavedList f l
+pub record OwnLists (g : Graph) : Type 0 where
+  pub engine : verdictOf g ≢ Over → EngineList g
+  pub saved : (l : List ℕ) → SavedList g l
   -- request 2026-06: two living clusters never share two elements, and the plan check answers every list of numbers as it did with rule 14
-  pub rule-14 : verdictOf f ≢ over → Never14 (clustersOf f)
+  pub rule-14 : verdictOf g ≢ Over → Never14 (g .clusters)

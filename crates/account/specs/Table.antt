@@ -1,14 +1,14 @@
 -- Document 01, "Sheets to try": the sheets marked P, each with its facts and the whole report that it prints, and one theorem over the table.
 use Prim.Native.Nat.{ℕ}
-use mathlib.Core.Path.{_≡_, refl}
+use mathlib.Core.Path.{_≡_}
 use mathlib.Core.List.{List, [], _∷_, map}
-use lib.IntN.{ℤ, pos}
+use lib.IntN.{pos}
 use Rattle.space.specs.Text.{ascii}
-use Rattle.sheet.specs.declared.Size.{Size}
 use Rattle.sheet.specs.declared.Size.the-variants.{Given, Missing}
 use Rattle.sheet.specs.declared.Constraint.{Constraint}
 use Rattle.sheet.specs.Facts.{Facts, sheetOf, elementsOf}
 use Rattle.sheet.specs.Rules.{sheetFault}
+use Rattle.sheet.specs.Graph.{graphOf}
 use Rattle.account.specs.Account.{reportOf}
 pub mod Proof
 
@@ -75,4 +75,4 @@ table =
 -- no rule refuses any of them, and each prints its report
 pub record Printed : Type 0 where
   pub accepted : map (λ (r : Row). sheetFault (sheetOf (r .facts))) table ≡ map (λ (r : Row). 0) table
-  pub prints : map (λ (r : Row). reportOf (r .facts)) table ≡ map (λ (r : Row). r .prints) table
+  pub prints : map (λ (r : Row). reportOf (graphOf (r .facts))) table ≡ map (λ (r : Row). r .prints) table

@@ -1,13 +1,13 @@
 // The report of a sheet, from its facts: for the engine's plan, and for a saved plan that is accepted. Contracts cite specs/Account.antt.
 ghost use mathlib.Core.Path.{_≡_};
 ghost use mathlib.Core.List.{List};
-ghost use lib.ListN.{length};
 ghost use Rattle.theory.specs.Constraints.{NotOver};
-ghost use Rattle.theory.specs.Over.{fine, overOf};
 ghost use Rattle.theory.specs.Merge.{Merge, Valid};
+ghost use Rattle.theory.specs.declared.Finding.the-variants.{Fine};
+ghost use Rattle.theory.specs.Graph.{findingOf};
 ghost use Rattle.sheet.specs.Facts.{factsOf};
 ghost use Rattle.sheet.specs.Rules.{sheetFault};
-ghost use Rattle.sheet.specs.Graph.{clustersOf};
+ghost use Rattle.sheet.specs.Graph.{graphOf};
 ghost use Rattle.merges.specs.Run.{runOf};
 ghost use Rattle.space.specs.Space.{answer, after};
 ghost use Rattle.account.specs.Account.{Merged, listReport, reportOf, savedAnswer, savedAfter};
@@ -15,12 +15,12 @@ use merges::Run;
 use plans::Outcome;
 use sheet::Sheet;
 use space::Written;
-use sparsity::Over;
+use theory::Finding;
 
 // The report of a list of merges of the sheet's constraints, with its own verdict.
 fn put_list(s: Sheet, run: Run, out: &mut [u8]) -> Written
-    requires { ⌜ (sheetFault s ≡ 0) × NotOver (clustersOf (factsOf s)) × Merged (clustersOf (factsOf s)) run ⌝ }
-    ensures { λ r. ⌜ ((p : List Merge) → Valid (clustersOf (factsOf s)) p → run ≡ runOf (clustersOf (factsOf s)) p → (r ≡ answer (listReport (factsOf s) p) (now (out .entry))) × (now (out .exit) ≡ after (listReport (factsOf s) p) (now (out .entry)))) ⌝ }
+    requires { ⌜ (sheetFault s ≡ 0) × NotOver (graphOf (factsOf s) .clusters) × Merged (graphOf (factsOf s) .clusters) run ⌝ }
+    ensures { λ r. ⌜ ((p : List Merge) → Valid (graphOf (factsOf s) .clusters) p → run ≡ runOf (graphOf (factsOf s) .clusters) p → (r ≡ answer (listReport (graphOf (factsOf s)) p) (now (out .entry))) × (now (out .exit) ≡ after (listReport (graphOf (factsOf s)) p) (now (out .entry)))) ⌝ }
 {
     let n = s.n;
     let e = s.e;
@@ -40,7 +40,7 @@ fn put_list(s: Sheet, run: Run, out: &mut [u8]) -> Written
 // The report of a sheet: the engine's plan, or of an over sheet the first constraint and the smallest set.
 pub fn report(s: Sheet, out: &mut [u8]) -> Written
     requires { ⌜ sheetFault s ≡ 0 ⌝ }
-    ensures { λ r. ⌜ (r ≡ answer (reportOf (factsOf s)) (now (out .entry))) × (now (out .exit) ≡ after (reportOf (factsOf s)) (now (out .entry))) ⌝ }
+    ensures { λ r. ⌜ (r ≡ answer (reportOf (graphOf (factsOf s))) (now (out .entry))) × (now (out .exit) ≡ after (reportOf (graphOf (factsOf s))) (now (out .entry))) ⌝ }
 {
     let n = s.n;
     let e = s.e;
@@ -55,8 +55,8 @@ pub fn report(s: Sheet, out: &mut [u8]) -> Written
 
 // The check of a saved plan against a sheet that is not over, and the report for that plan.
 fn check_listed(s: Sheet, plan: &[u16], out: &mut [u8]) -> Written
-    requires { ⌜ (sheetFault s ≡ 0) × (overOf (length (factsOf s .elements)) (clustersOf (factsOf s)) ≡ fine) ⌝ }
-    ensures { λ r. ⌜ (r ≡ savedAnswer (factsOf s) (now (plan .entry)) (now (out .entry))) × (now (out .exit) ≡ savedAfter (factsOf s) (now (plan .entry)) (now (out .entry))) ⌝ }
+    requires { ⌜ (sheetFault s ≡ 0) × (findingOf (graphOf (factsOf s)) ≡ Fine) ⌝ }
+    ensures { λ r. ⌜ (r ≡ savedAnswer (graphOf (factsOf s)) (now (plan .entry)) (now (out .entry))) × (now (out .exit) ≡ savedAfter (graphOf (factsOf s)) (now (plan .entry)) (now (out .entry))) ⌝ }
 {
     let e = s.e;
     let cs = s.constraints;
@@ -73,10 +73,10 @@ fn check_listed(s: Sheet, plan: &[u16], out: &mut [u8]) -> Written
 // The check of a saved plan, and the report for it: 11, then 12 to 16, then 17.
 pub fn check_plan(s: Sheet, plan: &[u16], out: &mut [u8]) -> Written
     requires { ⌜ sheetFault s ≡ 0 ⌝ }
-    ensures { λ r. ⌜ (r ≡ savedAnswer (factsOf s) (now (plan .entry)) (now (out .entry))) × (now (out .exit) ≡ savedAfter (factsOf s) (now (plan .entry)) (now (out .entry))) ⌝ }
+    ensures { λ r. ⌜ (r ≡ savedAnswer (graphOf (factsOf s)) (now (plan .entry)) (now (out .entry))) × (now (out .exit) ≡ savedAfter (graphOf (factsOf s)) (now (plan .entry)) (now (out .entry))) ⌝ }
 {
     let found = judge::over_of(s);
-    let Over::Not = found else {
+    let Finding::Fine = found else {
         return Written::Refused(11);
     };
     check_listed(s, plan, out)

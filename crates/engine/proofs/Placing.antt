@@ -10,14 +10,12 @@ use borrow.Author.Tests.{eq-eqb, ne-eqb, lt-ltb, le-ltb}
 use lib.IntN.{ℤ, pos, natAbs, _-ℤ_}
 use Rattle.theory.specs.Set.{_∩_}
 use Rattle.theory.specs.Merge.{slot, merge}
-use Rattle.theory.specs.Placement as placement
 use Rattle.theory.specs.Placement.{against, triangle, strip, stripOf, placed}
-use Rattle.answer.specs.Answer.{asWays}
-use Rattle.answer.specs.declared.JointKind.{JointKind}
-use Rattle.answer.specs.declared.JointKind.the-variants.{Ppp, Ppl, Pll, Lll}
-use Rattle.answer.specs.declared.Ways.the-variants.{Known, Unknown}
+use Rattle.theory.specs.declared.JointKind.{JointKind}
+use Rattle.theory.specs.declared.JointKind.the-variants.{Ppp, Ppl, Pll, Lll}
+use Rattle.theory.specs.declared.Ways.the-variants.{Known, Unknown}
 use Rattle.merges.proofs.Branch.{yes-branch, no-branch}
-use Rattle.engine.specs.Steps.{kindOf, waysBy}
+use Rattle.engine.specs.Steps.{waysBy}
 
 -- the constraint of the two points is the first, the second or the third
 module _ (lines a b : ℕ) (x y z : ℤ) where
@@ -34,34 +32,34 @@ module _ (lines a b : ℕ) (x y z : ℤ) where
   points-third n m = no-branch (eqb (b ∩ lines) 0) _ _ (ne-eqb (b ∩ lines) 0 m) ∙ no-branch (eqb (a ∩ lines) 0) _ _ (ne-eqb (a ∩ lines) 0 n)
 
   -- by the kind
-  pub placed-ppp : (k : JointKind) → k ≡ Ppp → Known (triangle (natAbs x) (natAbs y) (natAbs z)) ≡ asWays (placed lines (kindOf k) a b x y z)
+  pub placed-ppp : (k : JointKind) → k ≡ Ppp → Known (triangle (natAbs x) (natAbs y) (natAbs z)) ≡ placed lines k a b x y z
   unfolding placed
-  placed-ppp k e = ap (λ (k : JointKind). asWays (placed lines (kindOf k) a b x y z)) (sym e)
+  placed-ppp k e = ap (λ (k : JointKind). placed lines k a b x y z) (sym e)
 
-  pub placed-ppl : (k : JointKind) → k ≡ Ppl → Known (stripOf lines a b x y z) ≡ asWays (placed lines (kindOf k) a b x y z)
+  pub placed-ppl : (k : JointKind) → k ≡ Ppl → Known (stripOf lines a b x y z) ≡ placed lines k a b x y z
   unfolding placed
-  placed-ppl k e = ap (λ (k : JointKind). asWays (placed lines (kindOf k) a b x y z)) (sym e)
+  placed-ppl k e = ap (λ (k : JointKind). placed lines k a b x y z) (sym e)
 
-  pub placed-pll : (k : JointKind) → k ≡ Pll → Known 1 ≡ asWays (placed lines (kindOf k) a b x y z)
+  pub placed-pll : (k : JointKind) → k ≡ Pll → Known 1 ≡ placed lines k a b x y z
   unfolding placed
-  placed-pll k e = ap (λ (k : JointKind). asWays (placed lines (kindOf k) a b x y z)) (sym e)
+  placed-pll k e = ap (λ (k : JointKind). placed lines k a b x y z) (sym e)
 
-  pub placed-lll : (k : JointKind) → k ≡ Lll → Unknown ≡ asWays (placed lines (kindOf k) a b x y z)
+  pub placed-lll : (k : JointKind) → k ≡ Lll → Unknown ≡ placed lines k a b x y z
   unfolding placed
-  placed-lll k e = ap (λ (k : JointKind). asWays (placed lines (kindOf k) a b x y z)) (sym e)
+  placed-lll k e = ap (λ (k : JointKind). placed lines k a b x y z) (sym e)
 
 -- known only if all three parts are initial clusters
-module _ (lines : ℕ) (kind : placement.JointKind) (e : ℕ) (sizes : List ℤ) (cs : List ℕ) (i j k : ℕ) where
-  pub ways-i : e ≤ i → placement.unknown ≡ waysBy lines kind e sizes cs (merge i j k)
+module _ (lines : ℕ) (kind : JointKind) (e : ℕ) (sizes : List ℤ) (cs : List ℕ) (i j k : ℕ) where
+  pub ways-i : e ≤ i → Unknown ≡ waysBy lines kind e sizes cs (merge i j k)
   unfolding waysBy
   ways-i h = no-branch (ltb i e && (ltb j e && ltb k e)) _ _ (ap (λ (t : Bool). t && (ltb j e && ltb k e)) (le-ltb i e h))
 
-  pub ways-j : i < e → e ≤ j → placement.unknown ≡ waysBy lines kind e sizes cs (merge i j k)
+  pub ways-j : i < e → e ≤ j → Unknown ≡ waysBy lines kind e sizes cs (merge i j k)
   unfolding waysBy
   ways-j l h =
       no-branch (ltb i e && (ltb j e && ltb k e)) _ _ (ap₂ (λ (s t : Bool). s && (t && ltb k e)) (lt-ltb i e l) (le-ltb j e h))
 
-  pub ways-k : i < e → j < e → e ≤ k → placement.unknown ≡ waysBy lines kind e sizes cs (merge i j k)
+  pub ways-k : i < e → j < e → e ≤ k → Unknown ≡ waysBy lines kind e sizes cs (merge i j k)
   unfolding waysBy
   ways-k l m h =
       no-branch (ltb i e && (ltb j e && ltb k e)) _ _ (λ t. lt-ltb i e l t && (lt-ltb j e m t && le-ltb k e h t))

@@ -7,29 +7,21 @@ use lib.Dec.{ltb}
 use lib.IntN.{ℤ, pos}
 use lib.ListN.{length, getD}
 use Rattle.theory.specs.Merge.{Merge, merge, slot}
-use Rattle.theory.specs.Placement as placement
 use Rattle.theory.specs.Placement.{placed, jointKind}
-use Rattle.answer.specs.Answer.{asKind, asWays}
-use Rattle.answer.specs.declared.JointKind.{JointKind}
-use Rattle.answer.specs.declared.JointKind.the-variants.{Ppp, Ppl, Pll, Lll}
-use Rattle.answer.specs.declared.Ways.the-variants.{Unknown}
-use Rattle.answer.specs.declared.Step.{Step}
+use Rattle.theory.specs.declared.JointKind.{JointKind}
+use Rattle.theory.specs.declared.JointKind.the-variants.{Ppp}
+use Rattle.theory.specs.declared.Ways.{Ways}
+use Rattle.theory.specs.declared.Ways.the-variants.{Unknown}
+use Rattle.theory.specs.declared.Step.{Step}
 use Rattle.merges.specs.declared.Run.{Run}
 pub mod Laws
 
--- theory's kind of a joint, by the code's
-abbrev pub kindOf : JointKind → placement.JointKind
-kindOf Ppp = placement.ppp
-kindOf Ppl = placement.ppl
-kindOf Pll = placement.pll
-kindOf Lll = placement.lll
-
 -- the placements of a step m of the given kind, from the initial clusters
-unfoldable pub waysBy : ℕ → placement.JointKind → ℕ → List ℤ → List ℕ → Merge → placement.Ways
+unfoldable pub waysBy : ℕ → JointKind → ℕ → List ℤ → List ℕ → Merge → Ways
 waysBy lines kind e sizes cs m =
     elim (ltb (m .i) e && (ltb (m .j) e && ltb (m .k) e)) [
       | true ↦ placed lines kind (slot cs (m .i)) (slot cs (m .j)) (getD sizes (m .i) (pos 0)) (getD sizes (m .j) (pos 0)) (getD sizes (m .k) (pos 0))
-      | false ↦ placement.unknown
+      | false ↦ Unknown
     ]
 
 -- step t, from the parts and joints of a list of merges; the first makes cluster `made`
@@ -40,8 +32,8 @@ stepFrom lines e sizes cs made parts joints t = record {
   j = getD parts (3 * t + 1) 0;
   k = getD parts (3 * t + 2) 0;
   joint = getD joints t 0;
-  kind = asKind (jointKind lines (getD joints t 0));
-  ways = asWays (waysBy lines (jointKind lines (getD joints t 0)) e sizes cs (merge (getD parts (3 * t) 0) (getD parts (3 * t + 1) 0) (getD parts (3 * t + 2) 0)));
+  kind = jointKind lines (getD joints t 0);
+  ways = waysBy lines (jointKind lines (getD joints t 0)) e sizes cs (merge (getD parts (3 * t) 0) (getD parts (3 * t + 1) 0) (getD parts (3 * t + 2) 0));
 }
 
 abbrev pub stepAt : ℕ → ℕ → List ℤ → List ℕ → List ℕ → List ℕ → ℕ → Step

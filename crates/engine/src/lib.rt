@@ -1,24 +1,24 @@
-// The engine: the verdict of a list of merges, and its steps with their kinds and placements. Contracts cite theory's definitions in the terms of
-// `answer`, and this crate's specs.
+// The engine: the verdict of a list of merges, and its steps with their kinds and placements. Contracts cite theory's definitions and this crate's
+// specs.
 ghost use mathlib.Core.Path.{_≡_};
-ghost use Prim.Native.Nat.{_+_, _-_, _*_, _≤_, _<_};
+ghost use mathlib.Core.List.{List};
+ghost use Prim.Native.Nat.{ℕ, _+_, _*_, _≤_, _<_};
 ghost use lib.ListN.{length, take, replicate};
 ghost use lib.IntN.{natAbs, _-ℤ_};
 ghost use Rattle.theory.specs.Verdict.{angled as someLines, judged};
 ghost use Rattle.theory.specs.Placement.{jointKind, against as comparison, triangle as triangleWays, stripOf, placed};
-ghost use Rattle.answer.specs.Answer.{asVerdict, asKind, asWays};
-ghost use Rattle.theory.specs.Merge.{merge as numbers};
-ghost use Rattle.engine.specs.Steps.{kindOf, waysBy, stepAt, blankStep, Stepped};
+ghost use Rattle.theory.specs.Merge.{left, merge as numbers};
+ghost use Rattle.engine.specs.Steps.{waysBy, stepAt, blankStep, Stepped};
 ghost use Rattle.space.specs.Space.{answer, after};
 ghost use Rattle.engine.specs.Lists.{livingOf};
-use answer::JointKind;
-use answer::Step;
-use answer::Verdict;
-use answer::Ways;
 use merges::Run;
 use space::Written;
 use space::put_number16;
 use space::put_number64;
+use theory::JointKind;
+use theory::Step;
+use theory::Verdict;
+use theory::Ways;
 
 // Is some joint three lines?
 pub fn angled(joints: &[u64; 64], steps: usize, lines: u64) -> bool
@@ -36,10 +36,10 @@ pub fn angled(joints: &[u64; 64], steps: usize, lines: u64) -> bool
     false
 }
 
-// The verdict of a list of merges, after "over": e constraints less two a step are the clusters left.
+// The verdict of a list of merges, after "over", for its final clusters: e less two a step are left.
 pub fn settle(joints: &[u64; 64], steps: usize, n: usize, e: usize, lines: u64) -> Verdict
     requires { ⌜ (steps ≤ 64) × (2 * steps ≤ e) × (n ≤ 64) × (e ≤ 200) × (length (now joints) ≡ 64) ⌝ }
-    ensures { λ r. ⌜ r ≡ asVerdict (judged lines n e (take steps (now (joints .entry))) (e - 2 * steps)) ⌝ }
+    ensures { λ r. ⌜ ((finals : List ℕ) → left finals + 2 * steps ≡ e → r ≡ judged lines n e (take steps (now (joints .entry))) finals) ⌝ }
 {
     if angled(joints, steps, lines) {
         return Verdict::Angle;
@@ -56,7 +56,7 @@ pub fn settle(joints: &[u64; 64], steps: usize, n: usize, e: usize, lines: u64) 
 
 // The kind of a joint.
 pub fn joint_kind(joint: u64, lines: u64) -> JointKind
-    ensures { λ r. ⌜ r ≡ asKind (jointKind lines joint) ⌝ }
+    ensures { λ r. ⌜ r ≡ jointKind lines joint ⌝ }
 {
     match u64::count_ones(joint & lines) {
         0 => JointKind::Ppp,
@@ -125,7 +125,7 @@ fn strip_of(lines: u64, a: u64, b: u64, x: i32, y: i32, z: i32) -> u8
 
 // The placements of three initial clusters, of which a and b are the first two, with their sizes.
 fn placements(lines: u64, kind: JointKind, a: u64, b: u64, x: i32, y: i32, z: i32) -> Ways
-    ensures { λ r. ⌜ r ≡ asWays (placed lines (kindOf kind) a b x y z) ⌝ }
+    ensures { λ r. ⌜ r ≡ placed lines (kind) a b x y z ⌝ }
 {
     match kind {
         JointKind::Ppp => Ways::Known(triangle(size_of(x), size_of(y), size_of(z))),
@@ -147,7 +147,7 @@ fn ways_of(
     k: usize,
 ) -> Ways
     requires { ⌜ e ≤ 192 ⌝ }
-    ensures { λ r. ⌜ r ≡ asWays (waysBy lines (kindOf kind) e (now (sizes .entry)) (now (start .entry)) (numbers i j k)) ⌝ }
+    ensures { λ r. ⌜ r ≡ waysBy lines (kind) e (now (sizes .entry)) (now (start .entry)) (numbers i j k) ⌝ }
 {
     if e <= i {
         return Ways::Unknown;

@@ -4,9 +4,8 @@ use mathlib.Core.Bool.{Bool, true, false}
 use mathlib.Core.List.{List}
 use lib.IntN.{ℤ}
 use lib.ListN.{length, getD}
-use Rattle.theory.specs.Constraints.{cluster}
 use Rattle.sheet.specs.declared.Constraint.{Constraint}
-use Rattle.sheet.specs.Graph.{endsOf, sizeOf}
+use Rattle.sheet.specs.Graph.{clusterOf, sizeOf}
 pub mod Laws
 
 -- an end of a constraint, the second or the first
@@ -19,7 +18,7 @@ constraintSize c = sizeOf (c .size)
 
 -- the set of the two ends
 abbrev pub endPair : Constraint → ℕ
-endPair c = cluster (endsOf c)
+endPair c = clusterOf c
 
 -- both ends of every constraint are below 64
 pub record EndsBelow64 (cs : List Constraint) : Type 0 where

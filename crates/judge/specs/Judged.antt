@@ -1,16 +1,13 @@
--- What is judged of a sheet's facts. Document 01, "Verdict names": over is tried first, and of an over sheet no plan is made and no final cluster is
+-- What is judged of a sheet's graph. Document 01, "Verdict names": over is tried first, and of an over sheet no plan is made and no final cluster is
 -- given; the answer names the first constraint and the smallest set. Every other sheet gets the engine's plan and its verdict.
 use Prim.Native.Nat.{ℕ}
 use mathlib.Core.List.{List, [], map}
-use lib.ListN.{length}
-use Rattle.theory.specs.Over.{Finding, fine, first, overOf}
 use Rattle.theory.specs.Merge.{Merge, final}
 use Rattle.theory.specs.Plan.{planOf, ascending}
-use Rattle.theory.specs.Verdict.{listVerdict}
-use Rattle.sheet.specs.Facts.{Facts, linesOf}
-use Rattle.sheet.specs.Graph.{clustersOf}
-use Rattle.answer.specs.declared.Verdict.the-variants.{Over}
-use Rattle.answer.specs.Answer.{asVerdict}
+use Rattle.theory.specs.Graph.{Graph, findingOf, listVerdict}
+use Rattle.theory.specs.declared.Finding.{Finding}
+use Rattle.theory.specs.declared.Finding.the-variants.{Fine, First}
+use Rattle.theory.specs.declared.Verdict.the-variants.{Over}
 use Rattle.merges.specs.Run.{runOf}
 use Rattle.merges.specs.Held.{flat}
 use Rattle.engine.specs.Lists.{livingOf}
@@ -20,47 +17,39 @@ pub mod Found
 pub mod Lists
 pub mod Short
 
--- a list of merges of the sheet's constraints, with its own verdict
-unfoldable pub listed : Facts → List Merge → Judged
-listed f p = record {
-  verdict = asVerdict (listVerdict (linesOf (f .elements)) (length (f .elements)) (clustersOf f) p);
-  first = 0;
-  set = 0;
-  run = runOf (clustersOf f) p;
-}
+-- a list of merges of the constraints, with its own verdict
+unfoldable pub listed : Graph → List Merge → Judged
+listed g p = record { verdict = listVerdict g p; first = 0; set = 0; run = runOf (g .clusters) p }
 
 -- the engine's own plan
-abbrev pub planned : Facts → Judged
-planned f = listed f (planOf (clustersOf f))
+abbrev pub planned : Graph → Judged
+planned g = listed g (planOf (g .clusters))
 
 abbrev pub overFound : ℕ → ℕ → Judged
 overFound c x = record { verdict = Over; first = c; set = x; run = runOf [] [] }
 
-abbrev pub judgedBy : Facts → Finding → Judged
-judgedBy f fine = planned f
-judgedBy f (first c x) = overFound c x
+abbrev pub judgedBy : Graph → Finding → Judged
+judgedBy g Fine = planned g
+judgedBy g (First c x) = overFound c x
 
-unfoldable pub judgedOf : Facts → Judged
-judgedOf f = judgedBy f (overOf (length (f .elements)) (clustersOf f))
+unfoldable pub judgedOf : Graph → Judged
+judgedOf g = judgedBy g (findingOf g)
 
 -- ---- what the judgement gives as lists
 
 -- the engine's plan: none is made of an over sheet
-abbrev pub planBy : Facts → Finding → List Merge
-planBy f fine = planOf (clustersOf f)
-planBy f (first c x) = []
-
-unfoldable pub planOfFacts : Facts → List Merge
-planOfFacts f = planBy f (overOf (length (f .elements)) (clustersOf f))
+abbrev pub planBy : Graph → Finding → List Merge
+planBy g Fine = planOf (g .clusters)
+planBy g (First c x) = []
 
 -- three numbers a step, ascending
-unfoldable pub planNumbers : Facts → List ℕ
-planNumbers f = flat (map ascending (planOfFacts f))
+unfoldable pub planNumbers : Graph → List ℕ
+planNumbers g = flat (map ascending (planBy g (findingOf g)))
 
 -- the final clusters: none is given of an over sheet
-abbrev pub finalsBy : Facts → Finding → List ℕ
-finalsBy f fine = livingOf (final (clustersOf f) (planOf (clustersOf f)))
-finalsBy f (first c x) = []
+abbrev pub finalsBy : Graph → Finding → List ℕ
+finalsBy g Fine = livingOf (final (g .clusters) (planOf (g .clusters)))
+finalsBy g (First c x) = []
 
-unfoldable pub finalClusters : Facts → List ℕ
-finalClusters f = finalsBy f (overOf (length (f .elements)) (clustersOf f))
+unfoldable pub finalClusters : Graph → List ℕ
+finalClusters g = finalsBy g (findingOf g)

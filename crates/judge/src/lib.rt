@@ -3,23 +3,20 @@ ghost use mathlib.Core.Path.{_≡_};
 ghost use mathlib.Core.List.{[]};
 ghost use Prim.Native.Nat.{_+_, _*_, _≤_, _<_};
 ghost use lib.Count.{ones};
-ghost use lib.ListN.{length};
 ghost use Rattle.merges.specs.Run.{runOf, Ran};
 ghost use Rattle.theory.specs.Constraints.{NotOver};
-ghost use Rattle.theory.specs.Over.{overOf};
-ghost use Rattle.sheet.specs.Facts.{factsOf, linesOf};
+ghost use Rattle.theory.specs.Graph.{findingOf, verdictOf};
+ghost use Rattle.sheet.specs.Facts.{factsOf};
 ghost use Rattle.sheet.specs.Rules.{sheetFault};
-ghost use Rattle.sheet.specs.Graph.{clustersOf, verdictOf};
+ghost use Rattle.sheet.specs.Graph.{graphOf};
 ghost use Rattle.peeling.specs.Core.{Told};
-ghost use Rattle.sparsity.specs.Answer.{asOver};
-ghost use Rattle.answer.specs.Answer.{asVerdict};
 ghost use Rattle.judge.specs.Listing.{columnsOf};
 ghost use Rattle.judge.specs.Judged.{planned as plannedOf, overFound, judgedOf};
-use answer::Verdict;
 use merges::Run;
 use peeling::Peeling;
 use sheet::Sheet;
-use sparsity::Over;
+use theory::Finding;
+use theory::Verdict;
 
 // The ends of a sheet's constraints in two columns, 0 beyond them.
 pub struct Columns {
@@ -44,10 +41,10 @@ fn columns_of(s: Sheet) -> Columns
     Columns { firsts, seconds }
 }
 
-// The first constraint that makes the sheet over, with the smallest set; Not where it is not over.
-pub fn over_of(s: Sheet) -> Over
+// The first constraint that makes the sheet over, with the smallest set; Fine where it is not over.
+pub fn over_of(s: Sheet) -> Finding
     requires { ⌜ sheetFault s ≡ 0 ⌝ }
-    ensures { λ r. ⌜ r ≡ asOver (overOf (length (factsOf s .elements)) (clustersOf (factsOf s))) ⌝ }
+    ensures { λ r. ⌜ r ≡ findingOf (graphOf (factsOf s)) ⌝ }
 {
     let columns = columns_of(s);
     let firsts = columns.firsts;
@@ -101,7 +98,7 @@ pub fn over_found(first: usize, set: u64) -> Judged
 // The engine's merges of a sheet's constraints; of an over sheet a list of merges.
 fn run_of(s: Sheet) -> Run
     requires { ⌜ (sheetFault s ≡ 0) × (s .e ≤ 125) ⌝ }
-    ensures { λ r. ⌜ Ran (clustersOf (factsOf s)) r ⌝ }
+    ensures { λ r. ⌜ Ran (graphOf (factsOf s) .clusters) r ⌝ }
 {
     let cs = s.constraints;
     let e = s.e;
@@ -111,8 +108,8 @@ fn run_of(s: Sheet) -> Run
 
 // The judgement of the engine's merges, where the sheet is not over.
 fn listed_by(s: Sheet, run: Run) -> Judged
-    requires { ⌜ (sheetFault s ≡ 0) × (s .e ≤ 125) × Ran (clustersOf (factsOf s)) run ⌝ }
-    ensures { λ r. ⌜ (NotOver (clustersOf (factsOf s)) → r ≡ plannedOf (factsOf s)) ⌝ }
+    requires { ⌜ (sheetFault s ≡ 0) × (s .e ≤ 125) × Ran (graphOf (factsOf s) .clusters) run ⌝ }
+    ensures { λ r. ⌜ (NotOver (graphOf (factsOf s) .clusters) → r ≡ plannedOf (graphOf (factsOf s))) ⌝ }
 {
     let elements = s.elements;
     let n = s.n;
@@ -130,8 +127,8 @@ fn listed_by(s: Sheet, run: Run) -> Judged
 
 // The engine's plan for a sheet that is not over, and its verdict.
 fn plan_of(s: Sheet) -> Judged
-    requires { ⌜ (sheetFault s ≡ 0) × NotOver (clustersOf (factsOf s)) ⌝ }
-    ensures { λ r. ⌜ r ≡ plannedOf (factsOf s) ⌝ }
+    requires { ⌜ (sheetFault s ≡ 0) × NotOver (graphOf (factsOf s) .clusters) ⌝ }
+    ensures { λ r. ⌜ r ≡ plannedOf (graphOf (factsOf s)) ⌝ }
 {
     let run = run_of(s);
     listed_by(s, run)
@@ -140,7 +137,7 @@ fn plan_of(s: Sheet) -> Judged
 // The judgement of a sheet with 2n-3 constraints. Merges that leave one cluster show that it is not over.
 fn judge_full(s: Sheet) -> Judged
     requires { ⌜ (sheetFault s ≡ 0) × (s .e + 3 ≡ 2 * s .n) ⌝ }
-    ensures { λ r. ⌜ r ≡ judgedOf (factsOf s) ⌝ }
+    ensures { λ r. ⌜ r ≡ judgedOf (graphOf (factsOf s)) ⌝ }
 {
     let run = run_of(s);
     if 2 * run.steps + 1 == s.e {
@@ -148,30 +145,30 @@ fn judge_full(s: Sheet) -> Judged
     }
     let found = over_of(s);
     match found {
-        Over::First { constraint, set } => over_found(constraint, set),
-        Over::Not => listed_by(s, run),
+        Finding::First { constraint, set } => over_found(constraint, set),
+        Finding::Fine => listed_by(s, run),
     }
 }
 
 // The verdict of a sheet, with what it rests on.
 pub fn judge(s: Sheet) -> Judged
     requires { ⌜ sheetFault s ≡ 0 ⌝ }
-    ensures { λ r. ⌜ r ≡ judgedOf (factsOf s) ⌝ }
+    ensures { λ r. ⌜ r ≡ judgedOf (graphOf (factsOf s)) ⌝ }
 {
     if s.e + 3 == 2 * s.n {
         return judge_full(s);
     }
     let found = over_of(s);
     match found {
-        Over::First { constraint, set } => over_found(constraint, set),
-        Over::Not => plan_of(s),
+        Finding::First { constraint, set } => over_found(constraint, set),
+        Finding::Fine => plan_of(s),
     }
 }
 
 // The verdict by way of the judgement.
 fn judged_verdict(s: Sheet) -> Verdict
     requires { ⌜ sheetFault s ≡ 0 ⌝ }
-    ensures { λ r. ⌜ r ≡ asVerdict (verdictOf (factsOf s)) ⌝ }
+    ensures { λ r. ⌜ r ≡ verdictOf (graphOf (factsOf s)) ⌝ }
 {
     let judged = judge(s);
     let verdict = judged.verdict;
@@ -180,20 +177,20 @@ fn judged_verdict(s: Sheet) -> Verdict
 
 // The verdict of a sheet with two lines or fewer, of which no joint is three lines, and fewer than 2n-3 constraints.
 fn sparse_verdict(s: Sheet) -> Verdict
-    requires { ⌜ (sheetFault s ≡ 0) × (ones (linesOf (factsOf s .elements)) ≤ 2) × (s .e + 3 < 2 * s .n) ⌝ }
-    ensures { λ r. ⌜ r ≡ asVerdict (verdictOf (factsOf s)) ⌝ }
+    requires { ⌜ (sheetFault s ≡ 0) × (ones (graphOf (factsOf s) .lines) ≤ 2) × (s .e + 3 < 2 * s .n) ⌝ }
+    ensures { λ r. ⌜ r ≡ verdictOf (graphOf (factsOf s)) ⌝ }
 {
     let found = over_of(s);
     match found {
-        Over::First { .. } => Verdict::Over,
-        Over::Not => Verdict::Under,
+        Finding::First { .. } => Verdict::Over,
+        Finding::Fine => Verdict::Under,
     }
 }
 
 // The verdict of a sheet with 2n-3 constraints. One that peels off to the last element is well, unless three lines went so.
 fn full_verdict(s: Sheet, lines: u64) -> Verdict
-    requires { ⌜ (sheetFault s ≡ 0) × (lines ≡ linesOf (factsOf s .elements)) × (s .e + 3 ≡ 2 * s .n) ⌝ }
-    ensures { λ r. ⌜ r ≡ asVerdict (verdictOf (factsOf s)) ⌝ }
+    requires { ⌜ (sheetFault s ≡ 0) × (lines ≡ graphOf (factsOf s) .lines) × (s .e + 3 ≡ 2 * s .n) ⌝ }
+    ensures { λ r. ⌜ r ≡ verdictOf (graphOf (factsOf s)) ⌝ }
 {
     let peeling = peels(s, lines);
     if peeling.left != 0 {
@@ -209,7 +206,7 @@ fn full_verdict(s: Sheet, lines: u64) -> Verdict
 // The verdict of a sheet. No plan is made where counts, peeling or the search for an over set decide.
 pub fn verdict_of(s: Sheet) -> Verdict
     requires { ⌜ sheetFault s ≡ 0 ⌝ }
-    ensures { λ r. ⌜ r ≡ asVerdict (verdictOf (factsOf s)) ⌝ }
+    ensures { λ r. ⌜ r ≡ verdictOf (graphOf (factsOf s)) ⌝ }
 {
     let n = s.n;
     let used = s.e + 3;

@@ -5,6 +5,7 @@ use mathlib.Core.Path.{_≡_}
 use mathlib.Core.Logic.{_≢_, _⊎_}
 use mathlib.Core.List.{List}
 use lib.ListN.{length}
+use Rattle.theory.specs.Graph.{Graph}
 use Rattle.space.specs.declared.Written.the-variants.{Refused}
 use Rattle.sheet.specs.declared.Constraint.{Constraint}
 use Rattle.sheet.specs.declared.Sheet.{Sheet}
@@ -14,6 +15,7 @@ use Rattle.sheet.specs.Decode.{readSheet}
 use Rattle.sheet.specs.Encode.{sheetBytes}
 use Rattle.sheet.specs.WithoutTags.{withoutTags}
 use Rattle.sheet.specs.Refusals.{Rule}
+use Rattle.sheet.specs.Graph.{graphOf}
 use Rattle.writer.specs.Write.{writeAnswer}
 use Rattle.plans.specs.Check.{savedSteps}
 use Rattle.sketch.specs.declared.Taken.the-variants.{Refused as Not}
@@ -45,10 +47,11 @@ pub record Refusals : Type 0 where
   pub write : (s : Sheet) (space : List ℕ) (k : ℕ) → writeAnswer s space ≡ Refused k → Rule 3 9 k ⊎ ((k ≡ 17) × (length space < length (sheetBytes (factsOf s))))
   pub add : (s : Sheet) (c : Constraint) (k : ℕ) → addAnswer s c ≡ Not k → Rule 3 11 k
   -- over, plan, clusters and report
-  pub items : (what : Facts → List ℕ) (bytes space : List ℕ) (k : ℕ) → itemsAnswer what bytes space ≡ Refused k → Refusal 10 (readSheet bytes) what space k
+  pub items : (what : Graph → List ℕ) (bytes space : List ℕ) (k : ℕ) → itemsAnswer what bytes space ≡ Refused k
+      → Refusal 10 (readSheet bytes) (λ f. what (graphOf f)) space k
   -- the plan check; 14 is not used (request 2026-06)
   pub check : (bytes plan space : List ℕ) (k : ℕ) → checkAnswer bytes plan space ≡ Refused k
-      → Refusal 16 (readSheet bytes) (λ f. listReport f (savedSteps plan)) space k × (k ≢ 14)
+      → Refusal 16 (readSheet bytes) (λ f. listReport (graphOf f) (savedSteps plan)) space k × (k ≢ 14)
   pub hold : (bytes : List ℕ) (k : ℕ) → heldSheet bytes ≡ refused k → Rule 1 11 k
   pub extend : (bytes more space : List ℕ) (k : ℕ) → extendAnswer bytes more space ≡ Refused k
       → Refusal 11 (extendedSheet bytes more) sheetBytes space k

@@ -1,8 +1,9 @@
 -- A sheet given as bytes. A sheet that a rule of 1 to 10 refuses gives that rule's number and leaves the lent space (document 01, "Refused").
 use Prim.Native.Nat.{ℕ}
 use mathlib.Core.List.{List, [], _∷_}
-use lib.ListN.{length}
-use Rattle.theory.specs.Over.{Finding, fine, first, overOf}
+use Rattle.theory.specs.Graph.{Graph, findingOf}
+use Rattle.theory.specs.declared.Finding.{Finding}
+use Rattle.theory.specs.declared.Finding.the-variants.{Fine, First}
 use Rattle.space.specs.declared.Written.{Written}
 use Rattle.space.specs.declared.Written.the-variants.{Refused}
 use Rattle.space.specs.Space.{answer, after}
@@ -10,7 +11,7 @@ use Rattle.sheet.specs.Facts.{Facts}
 use Rattle.sheet.specs.Field.{Field, value, refused}
 use Rattle.sheet.specs.Decode.{readSheet}
 use Rattle.sheet.specs.WithoutTags.{withoutTags}
-use Rattle.sheet.specs.Graph.{clustersOf}
+use Rattle.sheet.specs.Graph.{graphOf}
 pub mod Laws
 pub mod Overs
 
@@ -19,12 +20,12 @@ abbrev pub onFacts : {A : Type 0} → Field Facts → (Facts → A) → (ℕ →
 onFacts (value f rest) accepted refusal = accepted f
 onFacts (refused k) accepted refusal = refusal k
 
--- the items that the facts give, written into lent space
-unfoldable pub itemsAnswer : (Facts → List ℕ) → List ℕ → List ℕ → Written
-itemsAnswer items bytes space = onFacts (readSheet bytes) (λ f. answer (items f) space) (λ k. Refused k)
+-- the items that the sheet's graph gives, written into lent space
+unfoldable pub itemsAnswer : (Graph → List ℕ) → List ℕ → List ℕ → Written
+itemsAnswer items bytes space = onFacts (readSheet bytes) (λ f. answer (items (graphOf f)) space) (λ k. Refused k)
 
-unfoldable pub itemsAfter : (Facts → List ℕ) → List ℕ → List ℕ → List ℕ
-itemsAfter items bytes space = onFacts (readSheet bytes) (λ f. after (items f) space) (λ k. space)
+unfoldable pub itemsAfter : (Graph → List ℕ) → List ℕ → List ℕ → List ℕ
+itemsAfter items bytes space = onFacts (readSheet bytes) (λ f. after (items (graphOf f)) space) (λ k. space)
 
 -- reading and writing again gives the same sheet with bit 1 clear and the tag bytes gone (document 02, 2026-11)
 unfoldable pub rewriteAnswer : List ℕ → List ℕ → Written
@@ -36,8 +37,8 @@ rewriteAfter bytes space = onFacts (readSheet bytes) (λ f. after (withoutTags b
 -- ---- over (document 01, "Verdict names"): the first constraint and the smallest set; no item where the sheet is not over
 
 abbrev pub overItems : Finding → List ℕ
-overItems fine = []
-overItems (first c x) = c ∷ x ∷ []
+overItems Fine = []
+overItems (First c x) = c ∷ x ∷ []
 
-unfoldable pub overOfFacts : Facts → List ℕ
-overOfFacts f = overItems (overOf (length (f .elements)) (clustersOf f))
+unfoldable pub overNumbers : Graph → List ℕ
+overNumbers g = overItems (findingOf g)

@@ -1,24 +1,29 @@
 -- A held sketch by bytes: those of a sheet, and those of one more constraint as a sheet has them. Document 01, "A held sketch" and "Refused": rules 1
 -- to 11 of the sheet; then 2 and 6 to 9 of the constraint's fields, 10 of bytes that follow them, and 11.
-use Prim.Native.Nat.{ℕ}
+use Prim.Native.Nat.{ℕ, zero, suc}
 use mathlib.Core.List.{List, [], _∷_}
 use Rattle.space.specs.declared.Written.{Written}
 use Rattle.space.specs.declared.Written.the-variants.{Refused}
 use Rattle.space.specs.Space.{answer, after}
 use Rattle.sheet.specs.declared.Constraint.{Constraint}
 use Rattle.sheet.specs.Facts.{Facts}
-use Rattle.sheet.specs.Field.{Field, value, refused, next, demand}
+use Rattle.sheet.specs.Field.{Field, value, refused, next}
 use Rattle.sheet.specs.Decode.{constraint, readSheet}
 use Rattle.sheet.specs.Encode.{sheetBytes}
-use Rattle.sheet.specs.Graph.{verdictOf}
-use Rattle.sketch.specs.Sketch.{notOver, extended}
+use Rattle.sheet.specs.Graph.{graphOf, overFault}
+use Rattle.sketch.specs.Sketch.{extended}
 use Rattle.pattern.specs.Sheets.{onFacts}
 pub mod Laws
 pub mod Agree
 
--- rule 11: the verdict is over
+-- the rule that refuses, else what is read
+abbrev pub byRule : {A : Type 0} → ℕ → Field A → Field A
+byRule zero x = x
+byRule (suc k) x = refused (suc k)
+
+-- facts that are over are not held
 unfoldable pub held : Facts → List ℕ → Field Facts
-held f rest = demand (notOver (verdictOf f)) 11 (value f rest)
+held f rest = byRule (overFault (graphOf f)) (value f rest)
 
 -- the sketch held from a sheet
 unfoldable pub heldSheet : List ℕ → Field Facts

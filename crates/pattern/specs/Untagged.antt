@@ -3,6 +3,7 @@ use Prim.Native.Nat.{ℕ}
 use mathlib.Core.Path.{_≡_}
 use mathlib.Core.List.{List}
 use Rattle.space.specs.declared.Written.{Written}
+use Rattle.theory.specs.Graph.{Graph}
 use Rattle.sheet.specs.declared.Constraint.{Constraint}
 use Rattle.sheet.specs.Facts.{Facts}
 use Rattle.sheet.specs.Field.{value, Bytes}
@@ -23,7 +24,7 @@ pub record SameAnswers (a b : List ℕ) : Type 0 where
   pub read : readSheet a ≡ readSheet b
   pub verdict : judgementOf a ≡ judgementOf b
   -- over, plan, clusters and report
-  pub items : (what : Facts → List ℕ) → Alike (itemsAnswer what) (itemsAfter what) a b
+  pub items : (what : Graph → List ℕ) → Alike (itemsAnswer what) (itemsAfter what) a b
   pub rewrite : Alike rewriteAnswer rewriteAfter a b
   pub check : (plan : List ℕ) → Alike (λ s. checkAnswer s plan) (λ s. checkAfter s plan) a b
   pub hold : heldSheet a ≡ heldSheet b

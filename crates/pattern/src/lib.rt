@@ -13,8 +13,7 @@ ghost use Rattle.judge.specs.Judged.{planNumbers, finalClusters};
 ghost use Rattle.account.specs.Account.{reportOf};
 ghost use Rattle.pattern.specs.Plans.{checkAnswer, checkAfter};
 ghost use Rattle.pattern.specs.Judgements.{judgementOf};
-ghost use Rattle.pattern.specs.Sheets.{rewriteAnswer, rewriteAfter, itemsAnswer, itemsAfter, overOfFacts};
-use answer::Verdict;
+ghost use Rattle.pattern.specs.Sheets.{rewriteAnswer, rewriteAfter, itemsAnswer, itemsAfter, overNumbers};
 use reader::ConstraintRead;
 use reader::Cursor;
 use reader::Outcome;
@@ -23,7 +22,8 @@ use sheet::Constraint;
 use sheet::Sheet;
 use sketch::Added;
 use space::Written;
-use sparsity::Over;
+use theory::Finding;
+use theory::Verdict;
 
 // The sheet that some bytes stand for, or the rule of 1 to 10 that refuses them.
 pub fn read(bytes: &[u8]) -> Reading
@@ -66,7 +66,7 @@ fn put_two(a: u64, b: u64, out: &mut [u64]) -> Written
 
 // Whether a sheet is over: the first constraint that makes it so and the smallest set, or no item where it is not over.
 pub fn over(bytes: &[u8], out: &mut [u64]) -> Written
-    ensures { λ r. ⌜ (r ≡ itemsAnswer overOfFacts (now (bytes .entry)) (now (out .entry))) × (now (out .exit) ≡ itemsAfter overOfFacts (now (bytes .entry)) (now (out .entry))) ⌝ }
+    ensures { λ r. ⌜ (r ≡ itemsAnswer overNumbers (now (bytes .entry)) (now (out .entry))) × (now (out .exit) ≡ itemsAfter overNumbers (now (bytes .entry)) (now (out .entry))) ⌝ }
 {
     let reading = reader::read_sheet(bytes);
     let outcome = reading.outcome;
@@ -75,7 +75,7 @@ pub fn over(bytes: &[u8], out: &mut [u64]) -> Written
     };
     let sheet = reading.sheet;
     let found = judge::over_of(sheet);
-    let Over::First { constraint, set } = found else {
+    let Finding::First { constraint, set } = found else {
         return Written::Done(0);
     };
     put_two(constraint as u64, set, out)

@@ -3,7 +3,7 @@ use Prim.Native.Nat.{ℕ}
 use lib.Dec.{ltb}
 use lib.IntN.{ℤ, pos, negℤ}
 use Rattle.sheet.specs.Facts.{pick}
-use Rattle.answer.specs.Answer.{verdictNumber}
+use Rattle.theory.specs.Verdict.{verdictNumber}
 use Rattle.pattern.specs.declared.Judgement.{Judgement}
 use Rattle.pattern.specs.declared.Judgement.the-variants.{Is, Refused as No}
 use Rattle.space.specs.declared.Written.{Written}

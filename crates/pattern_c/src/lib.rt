@@ -2,7 +2,7 @@
 // items written, or minus the number of the rule that refuses; specs/ says it.
 ghost use mathlib.Core.Path.{_≡_};
 ghost use lib.ListN.{getD};
-ghost use Rattle.pattern.specs.Sheets.{rewriteAnswer, rewriteAfter, itemsAnswer, itemsAfter, overOfFacts};
+ghost use Rattle.pattern.specs.Sheets.{rewriteAnswer, rewriteAfter, itemsAnswer, itemsAfter, overNumbers};
 ghost use Rattle.writer.specs.Write.{writeAnswer, writeAfter};
 ghost use Rattle.account.specs.Account.{reportOf};
 ghost use Rattle.pattern.specs.Plans.{checkAnswer, checkAfter};
@@ -112,7 +112,7 @@ pub extern "C" fn pattern_write(
 // Whether a sheet is over: the number of the first constraint that makes it so and the smallest set, element i as bit i; no item where it is not over.
 #[no_mangle]
 pub extern "C" fn pattern_over(sheet: &[u8], out: &mut [u64]) -> i32
-    ensures { λ r. ⌜ (r ≡ asCount (itemsAnswer overOfFacts (now (sheet .entry)) (now (out .entry)))) × (now (out .exit) ≡ itemsAfter overOfFacts (now (sheet .entry)) (now (out .entry))) ⌝ }
+    ensures { λ r. ⌜ (r ≡ asCount (itemsAnswer overNumbers (now (sheet .entry)) (now (out .entry)))) × (now (out .exit) ≡ itemsAfter overNumbers (now (sheet .entry)) (now (out .entry))) ⌝ }
 {
     count(pattern::over(sheet, out))
 }

@@ -2,9 +2,9 @@
 use Prim.Native.Nat.{ℕ, _<_}
 use mathlib.Core.List.{List, [], _∷_, _++_}
 use Rattle.space.specs.Text.{ascii, decimal}
-use Rattle.answer.specs.declared.JointKind.{JointKind}
-use Rattle.answer.specs.declared.Ways.{Ways}
-use Rattle.answer.specs.declared.Step.{Step}
+use Rattle.theory.specs.declared.JointKind.{JointKind}
+use Rattle.theory.specs.declared.Ways.{Ways}
+use Rattle.theory.specs.declared.Step.{Step}
 use Rattle.report.specs.Report.{others, kindName, waysName}
 
 -- numbers, a space before each

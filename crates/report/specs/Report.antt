@@ -5,13 +5,13 @@ use mathlib.Core.Bool.{cond}
 use mathlib.Core.List.{List, [], _∷_, _++_, map}
 use lib.Dec.{eqb}
 use Rattle.space.specs.Text.{ascii, decimal}
-use Rattle.answer.specs.declared.Verdict.{Verdict}
-use Rattle.answer.specs.declared.Verdict.the-variants.{Over, Angle, Well, Stuck, Under}
-use Rattle.answer.specs.declared.JointKind.{JointKind}
-use Rattle.answer.specs.declared.JointKind.the-variants.{Ppp, Ppl, Pll, Lll}
-use Rattle.answer.specs.declared.Ways.{Ways}
-use Rattle.answer.specs.declared.Ways.the-variants.{Known, Unknown}
-use Rattle.answer.specs.declared.Step.{Step}
+use Rattle.theory.specs.declared.Verdict.{Verdict}
+use Rattle.theory.specs.declared.Verdict.the-variants.{Over, Angle, Well, Stuck, Under}
+use Rattle.theory.specs.declared.JointKind.{JointKind}
+use Rattle.theory.specs.declared.JointKind.the-variants.{Ppp, Ppl, Pll, Lll}
+use Rattle.theory.specs.declared.Ways.{Ways}
+use Rattle.theory.specs.declared.Ways.the-variants.{Known, Unknown}
+use Rattle.theory.specs.declared.Step.{Step}
 use Rattle.report.specs.Elements.{elements}
 pub mod Laws
 pub mod Length

@@ -9,14 +9,14 @@ ghost use Rattle.space.specs.Text.{decimal};
 ghost use Rattle.report.specs.Elements.{elements};
 ghost use Rattle.report.specs.Report.{verdictLine, elementsLine, stepLine, stepLines, slotLine, clusterLines, report, overReport};
 ghost use Rattle.report.specs.Pieces.{numbers, partsWords, kindWords, waysWords, Small, AllSmall};
-use answer::JointKind;
-use answer::Step;
-use answer::Verdict;
-use answer::Ways;
 use space::Written;
 use space::put_byte;
 use space::put_decimal;
 use space::put_text;
+use theory::JointKind;
+use theory::Step;
+use theory::Verdict;
+use theory::Ways;
 
 // A space and a number.
 fn put_number(out: &mut [u8], at: usize, n: usize) -> usize

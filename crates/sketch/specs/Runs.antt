@@ -7,13 +7,13 @@ use mathlib.Core.Logic.{_≢_}
 use mathlib.Core.List.{List, [], _∷_, _++_}
 use lib.ListN.{length}
 use Rattle.theory.specs.Constraints.{Among}
-use Rattle.theory.specs.Verdict.{over}
+use Rattle.theory.specs.declared.Verdict.the-variants.{Over}
+use Rattle.theory.specs.Graph.{verdictOf}
 use Rattle.sheet.specs.declared.Constraint.{Constraint}
 use Rattle.sheet.specs.declared.Sheet.{Sheet}
 use Rattle.sheet.specs.Facts.{factsOf}
 use Rattle.sheet.specs.Accepted.{Accepted}
-use Rattle.sheet.specs.Graph.{verdictOf}
-use Rattle.answer.specs.Answer.{asVerdict}
+use Rattle.sheet.specs.Graph.{graphOf}
 use Rattle.sketch.specs.declared.Taken.{Taken}
 use Rattle.sketch.specs.declared.Taken.the-variants.{Is, Refused}
 use Rattle.sketch.specs.Sketch.{holdFault, extended, nextFault, addAnswer, addAfter}
@@ -41,7 +41,7 @@ takenOf s (c ∷ cs) = takenBy (addAnswer s c) c ++ takenOf (addAfter s c) cs
 
 -- one more constraint: no rule refuses it, and the sketch is the sheet with it last; or one of these rules does, and the sketch is what it was
 pub data Next (s : Sheet) (c : Constraint) : Type 0 where
-  takes : nextFault (factsOf s) c ≡ 0 → addAnswer s c ≡ Is (asVerdict (verdictOf (extended (factsOf s) c)))
+  takes : nextFault (factsOf s) c ≡ 0 → addAnswer s c ≡ Is (verdictOf (graphOf (extended (factsOf s) c)))
       → factsOf (addAfter s c) ≡ extended (factsOf s) c → Next s c
   refuses : (k : ℕ) → Among k (6 ∷ 7 ∷ 8 ∷ 9 ∷ 11 ∷ []) → nextFault (factsOf s) c ≡ k → addAnswer s c ≡ Refused k → addAfter s c ≡ s → Next s c
 
@@ -51,6 +51,6 @@ pub record Run (s : Sheet) (offered : List Constraint) : Type 0 where
   pub constraints : factsOf (afterAll s offered) .constraints ≡ factsOf s .constraints ++ takenOf s offered
   -- no rule refuses that sheet, and its verdict isn't over
   pub sheet : Accepted (factsOf (afterAll s offered))
-  pub not-over : verdictOf (factsOf (afterAll s offered)) ≢ over
+  pub not-over : verdictOf (graphOf (factsOf (afterAll s offered))) ≢ Over
   -- whatever is offered next
   pub next : (c : Constraint) → Next (afterAll s offered) c

@@ -2,16 +2,15 @@
 -- 8 (the missing size), 9 and 11, in that order. It is then the sheet with that constraint last, and the answer is its verdict. "Refused": a refusal
 -- gives its number alone, and a held sketch is unchanged.
 use Prim.Native.Nat.{ℕ, zero, suc, _+_}
-use mathlib.Core.Bool.{Bool, true, false}
 use mathlib.Core.List.{[], _∷_, _++_}
 use lib.ListN.{set}
-use Rattle.theory.specs.Verdict as verdicts
+use Rattle.theory.specs.Graph.{verdictOf}
+use Rattle.theory.specs.declared.Verdict.{Verdict}
 use Rattle.sheet.specs.declared.Constraint.{Constraint}
 use Rattle.sheet.specs.declared.Sheet.{Sheet}
-use Rattle.sheet.specs.Facts.{Facts, factsOf, pick}
+use Rattle.sheet.specs.Facts.{Facts, factsOf}
 use Rattle.sheet.specs.Rules.{or-else, constraintFault, sheetFault}
-use Rattle.sheet.specs.Graph.{verdictOf}
-use Rattle.answer.specs.Answer.{asVerdict}
+use Rattle.sheet.specs.Graph.{graphOf, overFault}
 use Rattle.sketch.specs.declared.Taken.{Taken}
 use Rattle.sketch.specs.declared.Taken.the-variants.{Is, Refused}
 use Rattle.sketch.specs.declared.Added.{Added}
@@ -19,20 +18,9 @@ pub mod Laws
 
 -- ---- which rule refuses: its number, 0 where none does
 
-abbrev pub notOver : verdicts.Verdict → Bool
-notOver verdicts.over = false
-notOver verdicts.angle = true
-notOver verdicts.well = true
-notOver verdicts.stuck = true
-notOver verdicts.under = true
-
--- 11 refuses facts whose verdict is over
-unfoldable pub overFault : Facts → ℕ
-overFault f = pick (notOver (verdictOf f)) 0 11
-
 -- a sketch held from the blocks of a sheet: the writer's order, then 11
 unfoldable pub holdFault : Sheet → ℕ
-holdFault s = or-else (sheetFault s) (overFault (factsOf s))
+holdFault s = or-else (sheetFault s) (overFault (graphOf (factsOf s)))
 
 -- the sheet with that constraint last
 abbrev pub extended : Facts → Constraint → Facts
@@ -40,7 +28,7 @@ extended f c = record { elements = f .elements; constraints = f .constraints ++ 
 
 -- one more constraint after those of the facts, by 6 to 9 and 11
 unfoldable pub nextFault : Facts → Constraint → ℕ
-nextFault f c = or-else (constraintFault (f .elements) (f .constraints) c) (overFault (extended f c))
+nextFault f c = or-else (constraintFault (f .elements) (f .constraints) c) (overFault (graphOf (extended f c)))
 
 -- blocks that no sketch may hold are refused as they would be by holding them
 unfoldable pub addFault : Sheet → Constraint → ℕ
@@ -49,12 +37,12 @@ addFault s c = or-else (holdFault s) (nextFault (factsOf s) c)
 -- ---- the answer, and the sketch after it
 
 -- the rule that refuses, else the verdict
-abbrev pub asTaken : ℕ → verdicts.Verdict → Taken
-asTaken zero v = Is (asVerdict v)
+abbrev pub asTaken : ℕ → Verdict → Taken
+asTaken zero v = Is v
 asTaken (suc k) v = Refused (suc k)
 
 unfoldable pub addAnswer : Sheet → Constraint → Taken
-addAnswer s c = asTaken (addFault s c) (verdictOf (extended (factsOf s) c))
+addAnswer s c = asTaken (addFault s c) (verdictOf (graphOf (extended (factsOf s) c)))
 
 -- the constraint at place e, and e + 1 constraints
 unfoldable pub stored : Sheet → Constraint → Sheet

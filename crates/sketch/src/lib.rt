@@ -5,11 +5,12 @@ ghost use Prim.Native.Nat.{_<_};
 ghost use Rattle.sheet.specs.Facts.{factsOf};
 ghost use Rattle.sheet.specs.Rules.{constraintFault, sheetFault};
 ghost use Rattle.sheet.specs.Noted.{Noted};
-ghost use Rattle.sketch.specs.Sketch.{overFault, holdFault, stored, addedOf};
-use answer::Verdict;
+ghost use Rattle.sheet.specs.Graph.{graphOf, overFault};
+ghost use Rattle.sketch.specs.Sketch.{holdFault, stored, addedOf};
 use sheet::Constraint;
 use sheet::Sheet;
-use sparsity::Over;
+use theory::Finding;
+use theory::Verdict;
 
 // The answer to an addition: the verdict of the sketch with the constraint, or the rule that refuses it.
 pub enum Taken {
@@ -26,15 +27,15 @@ pub struct Added {
 // Rule 11: 11 of an over sheet, else 0.
 pub fn over_fault(s: Sheet) -> u8
     requires { ⌜ sheetFault s ≡ 0 ⌝ }
-    ensures { λ r. ⌜ r ≡ overFault (factsOf s) ⌝ }
+    ensures { λ r. ⌜ r ≡ overFault (graphOf (factsOf s)) ⌝ }
 {
     let found = judge::over_of(s);
     match found {
-        Over::First {
+        Finding::First {
             constraint: _,
             set: _,
         } => 11,
-        Over::Not => 0,
+        Finding::Fine => 0,
     }
 }
 

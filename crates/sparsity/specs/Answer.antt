@@ -1,22 +1,14 @@
--- The answer of the search, and what it keeps between two constraints. Assumes nothing.
+-- What the search keeps between two constraints. Assumes nothing.
 use mathlib.Core.Path.{_≡_}
 use mathlib.Core.List.{List}
 use Prim.Native.Nat.{ℕ, suc, _+_, _≤_, _<_}
 use lib.ListN.{getD}
 use Rattle.theory.specs.Set.{at}
 use Rattle.theory.specs.Constraints.{NotOver}
-use Rattle.theory.specs.Over.{Finding, fine, first}
 use Rattle.theory.specs.Over.Listed.{masks}
 use Rattle.sparsity.specs.Freedoms.{free, Table, Balanced, Closed}
 use Rattle.peeling.specs.Core.{Few}
-use Rattle.sparsity.specs.declared.Over.{Over}
-use Rattle.sparsity.specs.declared.Over.the-variants.{Not, First}
 pub mod Laws
-
--- document 01, "Verdict names: over": not over, or the first constraint and the smallest set
-unfoldable pub asOver : Finding → Over
-asOver fine = Not
-asOver (first c x) = First c x
 
 -- the constraints before c that lie in u use freedoms, and those before c are not over; once and twice hold every element of u that has one and two
 -- of them

@@ -11,7 +11,7 @@ ghost use Rattle.theory.specs.Over.Listed.{masks, Listed};
 ghost use Rattle.sparsity.specs.Freedoms.{same, free, Table, FreeBelow};
 ghost use Rattle.sparsity.specs.Reach.{item, Visit, Lent, Found, Way, Gained, Gathered, Placed};
 ghost use Rattle.peeling.specs.Core.{Core};
-ghost use Rattle.sparsity.specs.Answer.{asOver};
+use theory::Finding;
 
 // 1 where y is x, else 0.
 fn one_if_same(y: u8, x: u8) -> usize
@@ -189,12 +189,6 @@ fn place(own: [[u8; 2]; 64], a: u8, b: u8) -> [[u8; 2]; 64]
     t
 }
 
-// The answer of the search for an over set.
-pub enum Over {
-    Not,
-    First { constraint: usize, set: u64 },
-}
-
 // The set of two elements.
 fn pair_of(a: u8, b: u8) -> u64
     requires { ⌜ (a < 64) × (b < 64) ⌝ }
@@ -205,9 +199,9 @@ fn pair_of(a: u8, b: u8) -> u64
 
 // The first of e constraints that makes those up to it over, with the smallest set, where the sets within core tell. An end that has one constraint
 // at most takes the next without a search: once and twice are the elements with one and with two.
-fn search(firsts: &[u8; 200], seconds: &[u8; 200], e: usize, core: u64) -> Over
+fn search(firsts: &[u8; 200], seconds: &[u8; 200], e: usize, core: u64) -> Finding
     requires { ⌜ Listed (now firsts) (now seconds) e × Core (now firsts) (now seconds) e core ⌝ }
-    ensures { λ r. ⌜ ((n : ℕ) → Below n (masks (now (firsts .entry)) (now (seconds .entry)) e) → r ≡ asOver (overOf n (masks (now (firsts .entry)) (now (seconds .entry)) e))) ⌝ }
+    ensures { λ r. ⌜ ((n : ℕ) → Below n (masks (now (firsts .entry)) (now (seconds .entry)) e) → r ≡ overOf n (masks (now (firsts .entry)) (now (seconds .entry)) e)) ⌝ }
 {
     let mut own = all_free();
     let mut queue = [0u8; 64];
@@ -224,7 +218,7 @@ fn search(firsts: &[u8; 200], seconds: &[u8; 200], e: usize, core: u64) -> Over
                 let t = gather(own, &mut queue, &mut from, a, b);
                 if free_ends(t, a, b) < 4 {
                     let s = seek(t, &mut queue, &mut from, a, b);
-                    return Over::First {
+                    return Finding::First {
                         constraint: c,
                         set: s.seen,
                     };
@@ -238,17 +232,17 @@ fn search(firsts: &[u8; 200], seconds: &[u8; 200], e: usize, core: u64) -> Over
         }
         c = c + 1;
     }
-    Over::Not
+    Finding::Fine
 }
 
-// The first of e constraints that makes those up to it over, with the smallest set; Not where they are not over.
-pub fn find_over(firsts: &[u8; 200], seconds: &[u8; 200], e: usize) -> Over
+// The first of e constraints that makes those up to it over, with the smallest set; Fine where they are not over.
+pub fn find_over(firsts: &[u8; 200], seconds: &[u8; 200], e: usize) -> Finding
     requires { ⌜ Listed (now firsts) (now seconds) e ⌝ }
-    ensures { λ r. ⌜ ((n : ℕ) → Below n (masks (now (firsts .entry)) (now (seconds .entry)) e) → r ≡ asOver (overOf n (masks (now (firsts .entry)) (now (seconds .entry)) e))) ⌝ }
+    ensures { λ r. ⌜ ((n : ℕ) → Below n (masks (now (firsts .entry)) (now (seconds .entry)) e) → r ≡ overOf n (masks (now (firsts .entry)) (now (seconds .entry)) e)) ⌝ }
 {
     let core = peeling::core_of(firsts, seconds, e);
     if core == 0 {
-        return Over::Not;
+        return Finding::Fine;
     }
     search(firsts, seconds, e, core)
 }

@@ -3,7 +3,7 @@
 use mathlib.Core.Path.{_≡_}
 use mathlib.Core.Logic.{_⊎_}
 use mathlib.Core.Bool.{Bool, true, false}
-use mathlib.Core.List.{List, [], _∷_, map}
+use mathlib.Core.List.{List, [], _∷_}
 use Prim.Native.Nat.{ℕ, zero, _+_, _*_, _^_, _≤_, _<_}
 use lib.Dec.{eqb}
 use lib.Count.{ones}
@@ -12,26 +12,9 @@ pub mod Laws
 
 -- ---- constraints
 
--- the two ends of a constraint
-pub record Ends : Type 0 where
-  pub u : ℕ
-  pub v : ℕ
-
--- first end below second below n, in each constraint (Refused, rule 6)
-abbrev pub Sound : ℕ → List Ends → Type 0
-Sound n [] = Unit {0}
-Sound n (c ∷ l) = (c .u < c .v) × (c .v < n) × Sound n l
-
 -- the set of two elements
 unfoldable pub pair : ℕ → ℕ → ℕ
 pair u v = 2 ^ u ∪ 2 ^ v
-
--- constraint i begins as cluster i, the set of its two ends
-abbrev pub cluster : Ends → ℕ
-cluster c = pair (c .u) (c .v)
-
-abbrev pub clusters : List Ends → List ℕ
-clusters l = map cluster l
 
 -- x is one of the list
 abbrev pub Among : ℕ → List ℕ → Type 0

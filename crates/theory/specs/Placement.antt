@@ -9,28 +9,24 @@ use lib.IntN.{ℤ, pos, natAbs, _-ℤ_}
 use lib.ListN.{getD}
 use Rattle.theory.specs.Set.{_∩_}
 use Rattle.theory.specs.Merge.{Merge, slot, three, joint}
+use Rattle.theory.specs.declared.JointKind.{JointKind}
+use Rattle.theory.specs.declared.JointKind.the-variants.{Ppp, Ppl, Pll, Lll}
+use Rattle.theory.specs.declared.Ways.{Ways}
+use Rattle.theory.specs.declared.Ways.the-variants.{Known, Unknown}
 pub mod Laws
 
 -- ---- the kind after the joint
 
-pub data JointKind : Type 0 where
-  ppp ppl pll lll : JointKind
-
 abbrev pub withLines : ℕ → JointKind
-withLines zero = ppp
-withLines (suc zero) = ppl
-withLines (suc (suc zero)) = pll
-withLines (suc (suc (suc l))) = lll
+withLines zero = Ppp
+withLines (suc zero) = Ppl
+withLines (suc (suc zero)) = Pll
+withLines (suc (suc (suc l))) = Lll
 
 unfoldable pub jointKind : ℕ → ℕ → JointKind
 jointKind lines j = withLines (ones (j ∩ lines))
 
 -- ---- the placements
-
--- known with its number, or "?"
-pub data Ways : Type 0 where
-  known : ℕ → Ways
-  unknown : Ways
 
 -- x above y gives 0, equal 1, below 2
 abbrev pub byOrder : Bool → Bool → ℕ
@@ -60,10 +56,10 @@ stripOf lines a b x y z =
 
 -- by kind, from two of the three constraints and the three sizes
 unfoldable pub placed : ℕ → JointKind → ℕ → ℕ → ℤ → ℤ → ℤ → Ways
-placed lines ppp a b x y z = known (triangle (natAbs x) (natAbs y) (natAbs z))
-placed lines ppl a b x y z = known (stripOf lines a b x y z)
-placed lines pll a b x y z = known 1
-placed lines lll a b x y z = unknown
+placed lines Ppp a b x y z = Known (triangle (natAbs x) (natAbs y) (natAbs z))
+placed lines Ppl a b x y z = Known (stripOf lines a b x y z)
+placed lines Pll a b x y z = Known 1
+placed lines Lll a b x y z = Unknown
 
 -- the size of constraint i
 abbrev pub sizeAt : List ℤ → ℕ → ℤ
@@ -79,5 +75,5 @@ ways lines e sizes s m =
     elim (initial e m) [
       | true ↦
           placed lines (jointKind lines (joint (three s m))) (slot s (m .i)) (slot s (m .j)) (sizeAt sizes (m .i)) (sizeAt sizes (m .j)) (sizeAt sizes (m .k))
-      | false ↦ unknown
+      | false ↦ Unknown
     ]

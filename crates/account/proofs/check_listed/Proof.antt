@@ -1,16 +1,13 @@
 use borrow.Author.Needs.{needs}
 use Prim.Native.Nat.{ℕ}
 use native.Mathlib.Omega.{arith}
-use mathlib.Core.Path.{_≡_, refl, sym, ap, _∙_, subst}
+use mathlib.Core.Path.{_≡_, sym, ap, _∙_, subst}
 use mathlib.Core.List.{List}
-use lib.ListN.{length}
 use Rattle.sheet.specs.Facts.{factsOf}
-use Rattle.sheet.specs.Graph.{clustersOf}
+use Rattle.sheet.specs.Graph.{graphOf}
 use Rattle.theory.specs.Constraints.{NotOver}
 use Rattle.theory.specs.Over.Laws.{overOf-fine}
-use Rattle.plans.specs.declared.Checked.{Checked}
 use Rattle.plans.specs.Check.{checkOf}
-use Rattle.account.specs.Account.{Merged}
 use Rattle.judge.specs.Listing.Blocks.{passed-blocks}
 use Rattle.account.specs.Account.Laws.{Fit, fit}
 use Rattle.account.specs.Account.Answers.{saved-refused, Took, saved-taken}
@@ -43,7 +40,7 @@ enum-told : tie.Need-enum-told
 enum-told c = search needs
 
 -- what the check answers is the definition's, of the sheet's constraints
-checked : (c : tie.After-check-plan) → c .check-plan .result ≡ checkOf (clustersOf (factsOf (c .before .before .before .before .before .args .s))) (c .before .before .before .before .before .args .plan .now)
+checked : (c : tie.After-check-plan) → c .check-plan .result ≡ checkOf (graphOf (factsOf (c .before .before .before .before .before .args .s)) .clusters) (c .before .before .before .before .before .args .plan .now)
 checked c =
     let o = c .before .before .before .before .before in
     c .check-plan .ensures
@@ -53,9 +50,9 @@ module _ (c : tie.After-put-list-arg) where
   abbrev start : tie.Start
   start = c .before .before .before .before .before .before .before .before .before
 
-  took : Took (factsOf (start .args .s)) (start .args .plan .now) (start .args .out .now) (start .pre .1) (c .before .before .before .before .check-plan .result) (checked (c .before .before .before .before))
+  took : Took (graphOf (factsOf (start .args .s))) (start .args .plan .now) (start .args .out .now) (start .pre .1) (c .before .before .before .before .check-plan .result) (checked (c .before .before .before .before))
   took =
-      saved-taken (factsOf (start .args .s)) (start .args .plan .now) (start .args .out .now) (start .pre .1) (c .before .before .before .before .check-plan .result) (checked (c .before .before .before .before))
+      saved-taken (graphOf (factsOf (start .args .s))) (start .args .plan .now) (start .args .out .now) (start .pre .1) (c .before .before .before .before .check-plan .result) (checked (c .before .before .before .before))
       (c .before .enum-told .given .1)
 
 put-list-requires : tie.Need-put-list-requires
@@ -66,7 +63,7 @@ returns c =
     let o = c .before .before .before .before .before .before .before .before .before in
     let k = c .before .before .before .before in
     let g = c .before .outcome .given in
-    saved-refused (factsOf (o .args .s)) (o .args .plan .now) (o .args .out .now) (o .pre .1) (k .check-plan .result) (checked k) (g .0 .0) (g .1)
+    saved-refused (graphOf (factsOf (o .args .s))) (o .args .plan .now) (o .args .out .now) (o .pre .1) (k .check-plan .result) (checked k) (g .0 .0) (g .1)
 
 same-length : tie.Need-same-length
 same-length c = search needs

@@ -1,12 +1,7 @@
 use borrow.Author.Needs.{needs}
-use Prim.Native.Nat.{ℕ}
-use native.Mathlib.Omega.{arith}
-use mathlib.Core.Path.{_≡_, refl, sym, ap, _∙_}
-use mathlib.Core.List.{List}
-use lib.ListN.{length, length-map}
-use Rattle.theory.specs.Over.{overOf}
+use mathlib.Core.Path.{sym, _∙_}
 use Rattle.sheet.specs.Facts.{factsOf}
-use Rattle.judge.specs.Judged.Found.{found-none, found-first}
+use Rattle.sheet.specs.Graph.{graphOf}
 use Rattle.account.specs.Account.Answers.{saved-over}
 use Rattle.account.proofs.check_plan.Statement.{statement}
 use Rattle.account.proofs.check_plan.Tie as tie
@@ -25,14 +20,14 @@ returns c =
     let o = c .before .before .before .before .before in
     let r = c .before .before .over-of in
     let g = c .enum-told2 .given in
-    saved-over (factsOf (o .args .s)) (o .args .plan .now) (o .args .out .now) (g .0 .0) (g .0 .1 .0)
-    (found-first (factsOf (o .args .s)) (r .result) (r .ensures) (g .0 .0) (g .0 .1 .0) (g .1))
+    saved-over (graphOf (factsOf (o .args .s))) (o .args .plan .now) (o .args .out .now) (g .0 .0) (g .0 .1 .0)
+    (sym (r .ensures) ∙ g .1)
 
 check-listed-requires : tie.Need-check-listed-requires
 check-listed-requires c κs =
     let o = c .before .before .before .before .before .before in
     let r = c .before .before .before .over-of in
-    (o .pre, found-none (factsOf (o .args .s)) (r .result) (r .ensures) (c .before .enum-told .given .1))
+    (o .pre, sym (r .ensures) ∙ c .before .enum-told .given .1)
 
 same-length : tie.Need-same-length
 same-length c = search needs

@@ -1,14 +1,9 @@
 use borrow.Author.Needs.{needs}
 use Prim.Native.Nat.{ℕ, _≤_}
 use native.Mathlib.Omega.{arith}
-use mathlib.Core.Path.{_≡_, refl, sym, ap, _∙_}
+use mathlib.Core.Path.{ap, _∙_}
 use mathlib.Core.List.{List}
-use Rattle.theory.specs.Merge.{Merge, Valid}
-use Rattle.sheet.specs.Facts.{factsOf}
-use Rattle.sheet.specs.Graph.{clustersOf}
 use Rattle.space.specs.Space.{answer, after}
-use Rattle.merges.specs.Run.{runOf}
-use Rattle.account.specs.Account.{listReport}
 use Rattle.judge.specs.Listing.Blocks.{passed-blocks}
 use Rattle.account.specs.Account.Laws.{Fit, fit, Told, steps-half, steps-most, knots-long, slots-long, reported, all-small, not-long}
 use Rattle.account.proofs.put_list.Statement.{statement}

@@ -1,14 +1,16 @@
 use borrow.Author.Needs.{needs}
 use Prim.Native.Nat.{ℕ}
 use native.Mathlib.Omega.{arith}
-use mathlib.Core.Path.{_≡_, refl, sym, ap, _∙_}
+use mathlib.Core.Path.{_≡_, sym, ap, _∙_}
 use mathlib.Core.List.{List}
 use lib.ListN.{length}
-use Rattle.sheet.specs.Facts.{Facts, factsOf}
+use Rattle.theory.specs.Graph.{Graph}
+use Rattle.sheet.specs.Facts.{factsOf}
+use Rattle.sheet.specs.Graph.{graphOf}
+use Rattle.sheet.specs.Graph.Laws.{length-clusters}
 use Rattle.space.specs.Space.{answer, after}
-use Rattle.judge.specs.Judged.Laws.{length-clusters}
 use Rattle.report.specs.Report.{overReport}
-use Rattle.account.specs.Account.{Merged, reportOf}
+use Rattle.account.specs.Account.{reportOf}
 use Rattle.judge.specs.Listing.Blocks.{Blocks, passed-blocks}
 use Rattle.account.specs.Account.Answers.{OverFound, over-found, PlanFound, plan-found}
 use Rattle.account.proofs.report.Statement.{statement}
@@ -30,9 +32,9 @@ module _ (c : tie.After-write-over-report-arg) where
   abbrev start-over : tie.Start
   start-over = c .before .before .before .before .before
 
-  over : OverFound (factsOf (start-over .args .s)) (fine start-over .paired) (fine start-over .below) (c .before .before .before .judge .result) (c .before .before .before .judge .ensures)
+  over : OverFound (graphOf (factsOf (start-over .args .s))) (fine start-over .paired) (fine start-over .below) (c .before .before .before .judge .result) (c .before .before .before .judge .ensures)
   over =
-      over-found (factsOf (start-over .args .s)) (fine start-over .paired) (fine start-over .below) (c .before .before .before .judge .result) (c .before .before .before .judge .ensures)
+      over-found (graphOf (factsOf (start-over .args .s))) (fine start-over .paired) (fine start-over .below) (c .before .before .before .judge .result) (c .before .before .before .judge .ensures)
       (sym (c .before .before .number .ensures) ∙ c .before .if1 .taken)
 
 write-over-report-requires : tie.Need-write-over-report-requires
@@ -43,19 +45,20 @@ write-over-report-requires c κs =
 same-length : tie.Need-same-length
 same-length c = search needs
 
-same : {A : Type 0} (g : List ℕ → A) (f : Facts) (n e c x : ℕ) → length (f .elements) ≡ n → length (f .constraints) ≡ e
-    → overReport (length (f .elements)) (length (f .constraints)) c x ≡ reportOf f → g (overReport n e c x) ≡ g (reportOf f)
-same g f n e c x p q h = ap g (rw (p, q) at h)
+same : {A : Type 0} (h : List ℕ → A) (g : Graph) (n e c x : ℕ) → g .n ≡ n → length (g .clusters) ≡ e
+    → overReport (g .n) (length (g .clusters)) c x ≡ reportOf g → h (overReport n e c x) ≡ h (reportOf g)
+same h g n e c x p q r = ap h (rw (p, q) at r)
 
 returns : tie.Need-returns
 returns c =
     let a = c .before .before .before in
     let o = start-over a in
     let b = fine o in
+    let f = factsOf (o .args .s) in
     let w = c .before .before .write-over-report .ensures in
     let s = o .args .out .now in (
-      w .0 ∙ same (λ l. answer l s) (factsOf (o .args .s)) _ _ _ _ (b .elements-count) (b .count) (over a .report-is),
-      w .1 ∙ same (λ l. after l s) (factsOf (o .args .s)) _ _ _ _ (b .elements-count) (b .count) (over a .report-is),
+      w .0 ∙ same (λ l. answer l s) (graphOf f) _ _ _ _ (b .elements-count) (length-clusters f ∙ b .count) (over a .report-is),
+      w .1 ∙ same (λ l. after l s) (graphOf f) _ _ _ _ (b .elements-count) (length-clusters f ∙ b .count) (over a .report-is),
     )
 
 -- not over
@@ -63,9 +66,9 @@ module _ (c : tie.After-put-list-arg) where
   abbrev start-plan : tie.Start
   start-plan = c .before .before .before .before .before .before
 
-  plan : PlanFound (factsOf (start-plan .args .s)) (fine start-plan .paired) (fine start-plan .below) (c .before .before .before .before .judge .result) (c .before .before .before .before .judge .ensures)
+  plan : PlanFound (graphOf (factsOf (start-plan .args .s))) (fine start-plan .paired) (fine start-plan .below) (c .before .before .before .before .judge .result) (c .before .before .before .before .judge .ensures)
   plan =
-      plan-found (factsOf (start-plan .args .s)) (fine start-plan .paired) (fine start-plan .below) (c .before .before .before .before .judge .result) (c .before .before .before .before .judge .ensures)
+      plan-found (graphOf (factsOf (start-plan .args .s))) (fine start-plan .paired) (fine start-plan .below) (c .before .before .before .before .judge .result) (c .before .before .before .before .judge .ensures)
       (λ v. c .before .before .if1 .left (c .before .before .before .number .ensures ∙ v))
 
 put-list-requires : tie.Need-put-list-requires

@@ -1,123 +1,106 @@
 -- What a judgement and the check of a saved plan say of the report. Assumes nothing.
-use Prim.Native.Nat.{ℕ, zero, suc, _+_, _*_, _<_}
+use Prim.Native.Nat.{ℕ, zero, suc, _<_}
 use native.Mathlib.Omega.{arith}
-use mathlib.Core.Path.{_≡_, refl, sym, ap, _∙_, subst}
+use mathlib.Core.Path.{_≡_, refl, sym, ap, _∙_}
 use mathlib.Core.Logic.{_≢_}
-use mathlib.Core.Bool.{Bool, true, false}
 use mathlib.Core.List.{List}
-use lib.Dec.{eqb}
 use lib.ListN.{length}
 use Rattle.theory.specs.Constraints.{Pairs, Below, NotOver}
-use Rattle.theory.specs.Over.{Finding, fine, first, overOf}
 use Rattle.theory.specs.Over.Laws.{overOf-fine, overOf-first}
-use Rattle.theory.specs.Merge.{Merge, Valid, joints, left, final}
+use Rattle.theory.specs.Merge.{Valid}
 use Rattle.theory.specs.Plan.{planOf}
 use Rattle.theory.specs.Plan.Laws.{plan-of-maximal}
-use Rattle.theory.specs.Verdict as verdicts
-use Rattle.theory.specs.Verdict.{angled, judged, listVerdict}
-use Rattle.sheet.specs.Facts.{Facts, linesOf}
-use Rattle.sheet.specs.Graph.{clustersOf}
+use Rattle.theory.specs.Verdict.{verdictNumber}
 use Rattle.space.specs.declared.Written.the-variants.{Refused}
 use Rattle.space.specs.Space.{answer, after}
-use Rattle.answer.specs.Answer.{asVerdict, verdictNumber}
+use Rattle.theory.specs.declared.Finding.{Finding}
+use Rattle.theory.specs.declared.Finding.the-variants.{Fine, First}
+use Rattle.theory.specs.Graph.{Graph, findingOf}
+use Rattle.theory.specs.Graph.Laws.{list-not-over}
+use Rattle.theory.specs.Verdict.Laws.{number-over}
+use Rattle.sheet.specs.Graph.{overFault}
 use Rattle.merges.specs.Run.{runOf}
-use Rattle.merges.specs.declared.Run.{Run}
 use Rattle.judge.specs.declared.Judged.{Judged}
 use Rattle.judge.specs.Judged.{listed, overFound, judgedBy, judgedOf}
-use Rattle.plans.specs.declared.Outcome.{Outcome}
 use Rattle.plans.specs.declared.Outcome.the-variants.{Accepted, Refused as Stopped}
 use Rattle.plans.specs.declared.Checked.{Checked}
 use Rattle.plans.specs.Check.{savedSteps, planFault, answerOf, checkOf}
 use Rattle.plans.specs.Check.Laws.{accepted-maximal}
 use Rattle.report.specs.Report.{overReport}
-use Rattle.account.specs.Account.{Merged, listReport, reportBy, reportOf, faultBy, savedFault, answerBy, afterBy, savedAnswer, savedAfter}
-
--- the verdict of a list of merges is never over
-pub later-name : (lines n e : ℕ) (js : List ℕ) (l : ℕ) → verdictNumber (asVerdict (judged lines n e js l)) ≢ 0
-unfolding judged
-later-name lines n e js l = go (angled lines js) (eqb (e + 3) (2 * n)) (eqb l 1)
-  where
-    go : (a b c : Bool)
-        → _≢_ {A = ℕ} (verdictNumber (asVerdict (elim a [
-          | true ↦ verdicts.angle
-          | false ↦ elim b [ true ↦ elim c [ true ↦ verdicts.well | false ↦ verdicts.stuck ] | false ↦ verdicts.under ]
-        ]))) 0
-    go true b c h = omega arith
-    go false true true h = omega arith
-    go false true false h = omega arith
-    go false false c h = omega arith
+use Rattle.account.specs.Account.{listReport, reportBy, reportOf, savedFault, answerBy, afterBy, savedAnswer, savedAfter}
 
 -- ---- the judgement
 
-module _ (f : Facts) (paired : Pairs (clustersOf f)) (below : Below (length (f .elements)) (clustersOf f)) (j : Judged) (e : j ≡ judgedOf f) where
+module _ (g : Graph) (paired : Pairs (g .clusters)) (below : Below (g .n) (g .clusters)) (j : Judged) (e : j ≡ judgedOf g) where
   -- an over sheet
   pub record OverFound : Type 0 where
-    pub first-below : j .first < length (clustersOf f)
-    pub report-is : overReport (length (f .elements)) (length (f .constraints)) (j .first) (j .set) ≡ reportOf f
+    pub first-below : j .first < length (g .clusters)
+    pub report-is : overReport (g .n) (length (g .clusters)) (j .first) (j .set) ≡ reportOf g
 
   pub over-found : verdictNumber (j .verdict) ≡ 0 → OverFound
-  unfolding judgedOf reportOf listed listVerdict
-  over-found v = go (overOf (length (f .elements)) (clustersOf f)) refl
+  unfolding judgedOf reportOf listed
+  over-found v = go (findingOf g) refl
     where
-      go : (o : Finding) → overOf (length (f .elements)) (clustersOf f) ≡ o → OverFound
-      go fine q = absurd (later-name (linesOf (f .elements)) (length (f .elements)) (length (clustersOf f)) (joints (clustersOf f) (planOf (clustersOf f))) (left (final (clustersOf f) (planOf (clustersOf f)))) (sym (ap (λ (x : Judged). verdictNumber (x .verdict)) (e ∙ ap (judgedBy f) q)) ∙ v))
-      go (first c x) q =
-          let i : j ≡ overFound c x = e ∙ ap (judgedBy f) q in
+      go : (o : Finding) → findingOf g ≡ o → OverFound
+      go Fine q =
+          absurd (list-not-over g (planOf (g .clusters)) (number-over _ (sym (ap (λ (x : Judged). verdictNumber (x .verdict)) (e ∙ ap (judgedBy g) q)) ∙ v)))
+      go (First c x) q =
+          let i : j ≡ overFound c x = e ∙ ap (judgedBy g) q in
           record {
-            first-below = rw i (omega (arith, overOf-first (length (f .elements)) (clustersOf f) paired below c x q .listed));
-            report-is = ap (λ (y : Judged). overReport (length (f .elements)) (length (f .constraints)) (y .first) (y .set)) i ∙ sym (ap (reportBy f) q);
+            first-below = rw i (omega (arith, overOf-first (g .n) (g .clusters) paired below c x q .listed));
+            report-is = ap (λ (y : Judged). overReport (g .n) (length (g .clusters)) (y .first) (y .set)) i ∙ sym (ap (reportBy g) q);
           }
 
   -- one that is not
   pub record PlanFound : Type 0 where
-    pub notOver : NotOver (clustersOf f)
-    pub valid : Valid (clustersOf f) (planOf (clustersOf f))
-    pub is : j .run ≡ runOf (clustersOf f) (planOf (clustersOf f))
-    pub report-is : listReport f (planOf (clustersOf f)) ≡ reportOf f
+    pub notOver : NotOver (g .clusters)
+    pub valid : Valid (g .clusters) (planOf (g .clusters))
+    pub is : j .run ≡ runOf (g .clusters) (planOf (g .clusters))
+    pub report-is : listReport g (planOf (g .clusters)) ≡ reportOf g
 
   pub plan-found : verdictNumber (j .verdict) ≢ 0 → PlanFound
   unfolding judgedOf reportOf listed
-  plan-found v = go (overOf (length (f .elements)) (clustersOf f)) refl
+  plan-found v = go (findingOf g) refl
     where
-      go : (o : Finding) → overOf (length (f .elements)) (clustersOf f) ≡ o → PlanFound
-      go fine q = record {
-        notOver = overOf-fine (length (f .elements)) (clustersOf f) paired below q;
-        valid = plan-of-maximal (clustersOf f) paired .valid;
-        is = ap (λ (x : Judged). x .run) (e ∙ ap (judgedBy f) q);
-        report-is = sym (ap (reportBy f) q);
+      go : (o : Finding) → findingOf g ≡ o → PlanFound
+      go Fine q = record {
+        notOver = overOf-fine (g .n) (g .clusters) paired below q;
+        valid = plan-of-maximal (g .clusters) paired .valid;
+        is = ap (λ (x : Judged). x .run) (e ∙ ap (judgedBy g) q);
+        report-is = sym (ap (reportBy g) q);
       }
-      go (first c x) q = absurd (v (ap (λ (x : Judged). verdictNumber (x .verdict)) (e ∙ ap (judgedBy f) q)))
+      go (First c x) q = absurd (v (ap (λ (x : Judged). verdictNumber (x .verdict)) (e ∙ ap (judgedBy g) q)))
 
 -- ---- the check of a saved plan
 
-module _ (f : Facts) (l space : List ℕ) where
-  pub saved-over : (c x : ℕ) → overOf (length (f .elements)) (clustersOf f) ≡ first c x → (Refused 11 ≡ savedAnswer f l space) × (space ≡ savedAfter f l space)
-  unfolding savedAnswer savedAfter savedFault
+module _ (g : Graph) (l space : List ℕ) where
+  pub saved-over : (c x : ℕ) → findingOf g ≡ First c x → (Refused 11 ≡ savedAnswer g l space) × (space ≡ savedAfter g l space)
+  unfolding savedAnswer savedAfter savedFault overFault
   saved-over c x q = rw q (refl, refl)
 
-  module _ (q : overOf (length (f .elements)) (clustersOf f) ≡ fine) (r : Checked) (e : r ≡ checkOf (clustersOf f) l) where
-    pub saved-refused : (k : ℕ) → r .outcome ≡ Stopped k → (Refused k ≡ savedAnswer f l space) × (space ≡ savedAfter f l space)
-    unfolding savedAnswer savedAfter savedFault checkOf
-    saved-refused k o = rw q (go (planFault (clustersOf f) l) (sym o ∙ ap (λ (x : Checked). x .outcome) e))
+  module _ (q : findingOf g ≡ Fine) (r : Checked) (e : r ≡ checkOf (g .clusters) l) where
+    pub saved-refused : (k : ℕ) → r .outcome ≡ Stopped k → (Refused k ≡ savedAnswer g l space) × (space ≡ savedAfter g l space)
+    unfolding savedAnswer savedAfter savedFault overFault checkOf
+    saved-refused k o = rw q (go (planFault (g .clusters) l) (sym o ∙ ap (λ (x : Checked). x .outcome) e))
       where
-        go : (rule : ℕ) → Stopped k ≡ answerOf rule (runOf (clustersOf f) (savedSteps l)) .outcome → (Refused k ≡ answerBy f l space rule) × (space ≡ afterBy f l space rule)
+        go : (rule : ℕ) → Stopped k ≡ answerOf rule (runOf (g .clusters) (savedSteps l)) .outcome → (Refused k ≡ answerBy g l space rule) × (space ≡ afterBy g l space rule)
         go zero h = absurd (let z : _≡_ {A = ℕ} 0 1 = cc in omega arith)
         go (suc rule) h = let n : k ≡ suc rule = cc in (ap Refused n, refl)
 
     pub record Took : Type 0 where
-      pub valid : Valid (clustersOf f) (savedSteps l)
-      pub is : r .run ≡ runOf (clustersOf f) (savedSteps l)
-      pub answer-is : answer (listReport f (savedSteps l)) space ≡ savedAnswer f l space
-      pub after-is : after (listReport f (savedSteps l)) space ≡ savedAfter f l space
+      pub valid : Valid (g .clusters) (savedSteps l)
+      pub is : r .run ≡ runOf (g .clusters) (savedSteps l)
+      pub answer-is : answer (listReport g (savedSteps l)) space ≡ savedAnswer g l space
+      pub after-is : after (listReport g (savedSteps l)) space ≡ savedAfter g l space
 
     pub saved-taken : r .outcome ≡ Accepted → Took
-    unfolding savedAnswer savedAfter savedFault checkOf
-    saved-taken o = go (planFault (clustersOf f) l) refl (sym o ∙ ap (λ (x : Checked). x .outcome) e)
+    unfolding savedAnswer savedAfter savedFault overFault checkOf
+    saved-taken o = go (planFault (g .clusters) l) refl (sym o ∙ ap (λ (x : Checked). x .outcome) e)
       where
-        go : (rule : ℕ) → planFault (clustersOf f) l ≡ rule → Accepted ≡ answerOf rule (runOf (clustersOf f) (savedSteps l)) .outcome → Took
+        go : (rule : ℕ) → planFault (g .clusters) l ≡ rule → Accepted ≡ answerOf rule (runOf (g .clusters) (savedSteps l)) .outcome → Took
         go zero p h = record {
-          valid = accepted-maximal (clustersOf f) l .0 p .1 .valid;
-          is = ap (λ (x : Checked). x .run) (e ∙ ap (λ (k : ℕ). answerOf k (runOf (clustersOf f) (savedSteps l))) p);
+          valid = accepted-maximal (g .clusters) l .0 p .1 .valid;
+          is = ap (λ (x : Checked). x .run) (e ∙ ap (λ (k : ℕ). answerOf k (runOf (g .clusters) (savedSteps l))) p);
           answer-is = rw (q, p);
           after-is = rw (q, p);
         }

@@ -1,24 +1,24 @@
 -- The report of a list of merges, from the arrays that hold the list. Assumes nothing.
-use Prim.Native.Nat.{ℕ, zero, suc, _+_, _-_, _*_, _≤_, _<_}
+use Prim.Native.Nat.{ℕ, zero, suc, _+_, _-_, _*_, _≤_}
 use native.Mathlib.Omega.{arith}
 use mathlib.Core.Path.{_≡_, refl, sym, ap, _∙_, subst}
 use mathlib.Core.Bool.{true, false, _&&_}
 use mathlib.Core.List.{List, [], _∷_, _++_, map}
 use lib.Dec.{ltb}
 use lib.IntN.{ℤ, pos}
-use lib.ListN.{length, getD, take, replicate, length-map, length-append, length-replicate}
-use Rattle.theory.specs.Constraints.{NotOver, Pairs, Below}
-use Rattle.theory.specs.Merge.{Merge, merge, slot, Valid, final}
-use Rattle.theory.specs.Verdict.{judged, listVerdict}
-use Rattle.theory.specs.Placement as placement
+use lib.ListN.{length, getD, take, replicate, length-append, length-replicate}
+use Rattle.theory.specs.Constraints.{NotOver}
+use Rattle.theory.specs.Merge.{Merge, slot, Valid, final, left}
+use Rattle.theory.specs.Verdict.{judged}
 use Rattle.theory.specs.Placement.{placed, jointKind}
 use Rattle.sheet.specs.declared.Sheet.{Sheet}
-use Rattle.sheet.specs.Facts.{Facts, factsOf, block, linesOf}
-use Rattle.sheet.specs.Rules.{sheetFault}
-use Rattle.sheet.specs.Graph.{clustersOf, sizesOf}
-use Rattle.answer.specs.declared.Verdict.{Verdict}
-use Rattle.answer.specs.declared.Step.{Step}
-use Rattle.answer.specs.Answer.{asVerdict, asKind, asWays, stepsOf}
+use Rattle.sheet.specs.Facts.{Facts, factsOf, block}
+use Rattle.sheet.specs.Graph.{graphOf}
+use Rattle.sheet.specs.Graph.Laws.{length-clusters}
+use Rattle.theory.specs.declared.Verdict.{Verdict}
+use Rattle.theory.specs.declared.Ways.the-variants.{Unknown}
+use Rattle.theory.specs.declared.Step.{Step}
+use Rattle.theory.specs.Graph.{listVerdict, stepsOf}
 use Rattle.graph.specs.Arrays.{constraintSize, endPair, EndsBelow64}
 use Rattle.merges.specs.Held.{padded}
 use Rattle.merges.specs.Run.{Begun, runOf}
@@ -29,23 +29,23 @@ use Rattle.engine.specs.Steps.Laws.{stepped-are}
 use Rattle.judge.specs.Listing.Blocks.{Blocks}
 use Rattle.judge.specs.declared.Judged.{Judged}
 use Rattle.judge.specs.Judged.{listed}
-use Rattle.judge.specs.Judged.Laws.{few, ends-below-64, begun, begun-list, take-padded, length-clusters, steps-few, joints-long, settled}
+use Rattle.judge.specs.Judged.Laws.{few, ends-below-64, begun, begun-list, take-padded, steps-few, joints-long, settled}
 use Rattle.report.specs.Report.{report}
 use Rattle.report.specs.Pieces.{AllSmall}
 use Rattle.report.specs.Report.Bound.{report-most, small-steps}
-use Rattle.account.specs.Account.{Merged, listReport}
+use Rattle.account.specs.Account.{listReport}
 
 -- ---- a sheet that no rule refuses and that is not over
 
 pub record Fit (s : Sheet) : Type 0 where
   pub sheet : Blocks s
-  pub notOver : NotOver (clustersOf (factsOf s))
+  pub notOver : NotOver (graphOf (factsOf s) .clusters)
   pub few-constraints : s .e ≤ 125
   pub ends : EndsBelow64 (factsOf s .constraints)
   pub begins : (slots : List ℕ) → slots ≡ block 192 0 (map endPair (factsOf s .constraints)) → Begun slots (s .e)
-  pub begins-list : (slots : List ℕ) → slots ≡ block 192 0 (map endPair (factsOf s .constraints)) → take (s .e) slots ≡ clustersOf (factsOf s)
+  pub begins-list : (slots : List ℕ) → slots ≡ block 192 0 (map endPair (factsOf s .constraints)) → take (s .e) slots ≡ graphOf (factsOf s) .clusters
 
-pub fit : (s : Sheet) → Blocks s → NotOver (clustersOf (factsOf s)) → Fit s
+pub fit : (s : Sheet) → Blocks s → NotOver (graphOf (factsOf s) .clusters) → Fit s
 fit s b fine =
     let f = factsOf s in
     record {
@@ -84,11 +84,11 @@ sizes-same lines e a b cs made parts knots t g =
       j = j;
       k = k;
       joint = x;
-      kind = asKind (jointKind lines x);
-      ways = asWays (elim (ltb i e && (ltb j e && ltb k e)) [
+      kind = jointKind lines x;
+      ways = elim (ltb i e && (ltb j e && ltb k e)) [
         | true ↦ placed lines (jointKind lines x) (slot cs i) (slot cs j) (g i z) (g j z) (g k z)
-        | false ↦ placement.unknown
-      ]);
+        | false ↦ Unknown
+      ];
     }
 
 stepped-sizes : (lines e : ℕ) (a b : List ℤ) (cs : List ℕ) (run : Run) (steps : List Step) → ((i : ℕ) → getD a i (pos 0) ≡ getD b i (pos 0))
@@ -103,13 +103,13 @@ stepped-sizes lines e a b cs run steps g h = record {
 
 -- what is made of the arrays of a sheet and of a run
 pub record Told (s : Sheet) (run : Run) (lines : ℕ) (v : Verdict) (start : List ℕ) (sizes : List ℤ) (steps : List Step) : Type 0 where
-  pub lines-are : lines ≡ linesOf (factsOf s .elements)
-  pub v-is : v ≡ asVerdict (judged lines (s .n) (s .e) (take (run .steps) (run .joints)) (s .e - 2 * run .steps))
+  pub lines-are : lines ≡ graphOf (factsOf s) .lines
+  pub v-is : (finals : List ℕ) → left finals + 2 * run .steps ≡ s .e → v ≡ judged lines (s .n) (s .e) (take (run .steps) (run .joints)) finals
   pub start-is : start ≡ block 192 0 (map endPair (factsOf s .constraints))
   pub sizes-are : sizes ≡ block 200 (pos 0) (map constraintSize (factsOf s .constraints))
   pub stepped : Stepped lines (s .e) sizes start run steps
 
-module _ (s : Sheet) (h : Fit s) (p : List Merge) (valid : Valid (clustersOf (factsOf s)) p) (run : Run) (is : run ≡ runOf (clustersOf (factsOf s)) p) where
+module _ (s : Sheet) (h : Fit s) (p : List Merge) (valid : Valid (graphOf (factsOf s) .clusters) p) (run : Run) (is : run ≡ runOf (graphOf (factsOf s) .clusters) p) where
   abbrev f : Facts
   f = factsOf s
 
@@ -126,46 +126,48 @@ module _ (s : Sheet) (h : Fit s) (p : List Merge) (valid : Valid (clustersOf (fa
   unfolding runOf
   steps-are = ap (λ (r : Run). r .steps) is
 
-  final-long : length (final (clustersOf f) p) ≡ s .e + run .steps
-  final-long = length-final p (clustersOf f) ∙ rw (length-clusters f, h .sheet .count, steps-are)
+  final-long : length (final (graphOf f .clusters) p) ≡ s .e + run .steps
+  final-long = length-final p (graphOf f .clusters) ∙ rw (length-clusters f, h .sheet .count, steps-are)
 
-  slots-are : run .slots ≡ padded 192 (final (clustersOf f) p)
+  slots-are : run .slots ≡ padded 192 (final (graphOf f .clusters) p)
   unfolding runOf
   slots-are = ap (λ (r : Run). r .slots) is
 
   pub slots-long : length (run .slots) ≡ 192
   slots-long = rw (slots-are, length-append, length-replicate) (omega (arith, final-long, steps-most, h .few-constraints))
 
-  finals : take (s .e + run .steps) (run .slots) ≡ final (clustersOf f) p
-  finals = ap (take (s .e + run .steps)) slots-are ∙ take-padded 192 (final (clustersOf f) p) (s .e + run .steps) (sym final-long)
+  finals : take (s .e + run .steps) (run .slots) ≡ final (graphOf f .clusters) p
+  finals = ap (take (s .e + run .steps)) slots-are ∙ take-padded 192 (final (graphOf f .clusters) p) (s .e + run .steps) (sym final-long)
 
   -- what they give is the list's own
   module _ (lines : ℕ) (v : Verdict) (start : List ℕ) (sizes : List ℤ) (steps : List Step) (t : Told s run lines v start sizes steps) where
-    verdict-is : v ≡ asVerdict (listVerdict (linesOf (f .elements)) (length (f .elements)) (clustersOf f) p)
+    verdict-is : v ≡ listVerdict (graphOf f) p
     unfolding listed
     verdict-is =
         ap (λ (j : Judged). j .verdict) (settled f p (h .sheet .paired) valid run is lines (s .n) (s .e) v (t .lines-are) (sym (h .sheet .elements-count)) (sym (h .sheet .count)) (t .v-is))
 
-    pub steps-list : take (run .steps) steps ≡ stepsOf (linesOf (f .elements)) (s .e) (sizesOf f) (clustersOf f) p
+    pub steps-list : take (run .steps) steps ≡ stepsOf (graphOf f) p
     steps-list =
-        stepped-are lines (s .e) (sizesOf f) (clustersOf f) p run start steps valid is (length-clusters f ∙ h .sheet .count)
-        (h .begins start (t .start-is) .are ∙ ap (padded 192) (h .begins-list start (t .start-is))) (omega (arith, steps-most, steps-are))
-        (stepped-sizes lines (s .e) sizes (sizesOf f) start run steps same (t .stepped))
-        ∙ ap (λ (x : ℕ). stepsOf x (s .e) (sizesOf f) (clustersOf f) p) (t .lines-are)
+        stepped-are (graphOf f) p run start steps valid is (h .begins start (t .start-is) .are ∙ ap (padded 192) (h .begins-list start (t .start-is)))
+        (omega (arith, steps-most, steps-are)) (rw (← t .lines-are, length-clusters f, h .sheet .count) stepped)
       where
-        same : (i : ℕ) → getD sizes i (pos 0) ≡ getD (sizesOf f) i (pos 0)
+        same : (i : ℕ) → getD sizes i (pos 0) ≡ getD (graphOf f .sizes) i (pos 0)
         same i = ap (λ (l : List ℤ). getD l i (pos 0)) (t .sizes-are) ∙ getD-block (map constraintSize (f .constraints)) (200 - length (map constraintSize (f .constraints))) (pos 0) i
 
-    pub reported : report (s .n) (s .e) v (take (run .steps) steps) (take (s .e + run .steps) (run .slots)) ≡ listReport f p
+        stepped : Stepped lines (s .e) (graphOf f .sizes) start run steps
+        stepped = stepped-sizes lines (s .e) sizes (graphOf f .sizes) start run steps same (t .stepped)
+
+    pub reported : report (s .n) (s .e) v (take (run .steps) steps) (take (s .e + run .steps) (run .slots)) ≡ listReport (graphOf f) p
     unfolding listReport
-    reported = rw (verdict-is, steps-list, finals, h .sheet .count, h .sheet .elements-count)
+    reported = rw (verdict-is, steps-list, finals, length-clusters f, h .sheet .count, h .sheet .elements-count)
 
     pub all-small : AllSmall (take (run .steps) steps)
     all-small =
-        subst AllSmall (sym steps-list) (small-steps (linesOf (f .elements)) (s .e) (sizesOf f) (clustersOf f) p valid (omega (arith, length-clusters f, h .sheet .count, h .few-constraints, steps-most, steps-are)))
+        subst AllSmall (sym steps-list)
+        (small-steps (graphOf f) (graphOf f .clusters) p valid (omega (arith, length-clusters f, h .sheet .count, h .few-constraints, steps-most, steps-are)))
 
     pub not-long : length (report (s .n) (s .e) v (take (run .steps) steps) (take (s .e + run .steps) (run .slots))) ≤ 3786
     unfolding listReport
     not-long =
-        rw (reported, ← length-clusters f)
-        (report-most (length (f .elements)) (linesOf (f .elements)) (sizesOf f) (clustersOf f) (h .sheet .paired) p valid _ (h .sheet .elements-some) (h .sheet .elements-few) (h .sheet .below) (h .notOver))
+        rw reported
+        (report-most (graphOf f) (h .sheet .paired) p valid _ (h .sheet .elements-some) (h .sheet .elements-few) (h .sheet .below) (h .notOver))

@@ -1,58 +1,35 @@
 -- The answers are those of lists of merges. Assumes nothing.
-use Prim.Native.Nat.{ℕ, suc, _%_}
-use native.Mathlib.Omega.{arith}
-use mathlib.Core.Path.{_≡_, refl, sym, ap, ap₂, _∙_}
-use mathlib.Core.Logic.{_≢_, _↔_, _⊎_, inl, inr}
+use Prim.Native.Nat.{ℕ, _%_}
+use mathlib.Core.Path.{_≡_, refl, ap, ap₂, _∙_}
+use mathlib.Core.Logic.{_≢_}
 use mathlib.Core.List.{List, [], _∷_, map}
-use lib.IntN.{ℤ}
 use lib.ListN.{length}
-use Rattle.theory.specs.Constraints.{Pairs, Below, NotOver}
+use Rattle.theory.specs.Constraints.{Pairs, Below}
 use Rattle.theory.specs.Constraints.Perm.{same}
-use Rattle.theory.specs.Over.{Finding, fine, first, IsOver, overOf}
-use Rattle.theory.specs.Over.Laws.{over-or-fine, fine-overOf, overOf-fine, over-isOver, fine-isOver}
-use Rattle.theory.specs.Merge.{Merge, three, joint, put, Valid, Maximal, final, joints}
+use Rattle.theory.specs.Merge.{Merge, put, Maximal}
 use Rattle.theory.specs.Plan.{planOf, ascending, IsPlan}
 use Rattle.theory.specs.Plan.Laws.{ascending-same, plan-of-is, plan-of-maximal}
-use Rattle.theory.specs.Plan.Order.{joint-ascending}
-use Rattle.theory.specs.Verdict.{Verdict, over, listVerdict, verdict}
-use Rattle.theory.specs.Verdict.Laws.{verdict-is-over, verdict-is-planned}
-use Rattle.theory.specs.Demand.{Agree}
-use Rattle.sheet.specs.Facts.{Facts, linesOf}
+use Rattle.sheet.specs.Facts.{Facts}
 use Rattle.sheet.specs.Accepted.{Accepted}
-use Rattle.sheet.specs.Graph.{clustersOf, sizesOf, verdictOf}
-use Rattle.sheet.specs.Graph.Laws.{accepted-most, sheet-demand3}
-use Rattle.sheet.specs.RoundTrip.Blocks.{constraints-most}
-use Rattle.answer.specs.declared.Step.{Step}
-use Rattle.answer.specs.Answer.{asVerdict, verdictNumber, stepOf, stepsOf}
+use Rattle.sheet.specs.Accepted.Laws.{none-else}
+use Rattle.sheet.specs.Graph.Laws.{sheet-demand3, clusters-pairs, clusters-below, fault-none, fine-fault}
+use Rattle.sheet.specs.Graph.{graphOf, overFault}
+use Rattle.theory.specs.declared.Finding.{Finding}
+use Rattle.theory.specs.declared.Finding.the-variants.{Fine}
+use Rattle.theory.specs.declared.Verdict.the-variants.{Over}
+use Rattle.theory.specs.Graph.{Graph, findingOf, verdictOf}
+use Rattle.theory.specs.Graph.Laws.{fine-verdict, fine-not-over, not-over-fine, length-steps, joints-steps}
 use Rattle.merges.specs.Held.{flat}
-use Rattle.engine.specs.Lists.{livingOf}
-use Rattle.judge.specs.Listing.Laws.{clusters-pairs, clusters-below}
-use Rattle.judge.specs.Judged.{planBy, planOfFacts, planNumbers, finalsBy, finalClusters}
+use Rattle.judge.specs.Judged.{planBy, planNumbers, finalsBy, finalClusters}
 use Rattle.plans.specs.Check.{savedSteps, planFault}
 use Rattle.plans.specs.Check.Laws.{accepted-maximal}
 use Rattle.plans.specs.Rule14.{Never14}
 use Rattle.plans.specs.Rule14.Proof.{never-14}
-use Rattle.account.specs.Account.{listReport, reportBy, reportOf, faultBy, savedFault}
-use Rattle.account.specs.Account.Answers.{later-name}
-use Rattle.account.specs.Own.{stepsIn, ReportsOwn, EngineList, SavedList, OwnLists}
+use Rattle.account.specs.Account.{reportBy, reportOf, savedFault}
+use Rattle.account.specs.Own.{ReportsOwn, EngineList, SavedList, OwnLists}
 
--- ---- the steps in a report
-
-knots-told : (lines e : ℕ) (sizes : List ℤ) (p : List Merge) (s : List ℕ) → map (λ (t : Step). t .joint) (stepsOf lines e sizes s p) ≡ joints s p
-unfolding stepsOf stepOf joints
-knots-told lines e sizes [] s = refl
-knots-told lines e sizes (m ∷ p) s = ap₂ (λ (x : ℕ) (l : List ℕ). x ∷ l) (joint-ascending s m) (knots-told lines e sizes p (put s m))
-
-steps-told : (lines e : ℕ) (sizes : List ℤ) (p : List Merge) (s : List ℕ) → length (stepsOf lines e sizes s p) ≡ length p
-unfolding stepsOf
-steps-told lines e sizes [] s = refl
-steps-told lines e sizes (m ∷ p) s = ap suc (steps-told lines e sizes p (put s m))
-
-reports-own : (f : Facts) (p : List Merge) → ReportsOwn f p
-reports-own f p = record {
-  knots = knots-told (linesOf (f .elements)) (length (f .constraints)) (sizesOf f) p (clustersOf f);
-  steps = steps-told (linesOf (f .elements)) (length (f .constraints)) (sizesOf f) p (clustersOf f);
-}
+reports-own : (g : Graph) (p : List Merge) → ReportsOwn g p
+reports-own g p = record { knots = joints-steps g (g .clusters) p; steps = length-steps g (g .clusters) p }
 
 -- ---- the engine's plan lists its numbers ascending
 
@@ -63,72 +40,52 @@ plan-ascends (m ∷ p) s h = ap₂ (λ (x : Merge) (l : List Merge). x ∷ l) (a
 -- ---- an accepted sheet
 
 module _ (f : Facts) (a : Accepted f) where
-  pub paired : Pairs (clustersOf f)
-  paired = clusters-pairs f (accepted-most f a) (constraints-most (length (f .constraints)) (a .constraint-count)) (a .no-fault)
+  pub paired : Pairs (graphOf f .clusters)
+  paired = clusters-pairs f (a .no-fault)
 
-  pub below : Below (length (f .elements)) (clustersOf f)
-  below = clusters-below f (accepted-most f a) (constraints-most (length (f .constraints)) (a .constraint-count)) (a .no-fault)
+  pub below : Below (graphOf f .n) (graphOf f .clusters)
+  below = clusters-below f (a .no-fault)
 
-  finds-none : verdictOf f ≢ over → overOf (length (f .elements)) (clustersOf f) ≡ fine
-  unfolding verdictOf
-  finds-none v = go (over-or-fine (length (f .elements)) (clustersOf f) paired below)
-    where
-      go : IsOver (clustersOf f) ⊎ NotOver (clustersOf f) → overOf (length (f .elements)) (clustersOf f) ≡ fine
-      go (inl h) = absurd (v (verdict-is-over (linesOf (f .elements)) (length (f .elements)) (clustersOf f) (over-isOver (length (f .elements)) (clustersOf f) paired below h)))
-      go (inr h) = fine-overOf (length (f .elements)) (clustersOf f) paired below h
-
-  module _ (q : overOf (length (f .elements)) (clustersOf f) ≡ fine) where
-    planned : verdictOf f ≡ listVerdict (linesOf (f .elements)) (length (f .elements)) (clustersOf f) (planOf (clustersOf f))
-    unfolding verdictOf
-    planned =
-        verdict-is-planned (linesOf (f .elements)) (length (f .elements)) (clustersOf f)
-        (fine-isOver (length (f .elements)) (clustersOf f) (overOf-fine (length (f .elements)) (clustersOf f) paired below q))
-
-    not-over : verdictOf f ≢ over
-    unfolding listVerdict
-    not-over h = later-name _ _ _ _ _ (ap (λ (v : Verdict). verdictNumber (asVerdict v)) (sym planned ∙ h))
-
-  engine-list : verdictOf f ≢ over → EngineList f
-  unfolding planNumbers planOfFacts finalClusters reportOf
+  engine-list : verdictOf (graphOf f) ≢ Over → EngineList (graphOf f)
+  unfolding planNumbers finalClusters reportOf
   engine-list v =
-      let q = finds-none v in
+      let g = graphOf f in
+      let q = not-over-fine g v in
       record {
-        p = planOf (clustersOf f);
-        maximal = plan-of-maximal (clustersOf f) paired;
-        plan = ap (λ (o : Finding). flat (map ascending (planBy f o))) q ∙ ap flat (plan-ascends (planOf (clustersOf f)) (clustersOf f) (plan-of-is (clustersOf f) paired));
-        clusters = ap (finalsBy f) q;
-        verdict = planned q;
-        report = ap (reportBy f) q;
-        own = reports-own f (planOf (clustersOf f));
+        p = planOf (g .clusters);
+        maximal = plan-of-maximal (g .clusters) paired;
+        plan =
+            ap (λ (o : Finding). flat (map ascending (planBy g o))) q
+            ∙ ap flat (plan-ascends (planOf (g .clusters)) (g .clusters) (plan-of-is (g .clusters) paired));
+        clusters = ap (finalsBy g) q;
+        verdict = fine-verdict g q;
+        report = ap (reportBy g) q;
+        own = reports-own g (planOf (g .clusters));
       }
 
   -- rule 11 lets through what is not over
-  pub let-through : (l : List ℕ) → savedFault f l ≡ 0 → overOf (length (f .elements)) (clustersOf f) ≡ fine
+  pub let-through : (l : List ℕ) → savedFault (graphOf f) l ≡ 0 → findingOf (graphOf f) ≡ Fine
   unfolding savedFault
-  let-through l h = go (overOf (length (f .elements)) (clustersOf f)) refl
-    where
-      go : (o : Finding) → overOf (length (f .elements)) (clustersOf f) ≡ o → overOf (length (f .elements)) (clustersOf f) ≡ fine
-      go fine q = q
-      go (first c x) q = absurd (let z : _≡_ {A = ℕ} 11 0 = sym (ap (faultBy f l) q) ∙ h in omega arith)
+  let-through l h = fault-none (graphOf f) (none-else (f .elements) (overFault (graphOf f)) (planFault (graphOf f .clusters) l) h .0)
 
-  pub saved-maximal : (l : List ℕ) → savedFault f l ≡ 0 → (verdictOf f ≢ over) × (length l % 3 ≡ 0) × Maximal (clustersOf f) (savedSteps l)
+  pub saved-maximal : (l : List ℕ) → savedFault (graphOf f) l ≡ 0
+      → (verdictOf (graphOf f) ≢ Over) × (length l % 3 ≡ 0) × Maximal (graphOf f .clusters) (savedSteps l)
   unfolding savedFault
   saved-maximal l h =
-      let q = let-through l h in
-      let m = accepted-maximal (clustersOf f) l .0 (sym (ap (faultBy f l) q) ∙ h) in
-      (not-over q, m .0, m .1)
+      let m = accepted-maximal (graphOf f .clusters) l .0 (none-else (f .elements) (overFault (graphOf f)) (planFault (graphOf f .clusters) l) h .1) in
+      (fine-not-over (graphOf f) (let-through l h), m .0, m .1)
 
-  saved-list : (l : List ℕ) → SavedList f l
+  saved-list : (l : List ℕ) → SavedList (graphOf f) l
   unfolding savedFault
   saved-list l = record {
-    accepted = (saved-maximal l, λ h. ap (faultBy f l) (finds-none (h .0)) ∙ accepted-maximal (clustersOf f) l .1 (h .1, h .2));
+    accepted = (saved-maximal l, λ h. rw (fine-fault (graphOf f) (not-over-fine (graphOf f) (h .0))) (accepted-maximal (graphOf f .clusters) l .1 (h .1, h .2)));
     same = λ h. let m = saved-maximal l h in
-        sheet-demand3 f a (m .0) .whole .every _ same (planOf (clustersOf f)) (savedSteps l) (plan-of-maximal (clustersOf f) paired) (m .2);
-    own = λ h. reports-own f (savedSteps l);
+        sheet-demand3 f a (m .0) .every (f .constraints) same (planOf (graphOf f .clusters)) (savedSteps l) (plan-of-maximal (graphOf f .clusters) paired) (m .2);
+    own = λ h. reports-own (graphOf f) (savedSteps l);
   }
 
-  rule-14 : verdictOf f ≢ over → Never14 (clustersOf f)
-  rule-14 v = never-14 (clustersOf f) (λ p h. record { share = sheet-demand3 f a v .whole .counts p h .share })
+  rule-14 : verdictOf (graphOf f) ≢ Over → Never14 (graphOf f .clusters)
+  rule-14 v = never-14 (graphOf f .clusters) (λ p h. record { share = sheet-demand3 f a v .whole .counts p h .share })
 
-  pub own-lists : OwnLists f
+  pub own-lists : OwnLists (graphOf f)
   own-lists = record { engine = engine-list; saved = saved-list; rule-14 = rule-14 }

@@ -7,19 +7,20 @@ use Rattle.theory.specs.Constraints.{pair, has, carried}
 use Rattle.theory.specs.Over.{heavy, anyBelow, isOver, isTight, smaller, fewestBelow, smallestSet, next, overUpTo, overOf}
 use Rattle.theory.specs.Merge.{union, joint, cleared, put, total, left, joints}
 use Rattle.theory.specs.Plan.{openTest, thirdOf, secondOf, firstOf, plan, planOf, ascending}
-use Rattle.theory.specs.Verdict.{angled, judged, listVerdict}
+use Rattle.theory.specs.Verdict.{angled, judged}
 use Rattle.theory.specs.Placement.{jointKind, against, triangle, strip, stripOf, placed, ways}
+use Rattle.theory.specs.Graph.{listVerdict, stepOf, stepsFrom}
 use Rattle.space.specs.Text.{decimal}
 use Rattle.sheet.specs.Facts.{sheetOf, elementsOf, linesOf}
 use Rattle.sheet.specs.Rules.{sheetFault, constraintFault, constraintsFault, stands}
-use Rattle.answer.specs.Answer.{stepOf, stepsOf}
+use Rattle.sheet.specs.Graph.{graphOf}
 use Rattle.report.specs.Elements.{among, elements}
 use Rattle.report.specs.Report.{stepLine, clusterLine, stepLines, slotLine, clusterLines, report, overReport}
 use Rattle.account.specs.Account.{listReport, reportOf}
 use Rattle.account.specs.Table.{Row, table, Printed}
 
-printed : map (λ (r : Row). reportOf (r .facts)) table ≡ map (λ (r : Row). r .prints) table
-unfolding reportOf listReport report overReport stepLines stepLine clusterLines slotLine clusterLine decimal elements among at stepsOf stepOf ascending ways placed triangle strip stripOf against jointKind listVerdict judged angled planOf plan firstOf secondOf thirdOf openTest put cleared union joint joints left total has carried ones _∩_ _∪_ elementsOf linesOf pair isOver anyBelow heavy isTight smaller fewestBelow smallestSet next overUpTo overOf
+printed : map (λ (r : Row). reportOf (graphOf (r .facts))) table ≡ map (λ (r : Row). r .prints) table
+unfolding reportOf listReport report overReport stepLines stepLine clusterLines slotLine clusterLine decimal elements among at stepsFrom stepOf ascending ways placed triangle strip stripOf against jointKind listVerdict judged angled planOf plan firstOf secondOf thirdOf openTest put cleared union joint joints left total has carried ones _∩_ _∪_ elementsOf linesOf pair isOver anyBelow heavy isTight smaller fewestBelow smallestSet next overUpTo overOf
 printed = refl
 
 fine : map (λ (r : Row). sheetFault (sheetOf (r .facts))) table ≡ map (λ (r : Row). 0) table

@@ -3,13 +3,13 @@ use mathlib.Core.Path.{_≡_, refl, sym, ap, _∙_}
 use mathlib.Core.Logic.{_≢_}
 use Prim.Native.Nat.{ℕ, zero, suc}
 use Rattle.theory.specs.Set.{_∩_}
-use Rattle.theory.specs.Placement.{lll, withLines, jointKind}
-use Rattle.answer.specs.Answer.{asKind}
+use Rattle.theory.specs.Placement.{withLines, jointKind}
+use Rattle.theory.specs.declared.JointKind.the-variants.{Lll}
 use Rattle.engine.proofs.joint_kind.Statement.{statement}
 use Rattle.engine.proofs.joint_kind.Tie as tie
 
 -- three lines, if none of the other counts
-lines-three : (k : ℕ) → k ≢ 0 → k ≢ 1 → k ≢ 2 → withLines k ≡ lll
+lines-three : (k : ℕ) → k ≢ 0 → k ≢ 1 → k ≢ 2 → withLines k ≡ Lll
 lines-three zero a b c = absurd (a refl)
 lines-three (suc zero) a b c = absurd (b refl)
 lines-three (suc (suc zero)) a b c = absurd (c refl)
@@ -17,19 +17,19 @@ lines-three (suc (suc (suc k))) a b c = refl
 
 returns : tie.Need-returns
 unfolding jointKind _∩_
-returns c = sym (ap (λ (k : ℕ). asKind (withLines k)) (c .match .keys1))
+returns c = sym (ap withLines (c .match .keys1))
 
 returns-2 : tie.Need-returns-2
 unfolding jointKind _∩_
-returns-2 c = sym (ap (λ (k : ℕ). asKind (withLines k)) (c .match .keys2))
+returns-2 c = sym (ap withLines (c .match .keys2))
 
 returns-3 : tie.Need-returns-3
 unfolding jointKind _∩_
-returns-3 c = sym (ap (λ (k : ℕ). asKind (withLines k)) (c .match .keys3))
+returns-3 c = sym (ap withLines (c .match .keys3))
 
 returns-4 : tie.Need-returns-4
 unfolding jointKind _∩_
-returns-4 c = sym (ap asKind (lines-three _ (c .match .rest .0 .0 .1) (c .match .rest .0 .1) (c .match .rest .1)))
+returns-4 c = sym (lines-three _ (c .match .rest .0 .0 .1) (c .match .rest .0 .1) (c .match .rest .1))
 
 pub joint-kind-spec : {M : Type 1} → statement M
 joint-kind-spec = tie.close (tie.spec returns returns-2 returns-3 returns-4)

@@ -3,7 +3,7 @@ use mathlib.Core.Path.{_≡_, ap, _∙_}
 use lib.IntN.{natAbs}
 use mir.Facts.{toZ-ofZ}
 use Rattle.theory.specs.Placement.{triangle, stripOf}
-use Rattle.answer.specs.declared.Ways.the-variants.{Known}
+use Rattle.theory.specs.declared.Ways.the-variants.{Known}
 use Rattle.engine.proofs.Placing.{placed-ppp, placed-ppl, placed-pll, placed-lll}
 use borrow.Author.Needs.{needs}
 use Rattle.engine.proofs.placements.Statement.{statement}

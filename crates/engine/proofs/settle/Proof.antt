@@ -1,6 +1,9 @@
 -- `engine::settle` meets its contract: the names are tried in the paper's order. Assumes nothing.
 use mathlib.Core.Path.{_≡_, sym, _∙_}
+use mathlib.Core.Logic.{_≢_}
+use native.Mathlib.Omega.{arith}
 use borrow.Author.Tests.{eq-eqb, ne-eqb}
+use Rattle.theory.specs.Merge.{left}
 use Rattle.theory.specs.Verdict.{judged, angled}
 use borrow.Author.Needs.{needs}
 use Rattle.engine.proofs.settle.Statement.{statement}
@@ -11,7 +14,7 @@ angled-requires c κs = search needs
 
 returns : tie.Need-returns
 unfolding judged angled
-returns c = simp (sym (c .before .angled .ensures) ∙ c .if1 .taken)
+returns c finals left-is = simp (sym (c .before .angled .ensures) ∙ c .if1 .taken)
 
 add-if2 : tie.Need-add-if2
 add-if2 c = search needs
@@ -21,7 +24,7 @@ mul-if2 c = search needs
 
 returns-2 : tie.Need-returns-2
 unfolding judged angled
-returns-2 c = simp (sym (c .before .before .angled .ensures) ∙ c .before .if1 .left, ne-eqb _ _ (c .if2 .taken))
+returns-2 c finals left-is = simp (sym (c .before .before .angled .ensures) ∙ c .before .if1 .left, ne-eqb _ _ (c .if2 .taken))
 
 mul-if3 : tie.Need-mul-if3
 mul-if3 c = search needs
@@ -31,11 +34,15 @@ sub-if3 c = search needs
 
 returns-3 : tie.Need-returns-3
 unfolding judged angled
-returns-3 c = simp (sym (c .before .before .before .angled .ensures) ∙ c .before .before .if1 .left, eq-eqb _ _ (c .before .if2 .left), eq-eqb _ _ (c .if3 .taken))
+returns-3 c finals left-is =
+    let one : left finals ≡ 1 = omega (arith, c .if3 .taken) in
+    simp (sym (c .before .before .before .angled .ensures) ∙ c .before .before .if1 .left, eq-eqb _ _ (c .before .if2 .left), eq-eqb _ _ one)
 
 returns-4 : tie.Need-returns-4
 unfolding judged angled
-returns-4 c = simp (sym (c .before .before .before .angled .ensures) ∙ c .before .before .if1 .left, eq-eqb _ _ (c .before .if2 .left), ne-eqb _ _ (c .if3 .left))
+returns-4 c finals left-is =
+    let more : left finals ≢ 1 = λ one. c .if3 .left (omega (arith, one)) in
+    simp (sym (c .before .before .before .angled .ensures) ∙ c .before .before .if1 .left, eq-eqb _ _ (c .before .if2 .left), ne-eqb _ _ more)
 
 pub settle-spec : {M : Type 1} → statement M
 settle-spec =

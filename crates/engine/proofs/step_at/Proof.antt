@@ -1,26 +1,12 @@
 -- `engine::step_at` meets its contract. Assumes nothing.
-use mathlib.Core.Path.{_≡_, refl, ap, _∙_}
-use Prim.Native.Nat.{ℕ, _+_}
+use mathlib.Core.Path.{_∙_}
+use Prim.Native.Nat.{_+_}
 use lib.ListN.{getD}
 use Rattle.theory.specs.Merge.{merge}
-use Rattle.theory.specs.Placement as placement
-use Rattle.theory.specs.Placement.{jointKind}
-use Rattle.answer.specs.Answer.{asKind, asWays}
-use Rattle.answer.specs.declared.JointKind.{JointKind}
-use Rattle.engine.specs.Steps.{kindOf, waysBy, stepFrom}
+use Rattle.engine.specs.Steps.{waysBy, stepFrom}
 use borrow.Author.Needs.{needs}
 use Rattle.engine.proofs.step_at.Statement.{statement}
 use Rattle.engine.proofs.step_at.Tie as tie
-
--- the code's kind and theory's
-same-kind : (k : placement.JointKind) → kindOf (asKind k) ≡ k
-same-kind placement.ppp = refl
-same-kind placement.ppl = refl
-same-kind placement.pll = refl
-same-kind placement.lll = refl
-
-joint-kind-is : (lines joint : ℕ) (k : JointKind) → k ≡ asKind (jointKind lines joint) → kindOf k ≡ jointKind lines joint
-joint-kind-is lines joint k e = ap kindOf e ∙ same-kind (jointKind lines joint)
 
 mul-wide : tie.Need-mul-wide
 mul-wide c = search needs
@@ -86,15 +72,15 @@ returns c =
     let i = c .before .before .before .before .before .before .before .wide .ensures in
     let j = c .before .before .before .before .before .wide2 .ensures in
     let k = c .before .before .before .wide3 .ensures in
-    let g = joint-kind-is (a .lines) (getD (a .joints .now) (a .t) 0) (c .before .joint-kind .result) (c .before .joint-kind .ensures) in
+    let g = c .before .joint-kind .ensures in
     λ z. record {
       made = a .e + a .t;
       i = i z;
       j = j z;
       k = k z;
       joint = getD (a .joints .now) (a .t) 0;
-      kind = c .before .joint-kind .ensures z;
-      ways = (c .ways-of .ensures ∙ (λ t. asWays (waysBy (a .lines) (g t) (a .e) (a .sizes .now) (a .start .now) (merge (i t) (j t) (k t))))) z;
+      kind = g z;
+      ways = (c .ways-of .ensures ∙ (λ t. waysBy (a .lines) (g t) (a .e) (a .sizes .now) (a .start .now) (merge (i t) (j t) (k t)))) z;
     }
 
 pub step-at-spec : {M : Type 1} → statement M

@@ -8,7 +8,7 @@ use borrow.Author.Needs.{needs}
 use lib.IntN.{ℤ}
 use lib.ListN.{length, getD, set, replicate, length-set}
 use lib.Seq.{getD-set-same, getD-set-other}
-use Rattle.answer.specs.declared.Step.{Step}
+use Rattle.theory.specs.declared.Step.{Step}
 use Rattle.engine.specs.Steps.{stepAt, blankStep}
 use Rattle.engine.proofs.steps_of.Statement.{statement}
 use Rattle.engine.proofs.steps_of.Tie as tie

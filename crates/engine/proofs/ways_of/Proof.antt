@@ -7,8 +7,6 @@ use mir.Val.{SFits}
 use mir.Facts.{toZ-ofZ}
 use Rattle.theory.specs.Merge.{slot}
 use Rattle.theory.specs.Placement.{placed}
-use Rattle.answer.specs.Answer.{asWays}
-use Rattle.engine.specs.Steps.{kindOf}
 use Rattle.engine.proofs.Placing.{ways-i, ways-j, ways-k, ways-initial}
 use borrow.Author.Needs.{needs}
 use Rattle.engine.proofs.ways_of.Statement.{statement}
@@ -17,17 +15,17 @@ use Rattle.engine.proofs.ways_of.Tie as tie
 returns : tie.Need-returns
 returns c =
     let a = c .before .args in
-    ap asWays (ways-i (a .lines) (kindOf (a .kind)) (a .e) (a .sizes .now) (a .start .now) (a .i) (a .j) (a .k) (c .if1 .taken))
+    ways-i (a .lines) (a .kind) (a .e) (a .sizes .now) (a .start .now) (a .i) (a .j) (a .k) (c .if1 .taken)
 
 returns-2 : tie.Need-returns-2
 returns-2 c =
     let a = c .before .before .args in
-    ap asWays (ways-j (a .lines) (kindOf (a .kind)) (a .e) (a .sizes .now) (a .start .now) (a .i) (a .j) (a .k) (c .before .if1 .left) (c .if2 .taken))
+    ways-j (a .lines) (a .kind) (a .e) (a .sizes .now) (a .start .now) (a .i) (a .j) (a .k) (c .before .if1 .left) (c .if2 .taken)
 
 returns-3 : tie.Need-returns-3
 returns-3 c =
     let a = c .before .before .before .args in
-    ap asWays (ways-k (a .lines) (kindOf (a .kind)) (a .e) (a .sizes .now) (a .start .now) (a .i) (a .j) (a .k) (c .before .before .if1 .left) (c .before .if2 .left) (c .if3 .taken))
+    ways-k (a .lines) (a .kind) (a .e) (a .sizes .now) (a .start .now) (a .i) (a .j) (a .k) (c .before .before .if1 .left) (c .before .if2 .left) (c .if3 .taken)
 
 mul-placements : tie.Need-mul-placements
 mul-placements c = search needs
@@ -69,12 +67,11 @@ returns-4 c =
     let y : SFits w32 (getD (a .sizes .now) (a .j) (pos 0)) = record { sfits = c .before .before .placements-arg4 .given } in
     let z : SFits w32 (getD (a .sizes .now) (a .k) (pos 0)) = record { sfits = c .before .placements-arg5 .given } in
     let h : c .placements .result
-    ≡ asWays (placed (a .lines) (kindOf (a .kind)) (slot (a .start .now) (a .i)) (slot (a .start .now) (a .j)) (getD (a .sizes .now) (a .i) (pos 0)) (getD (a .sizes .now) (a .j) (pos 0)) (getD (a .sizes .now) (a .k) (pos 0))) =
+    ≡ placed (a .lines) (a .kind) (slot (a .start .now) (a .i)) (slot (a .start .now) (a .j)) (getD (a .sizes .now) (a .i) (pos 0)) (getD (a .sizes .now) (a .j) (pos 0)) (getD (a .sizes .now) (a .k) (pos 0)) =
     c .placements .ensures
-    ∙ (λ t. asWays (placed (a .lines) (kindOf (a .kind)) (slot (a .start .now) (a .i)) (slot (a .start .now) (a .j)) (toZ-ofZ x t) (toZ-ofZ y t) (toZ-ofZ z t))) in
+    ∙ (λ t. placed (a .lines) (a .kind) (slot (a .start .now) (a .i)) (slot (a .start .now) (a .j)) (toZ-ofZ x t) (toZ-ofZ y t) (toZ-ofZ z t)) in
     h
-    ∙ ap asWays
-    (ways-initial (a .lines) (kindOf (a .kind)) (a .e) (a .sizes .now) (a .start .now) (a .i) (a .j) (a .k) (c .before .before .before .before .before .before .before .before .if1 .left) (c .before .before .before .before .before .before .before .if2 .left) (c .before .before .before .before .before .before .if3 .left))
+    ∙ ways-initial (a .lines) (a .kind) (a .e) (a .sizes .now) (a .start .now) (a .i) (a .j) (a .k) (c .before .before .before .before .before .before .before .before .if1 .left) (c .before .before .before .before .before .before .before .if2 .left) (c .before .before .before .before .before .before .if3 .left)
 
 pub ways-of-spec : {M : Type 1} → statement M
 ways-of-spec =

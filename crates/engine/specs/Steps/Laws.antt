@@ -1,23 +1,26 @@
 -- The steps that the arrays give are those of the list of merges they hold. Assumes nothing.
-use mathlib.Core.Path.{_≡_, refl, sym, ap, ap₂, _∙_, subst}
+use mathlib.Core.Path.{_≡_, refl, sym, ap, ap₂, _∙_}
 use mathlib.Core.Logic.{_≢_}
 use mathlib.Core.Bool.{Bool, true, false, _&&_}
-use mathlib.Core.List.{List, [], _∷_, _++_, map}
-use Prim.Native.Nat.{ℕ, zero, suc, _+_, _*_, _≤_, _<_, min}
+use mathlib.Core.List.{List, [], _∷_, map}
+use Prim.Native.Nat.{ℕ, zero, suc, _+_, _*_, _≤_, _<_}
 use native.Mathlib.Omega.{arith}
 use lib.Dec.{ltb}
 use lib.IntN.{ℤ, pos}
 use lib.ListN.{length, getD, take, length-take}
 use lib.Seq.{ext-getD, getD-take}
 use borrow.Author.Tests.{ltb-true}
-use Rattle.theory.specs.Merge.{slot, Merge, merge, three, joint, OpenAt, put, Valid, final, joints}
+use Rattle.theory.specs.Merge.{slot, Merge, merge, three, joint, OpenAt, put, Valid, joints}
 use Rattle.theory.specs.Merge.Numbered.{Place, new, old, place, length-put}
 use Rattle.theory.specs.Plan.{ascending}
 use Rattle.theory.specs.Plan.Order.{open-ascending, joint-ascending}
-use Rattle.theory.specs.Placement as placement
 use Rattle.theory.specs.Placement.{placed, jointKind, ways}
-use Rattle.answer.specs.Answer.{asKind, asWays, stepOf, stepsOf}
-use Rattle.answer.specs.declared.Step.{Step}
+use Rattle.theory.specs.Graph.{Graph, stepOf, stepsFrom, stepsOf}
+use Rattle.theory.specs.Graph.Laws.{length-steps}
+use Rattle.theory.specs.declared.JointKind.{JointKind}
+use Rattle.theory.specs.declared.Ways.{Ways}
+use Rattle.theory.specs.declared.Ways.the-variants.{Unknown}
+use Rattle.theory.specs.declared.Step.{Step}
 use Rattle.merges.specs.Held.{padded, flat}
 use Rattle.merges.specs.Run.{runOf}
 use Rattle.merges.specs.declared.Run.{Run}
@@ -38,45 +41,48 @@ initial-put e cs s m h k n l z = go (place s m n z)
     go (old q f) = f ∙ k n l (λ y. z (f ∙ y))
 
 module _ (lines e : ℕ) (sizes : List ℤ) (cs s : List ℕ) (k : Initial e cs s) where
-  ways-same : (kind : placement.JointKind) (m : Merge) → slot s (m .i) ≢ 0 → slot s (m .j) ≢ 0
+  ways-same : (kind : JointKind) (m : Merge) → slot s (m .i) ≢ 0 → slot s (m .j) ≢ 0
       → waysBy lines kind e sizes cs m
       ≡ elim (ltb (m .i) e && (ltb (m .j) e && ltb (m .k) e)) [
         | true ↦ placed lines kind (slot s (m .i)) (slot s (m .j)) (getD sizes (m .i) (pos 0)) (getD sizes (m .j) (pos 0)) (getD sizes (m .k) (pos 0))
-        | false ↦ placement.unknown
+        | false ↦ Unknown
       ]
   unfolding waysBy
   ways-same kind m li lj = go (ltb (m .i) e) refl (ltb (m .j) e) refl (ltb (m .k) e)
     where
-      at : ℕ → ℕ → placement.Ways
+      at : ℕ → ℕ → Ways
       at a b = placed lines kind a b (getD sizes (m .i) (pos 0)) (getD sizes (m .j) (pos 0)) (getD sizes (m .k) (pos 0))
 
       go : (a : Bool) → ltb (m .i) e ≡ a → (b : Bool) → ltb (m .j) e ≡ b → (c : Bool)
-          → _≡_ {A = placement.Ways} (elim (a && (b && c)) [ true ↦ at (slot cs (m .i)) (slot cs (m .j)) | false ↦ placement.unknown ])
-          (elim (a && (b && c)) [ true ↦ at (slot s (m .i)) (slot s (m .j)) | false ↦ placement.unknown ])
+          → _≡_ {A = Ways} (elim (a && (b && c)) [ true ↦ at (slot cs (m .i)) (slot cs (m .j)) | false ↦ Unknown ])
+          (elim (a && (b && c)) [ true ↦ at (slot s (m .i)) (slot s (m .j)) | false ↦ Unknown ])
       go false p b q c = refl
       go true p false q c = refl
       go true p true q false = refl
       go true p true q true = ap₂ at (sym (k (m .i) (ltb-true (m .i) e p) li)) (sym (k (m .j) (ltb-true (m .j) e q) lj))
 
-  -- one step
-  step-same : (m : Merge) → OpenAt s m → (base : ℕ) (parts knots : List ℕ) → base ≡ length s
-      → stepFrom lines e sizes cs base (ascending m .i ∷ ascending m .j ∷ ascending m .k ∷ parts) (joint (three s m) ∷ knots) 0 ≡ stepOf lines e sizes s m
-  unfolding stepFrom stepOf ways
-  step-same m o base parts knots b =
-      let a = open-ascending s m o in
-      let j : joint (three s m) ≡ joint (three s (ascending m)) = sym (joint-ascending s m) in
-      let made : base + 0 ≡ length s = omega arith in
-      let w = ap (λ (x : ℕ). asWays (waysBy lines (jointKind lines x) e sizes cs (ascending m))) j
-      ∙ ap asWays (ways-same (jointKind lines (joint (three s (ascending m)))) (ascending m) (a .livei) (a .livej)) in
-      λ z. record {
-        made = made z;
-        i = ascending m .i;
-        j = ascending m .j;
-        k = ascending m .k;
-        joint = j z;
-        kind = asKind (jointKind lines (j z));
-        ways = w z;
-      }
+-- one step
+step-same : (g : Graph) (s : List ℕ) → Initial (length (g .clusters)) (g .clusters) s → (m : Merge) → OpenAt s m → (base : ℕ) (parts knots : List ℕ)
+    → base ≡ length s
+    → stepFrom (g .lines) (length (g .clusters)) (g .sizes) (g .clusters) base (ascending m .i ∷ ascending m .j ∷ ascending m .k ∷ parts) (joint (three s m) ∷ knots) 0
+    ≡ stepOf g s m
+unfolding stepFrom stepOf ways
+step-same g s k m o base parts knots b =
+    let a = open-ascending s m o in
+    let e = length (g .clusters) in
+    let j : joint (three s m) ≡ joint (three s (ascending m)) = sym (joint-ascending s m) in
+    let made : base + 0 ≡ length s = omega arith in
+    let w = ap (λ (x : ℕ). waysBy (g .lines) (jointKind (g .lines) x) e (g .sizes) (g .clusters) (ascending m)) j
+    ∙ ways-same (g .lines) e (g .sizes) (g .clusters) s k (jointKind (g .lines) (joint (three s (ascending m)))) (ascending m) (a .livei) (a .livej) in
+    λ z. record {
+      made = made z;
+      i = ascending m .i;
+      j = ascending m .j;
+      k = ascending m .k;
+      joint = j z;
+      kind = jointKind (g .lines) (j z);
+      ways = w z;
+    }
 
 -- ---- all steps
 
@@ -96,24 +102,21 @@ later lines e sizes cs made x i j k parts knots t =
       j = getD l (p1 z) 0;
       k = getD l (p2 z) 0;
       joint = getD knots t 0;
-      kind = asKind (jointKind lines (getD knots t 0));
-      ways = asWays (waysBy lines (jointKind lines (getD knots t 0)) e sizes cs (merge (getD l (p0 z) 0) (getD l (p1 z) 0) (getD l (p2 z) 0)));
+      kind = jointKind lines (getD knots t 0);
+      ways = waysBy lines (jointKind lines (getD knots t 0)) e sizes cs (merge (getD l (p0 z) 0) (getD l (p1 z) 0) (getD l (p2 z) 0));
     }
 
-steps-from : (lines e : ℕ) (sizes : List ℤ) (cs : List ℕ) (p : List Merge) (s : List ℕ) (base t : ℕ) → Valid s p → Initial e cs s → e ≤ length s → base ≡ length s → t < length p
-    → stepFrom lines e sizes cs base (flat (map ascending p)) (joints s p) t ≡ getD (stepsOf lines e sizes s p) t blankStep
-unfolding flat joints stepsOf
-steps-from lines e sizes cs [] s base t v k h b l = absurd (omega arith)
-steps-from lines e sizes cs (m ∷ p) s base zero v k h b l =
-    step-same lines e sizes cs s k m (v .0) base (flat (map ascending p)) (joints (put s m) p) b
-steps-from lines e sizes cs (m ∷ p) s base (suc t) v k h b l =
-    later lines e sizes cs base (joint (three s m)) (ascending m .i) (ascending m .j) (ascending m .k) (flat (map ascending p)) (joints (put s m) p) t
-    ∙ steps-from lines e sizes cs p (put s m) (suc base) t (v .1) (initial-put e cs s m h k) (omega (arith, length-put s m)) (omega (arith, length-put s m)) (omega arith)
-
-length-steps : (lines e : ℕ) (sizes : List ℤ) (p : List Merge) (s : List ℕ) → length (stepsOf lines e sizes s p) ≡ length p
-unfolding stepsOf
-length-steps lines e sizes [] s = refl
-length-steps lines e sizes (m ∷ p) s = ap suc (length-steps lines e sizes p (put s m))
+steps-from : (g : Graph) (p : List Merge) (s : List ℕ) (base t : ℕ) → Valid s p → Initial (length (g .clusters)) (g .clusters) s
+    → length (g .clusters) ≤ length s → base ≡ length s → t < length p
+    → stepFrom (g .lines) (length (g .clusters)) (g .sizes) (g .clusters) base (flat (map ascending p)) (joints s p) t ≡ getD (stepsFrom g s p) t blankStep
+unfolding flat joints stepsFrom
+steps-from g [] s base t v k h b l = absurd (omega arith)
+steps-from g (m ∷ p) s base zero v k h b l = step-same g s k m (v .0) base (flat (map ascending p)) (joints (put s m) p) b
+steps-from g (m ∷ p) s base (suc t) v k h b l =
+    later (g .lines) (length (g .clusters)) (g .sizes) (g .clusters) base (joint (three s m)) (ascending m .i) (ascending m .j) (ascending m .k) (flat (map ascending p))
+    (joints (put s m) p) t
+    ∙ steps-from g p (put s m) (suc base) t (v .1) (initial-put (length (g .clusters)) (g .clusters) s m h k) (omega (arith, length-put s m))
+    (omega (arith, length-put s m)) (omega arith)
 
 -- reading the arrays is reading the lists
 read-lists : (lines e : ℕ) (sizes : List ℤ) (cs parts knots : List ℕ) (t : ℕ)
@@ -130,27 +133,28 @@ read-lists lines e sizes cs parts knots t =
     (λ z. waysBy lines (jointKind lines (x z)) e sizes (padded 192 cs) (merge (i z) (j z) (k z)))
     ∙ (λ z. elim (ltb (m .i) e && (ltb (m .j) e && ltb (m .k) e)) [
       | true ↦ placed lines (jointKind lines (slot knots t)) (slot-padded 192 cs (m .i) z) (slot-padded 192 cs (m .j) z) (getD sizes (m .i) (pos 0)) (getD sizes (m .j) (pos 0)) (getD sizes (m .k) (pos 0))
-      | false ↦ placement.unknown
+      | false ↦ Unknown
     ]) in
-    λ z. record { made = e + t; i = i z; j = j z; k = k z; joint = x z; kind = asKind (jointKind lines (x z)); ways = asWays (w z) }
+    λ z. record { made = e + t; i = i z; j = j z; k = k z; joint = x z; kind = jointKind lines (x z); ways = w z }
 
 -- the steps that the arrays of a run give are those of its list of merges
-pub stepped-are : (lines e : ℕ) (sizes : List ℤ) (cs : List ℕ) (p : List Merge) (run : Run) (start : List ℕ) (steps : List Step)
-    → Valid cs p → run ≡ runOf cs p → length cs ≡ e → start ≡ padded 192 cs → length p ≤ 62 → Stepped lines e sizes start run steps
-    → take (run .steps) steps ≡ stepsOf lines e sizes cs p
+pub stepped-are : (g : Graph) (p : List Merge) (run : Run) (start : List ℕ) (steps : List Step) → Valid (g .clusters) p → run ≡ runOf (g .clusters) p
+    → start ≡ padded 192 (g .clusters) → length p ≤ 62 → Stepped (g .lines) (length (g .clusters)) (g .sizes) start run steps
+    → take (run .steps) steps ≡ stepsOf g p
 unfolding runOf
-stepped-are lines e sizes cs p run start steps v h c b f w =
-    ext-getD blankStep (take (run .steps) steps) (stepsOf lines e sizes cs p)
-    (length-take (run .steps) steps ∙ omega (arith, w .long, ap count h, f) ∙ sym (length-steps lines e sizes p cs))
+stepped-are g p run start steps v h b f w =
+    ext-getD blankStep (take (run .steps) steps) (stepsOf g p)
+    (length-take (run .steps) steps ∙ omega (arith, w .long, ap count h, f) ∙ sym (length-steps g (g .clusters) p))
     (λ t l. each t (omega (arith, length-take (run .steps) steps, ap count h)))
   where
     count : Run → ℕ
     count r = r .steps
 
-    each : (t : ℕ) → t < length p → getD (take (run .steps) steps) t blankStep ≡ getD (stepsOf lines e sizes cs p) t blankStep
+    each : (t : ℕ) → t < length p → getD (take (run .steps) steps) t blankStep ≡ getD (stepsOf g p) t blankStep
     each t l =
+        let e = length (g .clusters) in
         let q : t < run .steps = omega (arith, ap count h) in
         getD-take (run .steps) steps t blankStep q ∙ w .each t q
-        ∙ (λ z. stepFrom lines e sizes (b z) e (h z .parts) (h z .joints) t)
-        ∙ read-lists lines e sizes cs (flat (map ascending p)) (joints cs p) t
-        ∙ steps-from lines e sizes cs p cs e t v (λ n m z. refl) (omega arith) (sym c) l
+        ∙ (λ z. stepFrom (g .lines) e (g .sizes) (b z) e (h z .parts) (h z .joints) t)
+        ∙ read-lists (g .lines) e (g .sizes) (g .clusters) (flat (map ascending p)) (joints (g .clusters) p) t
+        ∙ steps-from g p (g .clusters) e t v (λ n m z. refl) (omega arith) refl l

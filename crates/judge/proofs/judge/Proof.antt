@@ -1,7 +1,8 @@
 use borrow.Author.Needs.{needs}
 use native.Mathlib.Omega.{arith}
-use mathlib.Core.Path.{_≡_, sym, ap, _∙_}
+use mathlib.Core.Path.{sym, _∙_}
 use Rattle.sheet.specs.Facts.{factsOf}
+use Rattle.sheet.specs.Graph.{graphOf}
 use Rattle.judge.specs.Judged.Found.{not-found, first-found, not-over}
 use Rattle.judge.specs.Judged.Short.{Whole, whole}
 use Rattle.judge.proofs.judge.Statement.{statement}
@@ -39,18 +40,18 @@ plan-of-requires : tie.Need-plan-of-requires
 plan-of-requires c κs =
     let s = c .before .before .before .before .before .before in
     let o = c .before .before .over-of in
-    (s .pre, not-over (factsOf (s .args .s)) (o .result) (o .ensures) (sheet s .in-blocks .paired) (sheet s .in-blocks .below) (c .enum-told .given .1))
+    (s .pre, not-over (graphOf (factsOf (s .args .s))) (o .result) (o .ensures) (sheet s .in-blocks .paired) (sheet s .in-blocks .below) (c .enum-told .given .1))
 
 returns-2 : tie.Need-returns-2
 returns-2 c =
     let g = c .before .before .found .given in
     let o = c .before .before .before .before .over-of in
-    c .over-found .ensures ∙ sym (first-found (factsOf (c .before .before .before .before .before .before .before .before .args .s)) (o .result) (o .ensures) (g .0 .0) (g .0 .1 .0) (g .1))
+    c .over-found .ensures ∙ sym (first-found (graphOf (factsOf (c .before .before .before .before .before .before .before .before .args .s))) (o .result) (o .ensures) (g .0 .0) (g .0 .1 .0) (g .1))
 
 returns-3 : tie.Need-returns-3
 returns-3 c =
     let o = c .before .before .before .over-of in
-    c .plan-of .ensures ∙ sym (not-found (factsOf (c .before .before .before .before .before .before .before .args .s)) (o .result) (o .ensures) (c .before .enum-told .given .1))
+    c .plan-of .ensures ∙ sym (not-found (graphOf (factsOf (c .before .before .before .before .before .before .before .args .s))) (o .result) (o .ensures) (c .before .enum-told .given .1))
 
 pub judge-spec : {M : Type 1} → statement M
 judge-spec =

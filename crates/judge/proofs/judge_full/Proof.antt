@@ -1,7 +1,8 @@
 use borrow.Author.Needs.{needs}
 use native.Mathlib.Omega.{arith}
-use mathlib.Core.Path.{_≡_, sym, ap, _∙_}
+use mathlib.Core.Path.{sym, _∙_}
 use Rattle.sheet.specs.Facts.{factsOf}
+use Rattle.sheet.specs.Graph.{graphOf}
 use Rattle.judge.specs.Judged.Found.{not-found, first-found, not-over}
 use Rattle.judge.specs.Judged.Short.{Whole, whole, steps-room, one-left, fine-judged}
 use Rattle.judge.proofs.judge_full.Statement.{statement}
@@ -57,15 +58,15 @@ returns-2 : tie.Need-returns-2
 returns-2 c =
     let g = c .before .before .found .given in
     let o = c .before .before .before .before .over-of in
-    c .over-found .ensures ∙ sym (first-found (factsOf (c .before .before .before .before .before .before .before .before .before .args .s)) (o .result) (o .ensures) (g .0 .0) (g .0 .1 .0) (g .1))
+    c .over-found .ensures ∙ sym (first-found (graphOf (factsOf (c .before .before .before .before .before .before .before .before .before .args .s))) (o .result) (o .ensures) (g .0 .0) (g .0 .1 .0) (g .1))
 
 returns-3 : tie.Need-returns-3
 returns-3 c =
     let s = c .before .before .before .before .before .before .before .before in
     let o = c .before .before .before .over-of in
-    let f = factsOf (s .args .s) in
+    let g = graphOf (factsOf (s .args .s)) in
     let t = c .before .enum-told .given .1 in
-    c .listed-by2 .ensures (not-over f (o .result) (o .ensures) (sheet s .in-blocks .paired) (sheet s .in-blocks .below) t) ∙ sym (not-found f (o .result) (o .ensures) t)
+    c .listed-by2 .ensures (not-over g (o .result) (o .ensures) (sheet s .in-blocks .paired) (sheet s .in-blocks .below) t) ∙ sym (not-found g (o .result) (o .ensures) t)
 
 pub judge-full-spec : {M : Type 1} → statement M
 judge-full-spec =

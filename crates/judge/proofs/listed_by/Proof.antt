@@ -1,12 +1,8 @@
-use Prim.Native.Nat.{ℕ, _≤_}
 use native.Mathlib.Omega.{arith}
-use mathlib.Core.Path.{_≡_, sym, ap, _∙_}
-use lib.ListN.{length}
-use Rattle.theory.specs.Constraints.{Pairs}
+use mathlib.Core.Path.{sym, ap, _∙_}
 use Rattle.sheet.specs.Facts.{Facts, factsOf}
-use Rattle.sheet.specs.Graph.{clustersOf}
+use Rattle.sheet.specs.Graph.{graphOf}
 use Rattle.merges.specs.Run.{Ran}
-use Rattle.judge.specs.Listing.Laws.{clusters-pairs}
 use Rattle.judge.specs.Listing.Blocks.{Blocks, passed-blocks}
 use Rattle.judge.specs.Judged.{listed}
 use Rattle.judge.specs.Judged.Laws.{steps-few, joints-long, settled}
@@ -22,7 +18,7 @@ module _ (c : tie.Start) where
   in-blocks =
       passed-blocks (c .args .s) (c .good .0) (c .pre .0)
 
-  ran : Ran (clustersOf facts) (c .args .run)
+  ran : Ran (graphOf facts .clusters) (c .args .run)
   ran = c .pre .2
 
 lines-of-requires : tie.Need-lines-of-requires
@@ -44,7 +40,7 @@ returns c fine =
     let s = c .before .before .before .before .before in
     settled (facts s) (ran s .p) (in-blocks s .paired) (ran s .valid) (s .args .run) (ran s .is) _ _ _ (c .settle .result)
     (c .before .before .before .lines-of .ensures) (sym (in-blocks s .elements-count)) (sym (in-blocks s .count)) (c .settle .ensures)
-    ∙ ap (listed (facts s)) (ran s .plan fine)
+    ∙ ap (listed (graphOf (facts s))) (ran s .plan fine)
 
 pub listed-by-spec : {M : Type 1} → statement M
 listed-by-spec = tie.close (tie.spec lines-of-requires settle-requires returns)

@@ -1,6 +1,6 @@
 use borrow.Author.Needs.{needs}
 use mathlib.Core.Path.{_≡_, ap}
-use Rattle.answer.specs.declared.Verdict.the-variants.{Over}
+use Rattle.theory.specs.declared.Verdict.the-variants.{Over}
 use Rattle.merges.specs.declared.Run.{Run}
 use Rattle.judge.specs.declared.Judged.{Judged}
 use Rattle.judge.proofs.over_found.Statement.{statement}

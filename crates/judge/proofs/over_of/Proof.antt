@@ -1,12 +1,10 @@
 use borrow.Author.Needs.{needs}
-use mathlib.Core.Path.{_≡_, sym, ap, _∙_, subst}
-use mathlib.Core.List.{List}
-use lib.ListN.{length}
+use mathlib.Core.Path.{sym, ap, _∙_, subst}
 use Rattle.theory.specs.Constraints.{Below}
 use Rattle.theory.specs.Over.{overOf}
 use Rattle.theory.specs.Over.Listed.{masks, Listed}
 use Rattle.sheet.specs.Facts.{factsOf}
-use Rattle.sparsity.specs.Answer.{asOver}
+use Rattle.sheet.specs.Graph.{graphOf}
 use Rattle.judge.specs.declared.Columns.{Columns}
 use Rattle.judge.specs.Judged.Short.{Whole, whole}
 use Rattle.judge.proofs.over_of.Statement.{statement}
@@ -27,12 +25,11 @@ find-over-requires c κs =
 returns : tie.Need-returns
 returns c =
     let s = c .before .before .before .before .before .before in
-    let f = factsOf (s .args .s) in
-    let n = length (f .elements) in
+    let n = graphOf (factsOf (s .args .s)) .n in
     let r = c .before .before .before .before .before .columns-of in
     let m =
     ap (λ (r : Columns). masks (r .firsts) (r .seconds) (s .args .s .e)) (r .ensures) ∙ sheet s .masks-are in
-    c .find-over .ensures n (subst (Below n) (sym m) (sheet s .in-blocks .below)) ∙ ap (λ (cs : List _). asOver (overOf n cs)) m
+    c .find-over .ensures n (subst (Below n) (sym m) (sheet s .in-blocks .below)) ∙ ap (overOf n) m
 
 pub over-of-spec : {M : Type 1} → statement M
 over-of-spec = tie.close (tie.spec columns-of-requires find-over-requires returns)

@@ -1,7 +1,7 @@
 use borrow.Author.Needs.{needs}
-use mathlib.Core.Path.{_≡_, refl, sym, ap, _∙_}
+use mathlib.Core.Path.{refl, sym, ap, _∙_}
 use Rattle.sheet.specs.Facts.{factsOf}
-use Rattle.answer.specs.Answer.{asVerdict}
+use Rattle.sheet.specs.Graph.{graphOf}
 use Rattle.judge.specs.declared.Judged.{Judged}
 use Rattle.judge.specs.Judged.{judgedOf}
 use Rattle.judge.specs.Judged.Found.{first-found, not-over}
@@ -25,19 +25,19 @@ enum-told-2 c = search needs
 returns : tie.Need-returns
 returns c =
     let s = c .before .before .before in
-    let f = factsOf (s .args .s) in
+    let g = graphOf (factsOf (s .args .s)) in
     let o = c .before .before .over-of in
-    let g = c .enum-told .given in
-    sym (ap (λ (j : Judged). j .verdict) (first-found f (o .result) (o .ensures) (g .0 .0) (g .0 .1 .0) (g .1)))
-    ∙ judged-verdict (s .args .s) (sheet s) (judgedOf f) refl
+    let t = c .enum-told .given in
+    sym (ap (λ (j : Judged). j .verdict) (first-found g (o .result) (o .ensures) (t .0 .0) (t .0 .1 .0) (t .1)))
+    ∙ judged-verdict (s .args .s) (sheet s) (judgedOf g) refl
 
 returns-2 : tie.Need-returns-2
 returns-2 c =
     let s = c .before .before .before in
-    let f = factsOf (s .args .s) in
+    let g = graphOf (factsOf (s .args .s)) in
     let o = c .before .before .over-of in
-    let fine = not-over f (o .result) (o .ensures) (sheet s .in-blocks .paired) (sheet s .in-blocks .below) (c .enum-told2 .given .1) in
-    ap asVerdict (sym (fewer-is (s .args .s) (sheet s) (s .pre .1) fine (s .pre .2)))
+    let fine = not-over g (o .result) (o .ensures) (sheet s .in-blocks .paired) (sheet s .in-blocks .below) (c .enum-told2 .given .1) in
+    sym (fewer-is (s .args .s) (sheet s) (s .pre .1) fine (s .pre .2))
 
 pub sparse-verdict-spec : {M : Type 1} → statement M
 sparse-verdict-spec = tie.close (tie.spec over-of-requires enum-told enum-told-2 returns returns-2)

@@ -2,7 +2,6 @@ use borrow.Author.Needs.{needs}
 use native.Mathlib.Omega.{arith}
 use mathlib.Core.Path.{_≡_, sym, ap, _∙_}
 use lib.Count.{ones}
-use Rattle.answer.specs.Answer.{asVerdict}
 use Rattle.judge.specs.Judged.Short.{Whole, whole, more-is}
 use Rattle.judge.proofs.verdict_of.Statement.{statement}
 use Rattle.judge.proofs.verdict_of.Tie as tie
@@ -20,7 +19,7 @@ mul-if1 c = omega (arith, sheet (c .before) .in-blocks .elements-most)
 returns : tie.Need-returns
 returns c =
     let s = c .before .before in
-    ap asVerdict (sym (more-is (s .args .s) (sheet s) (c .if1 .taken)))
+    sym (more-is (s .args .s) (sheet s) (c .if1 .taken))
 
 lines-of-requires : tie.Need-lines-of-requires
 lines-of-requires c κs = sheet (c .before .before .before) .in-blocks .elements-most

@@ -2,31 +2,26 @@
 use Prim.Native.Nat.{ℕ, zero, suc, _+_, _-_, _*_, _≤_}
 use native.Mathlib.Omega.{arith}
 use mathlib.Core.Path.{_≡_, refl, sym, ap, _∙_, subst}
-use mathlib.Core.Bool.{true, false}
 use mathlib.Core.List.{List, [], _∷_, _++_, map}
 use lib.ListN.{length, take, replicate, length-map, length-append, length-replicate}
 use lib.Seq.{take-all}
 use Rattle.theory.specs.Constraints.{Pairs, Below, NotOver}
-use Rattle.theory.specs.Over.{Finding, fine, first, IsOver, overOf}
-use Rattle.theory.specs.Verdict.Laws.{verdict-is-over, verdict-is-planned}
-use native.Mathlib.Nat.{le-refl}
-use Rattle.theory.specs.Over.Laws.{overOf-fine, overOf-first, fine-isOver, over-isOver, over-longer}
-use Rattle.theory.specs.Merge.{Merge, Valid, final, joints}
+use Rattle.theory.specs.Over.Laws.{overOf-fine}
+use Rattle.theory.specs.Merge.{final, joints}
 use Rattle.theory.specs.Merge.Count.{steps-left}
 use Rattle.theory.specs.Plan.{planOf, ascending}
 use Rattle.theory.specs.Plan.Laws.{plan-of-maximal}
-use Rattle.theory.specs.Verdict as verdicts
-use Rattle.theory.specs.Verdict.{verdict, listVerdict}
-use Rattle.sheet.specs.Facts.{Facts, linesOf}
-use Rattle.sheet.specs.Graph.{clustersOf, verdictOf}
-use Rattle.answer.specs.Answer.{asVerdict}
+use Rattle.theory.specs.declared.Finding.{Finding}
+use Rattle.theory.specs.declared.Finding.the-variants.{Fine, First}
+use Rattle.theory.specs.Graph.{Graph, findingOf, verdictOf}
+use Rattle.theory.specs.Graph.Laws.{first-verdict, fine-verdict}
 use Rattle.merges.specs.Held.{padded, flat}
 use Rattle.merges.specs.Run.{runOf}
 use Rattle.merges.proofs.State.{length-flat, length-final}
 use Rattle.engine.specs.Lists.{livingOf}
 use Rattle.judge.specs.declared.Judged.{Judged}
-use Rattle.judge.specs.Judged.{listed, planned, overFound, judgedBy, judgedOf, planBy, planOfFacts, planNumbers, finalsBy, finalClusters}
-use Rattle.judge.specs.Judged.Laws.{take-padded, length-clusters}
+use Rattle.judge.specs.Judged.{listed, planned, overFound, judgedBy, judgedOf, planBy, planNumbers, finalsBy, finalClusters}
+use Rattle.judge.specs.Judged.Laws.{take-padded}
 
 -- zeros name no living cluster
 living-none : (k : ℕ) → livingOf (replicate k 0) ≡ []
@@ -40,60 +35,53 @@ living-append [] k = living-none k
 living-append (zero ∷ l) k = living-append l k
 living-append (suc x ∷ l) k = ap (λ (r : List ℕ). suc x ∷ r) (living-append l k)
 
-module _ (f : Facts) (paired : Pairs (clustersOf f)) (below : Below (length (f .elements)) (clustersOf f)) (few : NotOver (clustersOf f) → length (f .constraints) ≤ 125) where
+module _ (g : Graph) (paired : Pairs (g .clusters)) (below : Below (g .n) (g .clusters)) (few : NotOver (g .clusters) → length (g .clusters) ≤ 125) where
   pub record Held (j : Judged) : Type 0 where
     pub steps-most : j .run .steps ≤ 62
     pub parts-long : length (j .run .parts) ≡ 192
     pub slots-long : length (j .run .slots) ≡ 192
-    pub numbers : take (3 * j .run .steps) (j .run .parts) ≡ planNumbers f
-    pub finals : livingOf (take 192 (j .run .slots)) ≡ finalClusters f
-    pub verdict-is : j .verdict ≡ asVerdict (verdictOf f)
+    pub numbers : take (3 * j .run .steps) (j .run .parts) ≡ planNumbers g
+    pub finals : livingOf (take 192 (j .run .slots)) ≡ finalClusters g
+    pub verdict-is : j .verdict ≡ verdictOf g
 
   padded-long : (k : ℕ) (l : List ℕ) → length l ≤ k → length (padded k l) ≡ k
   padded-long k l h = rw (length-append, length-replicate) (omega arith)
 
-  plan-held : overOf (length (f .elements)) (clustersOf f) ≡ fine → Held (planned f)
-  unfolding listed runOf planNumbers planOfFacts finalClusters verdictOf verdict
+  plan-held : findingOf g ≡ Fine → Held (planned g)
+  unfolding listed runOf planNumbers finalClusters
   plan-held q =
-      let cs = clustersOf f in
+      let cs = g .clusters in
       let p = planOf cs in
-      let none = overOf-fine (length (f .elements)) cs paired below q in
       let v = plan-of-maximal cs paired .valid in
       let s = steps-left cs paired p v in
-      let e = few none in
-      let c = length-clusters f in
+      let e = few (overOf-fine (g .n) cs paired below q) in
       let l : length (flat (map ascending p)) ≡ 3 * length p = length-flat (map ascending p) ∙ ap (λ (k : ℕ). 3 * k) (simp length-map) in
       let m : length (final cs p) ≡ length cs + length p = length-final p cs in
       record {
         steps-most = omega arith;
         parts-long = padded-long 192 (flat (map ascending p)) (omega arith);
         slots-long = padded-long 192 (final cs p) (omega arith);
-        numbers = take-padded 192 (flat (map ascending p)) (3 * length p) (sym l) ∙ sym (ap (λ (o : Finding). flat (map ascending (planBy f o))) q);
-        finals = ap livingOf (take-all 192 (padded 192 (final cs p)) (omega (arith, padded-long 192 (final cs p) (omega arith)))) ∙ living-append (final cs p) (192 - length (final cs p)) ∙ sym (ap (finalsBy f) q);
-        verdict-is = ap asVerdict (sym (verdict-is-planned (linesOf (f .elements)) (length (f .elements)) cs (fine-isOver (length (f .elements)) cs none)));
+        numbers = take-padded 192 (flat (map ascending p)) (3 * length p) (sym l) ∙ sym (ap (λ (o : Finding). flat (map ascending (planBy g o))) q);
+        finals = ap livingOf (take-all 192 (padded 192 (final cs p)) (omega (arith, padded-long 192 (final cs p) (omega arith)))) ∙ living-append (final cs p) (192 - length (final cs p)) ∙ sym (ap (finalsBy g) q);
+        verdict-is = sym (fine-verdict g q);
       }
 
-  whole-over : (c x : ℕ) → overOf (length (f .elements)) (clustersOf f) ≡ first c x → IsOver (clustersOf f)
-  whole-over c x q =
-      let h = overOf-first (length (f .elements)) (clustersOf f) paired below c x q in
-      subst IsOver (take-all (length (clustersOf f)) (clustersOf f) (le-refl (length (clustersOf f)))) (over-longer (clustersOf f) (suc c) (length (clustersOf f)) (h .listed) (h .over))
-
-  over-held : (c x : ℕ) → overOf (length (f .elements)) (clustersOf f) ≡ first c x → Held (overFound c x)
-  unfolding runOf planNumbers planOfFacts finalClusters verdictOf verdict flat joints
+  over-held : (c x : ℕ) → findingOf g ≡ First c x → Held (overFound c x)
+  unfolding runOf planNumbers finalClusters flat joints
   over-held c x q =
       record {
         steps-most = omega arith;
         parts-long = refl;
         slots-long = refl;
-        numbers = sym (ap (λ (o : Finding). flat (map ascending (planBy f o))) q);
-        finals = living-none 192 ∙ sym (ap (finalsBy f) q);
-        verdict-is = ap asVerdict (sym (verdict-is-over (linesOf (f .elements)) (length (f .elements)) (clustersOf f) (over-isOver (length (f .elements)) (clustersOf f) paired below (whole-over c x q))));
+        numbers = sym (ap (λ (o : Finding). flat (map ascending (planBy g o))) q);
+        finals = living-none 192 ∙ sym (ap (finalsBy g) q);
+        verdict-is = sym (first-verdict g q);
       }
 
-  pub judged-held : Held (judgedOf f)
+  pub judged-held : Held (judgedOf g)
   unfolding judgedOf
-  judged-held = go (overOf (length (f .elements)) (clustersOf f)) refl
+  judged-held = go (findingOf g) refl
     where
-      go : (o : Finding) → overOf (length (f .elements)) (clustersOf f) ≡ o → Held (judgedBy f (overOf (length (f .elements)) (clustersOf f)))
-      go fine q = subst (λ (o : Finding). Held (judgedBy f o)) (sym q) (plan-held q)
-      go (first c x) q = subst (λ (o : Finding). Held (judgedBy f o)) (sym q) (over-held c x q)
+      go : (o : Finding) → findingOf g ≡ o → Held (judgedBy g (findingOf g))
+      go Fine q = subst (λ (o : Finding). Held (judgedBy g o)) (sym q) (plan-held q)
+      go (First c x) q = subst (λ (o : Finding). Held (judgedBy g o)) (sym q) (over-held c x q)

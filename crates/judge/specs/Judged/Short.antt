@@ -6,20 +6,22 @@ use mathlib.Core.Bool.{Bool, true, false}
 use mathlib.Core.List.{List}
 use lib.Count.{ones}
 use lib.ListN.{length}
-use Rattle.theory.specs.Constraints.{Pairs, Below, NotOver}
-use Rattle.theory.specs.Over.Laws.{fine-overOf, fine-most}
+use Rattle.theory.specs.Constraints.{NotOver}
+use Rattle.theory.specs.Over.Laws.{fine-most}
 use Rattle.theory.specs.Over.Listed.{masks, Listed}
 use Rattle.theory.specs.Merge.{joints}
 use Rattle.theory.specs.Merge.Count.{steps-left}
 use Rattle.theory.specs.Merge.One.{one-fine}
 use Rattle.theory.specs.Plan.{planOf}
 use Rattle.theory.specs.Plan.Laws.{plan-of-maximal}
-use Rattle.theory.specs.Verdict.{over, angle as angle-name, well, under, angled}
-use Rattle.theory.specs.Verdict.Short.{not-angled, verdict-more, verdict-angle, verdict-fewer, verdict-one}
+use Rattle.theory.specs.Verdict.{angled}
+use Rattle.theory.specs.declared.Verdict.the-variants.{Over, Angle, Well, Under}
+use Rattle.theory.specs.Graph.{findingOf, verdictOf}
+use Rattle.theory.specs.Graph.Laws.{fine-finding}
+use Rattle.theory.specs.Graph.Short.{not-angled, verdict-more, verdict-angle, verdict-fewer, verdict-one}
 use Rattle.sheet.specs.declared.Sheet.{Sheet}
-use Rattle.sheet.specs.Facts.{factsOf, linesOf}
+use Rattle.sheet.specs.Facts.{factsOf}
 use Rattle.sheet.specs.Rules.{sheetFault}
-use Rattle.sheet.specs.Graph.{clustersOf, verdictOf}
 use Rattle.peeling.specs.Core.{Core, Loose, Told}
 use Rattle.peeling.specs.Core.Peeling.{core-none}
 use Rattle.peeling.specs.Core.Merging.{loose-one}
@@ -29,18 +31,18 @@ use Rattle.judge.specs.Listing.{columnsOf}
 use Rattle.judge.specs.Listing.Laws.{masks-are, listed}
 use Rattle.judge.specs.Listing.Blocks.{Blocks, passed-blocks}
 use Rattle.sheet.proofs.Passed.{Passed}
-use Rattle.answer.specs.Answer.{asVerdict}
+use Rattle.sheet.specs.Graph.{graphOf}
+use Rattle.sheet.specs.Graph.Laws.{length-clusters}
 use Rattle.judge.specs.declared.Judged.{Judged}
 use Rattle.judge.specs.Judged.Lists.{judged-held}
 use Rattle.judge.specs.Judged.{planned, judgedBy, judgedOf}
-use Rattle.judge.specs.Judged.Laws.{length-clusters}
 
 -- with its ends in columns
 pub record Whole (s : Sheet) : Type 0 where
   pub in-blocks : Blocks s
-  pub count : length (clustersOf (factsOf s)) ≡ s .e
+  pub count : length (graphOf (factsOf s) .clusters) ≡ s .e
   pub columns : Listed (columnsOf (factsOf s) .firsts) (columnsOf (factsOf s) .seconds) (s .e)
-  pub masks-are : masks (columnsOf (factsOf s) .firsts) (columnsOf (factsOf s) .seconds) (s .e) ≡ clustersOf (factsOf s)
+  pub masks-are : masks (columnsOf (factsOf s) .firsts) (columnsOf (factsOf s) .seconds) (s .e) ≡ graphOf (factsOf s) .clusters
 
 pub whole : (s : Sheet) → Passed s → sheetFault s ≡ 0 → Whole s
 whole s g none =
@@ -54,69 +56,73 @@ whole s g none =
     }
 
 module _ (s : Sheet) (w : Whole s) where
-  pub steps-room : (run : Run) → Ran (clustersOf (factsOf s)) run → 2 * run .steps ≤ s .e
+  pub steps-room : (run : Run) → Ran (graphOf (factsOf s) .clusters) run → 2 * run .steps ≤ s .e
   unfolding runOf
   steps-room run ran =
-      omega (arith, steps-left (clustersOf (factsOf s)) (w .in-blocks .paired) (ran .p) (ran .valid), w .count, ap (λ (r : Run). r .steps) (ran .is))
+      omega (arith, steps-left (graphOf (factsOf s) .clusters) (w .in-blocks .paired) (ran .p) (ran .valid), w .count, ap (λ (r : Run). r .steps) (ran .is))
 
   -- merges that leave one cluster show that the sheet is not over
-  pub one-left : (run : Run) → Ran (clustersOf (factsOf s)) run → 2 * run .steps + 1 ≡ s .e → NotOver (clustersOf (factsOf s))
+  pub one-left : (run : Run) → Ran (graphOf (factsOf s) .clusters) run → 2 * run .steps + 1 ≡ s .e → NotOver (graphOf (factsOf s) .clusters)
   unfolding runOf
   one-left run ran one =
-      one-fine (clustersOf (factsOf s)) (w .in-blocks .paired) (ran .p) (ran .valid)
-      (omega (arith, steps-left (clustersOf (factsOf s)) (w .in-blocks .paired) (ran .p) (ran .valid), w .count, one, ap (λ (r : Run). r .steps) (ran .is)))
+      one-fine (graphOf (factsOf s) .clusters) (w .in-blocks .paired) (ran .p) (ran .valid)
+      (omega (arith, steps-left (graphOf (factsOf s) .clusters) (w .in-blocks .paired) (ran .p) (ran .valid), w .count, one, ap (λ (r : Run). r .steps) (ran .is)))
 
-  pub fine-judged : NotOver (clustersOf (factsOf s)) → judgedOf (factsOf s) ≡ planned (factsOf s)
+  none-found : NotOver (graphOf (factsOf s) .clusters) → findingOf (graphOf (factsOf s)) ≡ Fine
+  none-found = fine-finding (graphOf (factsOf s)) (w .in-blocks .paired) (w .in-blocks .below)
+
+  pub fine-judged : NotOver (graphOf (factsOf s) .clusters) → judgedOf (graphOf (factsOf s)) ≡ planned (graphOf (factsOf s))
   unfolding judgedOf
-  fine-judged fine = ap (judgedBy (factsOf s)) (fine-overOf (length (factsOf s .elements)) (clustersOf (factsOf s)) (w .in-blocks .paired) (w .in-blocks .below) fine)
+  fine-judged fine = ap (judgedBy (graphOf (factsOf s))) (none-found fine)
 
   -- the judgement's verdict
-  pub judged-verdict : (j : Judged) → j ≡ judgedOf (factsOf s) → j .verdict ≡ asVerdict (verdictOf (factsOf s))
+  pub judged-verdict : (j : Judged) → j ≡ judgedOf (graphOf (factsOf s)) → j .verdict ≡ verdictOf (graphOf (factsOf s))
   judged-verdict j e =
       ap (λ (x : Judged). x .verdict) e
-      ∙ judged-held (factsOf s) (w .in-blocks .paired) (w .in-blocks .below) (λ fine. omega (arith, most-of fine, w .in-blocks .elements-count, w .in-blocks .elements-most, length-clusters (factsOf s))) .verdict-is
+      ∙ judged-held (graphOf (factsOf s)) (w .in-blocks .paired) (w .in-blocks .below)
+      (λ fine. omega (arith, most-of fine, w .in-blocks .elements-count, w .in-blocks .elements-most)) .verdict-is
     where
-      most-of : NotOver (clustersOf (factsOf s)) → length (clustersOf (factsOf s)) + 3 ≤ 2 * length (factsOf s .elements)
-      most-of = fine-most (length (factsOf s .elements)) (clustersOf (factsOf s)) (omega (arith, w .in-blocks .elements-count, w .in-blocks .elements-two)) (w .in-blocks .below)
+      most-of : NotOver (graphOf (factsOf s) .clusters) → length (graphOf (factsOf s) .clusters) + 3 ≤ 2 * graphOf (factsOf s) .n
+      most-of =
+          fine-most (graphOf (factsOf s) .n) (graphOf (factsOf s) .clusters) (omega (arith, w .in-blocks .elements-count, w .in-blocks .elements-two))
+          (w .in-blocks .below)
 
   -- ---- verdicts without a plan
 
-  pub more-is : 2 * s .n < s .e + 3 → verdictOf (factsOf s) ≡ over
-  unfolding verdictOf
+  pub more-is : 2 * s .n < s .e + 3 → verdictOf (graphOf (factsOf s)) ≡ Over
   more-is h =
-      verdict-more (linesOf (factsOf s .elements)) (length (factsOf s .elements)) (clustersOf (factsOf s)) (omega (arith, w .in-blocks .elements-count, w .in-blocks .elements-two)) (w .in-blocks .paired) (w .in-blocks .below)
+      verdict-more (graphOf (factsOf s)) (omega (arith, w .in-blocks .elements-count, w .in-blocks .elements-two)) (w .in-blocks .paired) (w .in-blocks .below)
       (omega (arith, w .in-blocks .elements-count, w .count))
 
   -- fewer than 2n-3 constraints, and no three lines
-  pub fewer-is : ones (linesOf (factsOf s .elements)) ≤ 2 → NotOver (clustersOf (factsOf s)) → s .e + 3 < 2 * s .n → verdictOf (factsOf s) ≡ under
-  unfolding verdictOf
+  pub fewer-is : ones (graphOf (factsOf s) .lines) ≤ 2 → NotOver (graphOf (factsOf s) .clusters) → s .e + 3 < 2 * s .n
+      → verdictOf (graphOf (factsOf s)) ≡ Under
   fewer-is few fine h =
-      let cs = clustersOf (factsOf s) in
-      verdict-fewer (linesOf (factsOf s .elements)) (length (factsOf s .elements)) cs fine
-      (not-angled (linesOf (factsOf s .elements)) few cs (planOf cs) (plan-of-maximal cs (w .in-blocks .paired) .valid)) (λ e. omega (arith, w .in-blocks .elements-count, w .count, e))
+      let cs = graphOf (factsOf s) .clusters in
+      verdict-fewer (graphOf (factsOf s)) (none-found fine)
+      (not-angled (graphOf (factsOf s) .lines) few cs (planOf cs) (plan-of-maximal cs (w .in-blocks .paired) .valid))
+      (λ e. omega (arith, w .in-blocks .elements-count, w .count, e))
 
   -- 2n-3 constraints that peel off to the last element
-  module _ (lines left : ℕ) (angle : Bool) (are : lines ≡ linesOf (factsOf s .elements)) (count : s .e + 3 ≡ 2 * s .n)
+  module _ (lines left : ℕ) (angle : Bool) (are : lines ≡ graphOf (factsOf s) .lines) (count : s .e + 3 ≡ 2 * s .n)
       (t : Told (columnsOf (factsOf s) .firsts) (columnsOf (factsOf s) .seconds) (s .e) lines left angle) (none : left ≡ 0) where
-    fine : NotOver (clustersOf (factsOf s))
+    fine : NotOver (graphOf (factsOf s) .clusters)
     fine =
         subst NotOver (w .masks-are)
         (core-none (columnsOf (factsOf s) .firsts) (columnsOf (factsOf s) .seconds) (s .e) (subst (Core (columnsOf (factsOf s) .firsts) (columnsOf (factsOf s) .seconds) (s .e)) none (t .core)))
 
-    angle-is : angle ≡ angled (linesOf (factsOf s .elements)) (joints (clustersOf (factsOf s)) (planOf (clustersOf (factsOf s))))
+    angle-is : angle ≡ angled (graphOf (factsOf s) .lines) (joints (graphOf (factsOf s) .clusters) (planOf (graphOf (factsOf s) .clusters)))
     angle-is =
         t .angle-is none (s .n) (w .in-blocks .elements-two) (w .in-blocks .elements-most) (rw (w .masks-are, ← w .in-blocks .elements-count) (w .in-blocks .below)) count
         ∙ ap₂ (λ (z : ℕ) (cs : List ℕ). angled z (joints cs (planOf cs))) are (w .masks-are)
 
-    pub angle-peeled : angle ≡ true → verdictOf (factsOf s) ≡ angle-name
-    unfolding verdictOf
-    angle-peeled e = verdict-angle (linesOf (factsOf s .elements)) (length (factsOf s .elements)) (clustersOf (factsOf s)) fine (sym angle-is ∙ e)
+    pub angle-peeled : angle ≡ true → verdictOf (graphOf (factsOf s)) ≡ Angle
+    angle-peeled e = verdict-angle (graphOf (factsOf s)) (none-found fine) (sym angle-is ∙ e)
 
-    pub well-peeled : angle ≡ false → verdictOf (factsOf s) ≡ well
-    unfolding verdictOf
+    pub well-peeled : angle ≡ false → verdictOf (graphOf (factsOf s)) ≡ Well
     well-peeled e =
-        let n = length (factsOf s .elements) in
-        let cs = clustersOf (factsOf s) in
+        let n = graphOf (factsOf s) .n in
+        let cs = graphOf (factsOf s) .clusters in
         let full : length cs + 3 ≡ 2 * n = omega (arith, w .in-blocks .elements-count, w .count, count) in
-        verdict-one (linesOf (factsOf s .elements)) n cs fine (sym angle-is ∙ e) full
+        verdict-one (graphOf (factsOf s)) (none-found fine) (sym angle-is ∙ e) full
         (loose-one n cs (omega (arith, w .in-blocks .elements-count, w .in-blocks .elements-two)) (omega (arith, w .in-blocks .elements-count, w .in-blocks .elements-most)) (w .in-blocks .paired) (w .in-blocks .below) fine (subst Loose (w .masks-are) (t .core .loose none)) full (planOf cs) (plan-of-maximal cs (w .in-blocks .paired)))

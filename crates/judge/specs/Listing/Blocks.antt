@@ -12,9 +12,9 @@ use Rattle.sheet.specs.Facts.{factsOf}
 use Rattle.sheet.specs.Rules.{constraintsFault, sheetFault}
 use Rattle.sheet.specs.Rules.Laws.{and-true}
 use Rattle.sheet.specs.RoundTrip.Blocks.{constraints-most, sheetFault-none}
-use Rattle.sheet.specs.Graph.{clustersOf}
 use Rattle.sheet.proofs.Passed.{Passed, elements-long, constraints-long}
-use Rattle.judge.specs.Listing.Laws.{clusters-pairs, clusters-below}
+use Rattle.sheet.specs.Graph.{graphOf}
+use Rattle.sheet.specs.Graph.Laws.{clusters-pairs, clusters-below}
 
 pub record Blocks (s : Sheet) : Type 0 where
   pub elements-two : 2 ≤ s .n
@@ -26,8 +26,8 @@ pub record Blocks (s : Sheet) : Type 0 where
   pub elements-few : length (factsOf s .elements) ≤ 64
   pub elements-some : 2 ≤ length (factsOf s .elements)
   pub constraints-few : length (factsOf s .constraints) ≤ 200
-  pub paired : Pairs (clustersOf (factsOf s))
-  pub below : Below (length (factsOf s .elements)) (clustersOf (factsOf s))
+  pub paired : Pairs (graphOf (factsOf s) .clusters)
+  pub below : Below (graphOf (factsOf s) .n) (graphOf (factsOf s) .clusters)
 
 pub blocks : (s : Sheet) → length (s .elements) ≡ 64 → length (s .constraints) ≡ 200 → sheetFault s ≡ 0 → Blocks s
 blocks s long-elements long none =
@@ -48,8 +48,8 @@ blocks s long-elements long none =
       elements-few = rw l m;
       elements-some = rw l two;
       constraints-few = rw k e;
-      paired = clusters-pairs (factsOf s) (rw l m) (rw k e) (h .2);
-      below = clusters-below (factsOf s) (rw l m) (rw k e) (h .2);
+      paired = clusters-pairs (factsOf s) (h .2);
+      below = clusters-below (factsOf s) (h .2);
     }
 
 pub passed-blocks : (s : Sheet) → Passed s → sheetFault s ≡ 0 → Blocks s

@@ -3,24 +3,22 @@ use Prim.Native.Nat.{ℕ, zero, suc, _<_, _≤_}
 use native.Mathlib.Omega.{arith}
 use borrow.Author.Tests.{eq-eqb}
 use mathlib.Core.Path.{_≡_, refl, sym, ap, ap₂, _∙_, subst}
-use mathlib.Core.Logic.{_≢_}
 use mathlib.Core.Bool.{Bool, true, false, _&&_, _||_}
 use mathlib.Core.List.{List, [], _∷_, _++_, map}
-use lib.Dec.{T, eqb, leb}
-use lib.ListN.{length, take, getD, replicate, List·getD-append, List·getD-map, length-map}
+use lib.Dec.{T, eqb}
+use lib.ListN.{length, take, getD, List·getD-append, List·getD-map, length-map}
 use lib.Seq.{take-suc, take-all}
 use native.Mathlib.Nat.{le-refl, le-of-suc-le-suc}
-use Rattle.theory.specs.Constraints.{pair, clusters, cluster, Sound, Below, Pairs}
-use Rattle.theory.specs.Constraints.Laws.{pair-one, sound-below, sound-pairs}
+use Rattle.theory.specs.Constraints.{pair}
+use Rattle.theory.specs.Constraints.Laws.{pair-one}
 use Rattle.sheet.specs.declared.Element.{Element}
 use Rattle.sheet.specs.declared.Constraint.{Constraint}
 use Rattle.sheet.specs.Facts.{Facts, blankConstraint}
 use Rattle.sheet.specs.Rules.{stands, constraintFault, constraintsFault}
-use Rattle.sheet.specs.Rules.Laws.{and-true, ends-true}
+use Rattle.sheet.specs.Rules.Laws.{ends-true}
 use Rattle.sheet.specs.Accepted.Laws.{taken, none-else}
 use Rattle.sheet.specs.Noted.Laws.{stands-more}
-use Rattle.sheet.specs.Graph.{endsOf, clustersOf, listedEnds}
-use Rattle.sheet.specs.Graph.Laws.{ends-sound}
+use Rattle.sheet.specs.Graph.{graphOf}
 use Rattle.graph.specs.Arrays.{endAt, endPair}
 use Rattle.graph.specs.Arrays.Laws.{map-append}
 use Rattle.theory.specs.Over.Listed.{ends, masks, Listed}
@@ -48,14 +46,10 @@ masks-upto cs (suc k) h =
     let l : k < length cs = h in
     rw (masks-upto cs k (omega arith), ends-in cs k l, take-suc cs k blankConstraint l) (sym (map-append endPair (take k cs) (getD cs k blankConstraint ∷ [])))
 
-pub map-map : (cs : List Constraint) → map endPair cs ≡ clusters (map endsOf cs)
-map-map [] = refl
-map-map (c ∷ cs) = ap (λ (l : List ℕ). endPair c ∷ l) (map-map cs)
-
-pub masks-are : (f : Facts) → masks (endsIn false (f .constraints)) (endsIn true (f .constraints)) (length (f .constraints)) ≡ clustersOf f
+pub masks-are : (f : Facts) → masks (endsIn false (f .constraints)) (endsIn true (f .constraints)) (length (f .constraints)) ≡ graphOf f .clusters
 masks-are f =
     masks-upto (f .constraints) (length (f .constraints)) (le-refl (length (f .constraints)))
-    ∙ ap (map endPair) (take-all (length (f .constraints)) (f .constraints) (le-refl (length (f .constraints)))) ∙ map-map (f .constraints)
+    ∙ ap (map endPair) (take-all (length (f .constraints)) (f .constraints) (le-refl (length (f .constraints))))
 
 -- ---- rules 6 and 7, place by place
 
@@ -123,10 +117,3 @@ module _ (f : Facts) (elements : length (f .elements) ≤ 64) (constraints : len
     below = λ c l. rw (end-in true (f .constraints) c l) (omega (arith, each-ends (f .elements) (f .constraints) [] fine c blankConstraint l .1));
     differ = λ c d l m e. apart c d l m (sym (ends-in (f .constraints) c (omega arith)) ∙ e ∙ ends-in (f .constraints) d m);
   }
-
-  -- every constraint is a set of two of the sheet's elements
-  pub clusters-pairs : Pairs (clustersOf f)
-  clusters-pairs = sound-pairs (length (f .elements)) (listedEnds f) (ends-sound (f .elements) (f .constraints) [] fine)
-
-  pub clusters-below : Below (length (f .elements)) (clustersOf f)
-  clusters-below = sound-below (length (f .elements)) (listedEnds f) (ends-sound (f .elements) (f .constraints) [] fine)

@@ -1,7 +1,8 @@
 use borrow.Author.Needs.{needs}
-use mathlib.Core.Path.{_≡_, refl, sym, ap, _∙_}
+use mathlib.Core.Path.{ap, _∙_}
 use Rattle.sheet.specs.Facts.{Facts}
 use Rattle.sheet.specs.Field.{Bytes}
+use Rattle.sheet.specs.Graph.{graphOf}
 use Rattle.reader.specs.Answers.{outcomeNumber}
 use Rattle.space.specs.declared.Written.the-variants.{Refused}
 use Rattle.account.specs.Account.{savedAnswer, savedAfter}
@@ -48,7 +49,7 @@ returns-2 c =
     let f = read (c .before .before .before) in
     let w = c .before .before .check-plan .ensures in
     let g = check-given (a .bytes .now) (a .plan .now) (a .out .now) (f .facts) (f .rest) (f .reads) in
-    (w .0 ∙ ap (λ (x : Facts). savedAnswer x (a .plan .now) (a .out .now)) (f .facts-are) ∙ g .0, w .1 ∙ ap (λ (x : Facts). savedAfter x (a .plan .now) (a .out .now)) (f .facts-are) ∙ g .1)
+    (w .0 ∙ ap (λ (x : Facts). savedAnswer (graphOf x) (a .plan .now) (a .out .now)) (f .facts-are) ∙ g .0, w .1 ∙ ap (λ (x : Facts). savedAfter (graphOf x) (a .plan .now) (a .out .now)) (f .facts-are) ∙ g .1)
 
 pub check-plan-spec : {M : Type 1} → statement M
 check-plan-spec =

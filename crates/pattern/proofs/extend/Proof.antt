@@ -10,9 +10,10 @@ use Rattle.sheet.specs.Facts.{Facts, factsOf}
 use Rattle.sheet.specs.Field.{value, refused, Bytes}
 use Rattle.sheet.specs.Rules.{constraintFault, sheetFault}
 use Rattle.sheet.specs.Encode.{sheetBytes}
+use Rattle.sheet.specs.Graph.{graphOf, overFault}
 use Rattle.reader.specs.declared.ConstraintRead.{ConstraintRead}
 use Rattle.reader.specs.Answers.{outcomeNumber, asConstraint, ruleOf}
-use Rattle.sketch.specs.Sketch.{overFault, extended}
+use Rattle.sketch.specs.Sketch.{extended}
 use Rattle.pattern.specs.Sketches.{heldSheet, lastConstraint}
 use Rattle.pattern.specs.Sheets.Laws.{reading-refused}
 use Rattle.pattern.specs.Sketches.Laws.{Holds, holding, held-none, held-over, last-taken, room, more-facts, more-none, extended-unheld, extended-unread, extended-read, extend-refused, extend-given}
@@ -113,8 +114,8 @@ module _ (c : tie.After-store) where
       let h = sketch (held (c .before)) in
       ap factsOf (c .store .ensures) ∙ more-facts (h .facts) (h .accepted) (h .no-over) _ (h .sheet-is) (last (c .before))
 
-over-is : (c : tie.After-over-fault) → c .over-fault .result ≡ overFault (extended (sketch (held (c .before .before)) .facts) (last (c .before .before)))
-over-is c = c .over-fault .ensures ∙ ap overFault (more-are (c .before))
+over-is : (c : tie.After-over-fault) → c .over-fault .result ≡ overFault (graphOf (extended (sketch (held (c .before .before)) .facts) (last (c .before .before))))
+over-is c = c .over-fault .ensures ∙ ap (λ (x : Facts). overFault (graphOf x)) (more-are (c .before))
 
 over-fault-requires : tie.Need-over-fault-requires
 over-fault-requires c κs = more-fault c

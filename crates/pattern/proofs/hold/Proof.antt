@@ -1,8 +1,9 @@
 use borrow.Author.Needs.{needs}
 use mathlib.Core.Path.{sym, ap, _∙_}
+use Rattle.sheet.specs.Facts.{Facts}
 use Rattle.sheet.specs.Field.{refused, Bytes}
 use Rattle.reader.specs.Answers.{asReading}
-use Rattle.sketch.specs.Sketch.{overFault}
+use Rattle.sheet.specs.Graph.{graphOf, overFault}
 use Rattle.pattern.specs.Sheets.Laws.{FactsRead, facts-read, refusal-read}
 use Rattle.pattern.specs.Sketches.Laws.{held-none, held-over, held-read, held-unread}
 use Rattle.pattern.proofs.hold.Statement.{statement}
@@ -41,7 +42,7 @@ returns-2 : tie.Need-returns-2
 returns-2 c =
     let o = c .before .before in
     let f = read (o .before) in
-    let e = o .over-fault .ensures ∙ ap overFault (f .facts-are) in
+    let e = o .over-fault .ensures ∙ ap (λ (x : Facts). overFault (graphOf x)) (f .facts-are) in
     let h = held-read _ (f .facts) (f .rest) (f .reads) ∙ held-over (f .facts) (f .rest) (λ z. c .before .if1 .taken (e ∙ z)) in
     c .refuse .ensures ∙ ap asReading (ap refused e ∙ sym h)
 
@@ -49,7 +50,7 @@ returns-3 : tie.Need-returns-3
 returns-3 c =
     let o = c .before in
     let f = read (o .before) in
-    let e = o .over-fault .ensures ∙ ap overFault (f .facts-are) in
+    let e = o .over-fault .ensures ∙ ap (λ (x : Facts). overFault (graphOf x)) (f .facts-are) in
     let h = held-read _ (f .facts) (f .rest) (f .reads) ∙ held-none (f .facts) (f .rest) (sym e ∙ c .if1 .left) in
     o .before .before .before .before .read-sheet .ensures ∙ ap asReading (f .reads ∙ sym h)
 

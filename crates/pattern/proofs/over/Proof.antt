@@ -1,16 +1,14 @@
 use borrow.Author.Needs.{needs}
-use mathlib.Core.Path.{_≡_, refl, sym, ap, _∙_}
-use mathlib.Core.List.{List, [], _∷_}
-use lib.ListN.{length}
-use Rattle.theory.specs.Over.{overOf}
+use mathlib.Core.Path.{_≡_, ap, _∙_}
+use mathlib.Core.List.{[], _∷_}
 use Rattle.sheet.specs.Facts.{Facts}
 use Rattle.sheet.specs.Field.{Bytes}
-use Rattle.sheet.specs.Graph.{clustersOf}
+use Rattle.sheet.specs.Graph.{graphOf}
 use Rattle.reader.specs.Answers.{outcomeNumber}
-use Rattle.sparsity.specs.Answer.{asOver}
 use native.Mathlib.Omega.{arith}
+use Rattle.theory.specs.Graph.{findingOf}
 use Rattle.space.specs.declared.Written.the-variants.{Refused}
-use Rattle.pattern.specs.Sheets.{overOfFacts}
+use Rattle.pattern.specs.Sheets.{overNumbers}
 use Rattle.pattern.specs.Sheets.Laws.{FactsRead, facts-read, refusal-read, items-refused, items-given, stored-items}
 use Rattle.pattern.specs.Sheets.Overs.{none-over, first-over}
 use Rattle.pattern.proofs.over.Statement.{statement}
@@ -34,7 +32,7 @@ returns c =
     let r = c .before .before .before .read-sheet in
     let t = c .before .enum-told2 .given in
     let e = refusal-read (a .bytes .now) (r .result) (t .0 .0) (r .ensures) (t .1) in
-    let g = items-refused overOfFacts (a .bytes .now) (a .out .now) (t .0 .0) e in
+    let g = items-refused overNumbers (a .bytes .now) (a .out .now) (t .0 .0) e in
     (ap Refused (c .refusal .ensures ∙ ap outcomeNumber (t .1)) ∙ g .0, g .1)
 
 -- the facts of the sheet
@@ -53,15 +51,15 @@ enum-told-3 : tie.Need-enum-told-3
 enum-told-3 c = search needs
 
 -- what is found is the definition's, of the facts that were read
-found : (c : tie.After-over-of) → c .over-of .result ≡ asOver (overOf (length (read (c .before) .facts .elements)) (clustersOf (read (c .before) .facts)))
-found c = c .over-of .ensures ∙ ap (λ (f : Facts). asOver (overOf (length (f .elements)) (clustersOf f))) (read (c .before) .facts-are)
+found : (c : tie.After-over-of) → c .over-of .result ≡ findingOf (graphOf (read (c .before) .facts))
+found c = c .over-of .ensures ∙ ap (λ (f : Facts). findingOf (graphOf f)) (read (c .before) .facts-are)
 
 returns-2 : tie.Need-returns-2
 returns-2 c =
     let o = c .before .before in
     let f = read (o .before) in
     let e = stored-items (c .before .before .before .before .before .before .before .before .before .args .out .now) [] (omega arith) in
-    let i = items-given overOfFacts _ _ (f .facts) (f .rest) [] (f .reads) (none-over (f .facts) (o .over-of .result) (found o) (c .enum-told3 .given .1)) in
+    let i = items-given overNumbers _ _ (f .facts) (f .rest) [] (f .reads) (none-over (graphOf (f .facts)) (o .over-of .result) (found o) (c .enum-told3 .given .1)) in
     (e .0 ∙ i .0, e .1 ∙ i .1)
 
 put-two-requires : tie.Need-put-two-requires
@@ -76,7 +74,7 @@ returns-3 c =
     let g = c .before .before .before .before .before .found .given in
     let f = read (o .before) in
     let p = c .before .before .put-two .ensures in
-    let i = items-given overOfFacts _ _ (f .facts) (f .rest) (g .0 .0 ∷ g .0 .1 .0 ∷ []) (f .reads) (first-over (f .facts) (o .over-of .result) (found o) (g .0 .0) (g .0 .1 .0) (g .1)) in
+    let i = items-given overNumbers _ _ (f .facts) (f .rest) (g .0 .0 ∷ g .0 .1 .0 ∷ []) (f .reads) (first-over (graphOf (f .facts)) (o .over-of .result) (found o) (g .0 .0) (g .0 .1 .0) (g .1)) in
     (p .0 ∙ i .0, p .1 ∙ i .1)
 
 pub over-spec : {M : Type 1} → statement M

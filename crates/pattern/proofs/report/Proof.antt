@@ -1,10 +1,10 @@
 use borrow.Author.Needs.{needs}
-use mathlib.Core.Path.{_≡_, refl, sym, ap, _∙_}
+use mathlib.Core.Path.{sym, ap, _∙_}
 use Rattle.sheet.specs.Facts.{Facts}
 use Rattle.sheet.specs.Field.{Bytes}
+use Rattle.sheet.specs.Graph.{graphOf}
 use Rattle.reader.specs.Answers.{outcomeNumber}
 use Rattle.space.specs.declared.Written.the-variants.{Refused}
-use Rattle.space.specs.Space.{answer, after}
 use Rattle.account.specs.Account.{reportOf}
 use Rattle.pattern.specs.Sheets.Laws.{FactsRead, facts-read, refusal-read, items-refused, items-given}
 use Rattle.pattern.proofs.report.Statement.{statement}
@@ -46,7 +46,7 @@ returns-2 : tie.Need-returns-2
 returns-2 c =
     let f = read (c .before .before .before) in
     let w = c .before .before .report .ensures in
-    let g = items-given reportOf _ _ (f .facts) (f .rest) _ (f .reads) (sym (ap reportOf (f .facts-are))) in
+    let g = items-given reportOf _ _ (f .facts) (f .rest) _ (f .reads) (sym (ap (λ (x : Facts). reportOf (graphOf x)) (f .facts-are))) in
     (w .0 ∙ g .0, w .1 ∙ g .1)
 
 pub report-spec : {M : Type 1} → statement M

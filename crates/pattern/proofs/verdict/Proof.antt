@@ -1,10 +1,10 @@
 use borrow.Author.Needs.{needs}
-use mathlib.Core.Path.{_≡_, ap, _∙_}
+use mathlib.Core.Path.{ap, _∙_}
+use Rattle.theory.specs.Graph.{verdictOf}
 use Rattle.sheet.specs.Facts.{Facts}
 use Rattle.sheet.specs.Field.{Bytes}
-use Rattle.sheet.specs.Graph.{verdictOf}
+use Rattle.sheet.specs.Graph.{graphOf}
 use Rattle.reader.specs.Answers.{outcomeNumber}
-use Rattle.answer.specs.Answer.{asVerdict}
 use Rattle.pattern.specs.declared.Judgement.the-variants.{Is, Refused}
 use Rattle.pattern.specs.Judgements.{judgementOf}
 use Rattle.pattern.specs.Sheets.Laws.{FactsRead, facts-read, refusal-read}
@@ -44,7 +44,7 @@ returns-2 : tie.Need-returns-2
 unfolding judgementOf
 returns-2 c =
     let f = read (c .before) in
-    rw (f .reads) (ap Is (c .verdict-of .ensures ∙ ap (λ (x : Facts). asVerdict (verdictOf x)) (f .facts-are)))
+    rw (f .reads) (ap Is (c .verdict-of .ensures ∙ ap (λ (x : Facts). verdictOf (graphOf x)) (f .facts-are)))
 
 pub verdict-spec : {M : Type 1} → statement M
 verdict-spec =

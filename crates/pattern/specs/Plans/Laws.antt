@@ -6,6 +6,7 @@ use Rattle.space.specs.declared.Written.the-variants.{Refused}
 use Rattle.sheet.specs.Facts.{Facts}
 use Rattle.sheet.specs.Field.{value, refused}
 use Rattle.sheet.specs.Decode.{readSheet}
+use Rattle.sheet.specs.Graph.{graphOf}
 use Rattle.account.specs.Account.{savedAnswer, savedAfter}
 use Rattle.pattern.specs.Plans.{checkAnswer, checkAfter}
 
@@ -15,6 +16,6 @@ module _ (bytes plan space : List ℕ) where
   check-refused k e = rw e (refl, refl)
 
   pub check-given : (f : Facts) (rest : List ℕ) → readSheet bytes ≡ value f rest
-      → (savedAnswer f plan space ≡ checkAnswer bytes plan space) × (savedAfter f plan space ≡ checkAfter bytes plan space)
+      → (savedAnswer (graphOf f) plan space ≡ checkAnswer bytes plan space) × (savedAfter (graphOf f) plan space ≡ checkAfter bytes plan space)
   unfolding checkAnswer checkAfter
   check-given f rest e = rw e (refl, refl)

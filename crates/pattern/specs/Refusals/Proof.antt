@@ -1,5 +1,5 @@
 -- Each entry point refuses by its numbered rules alone. Assumes nothing.
-use Prim.Native.Nat.{ℕ, zero, suc, _≤_, _<_, _%_}
+use Prim.Native.Nat.{ℕ, zero, suc, _≤_, _<_}
 use native.Mathlib.Omega.{arith}
 use borrow.Author.Tests.{ltb-true, ne-eqb}
 use mathlib.Core.Path.{_≡_, refl, sym, ap, _∙_, subst}
@@ -8,7 +8,9 @@ use mathlib.Core.Bool.{Bool, true, false, cond}
 use mathlib.Core.List.{List, [], _∷_}
 use lib.Dec.{ltb, eqb}
 use lib.ListN.{length}
-use Rattle.theory.specs.Over.{Finding, fine, first, overOf}
+use Rattle.theory.specs.declared.Finding.{Finding}
+use Rattle.theory.specs.declared.Finding.the-variants.{Fine, First}
+use Rattle.theory.specs.Graph.{Graph, findingOf, verdictOf}
 use Rattle.space.specs.declared.Written.{Written}
 use Rattle.space.specs.declared.Written.the-variants.{Done, Refused}
 use Rattle.space.specs.Space.{answer}
@@ -16,28 +18,26 @@ use Rattle.sheet.specs.declared.Constraint.{Constraint}
 use Rattle.sheet.specs.declared.Sheet.{Sheet}
 use Rattle.sheet.specs.Facts.{Facts, factsOf, pick}
 use Rattle.sheet.specs.Rules.{or-else, constraintFault, sheetFault}
-use Rattle.sheet.specs.Field.{Field, value, refused, next, demand, Bytes}
-use Rattle.sheet.specs.Decode.{constraint, readSheet}
+use Rattle.sheet.specs.Field.{Field, value, refused, Bytes}
+use Rattle.sheet.specs.Decode.{readSheet}
 use Rattle.sheet.specs.Encode.{sheetBytes}
 use Rattle.sheet.specs.WithoutTags.{withoutTags}
-use Rattle.sheet.specs.Graph.{clustersOf, verdictOf}
 use Rattle.sheet.specs.RoundTrip.{written-read}
 use Rattle.sheet.specs.Refusals.{Rule, By, given, ruled, Fault}
-use Rattle.sheet.specs.Refusals.Laws.{by-next, by-demand, by-wider, which, by-constraint, by-sheet, refused-by, fault-else, fault-constraint, fault-sheet, fault-wider}
-use Rattle.answer.specs.Answer.{asVerdict}
+use Rattle.sheet.specs.Refusals.Laws.{by-next, by-wider, which, by-constraint, by-sheet, refused-by, fault-else, fault-constraint, fault-sheet, fault-wider}
+use Rattle.sheet.specs.Graph.{graphOf, overRule, overFault}
 use Rattle.plans.specs.Check.{planFault, savedSteps}
 use Rattle.plans.specs.Check.Laws.{fault-range}
 use Rattle.writer.specs.Write.{writeAnswer}
 use Rattle.sketch.specs.declared.Taken.the-variants.{Refused as Not}
-use Rattle.sketch.specs.Sketch.{notOver, overFault, holdFault, extended, nextFault, addFault, asTaken, addAnswer}
-use Rattle.account.specs.Account.{listReport, reportOf, faultBy, savedFault, answerBy, savedAnswer}
+use Rattle.sketch.specs.Sketch.{holdFault, extended, nextFault, addFault, asTaken, addAnswer}
+use Rattle.account.specs.Account.{listReport, reportOf, savedFault, answerBy, savedAnswer}
 use Rattle.account.specs.Account.Room.{report-room}
-use Rattle.pattern.specs.declared.Judgement.{Judgement}
 use Rattle.pattern.specs.declared.Judgement.the-variants.{Is, Refused as No}
 use Rattle.pattern.specs.Sheets.{onFacts, rewriteAnswer, itemsAnswer}
 use Rattle.pattern.specs.Judgements.{judgementOf}
 use Rattle.pattern.specs.Plans.{checkAnswer}
-use Rattle.pattern.specs.Sketches.{held, heldSheet, ended, lastConstraint, extendedSheet, extendAnswer}
+use Rattle.pattern.specs.Sketches.{byRule, held, heldSheet, ended, lastConstraint, extendedSheet, extendAnswer}
 use Rattle.pattern.specs.Refusals.{Short, Refusal, Refusals}
 
 number : (j k : ℕ) → Refused j ≡ Refused k → j ≡ k
@@ -74,7 +74,7 @@ judged : (bytes : List ℕ) (k : ℕ) → judgementOf bytes ≡ No k → Rule 1 
 unfolding judgementOf
 judged bytes k e = go (readSheet bytes) (by-sheet bytes) e
   where
-    go : (f : Field Facts) → By 1 10 f → onFacts f (λ x. Is (asVerdict (verdictOf x))) (λ r. No r) ≡ No k → Rule 1 10 k
+    go : (f : Field Facts) → By 1 10 f → onFacts f (λ x. Is (verdictOf (graphOf x))) (λ r. No r) ≡ No k → Rule 1 10 k
     go (value x rest) h q = absurd (let z : _≡_ {A = ℕ} 0 1 = cc in omega arith)
     go (refused r) h q = let n : r ≡ k = cc in subst (Rule 1 10) n (which h)
 
@@ -94,74 +94,75 @@ written s space k e = go (sheetFault s) (fault-sheet s) e
         let z = ap (λ (b : Bool). pick b (answer (sheetBytes (factsOf s)) space) (Refused (suc j))) (ne-eqb (suc j) 0 (λ p. omega arith)) in
         inl (subst (Rule 3 9) (number (suc j) k (sym z ∙ q)) h)
 
-fault-over : (f : Facts) → Fault 3 11 (overFault f)
+fault-over : (g : Graph) → Fault 3 11 (overFault g)
 unfolding overFault
-fault-over f = go (notOver (verdictOf f))
+fault-over g = go (findingOf g)
   where
-    go : (b : Bool) → Fault 3 11 (pick b 0 11)
-    go true = tt
-    go false = record { from = omega arith; to = omega arith }
+    go : (o : Finding) → Fault 3 11 (overRule o)
+    go Fine = tt
+    go (First c x) = record { from = omega arith; to = omega arith }
 
 fault-add : (s : Sheet) (c : Constraint) → Fault 3 11 (addFault s c)
 unfolding addFault holdFault nextFault
 fault-add s c =
-    fault-else 3 11 (or-else (sheetFault s) (overFault (factsOf s))) _
-    (fault-else 3 11 (sheetFault s) (overFault (factsOf s)) (fault-wider 3 9 11 (sheetFault s) (omega arith) (fault-sheet s)) (fault-over (factsOf s)))
-    (fault-else 3 11 (constraintFault (factsOf s .elements) (factsOf s .constraints) c) (overFault (extended (factsOf s) c))
+    fault-else 3 11 (or-else (sheetFault s) (overFault (graphOf (factsOf s)))) _
+    (fault-else 3 11 (sheetFault s) (overFault (graphOf (factsOf s))) (fault-wider 3 9 11 (sheetFault s) (omega arith) (fault-sheet s)) (fault-over (graphOf (factsOf s))))
+    (fault-else 3 11 (constraintFault (factsOf s .elements) (factsOf s .constraints) c) (overFault (graphOf (extended (factsOf s) c)))
     (fault-wider 3 9 11 (constraintFault (factsOf s .elements) (factsOf s .constraints) c) (omega arith) (fault-constraint (factsOf s .elements) (factsOf s .constraints) c))
-    (fault-over (extended (factsOf s) c)))
+    (fault-over (graphOf (extended (factsOf s) c))))
 
 added : (s : Sheet) (c : Constraint) (k : ℕ) → addAnswer s c ≡ Not k → Rule 3 11 k
 unfolding addAnswer
 added s c k e = go (addFault s c) (fault-add s c) e
   where
-    go : (j : ℕ) → Fault 3 11 j → asTaken j (verdictOf (extended (factsOf s) c)) ≡ Not k → Rule 3 11 k
+    go : (j : ℕ) → Fault 3 11 j → asTaken j (verdictOf (graphOf (extended (factsOf s) c))) ≡ Not k → Rule 3 11 k
     go zero h q = absurd (let z : _≡_ {A = ℕ} 0 1 = cc in omega arith)
     go (suc j) h q = let n : suc j ≡ k = cc in subst (Rule 3 11) n h
 
-listed : (what : Facts → List ℕ) (bytes space : List ℕ) (k : ℕ) → itemsAnswer what bytes space ≡ Refused k → Refusal 10 (readSheet bytes) what space k
+listed : (what : Graph → List ℕ) (bytes space : List ℕ) (k : ℕ) → itemsAnswer what bytes space ≡ Refused k
+    → Refusal 10 (readSheet bytes) (λ f. what (graphOf f)) space k
 unfolding itemsAnswer
 listed what bytes space k e =
-    on 10 (readSheet bytes) k (λ f. answer (what f) space) (by-sheet bytes) inl (seventeen 10 (readSheet bytes) what space k) e
+    on 10 (readSheet bytes) k (λ f. answer (what (graphOf f)) space) (by-sheet bytes) inl (seventeen 10 (readSheet bytes) (λ f. what (graphOf f)) space k) e
 
 -- 3,786 bytes take every report
 printed : (bytes space : List ℕ) (k : ℕ) → Bytes bytes → 3786 ≤ length space → itemsAnswer reportOf bytes space ≡ Refused k → Rule 1 10 k
 printed bytes space k all room e = go (listed reportOf bytes space k e)
   where
-    fits : (s : Short (readSheet bytes) reportOf space) → length (reportOf (s .facts)) ≤ 3786
+    fits : (s : Short (readSheet bytes) (λ f. reportOf (graphOf f)) space) → length (reportOf (graphOf (s .facts))) ≤ 3786
     fits s = report-room (s .facts) (written-read bytes (s .facts) (s .rest) all (s .reads) .2)
 
-    go : Refusal 10 (readSheet bytes) reportOf space k → Rule 1 10 k
+    go : Refusal 10 (readSheet bytes) (λ f. reportOf (graphOf f)) space k → Rule 1 10 k
     go (inl h) = h
     go (inr h) = absurd (omega (arith, fits (h .1), h .1 .longer))
 
 -- the check of a saved plan
 module _ (bytes plan space : List ℕ) (k : ℕ) where
   abbrev Wrong : Type 0
-  Wrong = Refusal 16 (readSheet bytes) (λ f. listReport f (savedSteps plan)) space k × (k ≢ 14)
+  Wrong = Refusal 16 (readSheet bytes) (λ f. listReport (graphOf f) (savedSteps plan)) space k × (k ≢ 14)
 
   by-rule : (r : ℕ) → r ≡ k → 1 ≤ r → r ≤ 16 → r ≢ 14 → Wrong
   by-rule r q l h n = (inl (record { from = omega arith; to = omega arith }), λ z. n (q ∙ z))
 
-  saved : (f : Facts) (rest : List ℕ) → readSheet bytes ≡ value f rest → savedAnswer f plan space ≡ Refused k → Wrong
-  unfolding savedAnswer savedFault
-  saved f rest reads e = by-finding (overOf (length (f .elements)) (clustersOf f)) e
+  saved : (f : Facts) (rest : List ℕ) → readSheet bytes ≡ value f rest → savedAnswer (graphOf f) plan space ≡ Refused k → Wrong
+  unfolding savedAnswer savedFault overFault
+  saved f rest reads e = by-finding (findingOf (graphOf f)) e
     where
-      by-plan : (r : ℕ) → planFault (clustersOf f) plan ≡ r → answerBy f plan space r ≡ Refused k → Wrong
+      by-plan : (r : ℕ) → planFault (graphOf f .clusters) plan ≡ r → answerBy (graphOf f) plan space r ≡ Refused k → Wrong
       by-plan zero p q = (
-        seventeen 16 (readSheet bytes) (λ f. listReport f (savedSteps plan)) space k f rest reads q,
-        λ z. omega (arith, short (listReport f (savedSteps plan)) space k q .0),
+        seventeen 16 (readSheet bytes) (λ f. listReport (graphOf f) (savedSteps plan)) space k f rest reads q,
+        λ z. omega (arith, short (listReport (graphOf f) (savedSteps plan)) space k q .0),
       )
-      by-plan (suc r) p q = let h = fault-range (clustersOf f) plan r p in by-rule (suc r) (number (suc r) k q) (omega arith) (h .1) (h .2)
+      by-plan (suc r) p q = let h = fault-range (graphOf f .clusters) plan r p in by-rule (suc r) (number (suc r) k q) (omega arith) (h .1) (h .2)
 
-      by-finding : (o : Finding) → answerBy f plan space (faultBy f plan o) ≡ Refused k → Wrong
-      by-finding fine q = by-plan (planFault (clustersOf f) plan) refl q
-      by-finding (first c x) q = by-rule 11 (number 11 k q) (omega arith) (omega arith) (λ z. omega arith)
+      by-finding : (o : Finding) → answerBy (graphOf f) plan space (or-else (overRule o) (planFault (graphOf f .clusters) plan)) ≡ Refused k → Wrong
+      by-finding Fine q = by-plan (planFault (graphOf f .clusters) plan) refl q
+      by-finding (First c x) q = by-rule 11 (number 11 k q) (omega arith) (omega arith) (λ z. omega arith)
 
   checked : checkAnswer bytes plan space ≡ Refused k → Wrong
   unfolding checkAnswer
   checked e =
-      on 10 (readSheet bytes) k (λ f. savedAnswer f plan space) (by-sheet bytes)
+      on 10 (readSheet bytes) k (λ f. savedAnswer (graphOf f) plan space) (by-sheet bytes)
       (λ h. by-rule k refl (h .from) (omega (arith, h .to)) (λ z. omega (arith, h .to))) saved e
 
 -- a held sketch
@@ -169,8 +170,12 @@ eleven : Rule 1 11 11
 eleven = record { from = omega arith; to = omega arith }
 
 by-over : (f : Facts) (rest : List ℕ) → By 1 11 (held f rest)
-unfolding held
-by-over f rest = by-demand (notOver (verdictOf f)) eleven given
+unfolding held overFault
+by-over f rest = go (findingOf (graphOf f))
+  where
+    go : (o : Finding) → By 1 11 (byRule (overRule o) (value f rest))
+    go Fine = given
+    go (First c x) = ruled eleven
 
 by-held : (bytes : List ℕ) → By 1 11 (heldSheet bytes)
 unfolding heldSheet

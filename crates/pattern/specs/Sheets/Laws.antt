@@ -5,6 +5,7 @@ use native.Mathlib.Omega.{arith}
 use mathlib.Core.List.{List}
 use lib.ListN.{length}
 use lib.Seq.{sets}
+use Rattle.theory.specs.Graph.{Graph}
 use Rattle.space.specs.Space.Laws.{put-all, put-after, long-answer}
 use Rattle.space.specs.declared.Written.the-variants.{Done, Refused}
 use Rattle.space.specs.Space.{answer, after}
@@ -17,6 +18,7 @@ use Rattle.sheet.specs.Encode.{sheetBytes}
 use Rattle.sheet.specs.WithoutTags.{withoutTags}
 use Rattle.sheet.specs.RoundTrip.{written-read}
 use Rattle.sheet.specs.RoundTrip.Blocks.{factsOf-sheetOf, sheetOf-fault}
+use Rattle.sheet.specs.Graph.{graphOf}
 use Rattle.reader.specs.declared.Outcome.the-variants.{Accepted as Took, Refused as Stopped}
 use Rattle.reader.specs.declared.Reading.{Reading}
 use Rattle.reader.specs.Answers.{asReading}
@@ -88,12 +90,12 @@ module _ (bytes space : List ℕ) (r : Reading) (all : Bytes bytes) (h : FactsRe
 
 -- ---- items into lent space
 
-module _ (items : Facts → List ℕ) (bytes space : List ℕ) where
+module _ (items : Graph → List ℕ) (bytes space : List ℕ) where
   pub items-refused : (k : ℕ) → readSheet bytes ≡ refused k → (Refused k ≡ itemsAnswer items bytes space) × (space ≡ itemsAfter items bytes space)
   unfolding itemsAnswer itemsAfter
   items-refused k e = rw e (refl, refl)
 
-  pub items-given : (f : Facts) (rest xs : List ℕ) → readSheet bytes ≡ value f rest → items f ≡ xs
+  pub items-given : (f : Facts) (rest xs : List ℕ) → readSheet bytes ≡ value f rest → items (graphOf f) ≡ xs
       → (answer xs space ≡ itemsAnswer items bytes space) × (after xs space ≡ itemsAfter items bytes space)
   unfolding itemsAnswer itemsAfter
   items-given f rest xs e i = rw (e, i) (refl, refl)

@@ -7,18 +7,19 @@ use mathlib.Core.List.{List}
 use lib.ListN.{length, length-append, length-replicate}
 use Rattle.sheet.specs.declared.Constraint.{Constraint}
 use Rattle.sheet.specs.Facts.{Facts, sheetOf, factsOf}
-use Rattle.sheet.specs.Field.{Field, value, refused, Bytes}
+use Rattle.sheet.specs.Field.{value, Bytes}
 use Rattle.sheet.specs.Rules.{constraintFault}
 use Rattle.sheet.specs.Accepted.{Accepted}
 use Rattle.sheet.specs.Graph.Laws.{accepted-most}
 use Rattle.sheet.specs.RoundTrip.Blocks.{constraints-most, factsOf-sheetOf, sheetOf-fault}
-use Rattle.sketch.specs.Sketch.{overFault, holdFault, extended, addFault, addAfter}
+use Rattle.sheet.specs.Graph.{graphOf, overFault}
+use Rattle.sketch.specs.Sketch.{holdFault, extended, addFault, addAfter}
 use Rattle.sketch.specs.Sketch.Laws.{add-last, taken-added}
 use Rattle.sketch.specs.Runs.{Held}
-use Rattle.pattern.specs.Sketches.{held, heldSheet, lastConstraint, extendedSheet}
+use Rattle.pattern.specs.Sketches.{byRule, held, heldSheet, lastConstraint, extendedSheet}
 use Rattle.pattern.specs.Sketches.Laws.{held-none, held-over, held-accepted, last-taken, more-facts, extended-read}
 
-module _ (f : Facts) (h : Accepted f) (o : overFault f ≡ 0) where
+module _ (f : Facts) (h : Accepted f) (o : overFault (graphOf f) ≡ 0) where
   no-fault : holdFault (sheetOf f) ≡ 0
   unfolding holdFault
   no-fault = rw (sheetOf-fault f h, factsOf-sheetOf f) o
@@ -35,11 +36,6 @@ module _ (f : Facts) (h : Accepted f) (o : overFault f ≡ 0) where
 pub held-sketch : (bytes : List ℕ) (f : Facts) (rest : List ℕ) → Bytes bytes → heldSheet bytes ≡ value f rest → Held (sheetOf f)
 held-sketch bytes f rest all e = let h = held-accepted bytes f rest all e in sheet-held f (h .0) (h .1)
 
--- what a rule refuses, else what is read
-abbrev pub byRule : {A : Type 0} → ℕ → Field A → Field A
-byRule zero x = x
-byRule (suc k) x = refused (suc k)
-
 module _ (bytes more : List ℕ) (f : Facts) (rest : List ℕ) (c : Constraint) (t : List ℕ) where
   -- the sheet extended by a constraint's bytes is the sketch after its addition
   pub same-addition : Bytes bytes → Bytes more → heldSheet bytes ≡ value f rest → lastConstraint f more ≡ value c t
@@ -48,10 +44,10 @@ module _ (bytes more : List ℕ) (f : Facts) (rest : List ℕ) (c : Constraint) 
       let h = held-accepted bytes f rest all e in
       let k = last-taken f more c t all-more l in
       let n : constraintFault (factsOf (sheetOf f) .elements) (factsOf (sheetOf f) .constraints) c ≡ 0 = ap (λ (g : Facts). constraintFault (g .elements) (g .constraints) c) (factsOf-sheetOf f) ∙ k in
-      let a : addFault (sheetOf f) c ≡ overFault (extended f c) = add-last (sheetOf f) c (no-fault f (h .0) (h .1)) n ∙ ap (λ (g : Facts). overFault (extended g c)) (factsOf-sheetOf f) in
-      extended-read bytes more f rest e c t l ∙ go (h .0) (h .1) a (overFault (extended f c)) refl
+      let a : addFault (sheetOf f) c ≡ overFault (graphOf (extended f c)) = add-last (sheetOf f) c (no-fault f (h .0) (h .1)) n ∙ ap (λ (g : Facts). overFault (graphOf (extended g c))) (factsOf-sheetOf f) in
+      extended-read bytes more f rest e c t l ∙ go (h .0) (h .1) a (overFault (graphOf (extended f c))) refl
     where
-      go : Accepted f → overFault f ≡ 0 → addFault (sheetOf f) c ≡ overFault (extended f c) → (k : ℕ) → overFault (extended f c) ≡ k
+      go : Accepted f → overFault (graphOf f) ≡ 0 → addFault (sheetOf f) c ≡ overFault (graphOf (extended f c)) → (k : ℕ) → overFault (graphOf (extended f c)) ≡ k
           → held (extended f c) t ≡ byRule (addFault (sheetOf f) c) (value (factsOf (addAfter (sheetOf f) c)) t)
       go h o a zero e =
           held-none (extended f c) t e

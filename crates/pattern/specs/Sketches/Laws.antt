@@ -1,8 +1,7 @@
 -- What is held and extended, step by step. Assumes nothing.
-use Prim.Native.Nat.{ℕ, _≤_, _<_}
+use Prim.Native.Nat.{ℕ, zero, suc, _≤_, _<_}
 use native.Mathlib.Omega.{arith}
 use mathlib.Core.Path.{_≡_, refl, sym, ap, _∙_}
-use mathlib.Core.Bool.{Bool, true, false}
 use mathlib.Core.List.{List, [], _∷_}
 use lib.ListN.{length, drop, length-append, length-replicate, drop-of-length-le}
 use lib.Seq.{drop-cons}
@@ -10,49 +9,48 @@ use Rattle.space.specs.declared.Written.the-variants.{Refused}
 use Rattle.space.specs.Space.{answer, after}
 use Rattle.sheet.specs.declared.Constraint.{Constraint}
 use Rattle.sheet.specs.declared.Sheet.{Sheet}
-use Rattle.sheet.specs.Facts.{Facts, sheetOf, factsOf, pick}
-use Rattle.sheet.specs.Field.{value, refused, demand, Bytes}
-use Rattle.sheet.specs.Field.Laws.{next-value, demand-value, value-with, refused-value}
+use Rattle.sheet.specs.Facts.{Facts, sheetOf, factsOf}
+use Rattle.sheet.specs.Field.{value, refused, Bytes}
+use Rattle.sheet.specs.Field.Laws.{next-value, value-with, refused-value}
 use Rattle.sheet.specs.Rules.{constraintFault, sheetFault}
 use Rattle.sheet.specs.Decode.{constraint, readSheet}
 use Rattle.sheet.specs.Encode.{sheetBytes}
 use Rattle.sheet.specs.Accepted.{Accepted}
-use Rattle.sheet.specs.Graph.{verdictOf}
 use Rattle.sheet.specs.Graph.Laws.{accepted-two, accepted-most}
 use Rattle.sheet.specs.RoundTrip.{written-read}
 use Rattle.sheet.specs.RoundTrip.Read.{constraint-front}
 use Rattle.sheet.specs.RoundTrip.Blocks.{constraints-most, factsOf-sheetOf, sheetOf-fault}
+use Rattle.sheet.specs.Graph.{graphOf, overFault}
 use Rattle.reader.specs.declared.Outcome.the-variants.{Accepted as Took}
 use Rattle.reader.specs.declared.Reading.{Reading}
 use Rattle.reader.specs.Answers.{asReading}
-use Rattle.sketch.specs.Sketch.{notOver, overFault, extended, stored}
+use Rattle.sketch.specs.Sketch.{extended, stored}
 use Rattle.sketch.specs.Sketch.Laws.{few-held, stored-facts, stored-fault}
 use Rattle.pattern.specs.Sheets.Laws.{reading-accepted}
-use Rattle.pattern.specs.Sketches.{held, heldSheet, ended, lastConstraint, extendedSheet, extendAnswer, extendAfter}
+use Rattle.pattern.specs.Sketches.{byRule, held, heldSheet, ended, lastConstraint, extendedSheet, extendAnswer, extendAfter}
 
 -- ---- rule 11
 
 module _ (f : Facts) (rest : List ℕ) where
-  pub held-none : overFault f ≡ 0 → held f rest ≡ value f rest
-  unfolding overFault held
-  held-none e = go (notOver (verdictOf f)) e
-    where
-      go : (b : Bool) → _≡_ {A = ℕ} (pick b 0 11) 0 → demand b 11 (value f rest) ≡ value f rest
-      go true e = refl
-      go false e = absurd (omega arith)
+  pub held-none : overFault (graphOf f) ≡ 0 → held f rest ≡ value f rest
+  unfolding held
+  held-none e = rw e
 
-  pub held-over : (overFault f ≡ 0 → ⊥) → held f rest ≡ refused (overFault f)
-  unfolding overFault held
-  held-over n = go (notOver (verdictOf f)) n
+  pub held-over : (overFault (graphOf f) ≡ 0 → ⊥) → held f rest ≡ refused (overFault (graphOf f))
+  unfolding held
+  held-over n = go (overFault (graphOf f)) n
     where
-      go : (b : Bool) → (_≡_ {A = ℕ} (pick b 0 11) 0 → ⊥) → demand b 11 (value f rest) ≡ refused (pick b 0 11)
-      go true n = absurd (n refl)
-      go false n = refl
+      go : (k : ℕ) → (k ≡ 0 → ⊥) → byRule k (value f rest) ≡ refused k
+      go zero n = absurd (n refl)
+      go (suc k) n = refl
 
-  held-value : {g : Facts} {t : List ℕ} → held f rest ≡ value g t → (f ≡ g) × (rest ≡ t) × (overFault f ≡ 0)
-  unfolding overFault held
-  held-value e =
-      demand-value (notOver (verdictOf f)) 11 _ e (λ ok e1. (cc, cc, rw ok))
+  held-value : {g : Facts} {t : List ℕ} → held f rest ≡ value g t → (f ≡ g) × (rest ≡ t) × (overFault (graphOf f) ≡ 0)
+  unfolding held
+  held-value {g} {t} e = go (overFault (graphOf f)) refl e
+    where
+      go : (k : ℕ) → overFault (graphOf f) ≡ k → byRule k (value f rest) ≡ value g t → (f ≡ g) × (rest ≡ t) × (overFault (graphOf f) ≡ 0)
+      go zero z e = (cc, cc, z)
+      go (suc k) z e = refused-value e
 
 pub held-read : (bytes : List ℕ) (f : Facts) (rest : List ℕ) → readSheet bytes ≡ value f rest → heldSheet bytes ≡ held f rest
 unfolding heldSheet
@@ -68,18 +66,18 @@ pub record Holds (bytes : List ℕ) (r : Reading) : Type 0 where
   pub rest : List ℕ
   pub holds : heldSheet bytes ≡ value facts rest
   pub accepted : Accepted facts
-  pub no-over : overFault facts ≡ 0
+  pub no-over : overFault (graphOf facts) ≡ 0
   pub sheet-is : r .sheet ≡ sheetOf facts
   pub facts-are : factsOf (r .sheet) ≡ facts
   pub no-fault : sheetFault (r .sheet) ≡ 0
 
 -- no rule refuses the facts
-pub held-accepted : (bytes : List ℕ) (f : Facts) (rest : List ℕ) → Bytes bytes → heldSheet bytes ≡ value f rest → Accepted f × (overFault f ≡ 0)
+pub held-accepted : (bytes : List ℕ) (f : Facts) (rest : List ℕ) → Bytes bytes → heldSheet bytes ≡ value f rest → Accepted f × (overFault (graphOf f) ≡ 0)
 unfolding heldSheet
 held-accepted bytes f rest all q =
     next-value (readSheet bytes) held q (λ g t was e.
     let v = held-value g t e in
-    (written-read bytes f rest all (was ∙ cc) .2, ap overFault (sym (v .0)) ∙ v .2))
+    (written-read bytes f rest all (was ∙ cc) .2, ap (λ (x : Facts). overFault (graphOf x)) (sym (v .0)) ∙ v .2))
 
 pub holding : (bytes : List ℕ) (r : Reading) → Bytes bytes → r ≡ asReading (heldSheet bytes) → r .outcome ≡ Took → Holds bytes r
 holding bytes r all e o =
@@ -125,7 +123,7 @@ module _ (f : Facts) (bytes : List ℕ) where
       go d (b ∷ rest) h e = refused-value e
 
 -- the constraint stored in the blocks of the sheet
-module _ (f : Facts) (h : Accepted f) (o : overFault f ≡ 0) (s : Sheet) (is : s ≡ sheetOf f) where
+module _ (f : Facts) (h : Accepted f) (o : overFault (graphOf f) ≡ 0) (s : Sheet) (is : s ≡ sheetOf f) where
   pub room : s .e < 200
   unfolding sheetOf
   room =

@@ -2,6 +2,7 @@
 use Prim.Native.Nat.{ℕ}
 use mathlib.Core.Path.{_≡_, refl, sym}
 use mathlib.Core.List.{List}
+use Rattle.theory.specs.Graph.{Graph}
 use Rattle.sheet.specs.declared.Constraint.{Constraint}
 use Rattle.sheet.specs.Facts.{Facts}
 use Rattle.sheet.specs.Field.{value, Bytes}
@@ -26,7 +27,7 @@ module _ (a b : List ℕ) (reads : readSheet a ≡ readSheet b) where
   unfolding judgementOf
   same-verdict = rw reads
 
-  same-items : (what : Facts → List ℕ) → Alike (itemsAnswer what) (itemsAfter what) a b
+  same-items : (what : Graph → List ℕ) → Alike (itemsAnswer what) (itemsAfter what) a b
   unfolding itemsAnswer itemsAfter
   same-items what space = rw reads (refl, refl)
 

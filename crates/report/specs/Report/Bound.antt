@@ -3,7 +3,6 @@
 -- Assumes nothing.
 use Prim.Native.Nat.{ℕ, zero, suc, _+_, _*_, _≤_, _<_}
 use native.Mathlib.Omega.{arith}
-use mathlib.Core.Path.{_≡_, refl}
 use mathlib.Core.Bool.{Bool, true, false}
 use mathlib.Core.List.{List, [], _∷_, _++_}
 use lib.Dec.{ltb, eqb}
@@ -20,12 +19,16 @@ use Rattle.theory.specs.Merge.Numbered.{alive-lt, length-put}
 use Rattle.theory.specs.Merge.Threes.{size-joint}
 use Rattle.theory.specs.Plan.{ascending}
 use Rattle.theory.specs.Plan.Order.{open-ascending}
-use Rattle.theory.specs.Placement.{JointKind, ppp, ppl, pll, lll, byOrder, against, triangle, strip, stripOf, placed, sizeAt, initial, unknown, jointKind, ways}
+use Rattle.theory.specs.Placement.{byOrder, against, triangle, strip, stripOf, placed, sizeAt, initial, jointKind, ways}
 use Rattle.space.specs.Text.{decimal}
 use Rattle.space.specs.Text.Laws.{decimal-1}
-use Rattle.answer.specs.Answer.{asWays, stepOf, stepsOf}
-use Rattle.answer.specs.declared.Verdict.{Verdict}
-use Rattle.answer.specs.declared.Step.{Step}
+use Rattle.theory.specs.Graph.{Graph, stepOf, stepsFrom, stepsOf}
+use Rattle.theory.specs.Graph.Laws.{length-steps}
+use Rattle.theory.specs.declared.Verdict.{Verdict}
+use Rattle.theory.specs.declared.JointKind.{JointKind}
+use Rattle.theory.specs.declared.JointKind.the-variants.{Ppp, Ppl, Pll, Lll}
+use Rattle.theory.specs.declared.Ways.the-variants.{Unknown}
+use Rattle.theory.specs.declared.Step.{Step}
 use Rattle.report.specs.Elements.Laws.{elements-size}
 use Rattle.report.specs.Report.{waysName, verdictLine, elementsLine, stepLine, slotLine, stepLines, clusterLines, report}
 use Rattle.report.specs.Pieces.{Small, AllSmall}
@@ -108,49 +111,44 @@ strip-two lines a b x y z = go (eqb (a ∩ lines) 0) (eqb (b ∩ lines) 0)
 one-digit : (w : ℕ) → w ≤ 2 → length (decimal w) ≤ 1
 one-digit w h = rw (decimal-1 w (omega arith)) (omega arith)
 
-placed-one : (lines : ℕ) (k : JointKind) (a b : ℕ) (x y z : ℤ) → length (waysName (asWays (placed lines k a b x y z))) ≤ 1
+placed-one : (lines : ℕ) (k : JointKind) (a b : ℕ) (x y z : ℤ) → length (waysName (placed lines k a b x y z)) ≤ 1
 unfolding placed triangle
-placed-one lines ppp a b x y z = one-digit _ (against-two _ _)
-placed-one lines ppl a b x y z = one-digit _ (strip-two lines a b x y z)
-placed-one lines pll a b x y z = one-digit 1 (omega arith)
-placed-one lines lll a b x y z = omega arith
+placed-one lines Ppp a b x y z = one-digit _ (against-two _ _)
+placed-one lines Ppl a b x y z = one-digit _ (strip-two lines a b x y z)
+placed-one lines Pll a b x y z = one-digit 1 (omega arith)
+placed-one lines Lll a b x y z = omega arith
 
-ways-one-digit : (lines e : ℕ) (sizes : List ℤ) (s : List ℕ) (m : Merge) → length (waysName (asWays (ways lines e sizes s m))) ≤ 1
+ways-one-digit : (lines e : ℕ) (sizes : List ℤ) (s : List ℕ) (m : Merge) → length (waysName (ways lines e sizes s m)) ≤ 1
 unfolding ways
 ways-one-digit lines e sizes s m = go (initial e m)
   where
     go : (b : Bool)
-        → length (waysName (asWays (elim b [
+        → length (waysName (elim b [
           | true ↦
               placed lines (jointKind lines (joint (three s m))) (slot s (m .i)) (slot s (m .j)) (sizeAt sizes (m .i)) (sizeAt sizes (m .j)) (sizeAt sizes (m .k))
-          | false ↦ unknown
-        ])))
+          | false ↦ Unknown
+        ]))
         ≤ 1
     go true = placed-one lines (jointKind lines (joint (three s m))) (slot s (m .i)) (slot s (m .j)) (sizeAt sizes (m .i)) (sizeAt sizes (m .j)) (sizeAt sizes (m .k))
     go false = omega arith
 
-modest-step : (lines e : ℕ) (sizes : List ℤ) (s : List ℕ) (m : Merge) → OpenAt s m → Modest (stepOf lines e sizes s m)
+modest-step : (g : Graph) (s : List ℕ) (m : Merge) → OpenAt s m → Modest (stepOf g s m)
 unfolding stepOf
-modest-step lines e sizes s m o = record {
+modest-step g s m o = record {
   joint-three = omega (arith, size-joint (three s (ascending m)) (open-ascending s m o .open3));
-  ways-one = ways-one-digit lines e sizes s (ascending m);
+  ways-one = ways-one-digit (g .lines) (length (g .clusters)) (g .sizes) s (ascending m);
 }
 
-modest-steps : (lines e : ℕ) (sizes : List ℤ) (s : List ℕ) (p : List Merge) → Valid s p → AllModest (stepsOf lines e sizes s p)
-unfolding stepsOf
-modest-steps lines e sizes s [] v = tt
-modest-steps lines e sizes s (m ∷ p) v = (modest-step lines e sizes s m (v .0), modest-steps lines e sizes (put s m) p (v .1))
-
-steps-length : (lines e : ℕ) (sizes : List ℤ) (s : List ℕ) (p : List Merge) → length (stepsOf lines e sizes s p) ≡ length p
-unfolding stepsOf
-steps-length lines e sizes s [] = refl
-steps-length lines e sizes s (m ∷ p) = omega (arith, steps-length lines e sizes (put s m) p)
+modest-steps : (g : Graph) (s : List ℕ) (p : List Merge) → Valid s p → AllModest (stepsFrom g s p)
+unfolding stepsFrom
+modest-steps g s [] v = tt
+modest-steps g s (m ∷ p) v = (modest-step g s m (v .0), modest-steps g (put s m) p (v .1))
 
 -- ---- and their numbers small
 
-small-step : (lines e : ℕ) (sizes : List ℤ) (s : List ℕ) (m : Merge) → OpenAt s m → length s < 1000 → Small (stepOf lines e sizes s m)
+small-step : (g : Graph) (s : List ℕ) (m : Merge) → OpenAt s m → length s < 1000 → Small (stepOf g s m)
 unfolding stepOf
-small-step lines e sizes s m o h =
+small-step g s m o h =
     let a = open-ascending s m o in
     record {
       made-small = h;
@@ -159,35 +157,34 @@ small-step lines e sizes s m o h =
       k-small = omega (arith, alive-lt s (ascending m .k) (a .livek));
     }
 
-pub small-steps : (lines e : ℕ) (sizes : List ℤ) (s : List ℕ) (p : List Merge) → Valid s p → length s + length p ≤ 1000
-    → AllSmall (stepsOf lines e sizes s p)
-unfolding stepsOf
-small-steps lines e sizes s [] v h = tt
-small-steps lines e sizes s (m ∷ p) v h =
-    (small-step lines e sizes s m (v .0) (omega arith), small-steps lines e sizes (put s m) p (v .1) (omega (arith, length-put s m)))
+pub small-steps : (g : Graph) (s : List ℕ) (p : List Merge) → Valid s p → length s + length p ≤ 1000 → AllSmall (stepsFrom g s p)
+unfolding stepsFrom
+small-steps g s [] v h = tt
+small-steps g s (m ∷ p) v h = (small-step g s m (v .0) (omega arith), small-steps g (put s m) p (v .1) (omega (arith, length-put s m)))
 
 -- ---- every list of merges
 
-module _ (n lines : ℕ) (sizes : List ℤ) (cs : List ℕ) (pairs : Pairs cs) (p : List Merge) (valid : Valid cs p) (v : Verdict) where
-  pub report-bound : n < 100 → length (report n (length cs) v (stepsOf lines (length cs) sizes cs p) (final cs p)) ≤ 42 + 12 * length p + 24 * length cs
+module _ (g : Graph) (pairs : Pairs (g .clusters)) (p : List Merge) (valid : Valid (g .clusters) p) (v : Verdict) where
+  pub report-bound : g .n < 100 → length (report (g .n) (length (g .clusters)) v (stepsOf g p) (final (g .clusters) p)) ≤ 42 + 12 * length p + 24 * length (g .clusters)
   report-bound small =
       omega (
         arith,
-        report-short n (length cs) v (stepsOf lines (length cs) sizes cs p) (final cs p) small (modest-steps lines (length cs) sizes cs p valid),
-        steps-length lines (length cs) sizes cs p,
-        steps-left cs pairs p valid,
-        weights-kept cs pairs p valid,
+        report-short (g .n) (length (g .clusters)) v (stepsOf g p) (final (g .clusters) p) small (modest-steps g (g .clusters) p valid),
+        length-steps g (g .clusters) p,
+        steps-left (g .clusters) pairs p valid,
+        weights-kept (g .clusters) pairs p valid,
       )
 
   -- a sheet that is not over
-  pub report-most : 2 ≤ n → n ≤ 64 → Below n cs → NotOver cs → length (report n (length cs) v (stepsOf lines (length cs) sizes cs p) (final cs p)) ≤ 3786
+  pub report-most : 2 ≤ g .n → g .n ≤ 64 → Below (g .n) (g .clusters) → NotOver (g .clusters)
+      → length (report (g .n) (length (g .clusters)) v (stepsOf g p) (final (g .clusters) p)) ≤ 3786
   unfolding NotOver
   report-most two most below fine =
       omega (
         arith,
         report-bound (omega arith),
-        steps-most n cs two pairs below fine p valid,
-        fine (full n) (omega (arith, size-full n)),
-        size-full n,
-        carried-full n cs below,
+        steps-most (g .n) (g .clusters) two pairs below fine p valid,
+        fine (full (g .n)) (omega (arith, size-full (g .n))),
+        size-full (g .n),
+        carried-full (g .n) (g .clusters) below,
       )

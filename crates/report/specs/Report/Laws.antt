@@ -11,11 +11,11 @@ use lib.Count.{trailingZeros}
 use lib.ListN.{length, getD, take, drop, length-append, length-take, drop-of-length-le}
 use lib.Seq.{drop-cons, getD-take}
 use Rattle.space.specs.Text.{ascii, decimal}
-use Rattle.answer.specs.declared.Verdict.the-variants.{Over}
-use Rattle.answer.specs.declared.JointKind.{JointKind}
-use Rattle.answer.specs.declared.JointKind.the-variants.{Ppp, Ppl, Pll, Lll}
-use Rattle.answer.specs.declared.Ways.{Ways}
-use Rattle.answer.specs.declared.Step.{Step}
+use Rattle.theory.specs.declared.Verdict.the-variants.{Over}
+use Rattle.theory.specs.declared.JointKind.{JointKind}
+use Rattle.theory.specs.declared.JointKind.the-variants.{Ppp, Ppl, Pll, Lll}
+use Rattle.theory.specs.declared.Ways.{Ways}
+use Rattle.theory.specs.declared.Step.{Step}
 use Rattle.report.specs.Elements.{elements}
 use Rattle.report.specs.Elements.Laws.{elements-lowest, elements-none}
 use Rattle.report.specs.Report.{others, line, kindName, waysName, listed, verdictLine, elementsLine, stepLine, stepLines, clusterLine, slotLine, clusterLines, overReport}

@@ -9,14 +9,14 @@ use lib.Dec.{ltb}
 use lib.ListN.{length, length-append}
 use Rattle.theory.specs.Set.{at}
 use Rattle.theory.specs.Merge.{living}
+use Rattle.theory.specs.declared.Verdict.{Verdict}
+use Rattle.theory.specs.declared.Verdict.the-variants.{Over, Angle, Well, Stuck, Under}
+use Rattle.theory.specs.declared.JointKind.{JointKind}
+use Rattle.theory.specs.declared.JointKind.the-variants.{Ppp, Ppl, Pll, Lll}
+use Rattle.theory.specs.declared.Ways.{Ways}
+use Rattle.theory.specs.declared.Ways.the-variants.{Known, Unknown}
+use Rattle.theory.specs.declared.Step.{Step}
 use Rattle.space.specs.Text.{digit, decimal}
-use Rattle.answer.specs.declared.Verdict.{Verdict}
-use Rattle.answer.specs.declared.Verdict.the-variants.{Over, Angle, Well, Stuck, Under}
-use Rattle.answer.specs.declared.JointKind.{JointKind}
-use Rattle.answer.specs.declared.JointKind.the-variants.{Ppp, Ppl, Pll, Lll}
-use Rattle.answer.specs.declared.Ways.{Ways}
-use Rattle.answer.specs.declared.Ways.the-variants.{Known, Unknown}
-use Rattle.answer.specs.declared.Step.{Step}
 use Rattle.report.specs.Elements.{member, among, elements}
 use Rattle.report.specs.Elements.Laws.{elements-most}
 use Rattle.report.specs.Report.{kindName, waysName, verdictLine, elementsLine, stepLine, slotLine, stepLines, clusterLines, report, overReport}

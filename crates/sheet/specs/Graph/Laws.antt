@@ -1,37 +1,92 @@
--- An accepted sheet whose verdict isn't over meets demand 3. Assumes nothing.
-use Prim.Native.Nat.{ℕ, _≤_}
-use mathlib.Core.Logic.{_≢_}
-use mathlib.Core.Path.{_≡_}
-use mathlib.Core.Bool.{true}
+-- The graph of a sheet that no rule refuses, and rule 11. An accepted sheet whose verdict isn't over meets demand 3. Assumes nothing.
+use Prim.Native.Nat.{ℕ, _^_, _≤_, _<_}
+use native.Mathlib.Omega.{arith}
+use mathlib.Core.Logic.{_≢_, inl, inr}
+use mathlib.Core.Path.{_≡_, refl, sym, ap, _∙_, subst}
 use mathlib.Core.List.{List, [], _∷_, _++_, map}
 use borrow.Author.Tests.{leb-true}
+use lib.Count.{ones}
 use lib.Dec.{leb}
-use lib.ListN.{length}
-use Rattle.theory.specs.Constraints.{Sound, Perm}
-use Rattle.theory.specs.Constraints.Laws.{perm-map}
-use Rattle.theory.specs.Verdict.{over}
+use lib.ListN.{length, length-map}
+use Rattle.theory.specs.Constraints.{Among, Pairs, Below, Perm}
+use Rattle.theory.specs.Constraints.Laws.{perm-map, size-pair, pair-below}
+use Rattle.theory.specs.Verdict.{verdictNumber}
+use Rattle.theory.specs.Verdict.Laws.{number-over}
+use Rattle.theory.specs.Graph.{Graph, findingOf, verdictOf}
+use Rattle.theory.specs.Graph.Laws.{first-verdict, fine-not-over}
 use Rattle.theory.specs.Demand as demand
 use Rattle.theory.specs.Demand.Proof.{demand3}
+use Rattle.theory.specs.declared.Finding.{Finding}
+use Rattle.theory.specs.declared.Finding.the-variants.{Fine, First}
+use Rattle.theory.specs.declared.Verdict.the-variants.{Over}
 use Rattle.sheet.specs.declared.Element.{Element}
 use Rattle.sheet.specs.declared.Constraint.{Constraint}
-use Rattle.sheet.specs.Facts.{Facts, linesOf}
+use Rattle.sheet.specs.Facts.{Facts}
 use Rattle.sheet.specs.Rules.{constraintFault, constraintsFault}
 use Rattle.sheet.specs.Rules.Laws.{and-true, ends-true}
 use Rattle.sheet.specs.Accepted.{Accepted}
 use Rattle.sheet.specs.Accepted.Laws.{taken, none-else, accepted-perm}
-use Rattle.sheet.specs.Graph.{endsOf, listedEnds, verdictOf, reordered, SheetDemand3}
+use Rattle.sheet.specs.Graph.{clusterOf, graphOf, overRule, overFault, reordered, SheetDemand3}
 
--- the ends of constraints that no rule refuses
-pub ends-sound : (es : List Element) (cs done : List Constraint) → constraintsFault es done cs ≡ 0 → Sound (length es) (map endsOf cs)
+pub length-clusters : (f : Facts) → length (graphOf f .clusters) ≡ length (f .constraints)
+length-clusters f = simp length-map
+
+-- constraints that no rule refuses are sets of two of the elements
+clusters-sound : (es : List Element) (cs done : List Constraint) → constraintsFault es done cs ≡ 0 → (x : ℕ) → Among x (map clusterOf cs)
+    → (ones x ≡ 2) × (x < 2 ^ length es)
 unfolding constraintsFault
-ends-sound es [] done e = tt
-ends-sound es (c ∷ cs) done e =
+clusters-sound es [] done e x i = absurd i
+clusters-sound es (c ∷ cs) done e x (inl q) =
     let h = none-else es (constraintFault es done c) (constraintsFault es (done ++ c ∷ []) cs) e in
     let l = ends-true (length es) (c .first) (c .second) (taken es done c (h .0) .ends-ascend) in
-    (l .0, l .1, ends-sound es cs (done ++ c ∷ []) (h .1))
+    (ap ones q ∙ size-pair (c .first) (c .second) (l .0), subst (λ (z : ℕ). z < 2 ^ length es) (sym q) (pair-below (length es) (c .first) (c .second) (omega arith) (l .1)))
+clusters-sound es (c ∷ cs) done e x (inr i) =
+    clusters-sound es cs (done ++ c ∷ []) (none-else es (constraintFault es done c) (constraintsFault es (done ++ c ∷ []) cs) e .1) x i
 
-pub accepted-sound : (f : Facts) → Accepted f → Sound (length (f .elements)) (listedEnds f)
-accepted-sound f h = ends-sound (f .elements) (f .constraints) [] (h .no-fault)
+module _ (f : Facts) (none : constraintsFault (f .elements) [] (f .constraints) ≡ 0) where
+  pub clusters-pairs : Pairs (graphOf f .clusters)
+  unfolding Pairs
+  clusters-pairs x i = clusters-sound (f .elements) (f .constraints) [] none x i .0
+
+  pub clusters-below : Below (graphOf f .n) (graphOf f .clusters)
+  unfolding Below
+  clusters-below x i = clusters-sound (f .elements) (f .constraints) [] none x i .1
+
+-- ---- rule 11
+
+module _ (g : Graph) where
+  pub fault-none : overFault g ≡ 0 → findingOf g ≡ Fine
+  unfolding overFault
+  fault-none e = go (findingOf g) refl
+    where
+      go : (o : Finding) → findingOf g ≡ o → findingOf g ≡ Fine
+      go Fine q = q
+      go (First c x) q = absurd (let z : _≡_ {A = ℕ} 11 0 = sym (ap overRule q) ∙ e in omega arith)
+
+  pub fine-fault : findingOf g ≡ Fine → overFault g ≡ 0
+  unfolding overFault
+  fine-fault q = ap overRule q
+
+  pub first-fault : {c x : ℕ} → findingOf g ≡ First c x → overFault g ≡ 11
+  unfolding overFault
+  first-fault q = ap overRule q
+
+  -- 11 by the verdict's number
+  pub over-numbered : verdictNumber (verdictOf g) ≡ 0 → overFault g ≡ 11
+  over-numbered v = go (findingOf g) refl
+    where
+      go : (o : Finding) → findingOf g ≡ o → overFault g ≡ 11
+      go Fine q = absurd (fine-not-over g q (number-over (verdictOf g) v))
+      go (First c x) q = first-fault q
+
+  pub other-numbered : verdictNumber (verdictOf g) ≢ 0 → overFault g ≡ 0
+  other-numbered v = go (findingOf g) refl
+    where
+      go : (o : Finding) → findingOf g ≡ o → overFault g ≡ 0
+      go Fine q = fine-fault q
+      go (First c x) q = absurd (v (ap verdictNumber (first-verdict g q)))
+
+-- ---- accepted sheets
 
 pub accepted-two : (f : Facts) → Accepted f → 2 ≤ length (f .elements)
 accepted-two f h = leb-true 2 (length (f .elements)) (and-true (leb 2 (length (f .elements))) (leb (length (f .elements)) 64) (h .element-count) .0)
@@ -40,16 +95,21 @@ pub accepted-most : (f : Facts) → Accepted f → length (f .elements) ≤ 64
 accepted-most f h = leb-true (length (f .elements)) 64 (and-true (leb 2 (length (f .elements))) (leb (length (f .elements)) 64) (h .element-count) .1)
 
 -- what theory calls accepted
-pub in-theory : (f : Facts) → Accepted f → verdictOf f ≢ over → demand.Accepted (linesOf (f .elements)) (length (f .elements)) (listedEnds f)
-unfolding verdictOf
-in-theory f h v = record { two = accepted-two f h; sound = accepted-sound f h; not-over = v }
+in-theory : (f : Facts) → Accepted f → verdictOf (graphOf f) ≢ Over → demand.Accepted (graphOf f)
+in-theory f h v = record {
+  two = accepted-two f h;
+  pairs = clusters-pairs f (h .no-fault);
+  below = clusters-below f (h .no-fault);
+  not-over = v;
+}
 
-pub sheet-demand3 : (f : Facts) → Accepted f → verdictOf f ≢ over → SheetDemand3 f
-unfolding verdictOf
+pub sheet-demand3 : (f : Facts) → Accepted f → verdictOf (graphOf f) ≢ Over → SheetDemand3 f
 sheet-demand3 f h v =
-    let d = demand3 (linesOf (f .elements)) (length (f .elements)) (listedEnds f) (in-theory f h v) in
+    let d = demand3 (graphOf f) (in-theory f h v) in
+    let r : (ds : List Constraint) → Perm (f .constraints) ds → demand.Reordered (graphOf f) (graphOf (reordered f ds)) =
+    λ ds p. record { count = refl; kinds = refl; constraints = perm-map clusterOf p } in
     record {
-      orders = λ ds p. (accepted-perm (f .elements) (f .constraints) ds p h, d .orders (map endsOf ds) (perm-map endsOf p) .not-over);
-      every = λ ds p a b m n. d .every (map endsOf ds) (perm-map endsOf p) a b m n;
+      orders = λ ds p. (accepted-perm (f .elements) (f .constraints) ds p h, d .orders (graphOf (reordered f ds)) (r ds p) .not-over);
+      every = λ ds p a b m n. d .every (graphOf (reordered f ds)) (r ds p) a b m n;
       whole = d;
     }

@@ -8,8 +8,10 @@ use Rattle.sheet.specs.declared.Constraint.{Constraint}
 use Rattle.sheet.specs.declared.Sheet.{Sheet}
 use Rattle.sheet.specs.Facts.{Facts, factsOf}
 use Rattle.sheet.specs.Rules.{constraintFault, sheetFault}
-use Rattle.sheet.specs.Graph.{verdictOf}
-use Rattle.answer.specs.Answer.{asVerdict, verdictNumber}
+use Rattle.sheet.specs.Graph.{graphOf}
+use Rattle.sheet.specs.Graph.Laws.{over-numbered, other-numbered}
+use Rattle.theory.specs.Verdict.{verdictNumber}
+use Rattle.theory.specs.Graph.{verdictOf}
 use Rattle.judge.specs.declared.Judged.{Judged}
 use Rattle.judge.specs.Listing.Blocks.{Blocks, passed-blocks}
 use Rattle.judge.specs.Judged.{judgedOf}
@@ -17,7 +19,7 @@ use Rattle.sketch.specs.declared.Taken.{Taken}
 use Rattle.sketch.specs.declared.Taken.the-variants.{Is, Refused}
 use Rattle.sketch.specs.declared.Added.{Added}
 use Rattle.sketch.specs.Sketch.{holdFault, extended, addFault, addedOf}
-use Rattle.sketch.specs.Sketch.Laws.{blocks-sound, few-held, hold-none, stored-facts, stored-fault, extended-sound, judged-verdict, numbered-over, numbered-other, add-unheld, add-refused, add-last, refused-added, taken-added}
+use Rattle.sketch.specs.Sketch.Laws.{blocks-sound, few-held, hold-none, stored-facts, stored-fault, extended-sound, judged-verdict, add-unheld, add-refused, add-last, refused-added, taken-added}
 use Rattle.sketch.proofs.add.Statement.{statement}
 use Rattle.sketch.proofs.add.Tie as tie
 
@@ -99,14 +101,14 @@ module _ (c : tie.After-judge) where
   abbrev more : Facts
   more = extended (factsOf (sketch taking)) (start (taking .before .before) .args .c)
 
-  verdict-is : c .judge .result .verdict ≡ asVerdict (verdictOf more)
+  verdict-is : c .judge .result .verdict ≡ verdictOf (graphOf more)
   verdict-is =
       let o = taking .before .before in
       let s = start o .args .s in
       let k = start o .args .c in
       let f : factsOf (c .before .store .result) ≡ more = ap factsOf (c .before .store .ensures) ∙ stored-facts s k (long o) (room o) in
       let h = extended-sound (factsOf s) k (blocks-sound s (in-blocks o)) (hold-none s (held o) .1) (none taking) in
-      ap (λ (j : Judged). j .verdict) (c .judge .ensures ∙ ap judgedOf f) ∙ judged-verdict more h
+      ap (λ (j : Judged). j .verdict) (c .judge .ensures ∙ ap (λ (x : Facts). judgedOf (graphOf x)) f) ∙ judged-verdict more h
 
 number-requires : tie.Need-number-requires
 number-requires c κs = search needs
@@ -119,17 +121,17 @@ returns-3 c =
     let j = c .before .before .before in
     let o = taking j in
     let a = start (o .before .before) .args in
-    let e : verdictNumber (asVerdict (verdictOf (more j))) ≡ 0 = sym (c .before .before .number .ensures ∙ ap verdictNumber (verdict-is j)) ∙ c .before .if3 .taken in
+    let e : verdictNumber (verdictOf (graphOf (more j))) ≡ 0 = sym (c .before .before .number .ensures ∙ ap verdictNumber (verdict-is j)) ∙ c .before .if3 .taken in
     refusal (c .refused3 .result) (a .s) (a .c) 11 (c .refused3 .ensures) (λ z. omega arith)
-    (add-last (a .s) (a .c) (held (o .before .before)) (none o) ∙ numbered-over (more j) e)
+    (add-last (a .s) (a .c) (held (o .before .before)) (none o) ∙ over-numbered (graphOf (more j)) e)
 
 returns-4 : tie.Need-returns-4
 returns-4 c =
     let j = c .before .before in
     let o = taking j in
     let a = start (o .before .before) .args in
-    let n : verdictNumber (asVerdict (verdictOf (more j))) ≡ 0 → ⊥ = λ e. c .if3 .left (c .before .number .ensures ∙ ap verdictNumber (verdict-is j) ∙ e) in
-    let t = taken-added (a .s) (a .c) (add-last (a .s) (a .c) (held (o .before .before)) (none o) ∙ numbered-other (more j) n) in
+    let n : verdictNumber (verdictOf (graphOf (more j))) ≡ 0 → ⊥ = λ e. c .if3 .left (c .before .number .ensures ∙ ap verdictNumber (verdict-is j) ∙ e) in
+    let t = taken-added (a .s) (a .c) (add-last (a .s) (a .c) (held (o .before .before)) (none o) ∙ other-numbered (graphOf (more j)) n) in
     both (ap Is (verdict-is j) ∙ t .0) (j .before .store .ensures ∙ t .1)
 
 pub add-spec : {M : Type 1} → statement M

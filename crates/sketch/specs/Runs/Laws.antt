@@ -7,6 +7,10 @@ use mathlib.Core.Bool.{Bool, true, false}
 use mathlib.Core.List.{List, [], _∷_, _++_, append-nil, append-assoc}
 use lib.ListN.{length, length-set}
 use Rattle.theory.specs.Constraints.{Among}
+use Rattle.theory.specs.declared.Finding.{Finding}
+use Rattle.theory.specs.declared.Finding.the-variants.{Fine, First}
+use Rattle.theory.specs.Graph.{findingOf}
+use Rattle.theory.specs.Graph.Laws.{fine-not-over}
 use Rattle.sheet.specs.declared.PairKind.{PairKind}
 use Rattle.sheet.specs.declared.Size.{Size}
 use Rattle.sheet.specs.declared.Size.the-variants.{Given, Missing}
@@ -17,10 +21,11 @@ use Rattle.sheet.specs.Rules.{ends, stands, pairAt, optional, sizeRange, sizeFa
 use Rattle.sheet.specs.Accepted.{Accepted}
 use Rattle.sheet.specs.Accepted.Laws.{none-else}
 use Rattle.sheet.specs.RoundTrip.Blocks.{factsOf-accepted}
-use Rattle.sheet.specs.Graph.{verdictOf}
+use Rattle.sheet.specs.Graph.{graphOf, overRule, overFault}
+use Rattle.sheet.specs.Graph.Laws.{fault-none}
 use Rattle.judge.specs.Listing.Blocks.{Blocks, blocks}
-use Rattle.sketch.specs.Sketch.{notOver, overFault, holdFault, extended, nextFault, addFault, addAnswer, stored, addAfter}
-use Rattle.sketch.specs.Sketch.Laws.{blocks-sound, few-held, hold-none, stored-facts, stored-fault, fault-not-over, refused-added, taken-added}
+use Rattle.sketch.specs.Sketch.{holdFault, extended, nextFault, addFault, addAnswer, stored, addAfter}
+use Rattle.sketch.specs.Sketch.Laws.{blocks-sound, few-held, hold-none, stored-facts, stored-fault, refused-added, taken-added}
 use Rattle.sketch.specs.Runs.{Held, afterAll, takenBy, takenOf, Next, takes, refuses, Run}
 
 -- ---- no other rule refuses
@@ -40,12 +45,16 @@ size-rule : (p : PairKind) (z : Size) → Rule (sizeFault p z)
 size-rule p Missing = pick-rule (optional p) (inl refl) (inr (inr (inr (inl refl))))
 size-rule p (Given z) = pick-rule (sizeRange p z) (inl refl) (inr (inr (inr (inr (inl refl)))))
 
+over-rule : (o : Finding) → Rule (overRule o)
+over-rule Fine = inl refl
+over-rule (First c x) = inr (inr (inr (inr (inr (inl refl)))))
+
 next-rule : (f : Facts) (c : Constraint) → Rule (nextFault f c)
 unfolding nextFault constraintFault overFault
 next-rule f c =
-    else-rule (constraintFault (f .elements) (f .constraints) c) (overFault (extended f c))
+    else-rule (constraintFault (f .elements) (f .constraints) c) (overFault (graphOf (extended f c)))
     (pick-rule (ends (length (f .elements)) (c .first) (c .second)) (pick-rule (stands (f .constraints) (c .first) (c .second)) (inr (inr (inl refl))) (size-rule (pairAt (f .elements) (c .first) (c .second)) (c .size))) (inr (inl refl)))
-    (pick-rule (notOver (verdictOf (extended f c))) (inl refl) (inr (inr (inr (inr (inr (inl refl)))))))
+    (over-rule (findingOf (graphOf (extended f c))))
 
 named : (k : ℕ) → Rule (suc k) → Among (suc k) (6 ∷ 7 ∷ 8 ∷ 9 ∷ 11 ∷ [])
 named k (inl e) = absurd (omega arith)
@@ -78,7 +87,7 @@ module _ (s : Sheet) (h : Held s) where
   stored-held : (c : Constraint) → nextFault (factsOf s) c ≡ 0 → Held (stored s c)
   unfolding stored holdFault nextFault
   stored-held c e =
-      let k = none-else (factsOf s .elements) (constraintFault (factsOf s .elements) (factsOf s .constraints) c) (overFault (extended (factsOf s) c)) e in
+      let k = none-else (factsOf s .elements) (constraintFault (factsOf s .elements) (factsOf s .constraints) c) (overFault (graphOf (extended (factsOf s) c))) e in
       record {
         elements-long = h .elements-long;
         constraints-long = rw length-set (h .constraints-long);
@@ -115,7 +124,7 @@ runs s h [] = record {
   elements = refl;
   constraints = rw append-nil;
   sheet = held-accepted s h;
-  not-over = fault-not-over (factsOf s) (hold-none s (h .no-fault) .1);
+  not-over = fine-not-over (graphOf (factsOf s)) (fault-none (graphOf (factsOf s)) (hold-none s (h .no-fault) .1));
   next = held-next s h;
 }
 runs s h (c ∷ cs) =

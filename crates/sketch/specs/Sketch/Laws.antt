@@ -2,73 +2,31 @@
 use Prim.Native.Nat.{ℕ, zero, suc, _+_, _≤_, _<_}
 use native.Mathlib.Numerals.{add-one}
 use native.Mathlib.Omega.{arith}
-use mathlib.Core.Path.{_≡_, refl, sym, ap, _∙_}
-use mathlib.Core.Logic.{_≢_}
+use mathlib.Core.Path.{_≡_, refl, _∙_}
 use mathlib.Core.Bool.{true}
 use mathlib.Core.List.{List, [], _∷_, _++_, append-nil, append-assoc}
 use borrow.Author.Tests.{le-leb}
-use lib.ListN.{length, take, set, length-append}
+use lib.ListN.{length, length-append}
 use lib.Seq.{take-suc-set}
-use Rattle.theory.specs.Constraints.{Pairs, Below}
-use Rattle.theory.specs.Over.{Finding, fine, first, overOf}
+use Rattle.theory.specs.Constraints.{Pairs, Below, NotOver}
 use Rattle.theory.specs.Over.Laws.{overOf-fine}
-use Rattle.theory.specs.Verdict as verdicts
-use Rattle.theory.specs.Verdict.Laws.{fine-verdict, verdict-fine}
 use Rattle.sheet.specs.declared.Element.{Element}
 use Rattle.sheet.specs.declared.Constraint.{Constraint}
 use Rattle.sheet.specs.declared.Sheet.{Sheet}
-use Rattle.sheet.specs.Facts.{Facts, factsOf, linesOf, pick}
+use Rattle.sheet.specs.Facts.{Facts, factsOf}
 use Rattle.sheet.specs.Rules.{or-else, constraintCount, constraintFault, constraintsFault, sheetFault}
 use Rattle.sheet.specs.Rules.Laws.{or-else-some}
 use Rattle.sheet.specs.Accepted.Laws.{none-else}
 use Rattle.sheet.specs.RoundTrip.Blocks.{sheetFault-none}
-use Rattle.sheet.specs.Graph.{clustersOf, verdictOf}
-use Rattle.answer.specs.declared.Verdict.the-variants.{Over}
-use Rattle.answer.specs.Answer.{asVerdict, verdictNumber}
-use Rattle.judge.specs.Listing.Laws.{clusters-pairs, clusters-below}
+use Rattle.sheet.specs.Graph.{graphOf, overFault}
+use Rattle.sheet.specs.Graph.Laws.{length-clusters, clusters-pairs, clusters-below, fault-none}
+use Rattle.theory.specs.Graph.{verdictOf}
 use Rattle.judge.specs.Listing.Blocks.{Blocks}
-use Rattle.judge.specs.Judged.{judgedBy, judgedOf}
+use Rattle.judge.specs.Judged.{judgedOf}
 use Rattle.judge.specs.Judged.Laws.{few}
 use Rattle.judge.specs.Judged.Lists.{judged-held}
 use Rattle.sketch.specs.declared.Taken.the-variants.{Is, Refused}
-use Rattle.sketch.specs.Sketch.{notOver, overFault, holdFault, extended, nextFault, addFault, addAnswer, stored, addAfter}
-
--- ---- the verdict over by its name
-
-pub named-over : (v : verdicts.Verdict) → asVerdict v ≡ Over → v ≡ verdicts.over
-named-over verdicts.over e = refl
-named-over verdicts.angle e = absurd (let z : _≡_ {A = ℕ} 0 1 = cc in omega arith)
-named-over verdicts.well e = absurd (let z : _≡_ {A = ℕ} 0 1 = cc in omega arith)
-named-over verdicts.stuck e = absurd (let z : _≡_ {A = ℕ} 0 1 = cc in omega arith)
-named-over verdicts.under e = absurd (let z : _≡_ {A = ℕ} 0 1 = cc in omega arith)
-
-not-named : (v : verdicts.Verdict) → v ≢ verdicts.over → notOver v ≡ true
-not-named verdicts.over n = absurd (n refl)
-not-named verdicts.angle n = refl
-not-named verdicts.well n = refl
-not-named verdicts.stuck n = refl
-not-named verdicts.under n = refl
-
--- 11 or 0 by the verdict's number
-pub numbered-over : (f : Facts) → verdictNumber (asVerdict (verdictOf f)) ≡ 0 → overFault f ≡ 11
-unfolding overFault
-numbered-over f e = go (verdictOf f) e
-  where
-    go : (v : verdicts.Verdict) → verdictNumber (asVerdict v) ≡ 0 → _≡_ {A = ℕ} (pick (notOver v) 0 11) 11
-    go verdicts.over e = refl
-    go verdicts.angle e = absurd (omega arith)
-    go verdicts.well e = absurd (omega arith)
-    go verdicts.stuck e = absurd (omega arith)
-    go verdicts.under e = absurd (omega arith)
-
-pub numbered-other : (f : Facts) → (verdictNumber (asVerdict (verdictOf f)) ≡ 0 → ⊥) → overFault f ≡ 0
-unfolding overFault
-numbered-other f n = rw (not-named (verdictOf f) (λ e. n (ap (λ (v : verdicts.Verdict). verdictNumber (asVerdict v)) e)))
-
--- none of 11 says that the verdict isn't over
-pub fault-not-over : (f : Facts) → overFault f ≡ 0 → verdictOf f ≢ verdicts.over
-unfolding overFault
-fault-not-over f e o = absurd (let k : _≡_ {A = ℕ} 11 0 = rw o at e in omega arith)
+use Rattle.sketch.specs.Sketch.{holdFault, extended, nextFault, addFault, addAnswer, stored, addAfter}
 
 -- ---- facts that rules 3 and 5 to 9 take
 
@@ -87,33 +45,21 @@ blocks-sound s b = record {
 }
 
 module _ (f : Facts) (h : Sound f) where
-  paired : Pairs (clustersOf f)
-  paired = clusters-pairs f (h .elements) (h .constraints) (h .none)
+  paired : Pairs (graphOf f .clusters)
+  paired = clusters-pairs f (h .none)
 
-  below : Below (length (f .elements)) (clustersOf f)
-  below = clusters-below f (h .elements) (h .constraints) (h .none)
-
-  pub judged-verdict : judgedOf f .verdict ≡ asVerdict (verdictOf f)
-  judged-verdict = judged-held f paired below (few f (h .elements) (h .two) (h .constraints) (h .none)) .verdict-is
-
-  -- what the search for an over set finds decides
-  pub none-found : overOf (length (f .elements)) (clustersOf f) ≡ fine → overFault f ≡ 0
-  unfolding overFault verdictOf
-  none-found e =
-      rw (not-named (verdictOf f) (fine-verdict (linesOf (f .elements)) (length (f .elements)) (clustersOf f) (overOf-fine (length (f .elements)) (clustersOf f) paired below e)))
-
-  pub first-found : (c x : ℕ) → overOf (length (f .elements)) (clustersOf f) ≡ first c x → overFault f ≡ 11
-  unfolding overFault judgedOf
-  first-found c x e =
-      let v : asVerdict (verdictOf f) ≡ Over = sym judged-verdict ∙ ap (λ (o : Finding). judgedBy f o .verdict) e in
-      rw (named-over (verdictOf f) v)
+  below : Below (graphOf f .n) (graphOf f .clusters)
+  below = clusters-below f (h .none)
 
   -- facts that are not over have few constraints
-  pub few-held : overFault f ≡ 0 → length (f .constraints) ≤ 125
-  unfolding verdictOf
-  few-held e =
-      few f (h .elements) (h .two) (h .constraints) (h .none)
-      (verdict-fine (linesOf (f .elements)) (length (f .elements)) (clustersOf f) paired below (fault-not-over f e))
+  few-fine : NotOver (graphOf f .clusters) → length (f .constraints) ≤ 125
+  few-fine = few f (h .elements) (h .two) (h .constraints) (h .none)
+
+  pub judged-verdict : judgedOf (graphOf f) .verdict ≡ verdictOf (graphOf f)
+  judged-verdict = judged-held (graphOf f) paired below (λ fine. rw length-clusters (few-fine fine)) .verdict-is
+
+  pub few-held : overFault (graphOf f) ≡ 0 → length (f .constraints) ≤ 125
+  few-held e = few-fine (overOf-fine (graphOf f .n) (graphOf f .clusters) paired below (fault-none (graphOf f) e))
 
 -- ---- one constraint more
 
@@ -153,7 +99,7 @@ module _ (s : Sheet) (c : Constraint) (long : length (s .constraints) ≡ 200) (
       let m : constraintCount (s .e + 1) ≡ true = le-leb (s .e + 1) 200 (omega arith) in
       rw (h .0, m, add-one, take-suc-set (s .constraints) (s .e) c q) (extended-none (factsOf s) c (h .2) k)
 
-pub extended-sound : (f : Facts) (c : Constraint) → Sound f → overFault f ≡ 0 → constraintFault (f .elements) (f .constraints) c ≡ 0 → Sound (extended f c)
+pub extended-sound : (f : Facts) (c : Constraint) → Sound f → overFault (graphOf f) ≡ 0 → constraintFault (f .elements) (f .constraints) c ≡ 0 → Sound (extended f c)
 extended-sound f c h o k = record {
   two = h .two;
   elements = h .elements;
@@ -163,9 +109,9 @@ extended-sound f c h o k = record {
 
 -- ---- the rules in their order
 
-pub hold-none : (s : Sheet) → holdFault s ≡ 0 → (sheetFault s ≡ 0) × (overFault (factsOf s) ≡ 0)
+pub hold-none : (s : Sheet) → holdFault s ≡ 0 → (sheetFault s ≡ 0) × (overFault (graphOf (factsOf s)) ≡ 0)
 unfolding holdFault
-hold-none s e = none-else (factsOf s .elements) (sheetFault s) (overFault (factsOf s)) e
+hold-none s e = none-else (factsOf s .elements) (sheetFault s) (overFault (graphOf (factsOf s))) e
 
 module _ (s : Sheet) (c : Constraint) where
   pub add-unheld : (holdFault s ≡ 0 → ⊥) → addFault s c ≡ holdFault s
@@ -178,7 +124,7 @@ module _ (s : Sheet) (c : Constraint) where
   add-refused e n = rw e (or-else-some _ _ n)
 
   pub add-last : holdFault s ≡ 0 → constraintFault (factsOf s .elements) (factsOf s .constraints) c ≡ 0
-      → addFault s c ≡ overFault (extended (factsOf s) c)
+      → addFault s c ≡ overFault (graphOf (extended (factsOf s) c))
   unfolding addFault nextFault
   add-last e k = rw (e, k)
 
@@ -188,6 +134,6 @@ module _ (s : Sheet) (c : Constraint) where
   refused-added zero n e = absurd (n refl)
   refused-added (suc k) n e = rw e (refl, refl)
 
-  pub taken-added : addFault s c ≡ 0 → (Is (asVerdict (verdictOf (extended (factsOf s) c))) ≡ addAnswer s c) × (stored s c ≡ addAfter s c)
+  pub taken-added : addFault s c ≡ 0 → (Is (verdictOf (graphOf (extended (factsOf s) c))) ≡ addAnswer s c) × (stored s c ≡ addAfter s c)
   unfolding addAnswer addAfter
   taken-added e = rw e (refl, refl)

@@ -14,11 +14,12 @@ use Rattle.theory.specs.Set.{_∩_, _∪_, _⊑_, at}
 use Rattle.theory.specs.Set.Laws.{at-and, at-or, at-le, bit, sub-refl, sub-trans, and-l, and-r, and-sub, sub-and, two-in}
 use Rattle.theory.specs.Constraints.{pair, has, carried, NotOver, Below}
 use Rattle.theory.specs.Constraints.Laws.{Has, inside, outside, has-dec, at-end}
-use Rattle.theory.specs.Over.{IsOver, Tight, Smallest, FirstOver, Finding, fine, first, overOf}
+use Rattle.theory.specs.Over.{IsOver, Tight, Smallest, FirstOver, overOf}
 use Rattle.theory.specs.Over.Laws.{tight-over, within-smallest, finds-overOf}
 use Rattle.peeling.specs.Less.{sub-below, less-sub, size-less}
 use Rattle.theory.specs.Over.Listed.{ends, masks, Listed}
 use Rattle.theory.specs.Over.Listed.Laws.{carried-more, length-masks, take-masks, masks-at, masks-pairs, carried-none, pair-in, pair-ends, has-not, has-other, pair-comm}
+use Rattle.theory.specs.declared.Finding.the-variants.{Fine, First}
 use Rattle.sparsity.specs.Freedoms.{free, frees, Table, Balanced, Closed, FreeBelow}
 use Rattle.sparsity.specs.Freedoms.Laws.{free-table, free-closed, free-balanced, kept-le, closed-kept, kept-closed, frees-two, frees-less, frees-only}
 use Rattle.sparsity.specs.Freedoms.Stores.{balanced-outside, balanced-placed, stored-table, stored-closed}
@@ -26,8 +27,7 @@ use Rattle.sparsity.specs.Reach.{Found, Gathered, Placed}
 use Rattle.sparsity.specs.Reach.Laws.{found-first, found-second, found-closed, found-none, stuck-none, seen-within}
 use Rattle.peeling.specs.Core.{Few, Core}
 use Rattle.peeling.specs.Core.Laws.{few-none, few-other, few-outside, few-more}
-use Rattle.sparsity.specs.declared.Over.the-variants.{Not, First}
-use Rattle.sparsity.specs.Answer.{asOver, Kept, Ready}
+use Rattle.sparsity.specs.Answer.{Kept, Ready}
 
 -- ---- the start
 
@@ -330,21 +330,8 @@ module _ {us vs : List ℕ} {e u : ℕ} (l : Listed us vs e) (core : Core us vs 
 -- ---- the answer
 
 module _ {us vs : List ℕ} {e : ℕ} (l : Listed us vs e) (n : ℕ) (below : Below n (masks us vs e)) where
-  pub answer-not : NotOver (masks us vs e) → Not ≡ asOver (overOf n (masks us vs e))
-  unfolding asOver
-  answer-not f = ap asOver (finds-overOf n (masks us vs e) (masks-pairs us vs e l) below fine f)
+  pub answer-not : NotOver (masks us vs e) → Fine ≡ overOf n (masks us vs e)
+  answer-not f = finds-overOf n (masks us vs e) (masks-pairs us vs e l) below Fine f
 
-  pub answer-first : {c x : ℕ} → FirstOver (masks us vs e) c x → First c x ≡ asOver (overOf n (masks us vs e))
-  unfolding asOver
-  answer-first {c} {x} f = ap asOver (finds-overOf n (masks us vs e) (masks-pairs us vs e l) below (first c x) f)
-
--- what a caller learns from the answer
-pub not-told : (f : Finding) → Not ≡ asOver f → f ≡ fine
-unfolding asOver
-not-told fine q = refl
-not-told (first c x) q = cc
-
-pub first-told : (f : Finding) (c x : ℕ) → First c x ≡ asOver f → f ≡ first c x
-unfolding asOver
-first-told fine c x q = cc
-first-told (first d y) c x q = cc
+  pub answer-first : {c x : ℕ} → FirstOver (masks us vs e) c x → First c x ≡ overOf n (masks us vs e)
+  answer-first {c} {x} f = finds-overOf n (masks us vs e) (masks-pairs us vs e l) below (First c x) f

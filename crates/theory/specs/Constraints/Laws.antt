@@ -14,7 +14,7 @@ use lib.ListN.{length}
 use lib.Pow.{pow-lt}
 use Rattle.theory.specs.Set.{_∩_, _∪_, at, _⊑_, full}
 use Rattle.theory.specs.Set.Laws.{at-or, at-le, bit, size-le, size-eq, sub-refl, sub-trans, or-l, or-r, and-l, and-r, and-most, sub-and, and-sub, singles-or, at-same, at-other, size-pow, pow-ne, below-full, cut-below}
-use Rattle.theory.specs.Constraints.{Ends, Sound, pair, clusters, Among, Pairs, Below, Perm, same, skip, swap, then, one-if, has, carried, NotOver, NotOverIn}
+use Rattle.theory.specs.Constraints.{pair, Among, Pairs, Below, Perm, same, skip, swap, then, one-if, has, carried, NotOver, NotOverIn}
 
 -- ---- whether a constraint lies in a set
 
@@ -199,11 +199,9 @@ pub fine-perm : {l k : List ℕ} → Perm l k → NotOver l → NotOver k
 unfolding NotOver
 fine-perm p h x b = omega (arith, h x b, carried-perm p x)
 
-pub sound-perm : (n : ℕ) {l k : List Ends} → Perm l k → Sound n l → Sound n k
-sound-perm n same s = s
-sound-perm n (skip x p) s = (s .0, s .1, sound-perm n p (s .2))
-sound-perm n (swap x y) s = (s .2 .0, s .2 .1, (s .0, s .1, s .2 .2))
-sound-perm n (then p q) s = sound-perm n q (sound-perm n p s)
+pub below-perm : (n : ℕ) {l k : List ℕ} → Perm l k → Below n l → Below n k
+unfolding Below
+below-perm n p h x i = h x (among-perm p x .1 i)
 
 -- ---- the pairs of a sheet
 
@@ -242,14 +240,3 @@ pair-one u v u′ v′ h h′ e =
     go (inl p) (inl q) = absurd (omega arith)
     go (inr p) (inl q) = absurd (omega arith)
     go (inr p) (inr q) = absurd (omega arith)
-
-pub sound-pairs : (n : ℕ) (l : List Ends) → Sound n l → Pairs (clusters l)
-unfolding Pairs
-sound-pairs n [] s x i = absurd i
-sound-pairs n (c ∷ l) s x i = ⊎-elim (λ e. ap ones e ∙ size-pair (c .u) (c .v) (s .0)) (sound-pairs n l (s .2) x) i
-
-pub sound-below : (n : ℕ) (l : List Ends) → Sound n l → Below n (clusters l)
-unfolding Below
-sound-below n [] s x i = absurd i
-sound-below n (c ∷ l) s x i =
-    ⊎-elim (λ e. subst (λ (z : ℕ). z < 2 ^ n) (sym e) (pair-below n (c .u) (c .v) (omega arith) (s .1))) (sound-below n l (s .2) x) i

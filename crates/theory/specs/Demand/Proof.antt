@@ -1,10 +1,10 @@
 -- Demand 3 holds. Assumes nothing.
 use mathlib.Core.Path.{refl, sym}
 use mathlib.Core.List.{List}
-use Prim.Native.Nat.{ℕ, _≤_}
+use Prim.Native.Nat.{_≤_}
 use native.Mathlib.Omega.{arith}
-use Rattle.theory.specs.Constraints.{Ends, Sound, cluster, clusters, Pairs, Perm, Below, NotOver}
-use Rattle.theory.specs.Constraints.Laws.{perm-map, fine-perm, sound-perm, sound-pairs, sound-below}
+use Rattle.theory.specs.Constraints.{Pairs, Below, NotOver}
+use Rattle.theory.specs.Constraints.Laws.{pairs-perm, below-perm, fine-perm}
 use Rattle.theory.specs.Merge.{Merge, slot, Valid, final, live}
 use Rattle.theory.specs.Merge.Count.{steps-left, weights-kept, steps-half, steps-most, same-left}
 use Rattle.theory.specs.Merge.Either.{either-way}
@@ -12,61 +12,57 @@ use Rattle.theory.specs.Merge.Family.{Good, Distinct}
 use Rattle.theory.specs.Merge.Family.Invariant.{share}
 use Rattle.theory.specs.Merge.Numbered.{every-order, good-final, start-good, start-distinct}
 use Rattle.theory.specs.Plan.Laws.{plan-of-maximal}
-use Rattle.theory.specs.Verdict.Laws.{same-verdict, verdict-every, fine-verdict, verdict-fine}
+use Rattle.theory.specs.Graph.{Graph}
+use Rattle.theory.specs.Graph.Laws.{same-verdict, verdict-every, fine-finding, fine-not-over, verdict-fine}
 use Rattle.theory.specs.Demand.{Accepted, Counted, Demand3}
 
 -- an accepted sheet, as the proofs use it
-pub accepted-pairs : {lines n : ℕ} {es : List Ends} → Accepted lines n es → Pairs (clusters es)
-accepted-pairs {lines} {n} {es} a = sound-pairs n es (a .sound)
+pub accepted-fine : {g : Graph} → Accepted g → NotOver (g .clusters)
+accepted-fine {g} a = verdict-fine g (a .pairs) (a .below) (a .not-over)
 
-pub accepted-below : {lines n : ℕ} {es : List Ends} → Accepted lines n es → Below n (clusters es)
-accepted-below {lines} {n} {es} a = sound-below n es (a .sound)
-
-pub accepted-fine : {lines n : ℕ} {es : List Ends} → Accepted lines n es → NotOver (clusters es)
-accepted-fine {lines} {n} {es} a = verdict-fine lines n (clusters es) (accepted-pairs a) (accepted-below a) (a .not-over)
-
-pub fine-accepted : (lines n : ℕ) (es : List Ends) → 2 ≤ n → Sound n es → NotOver (clusters es) → Accepted lines n es
-fine-accepted lines n es two sound fine = record { two = two; sound = sound; not-over = fine-verdict lines n (clusters es) fine }
+fine-accepted : (g : Graph) → 2 ≤ g .n → Pairs (g .clusters) → Below (g .n) (g .clusters) → NotOver (g .clusters) → Accepted g
+fine-accepted g two pairs below fine =
+    record { two = two; pairs = pairs; below = below; not-over = fine-not-over g (fine-finding g pairs below fine) }
 
 -- whatever merges came before, each living cluster of m elements carries 2m-3 constraints, no constraint lies in two, and no two clusters are equal
-pub accepted-good : {lines n : ℕ} {es : List Ends} → Accepted lines n es → (p : List Merge) → Valid (clusters es) p
-    → Good (clusters es) (live (final (clusters es) p)) × Distinct (final (clusters es) p)
-accepted-good {lines} {n} {es} a p v =
-    good-final (clusters es) (accepted-fine a) p (clusters es) (start-good (clusters es) (accepted-pairs a) (accepted-fine a))
-    (start-distinct (clusters es) (accepted-pairs a) (accepted-fine a)) v
+pub accepted-good : {g : Graph} → Accepted g → (p : List Merge) → Valid (g .clusters) p
+    → Good (g .clusters) (live (final (g .clusters) p)) × Distinct (final (g .clusters) p)
+accepted-good {g} a p v =
+    good-final (g .clusters) (accepted-fine a) p (g .clusters) (start-good (g .clusters) (a .pairs) (accepted-fine a))
+    (start-distinct (g .clusters) (a .pairs) (accepted-fine a)) v
 
-counted : {lines n : ℕ} {es : List Ends} → Accepted lines n es → (p : List Merge) → Valid (clusters es) p → Counted n (clusters es) p
+counted : {g : Graph} → Accepted g → (p : List Merge) → Valid (g .clusters) p → Counted (g .n) (g .clusters) p
 unfolding Distinct
-counted {lines} {n} {es} a p v =
-    let pairs = accepted-pairs a in
-    let left = steps-left (clusters es) pairs p v in
+counted {g} a p v =
+    let left = steps-left (g .clusters) (a .pairs) p v in
     record {
       formula = sym left;
-      freedoms = weights-kept (clusters es) pairs p v;
-      half = λ e. omega (arith, steps-half (clusters es) pairs e p v);
+      freedoms = weights-kept (g .clusters) (a .pairs) p v;
+      half = λ e. omega (arith, steps-half (g .clusters) (a .pairs) e p v);
       none = λ e. omega arith;
-      most = omega (arith, steps-most n (clusters es) (a .two) pairs (accepted-below a) (accepted-fine a) p v);
+      most = omega (arith, steps-most (g .n) (g .clusters) (a .two) (a .pairs) (a .below) (accepted-fine a) p v);
       share = λ i j ne hi hj.
-          let g = accepted-good a p v in
-          share (clusters es) (accepted-fine a) (g .0) (slot (final (clusters es) p) i) (slot (final (clusters es) p) j) (i, refl, hi) (j, refl, hj)
-          (λ e. ne (g .1 i j hi e));
+          let d = accepted-good a p v in
+          share (g .clusters) (accepted-fine a) (d .0) (slot (final (g .clusters) p) i) (slot (final (g .clusters) p) j) (i, refl, hi) (j, refl, hj)
+          (λ e. ne (d .1 i j hi e));
     }
 
-pub demand3 : (lines n : ℕ) (es : List Ends) → Accepted lines n es → Demand3 lines n es
-demand3 lines n es a = record {
-  orders = λ ds r. fine-accepted lines n ds (a .two) (sound-perm n r (a .sound)) (fine-perm (perm-map cluster r) (accepted-fine a));
-  every = λ ds r p q v w.
-      let r′ : Perm (clusters es) (clusters ds) = perm-map cluster r in
-      let u = every-order (clusters es) (accepted-pairs a) (accepted-fine a) (clusters ds) r′ p q v w in
+pub demand3 : (g : Graph) → Accepted g → Demand3 g
+demand3 g a = record {
+  orders = λ h r.
+      fine-accepted h (rw (r .count) (a .two)) (pairs-perm (r .constraints) (a .pairs)) (rw (r .count) (below-perm (g .n) (r .constraints) (a .below)))
+      (fine-perm (r .constraints) (accepted-fine a));
+  every = λ h r p q v w.
+      let u = every-order (g .clusters) (a .pairs) (accepted-fine a) (h .clusters) (r .constraints) p q v w in
       record {
         finals = u .finals;
         knots = u .knots;
-        verdicts = same-verdict lines n (clusters es) (accepted-pairs a) (accepted-fine a) (clusters ds) r′ p q v w;
+        verdicts = same-verdict g h (r .count) (r .kinds) (r .constraints) (a .pairs) (accepted-fine a) p q v w;
         steps = u .steps;
-        lefts = same-left (clusters es) (accepted-pairs a) (accepted-fine a) (clusters ds) r′ p q v w;
+        lefts = same-left (g .clusters) (a .pairs) (accepted-fine a) (h .clusters) (r .constraints) p q v w;
       };
-  either = either-way (clusters es) (accepted-pairs a) (accepted-fine a);
+  either = either-way (g .clusters) (a .pairs) (accepted-fine a);
   counts = counted a;
-  plan = plan-of-maximal (clusters es) (accepted-pairs a);
-  verdicts = verdict-every lines n (clusters es) (accepted-pairs a) (accepted-fine a);
+  plan = plan-of-maximal (g .clusters) (a .pairs);
+  verdicts = verdict-every g (a .pairs) (a .below) (accepted-fine a);
 }

@@ -17,7 +17,9 @@ use Rattle.theory.specs.Set.{_∩_, _∪_, _⊑_, full}
 use Rattle.theory.specs.Set.Laws.{size-zero, size-or, size-le, size-eq, size-full, and-l, and-r, and-most, or-l, cut-below, below-full}
 use Rattle.theory.specs.Constraints.{has, carried, NotOver, NotOverIn, Among, Pairs, Below}
 use Rattle.theory.specs.Constraints.Laws.{inside, Has, outside, has-dec, has-in, carried-two, carried-full, carried-cut, not-over-in}
-use Rattle.theory.specs.Over.{IsOver, Tight, Smallest, FirstOver, Finding, fine, first, Finds, heavy, anyBelow, isOver, isTight, smaller, fewestBelow, smallestSet, next, overUpTo, overOf}
+use Rattle.theory.specs.Over.{IsOver, Tight, Smallest, FirstOver, Finds, heavy, anyBelow, isOver, isTight, smaller, fewestBelow, smallestSet, next, overUpTo, overOf}
+use Rattle.theory.specs.declared.Finding.{Finding}
+use Rattle.theory.specs.declared.Finding.the-variants.{Fine, First}
 
 -- ---- a list and one constraint more
 
@@ -311,8 +313,8 @@ module _ (n : ℕ) (cs : List ℕ) (pairs : Pairs cs) (below : Below n cs) where
 
   -- the right finding for the first k constraints
   FindsTo : ℕ → Finding → Type 0
-  FindsTo k fine = NotOver (take k cs)
-  FindsTo k (first c x) = (c < k) × FirstOver cs c x
+  FindsTo k Fine = NotOver (take k cs)
+  FindsTo k (First c x) = (c < k) × FirstOver cs c x
 
   up-to : (k : ℕ) → k ≤ length cs → FindsTo k (overUpTo n cs k)
   unfolding FindsTo overUpTo next NotOver carried
@@ -320,15 +322,15 @@ module _ (n : ℕ) (cs : List ℕ) (pairs : Pairs cs) (below : Below n cs) where
   up-to (suc k) l = go (overUpTo n cs k) (up-to k (omega arith))
     where
       fresh : NotOver (take k cs) → (b : Bool) → isOver n (take (suc k) cs) ≡ b
-          → FindsTo (suc k) (elim b [ true ↦ first k (smallestSet n (take k cs) (getD cs k 0)) | false ↦ fine ])
+          → FindsTo (suc k) (elim b [ true ↦ First k (smallestSet n (take k cs) (getD cs k 0)) | false ↦ Fine ])
       fresh f true e =
           let o = isOver-over n (take (suc k) cs) e in
           (lt-suc-self k, record { listed = l; earlier = f; over = o; smallest = first-set k l f o })
       fresh f false e = isOver-fine n (take (suc k) cs) (pairs-take (suc k) cs pairs) (below-take n (suc k) cs below) e
 
       go : (r : Finding) → FindsTo k r → FindsTo (suc k) (next n cs k r)
-      go (first c x) h = (le-step (h .0), h .1)
-      go fine h = fresh h (isOver n (take (suc k) cs)) refl
+      go (First c x) h = (le-step (h .0), h .1)
+      go Fine h = fresh h (isOver n (take (suc k) cs)) refl
 
   -- the tests find it
   pub overOf-finds : Finds cs (overOf n cs)
@@ -336,17 +338,17 @@ module _ (n : ℕ) (cs : List ℕ) (pairs : Pairs cs) (below : Below n cs) where
   overOf-finds = go (overUpTo n cs (length cs)) (up-to (length cs) (le-refl (length cs)))
     where
       go : (r : Finding) → FindsTo (length cs) r → Finds cs r
-      go fine h = subst NotOver (take-length cs) h
-      go (first c x) h = h .1
+      go Fine h = subst NotOver (take-length cs) h
+      go (First c x) h = h .1
 
   -- and there is only one to find
   pub finds-one : (r s : Finding) → Finds cs r → Finds cs s → r ≡ s
-  finds-one fine fine h k = refl
-  finds-one fine (first c x) h k = absurd (over-not-fine (k .over) (fine-shorter cs (suc c) (length cs) (k .listed) (subst NotOver (sym (take-length cs)) h)))
-  finds-one (first c x) fine h k = absurd (over-not-fine (h .over) (fine-shorter cs (suc c) (length cs) (h .listed) (subst NotOver (sym (take-length cs)) k)))
-  finds-one (first c x) (first d y) h k =
+  finds-one Fine Fine h k = refl
+  finds-one Fine (First c x) h k = absurd (over-not-fine (k .over) (fine-shorter cs (suc c) (length cs) (k .listed) (subst NotOver (sym (take-length cs)) h)))
+  finds-one (First c x) Fine h k = absurd (over-not-fine (h .over) (fine-shorter cs (suc c) (length cs) (h .listed) (subst NotOver (sym (take-length cs)) k)))
+  finds-one (First c x) (First d y) h k =
       let same : c ≡ d = le-antisymm (not-after c d (h .earlier) (k .over)) (not-after d c (k .earlier) (h .over)) in
-      ap₂ first same
+      ap₂ First same
       (smallest-one (take c cs) (h .earlier) (getD cs c 0) (pair-at c (h .listed)) x y (h .smallest)
       (subst (λ (i : ℕ). Smallest (take i cs) (getD cs i 0) y) (sym same) (k .smallest)))
     where
@@ -364,20 +366,17 @@ module _ (n : ℕ) (cs : List ℕ) (pairs : Pairs cs) (below : Below n cs) where
 pub overOf-same : (n m : ℕ) (cs : List ℕ) → Pairs cs → Below n cs → Below m cs → overOf n cs ≡ overOf m cs
 overOf-same n m cs pairs bn bm = finds-overOf m cs pairs bm (overOf n cs) (overOf-finds n cs pairs bn)
 
--- every list is over or not
-pub over-or-fine : (n : ℕ) (cs : List ℕ) → Pairs cs → Below n cs → IsOver cs ⊎ NotOver cs
-over-or-fine n cs pairs below = go (isOver n cs) refl
-  where
-    go : (b : Bool) → isOver n cs ≡ b → IsOver cs ⊎ NotOver cs
-    go true e = inl (isOver-over n cs e)
-    go false e = inr (isOver-fine n cs pairs below e)
-
 -- what is found says whether the list is over
-pub fine-overOf : (n : ℕ) (cs : List ℕ) → Pairs cs → Below n cs → NotOver cs → overOf n cs ≡ fine
-fine-overOf n cs pairs below f = sym (finds-overOf n cs pairs below fine f)
+pub fine-overOf : (n : ℕ) (cs : List ℕ) → Pairs cs → Below n cs → NotOver cs → overOf n cs ≡ Fine
+fine-overOf n cs pairs below f = sym (finds-overOf n cs pairs below Fine f)
 
-pub overOf-fine : (n : ℕ) (cs : List ℕ) → Pairs cs → Below n cs → overOf n cs ≡ fine → NotOver cs
+pub overOf-fine : (n : ℕ) (cs : List ℕ) → Pairs cs → Below n cs → overOf n cs ≡ Fine → NotOver cs
 overOf-fine n cs pairs below e = subst (Finds cs) e (overOf-finds n cs pairs below)
 
-pub overOf-first : (n : ℕ) (cs : List ℕ) → Pairs cs → Below n cs → (c x : ℕ) → overOf n cs ≡ first c x → FirstOver cs c x
+pub overOf-first : (n : ℕ) (cs : List ℕ) → Pairs cs → Below n cs → (c x : ℕ) → overOf n cs ≡ First c x → FirstOver cs c x
 overOf-first n cs pairs below c x e = subst (Finds cs) e (overOf-finds n cs pairs below)
+
+pub overOf-over : (n : ℕ) (cs : List ℕ) → Pairs cs → Below n cs → (c x : ℕ) → overOf n cs ≡ First c x → IsOver cs
+overOf-over n cs pairs below c x e =
+    let h = overOf-first n cs pairs below c x e in
+    subst IsOver (take-length cs) (over-longer cs (suc c) (length cs) (h .listed) (h .over))

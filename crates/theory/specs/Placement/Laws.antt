@@ -7,20 +7,21 @@ use lib.Dec.{T, ltb, ltb→lt, lt→ltb}
 use lib.Count.{ones}
 use Rattle.theory.specs.Set.{_∩_, _⊑_}
 use Rattle.theory.specs.Set.Laws.{size-eq, and-l, sub-and, and-sub}
-use Rattle.theory.specs.Placement.{lll, withLines, jointKind, byOrder, against}
+use Rattle.theory.specs.Placement.{withLines, jointKind, byOrder, against}
+use Rattle.theory.specs.declared.JointKind.the-variants.{Lll}
 
 -- ---- kinds
 
 -- some joint is three lines, said by the kind
-pub lines-lll : (lines j : ℕ) → ones j ≡ 3 → j ⊑ lines → jointKind lines j ≡ lll
+pub lines-lll : (lines j : ℕ) → ones j ≡ 3 → j ⊑ lines → jointKind lines j ≡ Lll
 unfolding jointKind
 lines-lll lines j e h = ap withLines (ap ones (sub-and j lines h) ∙ e)
 
-pub lll-lines : (lines j : ℕ) → ones j ≡ 3 → jointKind lines j ≡ lll → j ⊑ lines
+pub lll-lines : (lines j : ℕ) → ones j ≡ 3 → jointKind lines j ≡ Lll → j ⊑ lines
 unfolding jointKind
 lll-lines lines j e k = go (ones (j ∩ lines)) refl k
   where
-    go : (l : ℕ) → ones (j ∩ lines) ≡ l → withLines l ≡ lll → j ⊑ lines
+    go : (l : ℕ) → ones (j ∩ lines) ≡ l → withLines l ≡ Lll → j ⊑ lines
     go zero f q = let z : _≡_ {A = ℕ} 0 1 = cc in absurd (omega arith)
     go (suc zero) f q = let z : _≡_ {A = ℕ} 0 1 = cc in absurd (omega arith)
     go (suc (suc zero)) f q = let z : _≡_ {A = ℕ} 0 1 = cc in absurd (omega arith)

@@ -1,6 +1,5 @@
--- The verdict is over if and only if some set carries too much; else it is that of every maximal list of merges, in every order of the
--- constraints, and its name says what document 01 says. Assumes nothing.
-use mathlib.Core.Path.{_≡_, refl, sym, ap, ap₂, _∙_, subst}
+-- What the verdict names say, by the tests and by the relation. Assumes nothing.
+use mathlib.Core.Path.{_≡_, refl, sym, ap₂, subst}
 use mathlib.Core.Logic.{_≢_, _↔_, inl, inr}
 use mathlib.Core.Bool.{Bool, true, false, _||_}
 use mathlib.Core.List.{List, [], _∷_}
@@ -11,16 +10,13 @@ use lib.ListN.{length}
 use Rattle.theory.specs.Tests.{eq-test, false-ne, iff-same}
 use Rattle.theory.specs.Set.{_∩_}
 use Rattle.theory.specs.Set.Laws.{and-sub, sub-and}
-use Rattle.theory.specs.Constraints.{Among, Pairs, Below, Perm, same, NotOver}
-use Rattle.theory.specs.Constraints.Laws.{length-perm}
-use Rattle.theory.specs.Merge.{Merge, final, joints, left, Valid, Maximal}
-use Rattle.theory.specs.Merge.Numbered.{every-order}
-use Rattle.theory.specs.Merge.Count.{same-left, steps-left, steps-half}
-use Rattle.theory.specs.Plan.{planOf}
-use Rattle.theory.specs.Plan.Laws.{plan-of-maximal}
-use Rattle.theory.specs.Over.{IsOver, isOver}
-use Rattle.theory.specs.Over.Laws.{fine-most, isOver-over, isOver-fine, fine-isOver, over-isOver}
-use Rattle.theory.specs.Verdict.{Verdict, over, angle, well, stuck, under, allLines, angled, judged, Angle, Meets, meets-angle, meets-well, meets-stuck, meets-under, listVerdict, verdict}
+use Rattle.theory.specs.Constraints.{Among, Pairs, Below, NotOver}
+use Rattle.theory.specs.Merge.{Merge, final, left, Valid}
+use Rattle.theory.specs.Merge.Count.{steps-left, steps-half}
+use Rattle.theory.specs.Over.Laws.{fine-most}
+use Rattle.theory.specs.Verdict.{verdictNumber, allLines, angled, judged, Angled, Meets, meets-angle, meets-well, meets-stuck, meets-under}
+use Rattle.theory.specs.declared.Verdict.{Verdict}
+use Rattle.theory.specs.declared.Verdict.the-variants.{Over, Angle, Well, Stuck, Under}
 
 -- ---- what the names say
 
@@ -48,24 +44,24 @@ some-angled lines (j ∷ js) x (inr i) t = go (allLines lines j) (some-angled li
     go false t = t
 
 -- some joint is three lines
-pub angled-is : (lines : ℕ) (js : List ℕ) → T (angled lines js) → Angle lines js
+pub angled-is : (lines : ℕ) (js : List ℕ) → T (angled lines js) → Angled lines js
 angled-is lines js t = let r = angled-some lines js t in (r .0, r .1, and-sub (r .0) lines (eqb→eq (r .0 ∩ lines) (r .0) (r .2)))
 
-pub is-angled : (lines : ℕ) (js : List ℕ) → Angle lines js → T (angled lines js)
+pub is-angled : (lines : ℕ) (js : List ℕ) → Angled lines js → T (angled lines js)
 is-angled lines js (j, i, h) = some-angled lines js j i (eq-test (j ∩ lines) j (sub-and j lines h))
 
-pub judged-meets : (lines n e : ℕ) (js : List ℕ) (l : ℕ) → Meets lines n e js l (judged lines n e js l)
+pub judged-meets : (lines n e : ℕ) (js s : List ℕ) → Meets lines n e js s (judged lines n e js s)
 unfolding judged
-judged-meets lines n e js l = go (angled lines js) (eqb (e + 3) (2 * n)) (eqb l 1) refl refl refl
+judged-meets lines n e js s = go (angled lines js) (eqb (e + 3) (2 * n)) (eqb (left s) 1) refl refl refl
   where
-    none : angled lines js ≡ false → Angle lines js → ⊥
+    none : angled lines js ≡ false → Angled lines js → ⊥
     none q h = subst T q (is-angled lines js h)
 
-    go : (a b c : Bool) → angled lines js ≡ a → eqb (e + 3) (2 * n) ≡ b → eqb l 1 ≡ c
-        → Meets lines n e js l (elim a [ true ↦ angle | false ↦ elim b [ true ↦ elim c [ true ↦ well | false ↦ stuck ] | false ↦ under ] ])
+    go : (a b c : Bool) → angled lines js ≡ a → eqb (e + 3) (2 * n) ≡ b → eqb (left s) 1 ≡ c
+        → Meets lines n e js s (elim a [ true ↦ Angle | false ↦ elim b [ true ↦ elim c [ true ↦ Well | false ↦ Stuck ] | false ↦ Under ] ])
     go true b c p q r = meets-angle (angled-is lines js (subst T (sym p) tt))
-    go false true true p q r = meets-well (none p) (eqb→eq (e + 3) (2 * n) (subst T (sym q) tt)) (eqb→eq l 1 (subst T (sym r) tt))
-    go false true false p q r = meets-stuck (none p) (eqb→eq (e + 3) (2 * n) (subst T (sym q) tt)) (false-ne l 1 r)
+    go false true true p q r = meets-well (none p) (eqb→eq (e + 3) (2 * n) (subst T (sym q) tt)) (eqb→eq (left s) 1 (subst T (sym r) tt))
+    go false true false p q r = meets-stuck (none p) (eqb→eq (e + 3) (2 * n) (subst T (sym q) tt)) (false-ne (left s) 1 r)
     go false false c p q r = meets-under (none p) (false-ne (e + 3) (2 * n) q)
 
 -- under means below 2n-3, and stuck that several clusters are left
@@ -76,73 +72,34 @@ pub stuck-several : (n : ℕ) (cs : List ℕ) → 2 ≤ n → Pairs cs → lengt
     → 2 ≤ left (final cs p)
 stuck-several n cs two pairs e p v ne = omega (arith, steps-left cs pairs p v, steps-half cs pairs (omega arith) p v, ne)
 
--- ---- the order has no influence
-
+-- the same joints, in whichever order
 pub angled-same : (lines : ℕ) (js ks : List ℕ) → ((x : ℕ) → Among x js ↔ Among x ks) → angled lines js ≡ angled lines ks
 angled-same lines js ks h =
     iff-same (angled lines js) (angled lines ks)
     (λ t. let r = angled-some lines js t in some-angled lines ks (r .0) (h (r .0) .0 (r .1)) (r .2))
     (λ t. let r = angled-some lines ks t in some-angled lines js (r .0) (h (r .0) .1 (r .1)) (r .2))
 
-judged-same : (lines n e : ℕ) (js ks : List ℕ) (l : ℕ) → angled lines js ≡ angled lines ks → judged lines n e js l ≡ judged lines n e ks l
+pub judged-same : (lines n e : ℕ) (js ks s t : List ℕ) → angled lines js ≡ angled lines ks → left s ≡ left t
+    → judged lines n e js s ≡ judged lines n e ks t
 unfolding judged
-judged-same lines n e js ks l h =
-    ap (λ (a : Bool). elim a [ true ↦ angle | false ↦ elim (eqb (e + 3) (2 * n)) [ true ↦ elim (eqb l 1) [ true ↦ well | false ↦ stuck ] | false ↦ under ] ]) h
+judged-same lines n e js ks s t a l =
+    ap₂ (λ (b : Bool) (k : ℕ). elim b [ true ↦ Angle | false ↦ elim (eqb (e + 3) (2 * n)) [ true ↦ elim (eqb k 1) [ true ↦ Well | false ↦ Stuck ] | false ↦ Under ] ]) a l
 
-pub same-verdict : (lines n : ℕ) (cs : List ℕ) → Pairs cs → NotOver cs → (ds : List ℕ) → Perm cs ds → (p q : List Merge)
-    → Maximal cs p → Maximal ds q → listVerdict lines n cs p ≡ listVerdict lines n ds q
-unfolding listVerdict
-same-verdict lines n cs pairs fine ds r p q v w =
-    judged-same lines n (length cs) (joints cs p) (joints ds q) (left (final cs p))
-    (angled-same lines (joints cs p) (joints ds q) (every-order cs pairs fine ds r p q v w .knots))
-    ∙ ap₂ (λ (e l : ℕ). judged lines n e (joints ds q) l) (length-perm r) (same-left cs pairs fine ds r p q v w)
+-- ---- none of them is over
 
--- ---- the verdict of a sheet
-
-not-over : (lines n e : ℕ) (js : List ℕ) (l : ℕ) → judged lines n e js l ≡ over → ⊥
-not-over lines n e js l q = go (judged lines n e js l) (judged-meets lines n e js l) q
+pub judged-not-over : (lines n e : ℕ) (js s : List ℕ) → judged lines n e js s ≢ Over
+judged-not-over lines n e js s q = go (judged lines n e js s) (judged-meets lines n e js s) q
   where
-    go : (v : Verdict) → Meets lines n e js l v → v ≡ over → ⊥
+    go : (v : Verdict) → Meets lines n e js s v → v ≡ Over → ⊥
     go v (meets-angle h) r = let z : _≡_ {A = ℕ} 0 1 = cc in omega arith
     go v (meets-well a b c) r = let z : _≡_ {A = ℕ} 0 1 = cc in omega arith
     go v (meets-stuck a b c) r = let z : _≡_ {A = ℕ} 0 1 = cc in omega arith
     go v (meets-under a b) r = let z : _≡_ {A = ℕ} 0 1 = cc in omega arith
 
-module _ (lines n : ℕ) (cs : List ℕ) where
-  -- over where the test says so, else that of the engine's plan
-  pub verdict-is-over : isOver n cs ≡ true → verdict lines n cs ≡ over
-  unfolding verdict
-  verdict-is-over e = ap (λ (b : Bool). elim b [ true ↦ over | false ↦ listVerdict lines n cs (planOf cs) ]) e
-
-  pub verdict-is-planned : isOver n cs ≡ false → verdict lines n cs ≡ listVerdict lines n cs (planOf cs)
-  unfolding verdict
-  verdict-is-planned e = ap (λ (b : Bool). elim b [ true ↦ over | false ↦ listVerdict lines n cs (planOf cs) ]) e
-
-  -- over if and only if some set carries too much
-  pub fine-verdict : NotOver cs → verdict lines n cs ≢ over
-  unfolding listVerdict
-  fine-verdict f e =
-      not-over lines n (length cs) (joints cs (planOf cs)) (left (final cs (planOf cs))) (sym (verdict-is-planned (fine-isOver n cs f)) ∙ e)
-
-  module _ (pairs : Pairs cs) (below : Below n cs) where
-    pub over-verdict : IsOver cs → verdict lines n cs ≡ over
-    over-verdict o = verdict-is-over (over-isOver n cs pairs below o)
-
-    pub verdict-fine : verdict lines n cs ≢ over → NotOver cs
-    verdict-fine ne = go (isOver n cs) refl
-      where
-        go : (b : Bool) → isOver n cs ≡ b → NotOver cs
-        go true e = absurd (ne (verdict-is-over e))
-        go false e = isOver-fine n cs pairs below e
-
-    pub verdict-over : verdict lines n cs ≡ over → IsOver cs
-    verdict-over e = go (isOver n cs) refl
-      where
-        go : (b : Bool) → isOver n cs ≡ b → IsOver cs
-        go true h = isOver-over n cs h
-        go false h = absurd (fine-verdict (isOver-fine n cs pairs below h) e)
-
-  -- else that of every maximal list of merges
-  pub verdict-every : Pairs cs → NotOver cs → (p : List Merge) → Maximal cs p → verdict lines n cs ≡ listVerdict lines n cs p
-  verdict-every pairs f p m =
-      verdict-is-planned (fine-isOver n cs f) ∙ same-verdict lines n cs pairs f cs same (planOf cs) p (plan-of-maximal cs pairs) m
+-- over by its number
+pub number-over : (v : Verdict) → verdictNumber v ≡ 0 → v ≡ Over
+number-over Over e = refl
+number-over Angle e = absurd (omega arith)
+number-over Well e = absurd (omega arith)
+number-over Stuck e = absurd (omega arith)
+number-over Under e = absurd (omega arith)
