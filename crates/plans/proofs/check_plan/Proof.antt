@@ -58,9 +58,6 @@ none-here c = sym (c .before .if2 .left) ∙ fault-is (c .before .before)
 parts-are : (c : tie.After-ascend Inv-loop μ-loop) → asMerge (c .ascend .result) ≡ ascending (named (c .before .before .before .before .before .before .before .before .before .before .before .before .before .before .before .before .before .before .args .plan .now) (c .before .before .before .before .before .before .before .before .before .before .before .loop .at))
 parts-are c = c .ascend .ensures ∙ ap ascending (step-is (c .before .before))
 
-refused-requires : tie.Need-refused-requires Inv-loop μ-loop
-refused-requires c κs = search needs
-
 returns : tie.Need-returns Inv-loop μ-loop
 unfolding checkOf
 returns c =
@@ -72,12 +69,6 @@ link-all-requires : tie.Need-link-all-requires Inv-loop μ-loop
 link-all-requires c κs =
     let b = c .before .before .before .pre .0 in
     (omega (arith, b .few), ap length (b .are) ∙ length-padded 192 (take (c .before .before .before .args .e) (c .before .before .before .args .start)) (omega (arith, b .few, b .count)))
-
-no-parts-requires : tie.Need-no-parts-requires Inv-loop μ-loop
-no-parts-requires c κs = search needs
-
-no-joints-requires : tie.Need-no-joints-requires Inv-loop μ-loop
-no-joints-requires c κs = search needs
 
 loop-holds : tie.Need-loop-holds Inv-loop μ-loop
 loop-holds c =
@@ -93,9 +84,6 @@ mul-wide c = let h = left (c) in search needs
 shared-slice-read-wide : tie.Need-shared-slice-read-wide Inv-loop μ-loop
 shared-slice-read-wide c = let h = left (c .before) in search needs
 
-wide-requires : tie.Need-wide-requires Inv-loop μ-loop
-wide-requires c κs = search needs
-
 add-wide : tie.Need-add-wide Inv-loop μ-loop
 add-wide c = let h = left (c .before .before) in search needs
 
@@ -105,9 +93,6 @@ mul-wide-2 c = let h = left (c .before .before) in search needs
 shared-slice-read-wide-2 : tie.Need-shared-slice-read-wide-2 Inv-loop μ-loop
 shared-slice-read-wide-2 c = let h = left (c .before .before .before) in search needs
 
-wide-requires-2 : tie.Need-wide-requires-2 Inv-loop μ-loop
-wide-requires-2 c κs = search needs
-
 add-wide-2 : tie.Need-add-wide-2 Inv-loop μ-loop
 add-wide-2 c = let h = left (c .before .before .before .before) in search needs
 
@@ -116,9 +101,6 @@ mul-wide-3 c = let h = left (c .before .before .before .before) in search needs
 
 shared-slice-read-wide-3 : tie.Need-shared-slice-read-wide-3 Inv-loop μ-loop
 shared-slice-read-wide-3 c = let h = left (c .before .before .before .before .before) in search needs
-
-wide-requires-3 : tie.Need-wide-requires-3 Inv-loop μ-loop
-wide-requires-3 c κs = search needs
 
 fault-at-requires : tie.Need-fault-at-requires Inv-loop μ-loop
 fault-at-requires c κs =
@@ -140,9 +122,6 @@ returns-2 c =
     c .refused2 .ensures (runOf cs (savedSteps (a .plan .now)))
     ∙ ap (λ (k : ℕ). answerOf k (runOf cs (savedSteps (a .plan .now))))
     (refuses (take (a .e) (a .start)) (a .e) (b .pairs) (b .count) (b .few) (a .plan .now) (l .slots) (l .links) (l .parts) (l .joints) (l .steps) (l .at) (l .inv) (mult (c .before .before .before .before .before .before .before .before .before .before .before)) (c .before .before .before .before .before .before .before .before .before .before .loop-test .taken) (c .before .before .fault-at .result) (fault-is (c .before .before)) (c .before .if2 .taken))
-
-ascend-requires : tie.Need-ascend-requires Inv-loop μ-loop
-ascend-requires c κs = search needs
 
 take-step-requires : tie.Need-take-step-requires Inv-loop μ-loop
 take-step-requires c κs =
@@ -188,9 +167,6 @@ add-some-open c = omega (arith, few (c .before .before .before), c .before .befo
 some-open-requires : tie.Need-some-open-requires Inv-loop μ-loop
 some-open-requires c κs = omega (arith, few (c .before .before .before), c .before .before .before .before .before .before .before .before .before .before .pre .0 .few)
 
-refused-requires-3 : tie.Need-refused-requires-3 Inv-loop μ-loop
-refused-requires-3 c κs = search needs
-
 returns-3 : tie.Need-returns-3 Inv-loop μ-loop
 unfolding checkOf
 returns-3 c =
@@ -213,37 +189,8 @@ returns-4 c =
 pub check-plan-spec : {M : Type 1} → statement M
 check-plan-spec =
     tie.close
-    (tie.spec
-    Inv-loop
-    μ-loop
-    refused-requires
-    returns
-    link-all-requires
-    no-parts-requires
-    no-joints-requires
-    loop-holds
-    mul-wide
-    shared-slice-read-wide
-    wide-requires
-    add-wide
-    mul-wide-2
-    shared-slice-read-wide-2
-    wide-requires-2
-    add-wide-2
-    mul-wide-3
-    shared-slice-read-wide-3
-    wide-requires-3
-    fault-at-requires
-    refused-requires-2
-    returns-2
-    ascend-requires
-    take-step-requires
-    add-steps
-    add-at
-    loop-less
-    loop-again
-    add-some-open
-    some-open-requires
-    refused-requires-3
-    returns-3
-    returns-4)
+    (tie.spec Inv-loop μ-loop (λ c κs. search needs) returns link-all-requires (λ c κs. search needs)
+    (λ c κs. search needs) loop-holds mul-wide shared-slice-read-wide (λ c κs. search needs) add-wide mul-wide-2
+    shared-slice-read-wide-2 (λ c κs. search needs) add-wide-2 mul-wide-3 shared-slice-read-wide-3
+    (λ c κs. search needs) fault-at-requires refused-requires-2 returns-2 (λ c κs. search needs) take-step-requires
+    add-steps add-at loop-less loop-again add-some-open some-open-requires (λ c κs. search needs) returns-3 returns-4)

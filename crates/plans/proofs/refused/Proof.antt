@@ -20,12 +20,6 @@ refusal : (rule : ℕ) → 0 < rule → (empty : Run) → empty ≡ runOf [] [] 
 refusal zero h empty e run = absurd (omega arith)
 refusal (suc rule) h empty e run = λ t. record { outcome = Refused (suc rule); run = e t }
 
-no-parts-requires : tie.Need-no-parts-requires
-no-parts-requires c κs = search needs
-
-no-joints-requires : tie.Need-no-joints-requires
-no-joints-requires c κs = search needs
-
 returns : tie.Need-returns
 unfolding runOf flat joints
 returns c =
@@ -33,4 +27,4 @@ returns c =
     (λ t. record { steps = 0; parts = c .before .no-parts .ensures t; joints = c .no-joints .ensures t; slots = replicate 192 0 })
 
 pub refused-spec : {M : Type 1} → statement M
-refused-spec = tie.close (tie.spec no-parts-requires no-joints-requires returns)
+refused-spec = tie.close (tie.spec (λ c κs. search needs) (λ c κs. search needs) returns)

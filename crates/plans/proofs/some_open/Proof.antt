@@ -7,18 +7,6 @@ use borrow.Author.Needs.{needs}
 use Rattle.plans.proofs.some_open.Statement.{statement}
 use Rattle.plans.proofs.some_open.Tie as tie
 
-sums-of-requires : tie.Need-sums-of-requires
-sums-of-requires c κs = search needs
-
-first-open-requires : tie.Need-first-open-requires
-first-open-requires c κs = search needs
-
-enum-told : tie.Need-enum-told
-enum-told c = search needs
-
-enum-told-2 : tie.Need-enum-told-2
-enum-told-2 c = search needs
-
 returns : tie.Need-returns
 returns c =
     λ ready. ap (λ (f : Found). isSome (told f)) (sym (c .enum-told .given .1)) ∙ ap isSome (c .before .before .first-open .ensures .1 ready)
@@ -28,4 +16,6 @@ returns-2 c =
     λ ready. ap (λ (f : Found). isSome (told f)) (sym (c .enum-told2 .given .1)) ∙ ap isSome (c .before .before .first-open .ensures .1 ready)
 
 pub some-open-spec : {M : Type 1} → statement M
-some-open-spec = tie.close (tie.spec sums-of-requires first-open-requires enum-told enum-told-2 returns returns-2)
+some-open-spec =
+    tie.close
+    (tie.spec (λ c κs. search needs) (λ c κs. search needs) (λ c. search needs) (λ c. search needs) returns returns-2)
