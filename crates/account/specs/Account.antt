@@ -63,11 +63,3 @@ savedAnswer f l space = answerBy f l space (savedFault f l)
 
 unfoldable pub savedAfter : Facts → List ℕ → List ℕ → List ℕ
 savedAfter f l space = afterBy f l space (savedFault f l)
-
--- ---- in arrays
-
--- the run holds a list of merges of the constraints cs
-pub record Merged (cs : List ℕ) (run : Run) : Type 0 where
-  pub p : List Merge
-  pub valid : Valid cs p
-  pub is : run ≡ runOf cs p

@@ -14,7 +14,7 @@ use Rattle.sheet.specs.Facts.{Facts, linesOf}
 use Rattle.sheet.specs.Graph.{clustersOf, sizesOf, verdictOf}
 use Rattle.answer.specs.declared.Step.{Step}
 use Rattle.answer.specs.Answer.{stepsOf}
-use Rattle.merges.specs.Held.{flat}
+use Rattle.merges.specs.Run.{flat}
 use Rattle.engine.specs.Lists.{livingOf}
 use Rattle.judge.specs.Judged.{planNumbers, finalClusters}
 use Rattle.plans.specs.Check.{savedSteps}

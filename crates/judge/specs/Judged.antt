@@ -11,8 +11,7 @@ use Rattle.sheet.specs.Facts.{Facts, linesOf}
 use Rattle.sheet.specs.Graph.{clustersOf}
 use Rattle.answer.specs.declared.Verdict.the-variants.{Over}
 use Rattle.answer.specs.Answer.{asVerdict}
-use Rattle.merges.specs.Run.{runOf}
-use Rattle.merges.specs.Held.{flat}
+use Rattle.merges.specs.Run.{flat, runOf}
 use Rattle.engine.specs.Lists.{livingOf}
 use Rattle.judge.specs.declared.Judged.{Judged}
 pub mod Laws

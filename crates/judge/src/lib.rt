@@ -1,10 +1,9 @@
 // The judgement of a sheet that no rule refuses. Contracts cite theory's definitions on the sheet's constraint graph.
 ghost use mathlib.Core.Path.{_≡_};
-ghost use mathlib.Core.List.{[]};
 ghost use Prim.Native.Nat.{_+_, _*_, _≤_, _<_};
 ghost use lib.Count.{ones};
 ghost use lib.ListN.{length};
-ghost use Rattle.merges.specs.Run.{runOf, Ran};
+ghost use Rattle.merges.specs.Run.{Planned};
 ghost use Rattle.theory.specs.Constraints.{NotOver};
 ghost use Rattle.theory.specs.Over.{overOf};
 ghost use Rattle.sheet.specs.Facts.{factsOf, linesOf};
@@ -74,22 +73,11 @@ pub struct Judged {
     pub run: Run,
 }
 
-fn no_run() -> Run
-    ensures { λ r. ⌜ r ≡ runOf [] [] ⌝ }
-{
-    Run {
-        steps: 0,
-        parts: [0u16; 192],
-        joints: [0u64; 64],
-        slots: [0u64; 192],
-    }
-}
-
 // An over sheet: the first constraint and the smallest set, and no merge.
 pub fn over_found(first: usize, set: u64) -> Judged
     ensures { λ r. ⌜ r ≡ overFound first set ⌝ }
 {
-    let run = no_run();
+    let run = merges::no_run();
     Judged {
         verdict: Verdict::Over,
         first,
@@ -101,17 +89,17 @@ pub fn over_found(first: usize, set: u64) -> Judged
 // The engine's merges of a sheet's constraints; of an over sheet a list of merges.
 fn run_of(s: Sheet) -> Run
     requires { ⌜ (sheetFault s ≡ 0) × (s .e ≤ 125) ⌝ }
-    ensures { λ r. ⌜ Ran (clustersOf (factsOf s)) r ⌝ }
+    ensures { λ r. ⌜ Planned (clustersOf (factsOf s)) r ⌝ }
 {
     let cs = s.constraints;
     let e = s.e;
     let start = graph::slots_of(cs, e);
-    merges::merge_all(start, e)
+    merges::merge_all(&start, e)
 }
 
 // The judgement of the engine's merges, where the sheet is not over.
 fn listed_by(s: Sheet, run: Run) -> Judged
-    requires { ⌜ (sheetFault s ≡ 0) × (s .e ≤ 125) × Ran (clustersOf (factsOf s)) run ⌝ }
+    requires { ⌜ (sheetFault s ≡ 0) × (s .e ≤ 125) × Planned (clustersOf (factsOf s)) run ⌝ }
     ensures { λ r. ⌜ (NotOver (clustersOf (factsOf s)) → r ≡ plannedOf (factsOf s)) ⌝ }
 {
     let elements = s.elements;

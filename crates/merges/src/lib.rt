@@ -10,7 +10,7 @@ ghost use Rattle.theory.specs.Merge.{Merge, merge as numbers, final};
 ghost use Rattle.theory.specs.Plan.{openTest, firstOf, isSome};
 ghost use Rattle.merges.specs.Run.{runOf, Start, Planned};
 ghost use Rattle.merges.specs.Going.{Slots, Made};
-ghost use Rattle.merges.specs.Search.{nextOf, Tested};
+ghost use Rattle.merges.specs.Search.{hitOf, Tested};
 ghost use Rattle.merges.specs.Search.Links.{Outs, Lowest, Reaching, Meeting, Searchable, Links, Linking};
 ghost use Rattle.merges.specs.Search.Sums.{Sum, Sums, Resums};
 
@@ -250,7 +250,7 @@ fn lowest_meeting(
 }
 
 // What the search finds: the numbers of an open merge, ascending.
-enum Next {
+enum Hit {
     At(usize, usize, usize),
     Nothing,
 }
@@ -263,30 +263,30 @@ fn first_open(
     used: usize,
     from: usize,
     last: u64,
-) -> Next
+) -> Hit
     requires { ⌜ (from ≤ used) × (used ≤ 192) × Sums (now slots) (now sums) ⌝ }
     ensures tested { λ r. ⌜ Tested (now (slots .entry)) used r ⌝ }
-    ensures first { λ r. ⌜ (Searchable (now (slots .entry)) (now (links .entry)) used from last → nextOf r ≡ firstOf 0 (now (slots .entry))) ⌝ }
+    ensures first { λ r. ⌜ (Searchable (now (slots .entry)) (now (links .entry)) used from last → hitOf r ≡ firstOf 0 (now (slots .entry))) ⌝ }
 {
     let i = lowest_reaching(slots, sums, links, used, from, last);
     if used <= i {
-        return Next::Nothing;
+        return Hit::Nothing;
     }
     let x = slots[i];
     let o = outs(links, x);
     let j = lowest_meeting(slots, sums, used, i + 1, x, o);
     if used <= j {
-        return Next::Nothing;
+        return Hit::Nothing;
     }
     let y = slots[j];
     let k = lowest_meeting(slots, sums, used, j + 1, x ^ (x & y), y ^ (y & x));
     if used <= k {
-        return Next::Nothing;
+        return Hit::Nothing;
     }
     if open3(x, y, slots[k]) {
-        Next::At(i, j, k)
+        Hit::At(i, j, k)
     } else {
-        Next::Nothing
+        Hit::Nothing
     }
 }
 
@@ -327,8 +327,8 @@ pub fn some_open(slots: &[u64; PLACES], used: usize) -> bool
     let sums = sums_of(slots);
     let links = link_all(slots, used);
     match first_open(slots, &sums, &links, used, 0, 0) {
-        Next::At(_, _, _) => true,
-        Next::Nothing => false,
+        Hit::At(_, _, _) => true,
+        Hit::Nothing => false,
     }
 }
 
@@ -347,8 +347,8 @@ pub fn merge_all(start: &[u64; 200], e: usize) -> Run
     let mut last: u64 = 0;
     loop {
         let used = e + steps;
-        let next = first_open(&slots, &sums, &links, used, from, last);
-        let Next::At(i, j, k) = next else {
+        let hit = first_open(&slots, &sums, &links, used, from, last);
+        let Hit::At(i, j, k) = hit else {
             return Run {
                 steps,
                 parts,

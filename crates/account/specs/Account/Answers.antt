@@ -20,7 +20,7 @@ use Rattle.sheet.specs.Graph.{clustersOf}
 use Rattle.space.specs.declared.Written.the-variants.{Refused}
 use Rattle.space.specs.Space.{answer, after}
 use Rattle.answer.specs.Answer.{asVerdict, verdictNumber}
-use Rattle.merges.specs.Run.{runOf}
+use Rattle.merges.specs.Run.{runOf, Merged}
 use Rattle.merges.specs.declared.Run.{Run}
 use Rattle.judge.specs.declared.Judged.{Judged}
 use Rattle.judge.specs.Judged.{listed, overFound, judgedBy, judgedOf}
@@ -30,7 +30,7 @@ use Rattle.plans.specs.declared.Checked.{Checked}
 use Rattle.plans.specs.Check.{savedSteps, planFault, answerOf, checkOf}
 use Rattle.plans.specs.Check.Laws.{accepted-maximal}
 use Rattle.report.specs.Report.{overReport}
-use Rattle.account.specs.Account.{Merged, listReport, reportBy, reportOf, faultBy, savedFault, answerBy, afterBy, savedAnswer, savedAfter}
+use Rattle.account.specs.Account.{listReport, reportBy, reportOf, faultBy, savedFault, answerBy, afterBy, savedAnswer, savedAfter}
 
 -- the verdict of a list of merges is never over
 pub later-name : (lines n e : ℕ) (js : List ℕ) (l : ℕ) → verdictNumber (asVerdict (judged lines n e js l)) ≢ 0

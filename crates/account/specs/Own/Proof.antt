@@ -24,7 +24,7 @@ use Rattle.sheet.specs.Graph.Laws.{accepted-most, sheet-demand3}
 use Rattle.sheet.specs.RoundTrip.Blocks.{constraints-most}
 use Rattle.answer.specs.declared.Step.{Step}
 use Rattle.answer.specs.Answer.{asVerdict, verdictNumber, stepOf, stepsOf}
-use Rattle.merges.specs.Held.{flat}
+use Rattle.merges.specs.Run.{flat}
 use Rattle.engine.specs.Lists.{livingOf}
 use Rattle.judge.specs.Listing.Laws.{clusters-pairs, clusters-below}
 use Rattle.judge.specs.Judged.{planBy, planOfFacts, planNumbers, finalsBy, finalClusters}

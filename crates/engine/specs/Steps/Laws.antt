@@ -10,6 +10,8 @@ use lib.IntN.{ℤ, pos}
 use lib.ListN.{length, getD, take, length-take}
 use lib.Seq.{ext-getD, getD-take}
 use borrow.Author.Tests.{ltb-true}
+use Rattle.theory.specs.Block.{block}
+use Rattle.theory.specs.Block.Laws.{getD-block}
 use Rattle.theory.specs.Merge.{slot, Merge, merge, three, joint, OpenAt, put, Valid, final, joints}
 use Rattle.theory.specs.Merge.Numbered.{Place, new, old, place, length-put}
 use Rattle.theory.specs.Plan.{ascending}
@@ -18,10 +20,8 @@ use Rattle.theory.specs.Placement as placement
 use Rattle.theory.specs.Placement.{placed, jointKind, ways}
 use Rattle.answer.specs.Answer.{asKind, asWays, stepOf, stepsOf}
 use Rattle.answer.specs.declared.Step.{Step}
-use Rattle.merges.specs.Held.{padded, flat}
-use Rattle.merges.specs.Run.{runOf}
+use Rattle.merges.specs.Run.{flat, runOf}
 use Rattle.merges.specs.declared.Run.{Run}
-use Rattle.merges.proofs.Padded.{slot-padded}
 use Rattle.engine.specs.Steps.{waysBy, stepFrom, blankStep, Stepped}
 
 -- ---- placements go by initial clusters only
@@ -117,26 +117,26 @@ length-steps lines e sizes (m ∷ p) s = ap suc (length-steps lines e sizes p (p
 
 -- reading the arrays is reading the lists
 read-lists : (lines e : ℕ) (sizes : List ℤ) (cs parts knots : List ℕ) (t : ℕ)
-    → stepFrom lines e sizes (padded 192 cs) e (padded 192 parts) (padded 64 knots) t ≡ stepFrom lines e sizes cs e parts knots t
+    → stepFrom lines e sizes (block 200 0 cs) e (block 192 0 parts) (block 64 0 knots) t ≡ stepFrom lines e sizes cs e parts knots t
 unfolding stepFrom waysBy
 read-lists lines e sizes cs parts knots t =
-    let i = slot-padded 192 parts (3 * t) in
-    let j = slot-padded 192 parts (3 * t + 1) in
-    let k = slot-padded 192 parts (3 * t + 2) in
-    let x = slot-padded 64 knots t in
+    let i = getD-block 192 0 parts (3 * t) in
+    let j = getD-block 192 0 parts (3 * t + 1) in
+    let k = getD-block 192 0 parts (3 * t + 2) in
+    let x = getD-block 64 0 knots t in
     let m = merge (slot parts (3 * t)) (slot parts (3 * t + 1)) (slot parts (3 * t + 2)) in
-    let w : waysBy lines (jointKind lines (slot (padded 64 knots) t)) e sizes (padded 192 cs) (merge (slot (padded 192 parts) (3 * t)) (slot (padded 192 parts) (3 * t + 1)) (slot (padded 192 parts) (3 * t + 2)))
+    let w : waysBy lines (jointKind lines (slot (block 64 0 knots) t)) e sizes (block 200 0 cs) (merge (slot (block 192 0 parts) (3 * t)) (slot (block 192 0 parts) (3 * t + 1)) (slot (block 192 0 parts) (3 * t + 2)))
     ≡ waysBy lines (jointKind lines (slot knots t)) e sizes cs m =
-    (λ z. waysBy lines (jointKind lines (x z)) e sizes (padded 192 cs) (merge (i z) (j z) (k z)))
+    (λ z. waysBy lines (jointKind lines (x z)) e sizes (block 200 0 cs) (merge (i z) (j z) (k z)))
     ∙ (λ z. elim (ltb (m .i) e && (ltb (m .j) e && ltb (m .k) e)) [
-      | true ↦ placed lines (jointKind lines (slot knots t)) (slot-padded 192 cs (m .i) z) (slot-padded 192 cs (m .j) z) (getD sizes (m .i) (pos 0)) (getD sizes (m .j) (pos 0)) (getD sizes (m .k) (pos 0))
+      | true ↦ placed lines (jointKind lines (slot knots t)) (getD-block 200 0 cs (m .i) z) (getD-block 200 0 cs (m .j) z) (getD sizes (m .i) (pos 0)) (getD sizes (m .j) (pos 0)) (getD sizes (m .k) (pos 0))
       | false ↦ placement.unknown
     ]) in
     λ z. record { made = e + t; i = i z; j = j z; k = k z; joint = x z; kind = asKind (jointKind lines (x z)); ways = asWays (w z) }
 
 -- the steps that the arrays of a run give are those of its list of merges
 pub stepped-are : (lines e : ℕ) (sizes : List ℤ) (cs : List ℕ) (p : List Merge) (run : Run) (start : List ℕ) (steps : List Step)
-    → Valid cs p → run ≡ runOf cs p → length cs ≡ e → start ≡ padded 192 cs → length p ≤ 62 → Stepped lines e sizes start run steps
+    → Valid cs p → run ≡ runOf cs p → length cs ≡ e → start ≡ block 200 0 cs → length p ≤ 62 → Stepped lines e sizes start run steps
     → take (run .steps) steps ≡ stepsOf lines e sizes cs p
 unfolding runOf
 stepped-are lines e sizes cs p run start steps v h c b f w =

@@ -5,6 +5,7 @@ use mathlib.Core.Path.{_≡_, refl, sym, ap, ap₂, _∙_, subst}
 use mathlib.Core.List.{List, [], _∷_, map}
 use lib.ListN.{length, take, getD, length-map, replicate, length-append, length-replicate}
 use lib.Seq.{take-append-seam, getD-take, length-take-le, take-at}
+use Rattle.theory.specs.Block.Laws.{take-block}
 use Rattle.theory.specs.Constraints.{NotOver, Pairs, Below, clusters}
 use Rattle.theory.specs.Over.{Finding, fine, first, overOf}
 use Rattle.theory.specs.Over.Laws.{fine-most}
@@ -12,34 +13,30 @@ use Rattle.theory.specs.Merge.{Merge, Valid, final, joints, left}
 use Rattle.theory.specs.Merge.Count.{steps-left}
 use Rattle.theory.specs.Verdict.{judged, listVerdict}
 use Rattle.sheet.specs.declared.Constraint.{Constraint}
-use Rattle.sheet.specs.Facts.{Facts, block, linesOf}
+use Rattle.theory.specs.Block.{block}
+use Rattle.sheet.specs.Facts.{Facts, linesOf}
 use Rattle.answer.specs.declared.Verdict.{Verdict}
 use Rattle.answer.specs.Answer.{asVerdict}
 use Rattle.sheet.specs.Rules.{constraintsFault}
 use Rattle.sheet.specs.Graph.{clustersOf}
 use Rattle.graph.specs.Arrays.{endPair, EndsBelow64}
-use Rattle.merges.specs.Held.{padded}
-use Rattle.merges.specs.Run.{Begun, runOf}
+use Rattle.merges.specs.Run.{runOf, Start}
+use Rattle.merges.specs.Run.Laws.{length-joints}
 use Rattle.merges.specs.declared.Run.{Run}
 use Rattle.judge.specs.declared.Judged.{Judged}
 use Rattle.judge.specs.Judged.{listed}
-use Rattle.merges.proofs.State.{length-joints}
 use Rattle.judge.specs.Listing.Laws.{each-ends, map-map, clusters-below, clusters-pairs}
-
--- the first places of a padded list
-pub take-padded : (k : ℕ) (l : List ℕ) (n : ℕ) → n ≡ length l → take n (padded k l) ≡ l
-take-padded k l n e = rw e (take-append-seam l _)
 
 pub length-clusters : (f : Facts) → length (clustersOf f) ≡ length (f .constraints)
 length-clusters f = simp length-map
 
 -- the count of clusters left in the verdict of a list
 pub list-verdict : (lines n : ℕ) (cs : List ℕ) (p : List Merge) → Pairs cs → Valid cs p
-    → judged lines n (length cs) (take (length p) (padded 64 (joints cs p))) (length cs - 2 * length p) ≡ listVerdict lines n cs p
+    → judged lines n (length cs) (take (length p) (block 64 0 (joints cs p))) (length cs - 2 * length p) ≡ listVerdict lines n cs p
 unfolding listVerdict
 list-verdict lines n cs p pairs v =
     let l : length cs - 2 * length p ≡ left (final cs p) = omega (arith, steps-left cs pairs p v) in
-    rw (take-padded 64 (joints cs p) (length p) (sym (length-joints p cs)), l)
+    rw (take-block 64 0 (joints cs p) (length p) (sym (length-joints p cs)), l)
 
 module _ (f : Facts) (elements : length (f .elements) ≤ 64) (constraints : length (f .constraints) ≤ 200)
     (none : constraintsFault (f .elements) [] (f .constraints) ≡ 0) where
@@ -50,17 +47,16 @@ module _ (f : Facts) (elements : length (f .elements) ≤ 64) (constraints : len
   }
 
   -- the array of initial clusters
-  module _ (slots : List ℕ) (e : ℕ) (count : e ≡ length (f .constraints)) (are : slots ≡ block 192 0 (map endPair (f .constraints))) where
+  module _ (slots : List ℕ) (e : ℕ) (count : e ≡ length (f .constraints)) (are : slots ≡ block 200 0 (map endPair (f .constraints))) where
     pub start-list : take e slots ≡ clustersOf f
     start-list =
-        ap (take e) are ∙ take-padded 192 (map endPair (f .constraints)) e (count ∙ sym (simp length-map)) ∙ map-map (f .constraints)
+        ap (take e) are ∙ take-block 200 0 (map endPair (f .constraints)) e (count ∙ sym (simp length-map)) ∙ map-map (f .constraints)
 
-    pub start-begun : length (f .constraints) ≤ 125 → Begun slots e
-    start-begun most = record {
+    pub starts : length (f .constraints) ≤ 125 → Start slots e
+    starts most = record {
       few = rw count most;
       count = rw (start-list, count) (simp length-map);
       pairs = rw start-list (clusters-pairs f elements constraints none);
-      are = are ∙ ap (padded 192) (map-map (f .constraints) ∙ sym start-list);
     }
 
 module _ (f : Facts) (elements : length (f .elements) ≤ 64) (two : 2 ≤ length (f .elements)) (constraints : length (f .constraints) ≤ 200)
@@ -73,12 +69,12 @@ module _ (f : Facts) (elements : length (f .elements) ≤ 64) (two : 2 ≤ lengt
   pub ends-below-64 : EndsBelow64 (f .constraints)
   ends-below-64 = ends-in-64 f elements constraints none
 
-  module _ (slots : List ℕ) (e : ℕ) (count : e ≡ length (f .constraints)) (are : slots ≡ block 192 0 (map endPair (f .constraints))) where
-    pub begun-list : take e slots ≡ clustersOf f
-    begun-list = start-list f elements constraints none slots e count are
+  module _ (slots : List ℕ) (e : ℕ) (count : e ≡ length (f .constraints)) (are : slots ≡ block 200 0 (map endPair (f .constraints))) where
+    pub fine-list : take e slots ≡ clustersOf f
+    fine-list = start-list f elements constraints none slots e count are
 
-    pub begun : Begun slots e
-    begun = start-begun f elements constraints none slots e count are few
+    pub fine-starts : Start slots e
+    fine-starts = starts f elements constraints none slots e count are few
 
 -- ---- the judgement of a list of merges in arrays
 

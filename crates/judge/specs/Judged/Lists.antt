@@ -4,8 +4,10 @@ use native.Mathlib.Omega.{arith}
 use mathlib.Core.Path.{_≡_, refl, sym, ap, _∙_, subst}
 use mathlib.Core.Bool.{true, false}
 use mathlib.Core.List.{List, [], _∷_, _++_, map}
-use lib.ListN.{length, take, replicate, length-map, length-append, length-replicate}
+use lib.ListN.{length, take, replicate}
 use lib.Seq.{take-all}
+use Rattle.theory.specs.Block.{block}
+use Rattle.theory.specs.Block.Laws.{length-block, take-block}
 use Rattle.theory.specs.Constraints.{Pairs, Below, NotOver}
 use Rattle.theory.specs.Over.{Finding, fine, first, IsOver, overOf}
 use Rattle.theory.specs.Verdict.Laws.{verdict-is-over, verdict-is-planned}
@@ -20,13 +22,12 @@ use Rattle.theory.specs.Verdict.{verdict, listVerdict}
 use Rattle.sheet.specs.Facts.{Facts, linesOf}
 use Rattle.sheet.specs.Graph.{clustersOf, verdictOf}
 use Rattle.answer.specs.Answer.{asVerdict}
-use Rattle.merges.specs.Held.{padded, flat}
-use Rattle.merges.specs.Run.{runOf}
-use Rattle.merges.proofs.State.{length-flat, length-final}
+use Rattle.merges.specs.Run.{flat, runOf}
+use Rattle.merges.specs.Run.Laws.{length-numbers, length-final}
 use Rattle.engine.specs.Lists.{livingOf}
 use Rattle.judge.specs.declared.Judged.{Judged}
 use Rattle.judge.specs.Judged.{listed, planned, overFound, judgedBy, judgedOf, planBy, planOfFacts, planNumbers, finalsBy, finalClusters}
-use Rattle.judge.specs.Judged.Laws.{take-padded, length-clusters}
+use Rattle.judge.specs.Judged.Laws.{length-clusters}
 
 -- zeros name no living cluster
 living-none : (k : ℕ) → livingOf (replicate k 0) ≡ []
@@ -49,9 +50,6 @@ module _ (f : Facts) (paired : Pairs (clustersOf f)) (below : Below (length (f .
     pub finals : livingOf (take 192 (j .run .slots)) ≡ finalClusters f
     pub verdict-is : j .verdict ≡ asVerdict (verdictOf f)
 
-  padded-long : (k : ℕ) (l : List ℕ) → length l ≤ k → length (padded k l) ≡ k
-  padded-long k l h = rw (length-append, length-replicate) (omega arith)
-
   plan-held : overOf (length (f .elements)) (clustersOf f) ≡ fine → Held (planned f)
   unfolding listed runOf planNumbers planOfFacts finalClusters verdictOf verdict
   plan-held q =
@@ -62,14 +60,14 @@ module _ (f : Facts) (paired : Pairs (clustersOf f)) (below : Below (length (f .
       let s = steps-left cs paired p v in
       let e = few none in
       let c = length-clusters f in
-      let l : length (flat (map ascending p)) ≡ 3 * length p = length-flat (map ascending p) ∙ ap (λ (k : ℕ). 3 * k) (simp length-map) in
+      let l : length (flat (map ascending p)) ≡ 3 * length p = length-numbers p in
       let m : length (final cs p) ≡ length cs + length p = length-final p cs in
       record {
         steps-most = omega arith;
-        parts-long = padded-long 192 (flat (map ascending p)) (omega arith);
-        slots-long = padded-long 192 (final cs p) (omega arith);
-        numbers = take-padded 192 (flat (map ascending p)) (3 * length p) (sym l) ∙ sym (ap (λ (o : Finding). flat (map ascending (planBy f o))) q);
-        finals = ap livingOf (take-all 192 (padded 192 (final cs p)) (omega (arith, padded-long 192 (final cs p) (omega arith)))) ∙ living-append (final cs p) (192 - length (final cs p)) ∙ sym (ap (finalsBy f) q);
+        parts-long = length-block 192 0 (flat (map ascending p)) (omega arith);
+        slots-long = length-block 192 0 (final cs p) (omega arith);
+        numbers = take-block 192 0 (flat (map ascending p)) (3 * length p) (sym l) ∙ sym (ap (λ (o : Finding). flat (map ascending (planBy f o))) q);
+        finals = ap livingOf (take-all 192 (block 192 0 (final cs p)) (omega (arith, length-block 192 0 (final cs p) (omega arith)))) ∙ living-append (final cs p) (192 - length (final cs p)) ∙ sym (ap (finalsBy f) q);
         verdict-is = ap asVerdict (sym (verdict-is-planned (linesOf (f .elements)) (length (f .elements)) cs (fine-isOver (length (f .elements)) cs none)));
       }
 

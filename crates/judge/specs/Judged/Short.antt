@@ -23,7 +23,7 @@ use Rattle.sheet.specs.Graph.{clustersOf, verdictOf}
 use Rattle.peeling.specs.Core.{Core, Loose, Told}
 use Rattle.peeling.specs.Core.Peeling.{core-none}
 use Rattle.peeling.specs.Core.Merging.{loose-one}
-use Rattle.merges.specs.Run.{Ran, runOf}
+use Rattle.merges.specs.Run.{runOf, Merged}
 use Rattle.merges.specs.declared.Run.{Run}
 use Rattle.judge.specs.Listing.{columnsOf}
 use Rattle.judge.specs.Listing.Laws.{masks-are, listed}
@@ -54,17 +54,17 @@ whole s g none =
     }
 
 module _ (s : Sheet) (w : Whole s) where
-  pub steps-room : (run : Run) → Ran (clustersOf (factsOf s)) run → 2 * run .steps ≤ s .e
+  pub steps-room : (run : Run) → Merged (clustersOf (factsOf s)) run → 2 * run .steps ≤ s .e
   unfolding runOf
-  steps-room run ran =
-      omega (arith, steps-left (clustersOf (factsOf s)) (w .in-blocks .paired) (ran .p) (ran .valid), w .count, ap (λ (r : Run). r .steps) (ran .is))
+  steps-room run merged =
+      omega (arith, steps-left (clustersOf (factsOf s)) (w .in-blocks .paired) (merged .p) (merged .valid), w .count, ap (λ (r : Run). r .steps) (merged .is))
 
   -- merges that leave one cluster show that the sheet is not over
-  pub one-left : (run : Run) → Ran (clustersOf (factsOf s)) run → 2 * run .steps + 1 ≡ s .e → NotOver (clustersOf (factsOf s))
+  pub one-left : (run : Run) → Merged (clustersOf (factsOf s)) run → 2 * run .steps + 1 ≡ s .e → NotOver (clustersOf (factsOf s))
   unfolding runOf
-  one-left run ran one =
-      one-fine (clustersOf (factsOf s)) (w .in-blocks .paired) (ran .p) (ran .valid)
-      (omega (arith, steps-left (clustersOf (factsOf s)) (w .in-blocks .paired) (ran .p) (ran .valid), w .count, one, ap (λ (r : Run). r .steps) (ran .is)))
+  one-left run merged one =
+      one-fine (clustersOf (factsOf s)) (w .in-blocks .paired) (merged .p) (merged .valid)
+      (omega (arith, steps-left (clustersOf (factsOf s)) (w .in-blocks .paired) (merged .p) (merged .valid), w .count, one, ap (λ (r : Run). r .steps) (merged .is)))
 
   pub fine-judged : NotOver (clustersOf (factsOf s)) → judgedOf (factsOf s) ≡ planned (factsOf s)
   unfolding judgedOf

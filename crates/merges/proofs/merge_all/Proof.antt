@@ -7,10 +7,10 @@ use borrow.Author.Needs.{needs}
 use lib.ListN.{take}
 use Rattle.theory.specs.Block.Laws.{take-block}
 use Rattle.merges.specs.Going.Laws.{steps-are, steps-few}
-use Rattle.merges.specs.Search.{nextOf, Tested}
+use Rattle.merges.specs.Search.{hitOf, Tested}
 use Rattle.merges.specs.Search.Links.{Links}
 use Rattle.merges.specs.Search.Sums.{Sums}
-use Rattle.merges.specs.declared.Next.the-variants.{At}
+use Rattle.merges.specs.declared.Hit.the-variants.{At}
 use Rattle.merges.proofs.Blocks.{made-other}
 use Rattle.merges.proofs.Running.{Running, running-start, running-fewer, running-next, running-end}
 use Rattle.merges.proofs.merge_all.Statement.{statement}
@@ -31,14 +31,14 @@ few c =
     omega (arith, steps-are g, steps-few (g .clusters), c .before .before .before .before .before .before .pre .few)
 
 -- what is found is open
-tested : (c : tie.After-next Inv-loop μ-loop)
+tested : (c : tie.After-hit Inv-loop μ-loop)
     → let d = c .before .before .before .before .before .before in
-    let m = c .next .given .0 in
+    let m = c .hit .given .0 in
     Tested (d .loop .slots) (d .before .before .before .before .before .before .args .e + d .loop .steps) (At (m .0) (m .1 .0) (m .1 .1 .0))
-tested c = subst (Tested _ _) (c .next .given .1) (c .before .before .first-open .ensures .0)
+tested c = subst (Tested _ _) (c .hit .given .1) (c .before .before .first-open .ensures .0)
 
 -- and leaves room for a step more
-room : (c : tie.After-next Inv-loop μ-loop) → c .before .before .before .before .before .before .loop .steps < 62
+room : (c : tie.After-hit Inv-loop μ-loop) → c .before .before .before .before .before .before .loop .steps < 62
 room c =
     let o = tested c in
     running-fewer (c .before .before .before .before .before .before .loop .inv .0) _ _ _ (o .0) (o .1) (o .3)
@@ -63,7 +63,7 @@ first-open-requires c κs = let d = c .before .before .before in (d .loop .inv .
 returns : tie.Need-returns Inv-loop μ-loop
 returns c =
     running-end (c .before .before .before .before .before .before .loop .inv .0)
-    (λ ready. ap nextOf (sym (c .enum-told .given .1)) ∙ c .before .before .first-open .ensures .1 ready)
+    (λ ready. ap hitOf (sym (c .enum-told .given .1)) ∙ c .before .before .first-open .ensures .1 ready)
 
 step-requires : tie.Need-step-requires Inv-loop μ-loop
 step-requires c κs =
@@ -91,7 +91,7 @@ loop-again c =
     let l = d .before .before .before .before .before .before .loop in
     let o = tested d in
     let g = c .before .before .before .before .before .step .ensures in (
-      running-next (l .inv .0) _ _ _ (o .0) (o .1) (o .3) (λ ready. ap nextOf (sym (d .next .given .1)) ∙ d .before .before .first-open .ensures .1 ready) g
+      running-next (l .inv .0) _ _ _ (o .0) (o .1) (o .3) (λ ready. ap hitOf (sym (d .hit .given .1)) ∙ d .before .before .first-open .ensures .1 ready) g
           (c .before .before .before .link .ensures),
       c .resum .ensures .again (l .inv .1) (made-other g),
       omega (arith, o .0, o .1, o .2),

@@ -10,18 +10,18 @@ use Rattle.theory.specs.Merge.{Merge, final}
 use Rattle.theory.specs.Plan.{firstOf, isSome}
 use Rattle.merges.specs.Going.{Slots}
 use Rattle.merges.specs.Going.Laws.{slots-same, used-is}
-use Rattle.merges.specs.Search.{nextOf}
+use Rattle.merges.specs.Search.{hitOf}
 use Rattle.merges.specs.Search.Links.{Links, Searchable}
-use Rattle.merges.specs.declared.Next.{Next}
+use Rattle.merges.specs.declared.Hit.{Hit}
 use Rattle.merges.proofs.Searching.{first-of-same, since-none, searchable}
 use Rattle.merges.proofs.some_open.Statement.{statement}
 use Rattle.merges.proofs.some_open.Tie as tie
 
 -- what the search finds in the arrays is what is open in the list
-answers : {slots links : List ℕ} {used : ℕ} (next : Next) → Links (take used slots) links
-    → (Searchable slots links used 0 0 → nextOf next ≡ firstOf 0 slots)
-    → (cs : List ℕ) (p : List Merge) → NotOver cs → Slots cs p slots used → isSome (nextOf next) ≡ isSome (firstOf 0 (final cs p))
-answers {slots} {links} {used} next ls first cs p fine w =
+answers : {slots links : List ℕ} {used : ℕ} (hit : Hit) → Links (take used slots) links
+    → (Searchable slots links used 0 0 → hitOf hit ≡ firstOf 0 slots)
+    → (cs : List ℕ) (p : List Merge) → NotOver cs → Slots cs p slots used → isSome (hitOf hit) ≡ isSome (firstOf 0 (final cs p))
+answers {slots} {links} {used} hit ls first cs p fine w =
     let all : take used slots ≡ final cs p = ap (take used) (w .are) ∙ take-block 192 0 (final cs p) used (used-is w) in
     let ready = searchable fine w (subst (λ (s : List ℕ). Links s links) all ls) since-none in
     ap isSome (first ready ∙ first-of-same slots (final cs p) (slots-same w))
@@ -29,13 +29,13 @@ answers {slots} {links} {used} next ls first cs p fine w =
 returns : tie.Need-returns
 returns c =
     let d = c .before .before in
-    λ cs p fine w. ap (λ (n : Next). isSome (nextOf n)) (sym (c .enum-told .given .1))
+    λ cs p fine w. ap (λ (n : Hit). isSome (hitOf n)) (sym (c .enum-told .given .1))
     ∙ answers (d .first-open .result) (d .before .before .before .link-all .ensures .0) (d .first-open .ensures .1) cs p fine w
 
 returns-2 : tie.Need-returns-2
 returns-2 c =
     let d = c .before .before in
-    λ cs p fine w. ap (λ (n : Next). isSome (nextOf n)) (sym (c .enum-told2 .given .1))
+    λ cs p fine w. ap (λ (n : Hit). isSome (hitOf n)) (sym (c .enum-told2 .given .1))
     ∙ answers (d .first-open .result) (d .before .before .before .link-all .ensures .0) (d .first-open .ensures .1) cs p fine w
 
 pub some-open-spec : {M : Type 1} → statement M
