@@ -54,11 +54,3 @@ savedAnswer g l space = answerBy g l space (savedFault g l)
 
 unfoldable pub savedAfter : Graph → List ℕ → List ℕ → List ℕ
 savedAfter g l space = afterBy g l space (savedFault g l)
-
--- ---- in arrays
-
--- the run holds a list of merges of the constraints cs
-pub record Merged (cs : List ℕ) (run : Run) : Type 0 where
-  pub p : List Merge
-  pub valid : Valid cs p
-  pub is : run ≡ runOf cs p

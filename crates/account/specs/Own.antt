@@ -12,7 +12,7 @@ use Rattle.theory.specs.Graph.{Graph, listVerdict, verdictOf, stepsOf}
 use Rattle.theory.specs.Demand.{Agree}
 use Rattle.theory.specs.declared.Verdict.the-variants.{Over}
 use Rattle.theory.specs.declared.Step.{Step}
-use Rattle.merges.specs.Held.{flat}
+use Rattle.merges.specs.Run.{flat}
 use Rattle.engine.specs.Lists.{livingOf}
 use Rattle.judge.specs.Judged.{planNumbers, finalClusters}
 use Rattle.plans.specs.Check.{savedSteps}

@@ -8,9 +8,9 @@ ghost use Rattle.theory.specs.Graph.{findingOf};
 ghost use Rattle.sheet.specs.Facts.{factsOf};
 ghost use Rattle.sheet.specs.Rules.{sheetFault};
 ghost use Rattle.sheet.specs.Graph.{graphOf};
-ghost use Rattle.merges.specs.Run.{runOf};
+ghost use Rattle.merges.specs.Run.{runOf, Merged};
 ghost use Rattle.space.specs.Space.{answer, after};
-ghost use Rattle.account.specs.Account.{Merged, listReport, reportOf, savedAnswer, savedAfter};
+ghost use Rattle.account.specs.Account.{listReport, reportOf, savedAnswer, savedAfter};
 use merges::Run;
 use plans::Outcome;
 use sheet::Sheet;
@@ -61,7 +61,7 @@ fn check_listed(s: Sheet, plan: &[u16], out: &mut [u8]) -> Written
     let e = s.e;
     let cs = s.constraints;
     let start = graph::slots_of(cs, e);
-    let checked = plans::check_plan(start, e, plan);
+    let checked = plans::check_plan(&start, e, plan);
     let outcome = checked.outcome;
     let run = checked.run;
     match outcome {

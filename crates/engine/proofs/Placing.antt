@@ -9,12 +9,12 @@ use lib.ListN.{getD}
 use borrow.Author.Tests.{eq-eqb, ne-eqb, lt-ltb, le-ltb}
 use lib.IntN.{ℤ, pos, natAbs, _-ℤ_}
 use Rattle.theory.specs.Set.{_∩_}
+use Rattle.theory.specs.Tests.{yes-branch, no-branch}
 use Rattle.theory.specs.Merge.{slot, merge}
 use Rattle.theory.specs.Placement.{against, triangle, strip, stripOf, placed}
 use Rattle.theory.specs.declared.JointKind.{JointKind}
 use Rattle.theory.specs.declared.JointKind.the-variants.{Ppp, Ppl, Pll, Lll}
 use Rattle.theory.specs.declared.Ways.the-variants.{Known, Unknown}
-use Rattle.merges.proofs.Branch.{yes-branch, no-branch}
 use Rattle.engine.specs.Steps.{waysBy}
 
 -- the constraint of the two points is the first, the second or the third

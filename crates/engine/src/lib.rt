@@ -140,7 +140,7 @@ fn ways_of(
     lines: u64,
     kind: JointKind,
     e: usize,
-    start: &[u64; 192],
+    start: &[u64; 200],
     sizes: &[i32; 200],
     i: usize,
     j: usize,
@@ -180,7 +180,7 @@ fn wide(x: u16) -> usize
 fn step_at(
     parts: &[u16; 192],
     joints: &[u64; 64],
-    start: &[u64; 192],
+    start: &[u64; 200],
     sizes: &[i32; 200],
     lines: u64,
     e: usize,
@@ -224,7 +224,7 @@ fn no_steps() -> [Step; 62]
 // The steps of a list of merges of the constraints whose sets are the first e of `start`, 0 for the size of one without. Blank beyond.
 pub fn steps_of(
     run: Run,
-    start: &[u64; 192],
+    start: &[u64; 200],
     sizes: &[i32; 200],
     lines: u64,
     e: usize,

@@ -6,7 +6,7 @@ ghost use Prim.Native.Nat.{_<_, _≤_};
 ghost use Rattle.theory.specs.Constraints.{pair};
 ghost use lib.IntN.{pos};
 ghost use lib.ListN.{take};
-ghost use Rattle.sheet.specs.Facts.{block};
+ghost use Rattle.theory.specs.Block.{block};
 ghost use Rattle.sheet.specs.Graph.{sizeOf};
 ghost use Rattle.graph.specs.Arrays.{constraintSize, endPair, EndsBelow64};
 use sheet::Constraint;
@@ -45,11 +45,11 @@ fn pair_of(a: u8, b: u8) -> u64
 }
 
 // The initial clusters: the sets of two ends of the first e constraints, 0 beyond them.
-pub fn slots_of(cs: [Constraint; 200], e: usize) -> [u64; 192]
-    requires { ⌜ (e ≤ 192) × EndsBelow64 (take e cs) ⌝ }
-    ensures { λ r. ⌜ r ≡ block 192 0 (map endPair (take e cs)) ⌝ }
+pub fn slots_of(cs: [Constraint; 200], e: usize) -> [u64; 200]
+    requires { ⌜ (e ≤ 200) × EndsBelow64 (take e cs) ⌝ }
+    ensures { λ r. ⌜ r ≡ block 200 0 (map endPair (take e cs)) ⌝ }
 {
-    let mut slots = [0u64; 192];
+    let mut slots = [0u64; 200];
     let mut i: usize = 0;
     while i < e {
         let c = cs[i];

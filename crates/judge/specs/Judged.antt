@@ -8,8 +8,7 @@ use Rattle.theory.specs.Graph.{Graph, findingOf, listVerdict}
 use Rattle.theory.specs.declared.Finding.{Finding}
 use Rattle.theory.specs.declared.Finding.the-variants.{Fine, First}
 use Rattle.theory.specs.declared.Verdict.the-variants.{Over}
-use Rattle.merges.specs.Run.{runOf}
-use Rattle.merges.specs.Held.{flat}
+use Rattle.merges.specs.Run.{flat, runOf}
 use Rattle.engine.specs.Lists.{livingOf}
 use Rattle.judge.specs.declared.Judged.{Judged}
 pub mod Laws

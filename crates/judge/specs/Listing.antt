@@ -3,7 +3,8 @@ use Prim.Native.Nat.{ℕ}
 use mathlib.Core.Bool.{Bool, true, false}
 use mathlib.Core.List.{List, map}
 use Rattle.sheet.specs.declared.Constraint.{Constraint}
-use Rattle.sheet.specs.Facts.{Facts, block}
+use Rattle.theory.specs.Block.{block}
+use Rattle.sheet.specs.Facts.{Facts}
 use Rattle.graph.specs.Arrays.{endAt}
 use Rattle.judge.specs.declared.Columns.{Columns}
 pub mod Laws

@@ -1,9 +1,8 @@
 // The judgement of a sheet that no rule refuses. Contracts cite theory's definitions on the sheet's constraint graph.
 ghost use mathlib.Core.Path.{_≡_};
-ghost use mathlib.Core.List.{[]};
 ghost use Prim.Native.Nat.{_+_, _*_, _≤_, _<_};
 ghost use lib.Count.{ones};
-ghost use Rattle.merges.specs.Run.{runOf, Ran};
+ghost use Rattle.merges.specs.Run.{Planned};
 ghost use Rattle.theory.specs.Constraints.{NotOver};
 ghost use Rattle.theory.specs.Graph.{findingOf, verdictOf};
 ghost use Rattle.sheet.specs.Facts.{factsOf};
@@ -71,22 +70,11 @@ pub struct Judged {
     pub run: Run,
 }
 
-fn no_run() -> Run
-    ensures { λ r. ⌜ r ≡ runOf [] [] ⌝ }
-{
-    Run {
-        steps: 0,
-        parts: [0u16; 192],
-        joints: [0u64; 64],
-        slots: [0u64; 192],
-    }
-}
-
 // An over sheet: the first constraint and the smallest set, and no merge.
 pub fn over_found(first: usize, set: u64) -> Judged
     ensures { λ r. ⌜ r ≡ overFound first set ⌝ }
 {
-    let run = no_run();
+    let run = merges::no_run();
     Judged {
         verdict: Verdict::Over,
         first,
@@ -98,17 +86,17 @@ pub fn over_found(first: usize, set: u64) -> Judged
 // The engine's merges of a sheet's constraints; of an over sheet a list of merges.
 fn run_of(s: Sheet) -> Run
     requires { ⌜ (sheetFault s ≡ 0) × (s .e ≤ 125) ⌝ }
-    ensures { λ r. ⌜ Ran (graphOf (factsOf s) .clusters) r ⌝ }
+    ensures { λ r. ⌜ Planned (graphOf (factsOf s) .clusters) r ⌝ }
 {
     let cs = s.constraints;
     let e = s.e;
     let start = graph::slots_of(cs, e);
-    merges::merge_all(start, e)
+    merges::merge_all(&start, e)
 }
 
 // The judgement of the engine's merges, where the sheet is not over.
 fn listed_by(s: Sheet, run: Run) -> Judged
-    requires { ⌜ (sheetFault s ≡ 0) × (s .e ≤ 125) × Ran (graphOf (factsOf s) .clusters) run ⌝ }
+    requires { ⌜ (sheetFault s ≡ 0) × (s .e ≤ 125) × Planned (graphOf (factsOf s) .clusters) run ⌝ }
     ensures { λ r. ⌜ (NotOver (graphOf (factsOf s) .clusters) → r ≡ plannedOf (graphOf (factsOf s))) ⌝ }
 {
     let elements = s.elements;

@@ -1,21 +1,21 @@
 -- The search finds the first open merge: the lowest cluster that reaches an element, the lowest after it that meets it and what it reaches, and
 -- the lowest after both that meets each outside the other. Assumes nothing.
-use mathlib.Core.Path.{_≡_, refl, sym, ap, _∙_, subst}
-use mathlib.Core.Logic.{_≢_, _⊎_, inl, inr, Ne·symm}
+use mathlib.Core.Path.{_≡_, sym, ap, subst}
+use mathlib.Core.Logic.{_≢_, _⊎_, inl, inr}
 use mathlib.Core.List.{List}
-use Prim.Native.Nat.{ℕ, zero, suc, _+_, _-_, _≤_, _<_}
+use Prim.Native.Nat.{ℕ, _+_, _-_, _≤_, _<_}
 use native.Mathlib.Omega.{arith}
 use native.Mathlib.Decide.{ℕ-discrete, decLe, decLt}
 use lib.Count.{ones}
 use Rattle.theory.specs.Set.{_∩_, at}
-use Rattle.theory.specs.Set.Laws.{at-le, both, in-both, size-zero}
+use Rattle.theory.specs.Set.Laws.{at-le, in-both, size-zero, filled, element, meets}
+use Rattle.theory.specs.Set.Lowest.{at-beyond}
 use Rattle.theory.specs.Merge.{slot, Merge, merge, Open, OpenAt, Ended}
 use Rattle.theory.specs.Merge.Threes.{big-a, big-b, big-c}
 use Rattle.theory.specs.Plan.{ascending, NotAfter, First}
 use Rattle.theory.specs.Plan.Order.{open-ab, open-bc, open-ascending, ascends}
-use Rattle.merges.specs.Links.{Reached, beyond, Outs, Lowest, Reaching, Meeting, Ready}
-use Rattle.merges.proofs.Digits.{at-beyond}
-use Rattle.merges.proofs.Triangle.{filled, element, triangle, corners, open-reached, closed, reached-open}
+use Rattle.merges.specs.Search.Links.{Reaches, beyond, Outs, Lowest, Reaching, Meeting, Searchable}
+use Rattle.merges.proofs.Triangle.{triangle, corners, open-reached, closed, reached-open}
 
 -- three numbers that ascend, and whose clusters are open, make an open merge
 pub open-at : (s : List ℕ) (i j k : ℕ) → i < j → j < k → Open (slot s i) (slot s j) (slot s k) → OpenAt s (merge i j k)
@@ -34,16 +34,12 @@ open-at s i j k l m o =
     }
 
 -- nothing before the lowest
-least : (P : ℕ → Type 0) (lo hi r c : ℕ) → Lowest P lo hi r → lo ≤ c → P c → r ≤ c
-least P lo hi r c l h p = go (decLe r c)
+least : {P : ℕ → Type 0} {lo hi r : ℕ} (c : ℕ) → Lowest P lo hi r → lo ≤ c → P c → r ≤ c
+least {r = r} c l h p = by (decLe r c)
   where
-    go : Dec (r ≤ c) → r ≤ c
-    go (yes e) = e
-    go (no n) = absurd (l .none c h (omega arith) p)
-
--- two sets that share an element meet
-meets : (a b p : ℕ) → at p a ≡ 1 → at p b ≡ 1 → a ∩ b ≢ 0
-meets a b p i j = filled (a ∩ b) p (both p a b i j)
+    by : Dec (r ≤ c) → r ≤ c
+    by (yes e) = e
+    by (no n) = absurd (l .none c h (omega arith) p)
 
 -- an element of a beyond b
 beyond-in : (a b p : ℕ) → at p a ≡ 1 → at p b ≡ 0 → at p (beyond a b) ≡ 1
@@ -52,54 +48,54 @@ beyond-in a b p i o = omega (arith, at-beyond p a b)
 beyond-of : (a b p : ℕ) → at p (beyond a b) ≡ 1 → (at p a ≡ 1) × (at p b ≡ 0)
 beyond-of a b p e = let h = at-beyond p a b in (omega (arith, at-le p a), omega (arith, at-le p a))
 
-module _ (s links : List ℕ) (used from last : ℕ) (ready : Ready s links used from last) where
+module _ {s links : List ℕ} {used from last : ℕ} (ready : Searchable s links used from last) where
   -- a living cluster stands below `used`
   within : (c p : ℕ) → at p (slot s c) ≡ 1 → c < used
-  within c p e = go (decLt c used)
+  within c p e = by (decLt c used)
     where
-      go : Dec (c < used) → c < used
-      go (yes h) = h
-      go (no n) = absurd (filled (slot s c) p e (ready .beyond c (omega arith)))
+      by : Dec (c < used) → c < used
+      by (yes h) = h
+      by (no n) = absurd (filled (slot s c) p e (ready .beyond c (omega arith)))
 
-  module _ (i : ℕ) (li : Lowest (Reaching s links from last) 0 used i) where
+  module _ {i : ℕ} (li : Lowest (Reaching s links from last) 0 used i) where
     -- a cluster that reaches an element stands at i or after it
-    low : (c r : ℕ) → Reached links (slot s c) r → i ≤ c
+    low : (c r : ℕ) → Reaches links (slot s c) r → i ≤ c
     low c r h =
-        let o = reached-open s links (ready .linking) (ready .apart) c r h in
-        least (Reaching s links from last) 0 used i c li (omega arith) (ready .since c (o .0) (o .1) (o .2), (r, h))
+        let o = reached-open (ready .linking) (ready .apart) c r h in
+        least c li (omega arith) (ready .since .meets c (o .0) (o .1) (o .2), (r, h))
 
     -- none is open if no cluster reaches an element
     pub nothing : used ≤ i → Ended s
     unfolding Ended
     nothing n m o =
-        let h = open-reached s links (ready .linking) (m .i) (m .j) (m .k) o in
+        let h = open-reached (ready .linking) (m .i) (m .j) (m .k) o in
         omega (arith, low (m .i) (h .0) (h .1), within (m .i) (h .1 .p) (h .1 .p-in))
 
-    module _ (here : i < used) (o : ℕ) (outs : Outs links (slot s i) o) (j : ℕ) (lj : Lowest (Meeting s (slot s i) o) (i + 1) used j) where
+    module _ (here : i < used) {o : ℕ} (outs : Outs links (slot s i) o) {j : ℕ} (lj : Lowest (Meeting s (slot s i) o) (i + 1) used j) where
       -- the other two clusters of an open merge stand after i
       after : (b c : ℕ) → OpenAt s (merge i b c) → i < b
       after b c u =
-          let h = open-reached s links (ready .linking) b i c (open-ab s i b c u) in
+          let h = open-reached (ready .linking) b i c (open-ab s i b c u) in
           let d : i ≢ b = u .i≢j in omega (arith, low b (h .0) (h .1), d)
 
       -- the second stands at j or after it
       second : (b c : ℕ) → OpenAt s (merge i b c) → j ≤ b
       second b c u =
-          let h = open-reached s links (ready .linking) i b c u in
+          let h = open-reached (ready .linking) i b c u in
           let k = corners s i b c u in
-          least (Meeting s (slot s i) o) (i + 1) used j b lj (omega (arith, after b c u))
+          least b lj (omega (arith, after b c u))
           (meets (slot s b) (slot s i) (k .p) (k .p-j) (k .p-i), meets (slot s b) o (h .0) (h .2) (outs .every (h .0) (h .1)))
 
       pub j-used : j < used
       j-used =
           let h = li .here here .1 in
-          let u = reached-open s links (ready .linking) (ready .apart) i (h .0) (h .1) in
+          let u = reached-open (ready .linking) (ready .apart) i (h .0) (h .1) in
           let k = corners s i (u .0) (u .1) (u .2) in
           omega (arith, second (u .0) (u .1) (u .2), within (u .0) (k .p) (k .p-j))
 
       -- j shares an element with i
-      knot : (p : ℕ) × (at p (slot s j) ≡ 1) × (at p (slot s i) ≡ 1)
-      knot = let e = element (slot s j ∩ slot s i) (lj .here j-used .0) in
+      shared : (p : ℕ) × (at p (slot s j) ≡ 1) × (at p (slot s i) ≡ 1)
+      shared = let e = element (slot s j ∩ slot s i) (lj .here j-used .0) in
           let b = in-both (e .0) (slot s j) (slot s i) (e .1) in (e .0, b .0, b .1)
 
       -- and a third cluster after it closes the merge
@@ -107,16 +103,15 @@ module _ (s links : List ℕ) (used from last : ℕ) (ready : Ready s links used
       third =
           let e = element (slot s j ∩ o) (lj .here j-used .1) in
           let b = in-both (e .0) (slot s j) o (e .1) in
-          let u = closed s links (ready .linking) (ready .apart) i j (knot .0) (e .0) (knot .2) (knot .1) (b .0) (outs .only (e .0) (b .1)) in
+          let u = closed (ready .linking) (ready .apart) i j (shared .0) (e .0) (shared .2) (shared .1) (b .0) (outs .only (e .0) (b .1)) in
           let d : j ≢ u .0 = u .1 .j≢k in (u .0, u .1, omega (arith, second (u .0) j (open-bc s i j (u .0) (u .1)), d))
 
-      module _ (k : ℕ)
-          (lk : Lowest (Meeting s (beyond (slot s i) (slot s j)) (beyond (slot s j) (slot s i))) (j + 1) used k) where
+      module _ {k : ℕ} (lk : Lowest (Meeting s (beyond (slot s i) (slot s j)) (beyond (slot s j) (slot s i))) (j + 1) used k) where
         -- the third stands at k or after it
         last-at : (c : ℕ) → j < c → OpenAt s (merge i j c) → k ≤ c
         last-at c l u =
             let h = corners s i j c u in
-            least (Meeting s (beyond (slot s i) (slot s j)) (beyond (slot s j) (slot s i))) (j + 1) used k c lk (omega arith) (
+            least c lk (omega arith) (
               meets (slot s c) (beyond (slot s i) (slot s j)) (h .q) (h .q-k) (beyond-in (slot s i) (slot s j) (h .q) (h .q-i) (h .q-j)),
               meets (slot s c) (beyond (slot s j) (slot s i)) (h .r) (h .r-k) (beyond-in (slot s j) (slot s i) (h .r) (h .r-j) (h .r-i)),
             )
@@ -138,7 +133,7 @@ module _ (s links : List ℕ) (used from last : ℕ) (ready : Ready s links used
             let fr = in-both (f .0) (slot s k) B (f .1) in
             let q = beyond-of (slot s i) (slot s j) (e .0) (eq .1) in
             let r = beyond-of (slot s j) (slot s i) (f .0) (fr .1) in
-            let p = knot in
+            let p = shared in
             triangle s (ready .apart) i j k (p .0) (e .0) (f .0) (λ z. omega (arith, lj .low)) (λ z. omega (arith, lk .low))
             (λ z. omega (arith, lj .low, lk .low)) (λ z. omega (arith, ap (λ (y : ℕ). at y (slot s j)) z, p .1, q .1))
             (λ z. omega (arith, ap (λ (y : ℕ). at y (slot s i)) z, p .2, r .1)) (λ z. omega (arith, ap (λ (y : ℕ). at y (slot s i)) z, q .0, r .1)) (p .2) (p .1) (q .0)
@@ -166,4 +161,4 @@ module _ (s links : List ℕ) (used from last : ℕ) (ready : Ready s links used
                 by-i : Dec (i ≡ m .i) → NotAfter (merge i j k) m
                 by-i (yes e) = inr (e, by-j e (ℕ-discrete j (m .j)))
                 by-i (no n) =
-                    let h = open-reached s links (ready .linking) (m .i) (m .j) (m .k) u in inl (omega (arith, low (m .i) (h .0) (h .1), n))
+                    let h = open-reached (ready .linking) (m .i) (m .j) (m .k) u in inl (omega (arith, low (m .i) (h .0) (h .1), n))

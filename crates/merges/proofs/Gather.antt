@@ -9,8 +9,8 @@ use lib.Bits.{bitAnd, bitOr, and-le-l}
 use lib.Count.{trailingZeros}
 use Rattle.theory.specs.Set.{_∩_, _∪_, at}
 use Rattle.theory.specs.Set.Laws.{at-and, at-zero, at-le, both, in-both, in-either, or-left, or-right}
-use Rattle.merges.specs.Links.{linked, beyond, Reached, Outs}
-use Rattle.merges.proofs.Digits.{lowest-in, rest-lowest, rest-other, at-beyond}
+use Rattle.theory.specs.Set.Lowest.{lowest-in, rest-lowest, rest-other, at-beyond}
+use Rattle.merges.specs.Search.Links.{linked, beyond, Reaches, Outs}
 
 -- once and twice are the elements linked to one and to two elements of x that lie not in rest
 pub record Seen (links : List ℕ) (x rest once twice : ℕ) : Type 0 where
@@ -23,8 +23,8 @@ pub record Seen (links : List ℕ) (x rest once twice : ℕ) : Type 0 where
   pub twice-every : (p q r : ℕ) → p ≢ q → at p x ≡ 1 → at q x ≡ 1 → at p rest ≡ 0 → at q rest ≡ 0 → at r (linked links p) ≡ 1
       → at r (linked links q) ≡ 1 → at r twice ≡ 1
 
-pub seen-none : (links : List ℕ) (x : ℕ) → x < 2 ^ 64 → Seen links x x 0 0
-seen-none links x l = record {
+pub seen-none : {links : List ℕ} {x : ℕ} → x < 2 ^ 64 → Seen links x x 0 0
+seen-none l = record {
   fits = l;
   within = λ p e. e;
   once-only = λ r e. absurd (omega (arith, at-zero r));
@@ -33,7 +33,7 @@ seen-none links x l = record {
   twice-every = λ p q r n i j o e f g. absurd (omega arith);
 }
 
-module _ (links : List ℕ) (x rest once twice : ℕ) (w : Seen links x rest once twice) where
+module _ {links : List ℕ} {x rest once twice : ℕ} (w : Seen links x rest once twice) where
   module _ (some : rest ≢ 0) where
     p₀ : ℕ
     p₀ = trailingZeros 64 rest
@@ -104,12 +104,12 @@ module _ (links : List ℕ) (x rest once twice : ℕ) (w : Seen links x rest onc
       none : (p : ℕ) → at p rest ≡ 0
       none p = ap (at p) z ∙ at-zero p
 
-      only : (r : ℕ) → at r (beyond twice x) ≡ 1 → Reached links x r
+      only : (r : ℕ) → at r (beyond twice x) ≡ 1 → Reaches links x r
       only r e =
           let b = at-beyond r twice x in
           let h = w .twice-only r (omega (arith, at-le r twice)) in
           record { p = h .0; q = h .1; differ = h .2; p-in = h .3; q-in = h .4; by-p = h .5; by-q = h .6; out = omega (arith, at-le r twice) }
 
-      every : (r : ℕ) → Reached links x r → at r (beyond twice x) ≡ 1
+      every : (r : ℕ) → Reaches links x r → at r (beyond twice x) ≡ 1
       every r h =
           omega (arith, at-beyond r twice x, h .out, w .twice-every (h .p) (h .q) r (h .differ) (h .p-in) (h .q-in) (none (h .p)) (none (h .q)) (h .by-p) (h .by-q))

@@ -11,8 +11,8 @@ use lib.ListN.{length, getD, set, length-set}
 use lib.Seq.{getD-set-same, getD-set-other}
 use Rattle.theory.specs.Set.{_∩_, _∪_, at}
 use Rattle.theory.specs.Set.Laws.{at-zero, at-le, in-both}
-use Rattle.merges.specs.Links.{linked, Linking}
-use Rattle.merges.proofs.Digits.{lowest-in, lowest-below, rest-lowest, rest-other}
+use Rattle.theory.specs.Set.Lowest.{lowest-in, lowest-below, rest-lowest, rest-other}
+use Rattle.merges.specs.Search.Links.{linked, Linking}
 
 -- the elements of u that lie not in rest are linked
 pub record Partly (links : List ℕ) (u : ℕ) (now : List ℕ) (rest : ℕ) : Type 0 where
@@ -24,8 +24,8 @@ pub record Partly (links : List ℕ) (u : ℕ) (now : List ℕ) (rest : ℕ) : T
   pub waiting : (p : ℕ) → at p rest ≡ 1 → linked now p ≡ linked links p
   pub other : (p : ℕ) → at p u ≡ 0 → linked now p ≡ linked links p
 
-pub partly-none : (links : List ℕ) (u : ℕ) → u < 2 ^ 64 → length links ≡ 64 → Partly links u links u
-partly-none links u l n = record {
+pub partly-none : {links : List ℕ} {u : ℕ} → u < 2 ^ 64 → length links ≡ 64 → Partly links u links u
+partly-none l n = record {
   fits = l;
   long = refl;
   room = n;
@@ -35,7 +35,7 @@ partly-none links u l n = record {
   other = λ p o. refl;
 }
 
-module _ (links : List ℕ) (u : ℕ) (now : List ℕ) (rest : ℕ) (w : Partly links u now rest) where
+module _ {links : List ℕ} {u : ℕ} {now : List ℕ} {rest : ℕ} (w : Partly links u now rest) where
   module _ (some : rest ≢ 0) where
     pub partly-next : Partly links u (set now (trailingZeros 64 rest) (bitOr (linked now (trailingZeros 64 rest)) u)) (bitAnd rest (rest - 1))
     unfolding _∩_ _∪_

@@ -1,32 +1,20 @@
 -- The engine's plan in arrays: merges that came first, until none is open. Assumes nothing.
 use mathlib.Core.Path.{_≡_, refl, sym, ap, _∙_, subst}
 use mathlib.Core.List.{List, [], _∷_, _++_}
-use mathlib.Core.Option.{Option, none, some}
-use Prim.Native.Nat.{ℕ, _+_, _≤_, _<_}
-use native.Mathlib.Omega.{arith}
+use mathlib.Core.Option.{none, some}
+use Prim.Native.Nat.{ℕ, _+_, _<_}
 use lib.ListN.{length, take, replicate}
-use Rattle.theory.specs.Constraints.{Pairs, NotOver}
-use Rattle.theory.specs.Merge.{slot, Merge, merge, OpenAt, put, final, Ended}
+use Rattle.theory.specs.Block.{block}
+use Rattle.theory.specs.Constraints.{NotOver}
+use Rattle.theory.specs.Merge.{Merge, merge, three, OpenAt, union, put, final, Ended}
 use Rattle.theory.specs.Plan.{firstOf, First, IsPlan}
-use Rattle.theory.specs.Plan.Search.{Found, found, nothing, first-found}
-use Rattle.theory.specs.Plan.Laws.{plan-of-one}
-use Rattle.merges.specs.Links.{Links, Ready}
-use Rattle.merges.specs.Search.{Merging}
-use Rattle.merges.specs.Held.{Since}
-use Rattle.merges.specs.Run.{Begun, Ran, Noted}
-use Rattle.merges.specs.declared.Run.{Run}
-use Rattle.merges.proofs.State.{first-same, ended-same, final-snoc, held-slot, held-union, since-put, ready}
-use Rattle.merges.proofs.Going.{Going, going-start, open-there, steps-fewer, going-next, going-run}
-
--- ---- what the computing search says
-
-pub of-first : (s : List ℕ) (m : Merge) (o : Option Merge) → Found s o → some m ≡ o → First s m
-of-first s m o (found r f) e = let h : m ≡ r = cc in subst (First s) (sym h) f
-of-first s m o (nothing n) e = absurd (let z : _≡_ {A = ℕ} 0 1 = cc in omega arith)
-
-pub of-none : (s : List ℕ) (o : Option Merge) → Found s o → none ≡ o → Ended s
-of-none s o (found r f) e = absurd (let z : _≡_ {A = ℕ} 0 1 = cc in omega arith)
-of-none s o (nothing n) e = n
+use Rattle.theory.specs.Plan.Laws.{ascending-same, some-first, none-ended, plan-of-one}
+use Rattle.merges.specs.Run.{places, Start, Planned}
+use Rattle.merges.specs.Run.Laws.{final-snoc}
+use Rattle.merges.specs.Going.{Going, Made}
+use Rattle.merges.specs.Going.Laws.{open-same, slots-same, going-start, going-fewer, union-same, going-next, going-run}
+use Rattle.merges.specs.Search.Links.{Links, Linking, Since, Searchable}
+use Rattle.merges.proofs.Searching.{first-of-same, links-put, since-put, since-none, searchable}
 
 -- ---- merges that came first, each at its turn
 
@@ -44,65 +32,70 @@ firsts-plan (r ∷ p) s f e = (f .0, firsts-plan p (put s r) (f .1) e)
 
 -- ---- the run
 
--- the arrays hold merges that came first, where the constraints are not over
-pub record Running (cs : List ℕ) (e : ℕ) (slots links parts knots : List ℕ) (steps from last : ℕ) : Type 0 where
+-- the arrays hold merges that came first, where the constraints are not over, and the links of the clusters that they leave
+pub record Running (cs : List ℕ) (e : ℕ) (slots links parts joints : List ℕ) (steps from last : ℕ) : Type 0 where
   pub p : List Merge
-  pub going : Going cs e p slots links parts knots steps
+  pub going : Going cs e p slots parts joints steps
+  pub room : length links ≡ 64
+  pub linking : Links (final cs p) links
   pub firsts : NotOver cs → Firsts cs p
   pub since : NotOver cs → Since (final cs p) from last
 
-pub running-start : (slots links : List ℕ) (e : ℕ) → Begun slots e → Links (take e slots) links → length links ≡ 64
-    → Running (take e slots) e slots links (replicate 192 0) (replicate 64 0) 0 0 0
-unfolding Since
-running-start slots links e b ls n = record {
+pub running-start : {start slots links : List ℕ} {e : ℕ} → Start start e → slots ≡ block places 0 (take e start) → Links (take e start) links
+    → length links ≡ 64 → Running (take e start) e slots links (replicate places 0) (replicate 64 0) 0 0 0
+running-start b h ls n = record {
   p = [];
-  going = going-start slots links e b ls n;
-  firsts = λ h. tt;
-  since = λ h i j k o l. absurd (omega arith);
+  going = going-start b h;
+  room = n;
+  linking = ls;
+  firsts = λ fine. tt;
+  since = λ fine. since-none;
 }
 
-module _ (cs : List ℕ) (e : ℕ) (pairs : Pairs cs) (size : length cs ≡ e) (few : e ≤ 125)
-    (slots links parts knots : List ℕ) (steps from last : ℕ) (w : Running cs e slots links parts knots steps from last) where
-  module _ (fine : NotOver cs) where
-    run-ready : Ready slots links (e + steps) from last
-    run-ready = ready cs pairs fine (w .p) slots links (e + steps) from last (w .going .held) (w .since fine)
+module _ {cs : List ℕ} {e : ℕ} {slots links parts joints : List ℕ} {steps from last : ℕ} (w : Running cs e slots links parts joints steps from last) where
+  can-search : NotOver cs → Searchable slots links (e + steps) from last
+  can-search fine = searchable fine (w .going .clusters) (w .linking) (w .since fine)
 
-    first-there : (m : Merge) → some m ≡ firstOf 0 slots → First (final cs (w .p)) m
-    first-there m h =
-        first-same slots (final cs (w .p)) (held-slot cs (w .p) slots links (e + steps) (w .going .held)) m
-        (of-first slots m (firstOf 0 slots) (first-found slots) h)
+  first-same : firstOf 0 slots ≡ firstOf 0 (final cs (w .p))
+  first-same = first-of-same slots (final cs (w .p)) (slots-same (w .going .clusters))
 
-    ended-there : none ≡ firstOf 0 slots → Ended (final cs (w .p))
-    ended-there h =
-        ended-same slots (final cs (w .p)) (held-slot cs (w .p) slots links (e + steps) (w .going .held)) (of-none slots (firstOf 0 slots) (first-found slots) h)
+  module _ (i j k : ℕ) (l : i < j) (m : j < k) (o : OpenAt slots (merge i j k)) where
+    -- what is open in the array is open in the list
+    open-there : OpenAt (final cs (w .p)) (merge i j k)
+    open-there = open-same slots (final cs (w .p)) (slots-same (w .going .clusters)) (merge i j k) o
 
-  pub running-next : (i j k : ℕ) → i < j → j < k → k < e + steps → OpenAt slots (merge i j k)
-      → (Ready slots links (e + steps) from last → some (merge i j k) ≡ firstOf 0 slots) → (u : ℕ) (slots′ links′ parts′ knots′ : List ℕ)
-      → Merging slots links (e + steps) (merge i j k) u slots′ links′ → Noted parts knots slots steps (merge i j k) parts′ knots′
-      → Running cs e slots′ links′ parts′ knots′ (steps + 1) i u
-  running-next i j k l m below o first u slots′ links′ parts′ knots′ g noted =
-      let p = w .p in
-      let s = final cs p in
-      let x = merge i j k in
-      let there = open-there cs e pairs size few p slots links parts knots steps (w .going) i j k l m below o in
-      let room : e + steps < 192 = omega (arith, steps-fewer cs e pairs size few p slots links parts knots steps (w .going) i j k l m below o) in
-      let hi : i < e + steps = omega arith in
-      let hj : j < e + steps = omega arith in
-      let un = held-union cs p slots links (e + steps) (w .going .held) x hi hj below there u slots′ links′ g room in
-      record {
-        p = p ++ (x ∷ []);
-        going = going-next cs e pairs size few p slots links parts knots steps (w .going) i j k l m below o u slots′ links′ parts′ knots′ g noted;
-        firsts = λ fine. firsts-snoc p cs x (w .firsts fine) (first-there fine x (first (run-ready fine)));
-        since = λ fine.
-            subst (λ (t : List ℕ). Since t i u) (sym (final-snoc p cs x)) (subst (λ (y : ℕ). Since (put s x) i y) (sym un) (since-put s x (first-there fine x (first (run-ready fine)))));
-      }
+    pub running-fewer : steps < 62
+    running-fewer = going-fewer (w .going) open-there (ascending-same (merge i j k) l m)
+
+    pub running-next : (Searchable slots links (e + steps) from last → some (merge i j k) ≡ firstOf 0 slots)
+        → {u : ℕ} {slots′ links′ parts′ joints′ : List ℕ} → Made slots parts joints (e + steps) steps (merge i j k) u slots′ parts′ joints′
+        → Linking links u links′ → Running cs e slots′ links′ parts′ joints′ (steps + 1) i u
+    running-next first {u} {slots′} {links′} g ln =
+        let p = w .p in
+        let s = final cs p in
+        let x = merge i j k in
+        let up = ascending-same x l m in
+        let un = union-same (w .going) open-there up g in
+        record {
+          p = p ++ (x ∷ []);
+          going = going-next (w .going) open-there up g;
+          room = ln .long ∙ w .room;
+          linking = subst (λ (t : List ℕ). Links t links′) (sym (final-snoc p cs x))
+              (links-put s x (w .linking) (subst (λ (v : ℕ). Linking links v links′) un ln));
+          firsts = λ fine. firsts-snoc p cs x (w .firsts fine) (came-first fine);
+          since = λ fine. subst (λ (t : List ℕ). Since t i u) (sym (final-snoc p cs x))
+              (subst (λ (v : ℕ). Since (put s x) i v) (sym un) (since-put (came-first fine)));
+        }
+      where
+        came-first : NotOver cs → First (final cs (w .p)) (merge i j k)
+        came-first fine = some-first (final cs (w .p)) (merge i j k) (sym (first (can-search fine) ∙ first-same))
 
   -- none is open
-  pub running-end : (Ready slots links (e + steps) from last → none ≡ firstOf 0 slots) → (r : Run) → r .steps ≡ steps → r .parts ≡ parts → r .joints ≡ knots → r .slots ≡ slots
-      → Ran cs r
-  running-end ended r a b c d = record {
-    p = w .p;
-    valid = w .going .held .valid;
-    is = going-run cs e pairs size few (w .p) slots links parts knots steps (w .going) r a b c d;
-    plan = λ fine. sym (plan-of-one cs pairs (w .p) (firsts-plan (w .p) cs (w .firsts fine) (ended-there fine (ended (run-ready fine)))));
+  pub running-end : (Searchable slots links (e + steps) from last → none ≡ firstOf 0 slots)
+      → Planned cs (record { steps = steps; parts = parts; joints = joints; slots = slots })
+  running-end ended = record {
+    merged = record { p = w .p; valid = w .going .clusters .valid; is = going-run (w .going) };
+    plan = λ fine.
+        let e = none-ended (final cs (w .p)) (sym (ended (can-search fine) ∙ first-same)) in
+        sym (plan-of-one cs (w .going .clusters .pairs) (w .p) (firsts-plan (w .p) cs (w .firsts fine) e));
   }

@@ -1,43 +1,16 @@
 -- Where two living clusters share at most one element, the clusters that take part in an open merge are those that reach an element. Assumes
 -- nothing.
-use mathlib.Core.Path.{_≡_, refl, sym, ap, _∙_, subst}
-use mathlib.Core.Logic.{_≢_, _⊎_, inl, inr, Ne·symm}
+use mathlib.Core.Path.{sym, ap, _∙_, subst, _≡_}
+use mathlib.Core.Logic.{_≢_, Ne·symm}
 use mathlib.Core.List.{List}
-use Prim.Native.Nat.{ℕ, zero, suc, _≤_, _<_}
+use Prim.Native.Nat.{ℕ, _≤_}
 use native.Mathlib.Omega.{arith}
 use native.Mathlib.Decide.{ℕ-discrete}
 use lib.Count.{ones}
-use Rattle.theory.specs.Set.{_∩_, at, _⊑_}
-use Rattle.theory.specs.Set.Laws.{at-le, at-zero, size-eq, size-zero, some, two-in, both, in-both, singles-apart}
+use Rattle.theory.specs.Set.{_∩_, at}
+use Rattle.theory.specs.Set.Laws.{some, two-in, both, in-both, filled, counted, out, same-single}
 use Rattle.theory.specs.Merge.{slot, merge, OpenAt}
-use Rattle.merges.specs.Links.{Links, Reached}
-
--- ---- a set and its elements
-
-pub filled : (a p : ℕ) → at p a ≡ 1 → a ≢ 0
-filled a p e z = omega (arith, ap (at p) z, at-zero p)
-
-pub element : (a : ℕ) → a ≢ 0 → (p : ℕ) × (at p a ≡ 1)
-element a n = go (ones a) refl
-  where
-    go : (k : ℕ) → ones a ≡ k → (p : ℕ) × (at p a ≡ 1)
-    go zero e = absurd (n (sym (size-eq a 0 (record { le = λ x. omega (arith, at-zero x) }) (omega (arith, size-zero)))))
-    go (suc k) e = some a (omega arith)
-
-counted : (a p : ℕ) → at p a ≡ 1 → 1 ≤ ones a
-counted a p e = go (ones a) refl
-  where
-    go : (k : ℕ) → ones a ≡ k → 1 ≤ ones a
-    go zero z = absurd (filled a p e (sym (size-eq a 0 (record { le = λ x. omega (arith, at-zero x) }) (omega (arith, size-zero)))))
-    go (suc k) z = omega arith
-
--- two single sets with an element in common are one
-same-single : (a b p : ℕ) → ones a ≡ 1 → ones b ≡ 1 → at p a ≡ 1 → at p b ≡ 1 → a ≡ b
-same-single a b p ea eb ia ib = go (ℕ-discrete a b)
-  where
-    go : Dec (a ≡ b) → a ≡ b
-    go (yes e) = e
-    go (no n) = absurd (omega (arith, singles-apart a b ea eb n, counted (a ∩ b) p (both p a b ia ib)))
+use Rattle.merges.specs.Search.Links.{Links, Reaches}
 
 -- ---- clusters that share at most one element
 
@@ -95,14 +68,6 @@ pub record Corners (s : List ℕ) (i j k : ℕ) : Type 0 where
   pub r-k : at r (slot s k) ≡ 1
   pub r-i : at r (slot s i) ≡ 0
 
--- an element not in a set
-out : (p a : ℕ) → (at p a ≡ 1 → ⊥) → at p a ≡ 0
-out p a n = go (ℕ-discrete (at p a) 1)
-  where
-    go : Dec (at p a ≡ 1) → at p a ≡ 0
-    go (yes e) = absurd (n e)
-    go (no m) = omega (arith, at-le p a)
-
 pub corners : (s : List ℕ) (i j k : ℕ) → OpenAt s (merge i j k) → Corners s i j k
 corners s i j k o =
     let x = slot s i in
@@ -132,9 +97,9 @@ corners s i j k o =
 
 -- ---- open merges and what a cluster reaches
 
-module _ (s links : List ℕ) (ls : Links s links) where
+module _ {s links : List ℕ} (ls : Links s links) where
   -- a cluster of an open merge reaches the element that the other two share
-  pub open-reached : (i j k : ℕ) → OpenAt s (merge i j k) → (r : ℕ) × Reached links (slot s i) r × (at r (slot s j) ≡ 1)
+  pub open-reached : (i j k : ℕ) → OpenAt s (merge i j k) → (r : ℕ) × Reaches links (slot s i) r × (at r (slot s j) ≡ 1)
   open-reached i j k o =
       let c = corners s i j k o in (
         c .r,
@@ -160,7 +125,7 @@ module _ (s links : List ℕ) (ls : Links s links) where
     other x p r a b e = omega (arith, ap (λ (z : ℕ). at z x) e)
 
     -- a cluster j that shares p with i, and an element r that i reaches: a third cluster closes the merge, and holds r
-    pub closed : (i j p r : ℕ) → at p (slot s i) ≡ 1 → at p (slot s j) ≡ 1 → at r (slot s j) ≡ 1 → Reached links (slot s i) r
+    pub closed : (i j p r : ℕ) → at p (slot s i) ≡ 1 → at p (slot s j) ≡ 1 → at r (slot s j) ≡ 1 → Reaches links (slot s i) r
         → (k : ℕ) × OpenAt s (merge i j k) × (at r (slot s k) ≡ 1)
     closed i j p r pi pj rj h = go (ℕ-discrete p (h .p))
       where
@@ -181,7 +146,7 @@ module _ (s links : List ℕ) (ls : Links s links) where
         go (no n) = by (h .p) n (h .p-in) (ls .only (h .p) r (h .by-p))
 
     -- a cluster that reaches an element takes part in an open merge
-    pub reached-open : (i r : ℕ) → Reached links (slot s i) r → (j : ℕ) × (k : ℕ) × OpenAt s (merge i j k) × (at r (slot s j) ≡ 1)
+    pub reached-open : (i r : ℕ) → Reaches links (slot s i) r → (j : ℕ) × (k : ℕ) × OpenAt s (merge i j k) × (at r (slot s j) ≡ 1)
     reached-open i r h =
         let a = ls .only (h .p) r (h .by-p) in
         let b = closed i (a .0) (h .p) r (h .p-in) (a .1) (a .2) h in (a .0, b .0, b .1, a .2)

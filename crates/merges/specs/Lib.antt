@@ -1,6 +1,5 @@
--- What the search for the first open merge says and relies on, and how the clusters stand in arrays.
-pub mod Links
-pub mod Sums
-pub mod Search
-pub mod Held
+-- Merges in arrays: what a run begins from and answers (Run), and what arrays hold on the way (Going). Search says what the search for the first open
+-- merge keeps and finds; nothing outside this crate cites it.
 pub mod Run
+pub mod Going
+pub mod Search

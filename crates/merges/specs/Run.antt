@@ -1,38 +1,52 @@
--- What a run of merges answers. Assumes nothing.
+-- A list of merges in arrays, and what a run of merges begins from and answers. Assumes nothing.
 use mathlib.Core.Path.{_≡_}
-use mathlib.Core.List.{List, map}
-use Prim.Native.Nat.{ℕ, _+_, _*_, _≤_}
-use lib.ListN.{length, take, set}
+use mathlib.Core.List.{List, [], _∷_, map}
+use Prim.Native.Nat.{ℕ, _≤_}
+use lib.ListN.{length, take}
+use Rattle.theory.specs.Block.{block}
 use Rattle.theory.specs.Constraints.{Pairs, NotOver}
-use Rattle.theory.specs.Merge.{Merge, three, joint, Valid, final, joints}
+use Rattle.theory.specs.Merge.{Merge, Valid, final, joints}
 use Rattle.theory.specs.Plan.{ascending, planOf}
-use Rattle.merges.specs.Held.{padded, flat}
 use Rattle.merges.specs.declared.Run.{Run}
+pub mod Laws
 
--- e constraints, each a set of two elements, as the first e clusters
-pub record Begun (slots : List ℕ) (e : ℕ) : Type 0 where
-  pub few : e ≤ 125
-  pub count : length (take e slots) ≡ e
-  pub pairs : Pairs (take e slots)
-  pub are : slots ≡ padded 192 (take e slots)
+-- 2n-3 constraints on 64 elements, half as many merges, and room for the clusters of both
+abbrev pub mostConstraints : ℕ
+mostConstraints = 125
 
--- step n noted: the parts of the merge at 3n and after, its joint at n
-pub record Noted (parts knots slots : List ℕ) (n : ℕ) (m : Merge) (parts′ knots′ : List ℕ) : Type 0 where
-  pub parts-are : parts′ ≡ set (set (set parts (3 * n) (m .i)) (3 * n + 1) (m .j)) (3 * n + 2) (m .k)
-  pub knots-are : knots′ ≡ set knots n (joint (three slots m))
+abbrev pub mostSteps : ℕ
+mostSteps = 62
+
+abbrev pub places : ℕ
+places = 192
+
+-- the numbers of the merges, three a merge
+unfoldable pub flat : List Merge → List ℕ
+flat [] = []
+flat (m ∷ p) = m .i ∷ m .j ∷ m .k ∷ flat p
 
 -- the list of merges p of the constraints cs in arrays, the parts of each ascending
 unfoldable pub runOf : List ℕ → List Merge → Run
 runOf cs p = record {
   steps = length p;
-  parts = padded 192 (flat (map ascending p));
-  joints = padded 64 (joints cs p);
-  slots = padded 192 (final cs p);
+  parts = block places 0 (flat (map ascending p));
+  joints = block 64 0 (joints cs p);
+  slots = block places 0 (final cs p);
 }
 
--- r holds a list of merges of the constraints cs; where these are not over, it is the engine's plan
-pub record Ran (cs : List ℕ) (r : Run) : Type 0 where
+-- what a run begins from: e constraints, each a set of two elements
+pub record Start (start : List ℕ) (e : ℕ) : Type 0 where
+  pub few : e ≤ mostConstraints
+  pub count : length (take e start) ≡ e
+  pub pairs : Pairs (take e start)
+
+-- r holds a list of merges of the constraints cs
+pub record Merged (cs : List ℕ) (r : Run) : Type 0 where
   pub p : List Merge
   pub valid : Valid cs p
   pub is : r ≡ runOf cs p
-  pub plan : NotOver cs → p ≡ planOf cs
+
+-- and where these are not over, it is the engine's plan
+pub record Planned (cs : List ℕ) (r : Run) : Type 0 where
+  pub merged : Merged cs r
+  pub plan : NotOver cs → merged .p ≡ planOf cs

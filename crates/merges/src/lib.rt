@@ -1,16 +1,119 @@
-// Living clusters as masks by number, the links between their elements, and the search for the first open merge.
+// Merges of three clusters, masks by number in arrays: the engine's plan of a start, and merges made one by one on arrays that a caller lends.
+// Contracts cite specs/Run.antt and specs/Going.antt. The search for the first open merge stays in here (specs/Search.antt).
 ghost use mathlib.Core.Path.{_≡_};
-ghost use Prim.Native.Nat.{_+_, _/_, _≤_, _<_};
-ghost use lib.ListN.{length, take, replicate};
-ghost use Rattle.theory.specs.Merge.{merge as numbers};
-ghost use Rattle.theory.specs.Plan.{openTest, firstOf};
-ghost use Rattle.merges.specs.Links.{Outs, Lowest, Reaching, Meeting, Ready, Links, Linking};
-ghost use Rattle.merges.specs.Sums.{Sum, Sums, Resums};
-ghost use Rattle.merges.specs.Search.{Sound, told, Merging};
-ghost use Rattle.merges.specs.Run.{Begun, Ran, Noted};
+ghost use mathlib.Core.List.{List, []};
+ghost use Prim.Native.Nat.{ℕ, _/_, _≤_, _<_};
+ghost use lib.ListN.{length, take};
+ghost use Rattle.theory.specs.Block.{block};
+ghost use Rattle.theory.specs.Constraints.{NotOver};
+ghost use Rattle.theory.specs.Merge.{Merge, merge as numbers, final};
+ghost use Rattle.theory.specs.Plan.{openTest, firstOf, isSome};
+ghost use Rattle.merges.specs.Run.{runOf, Start, Planned};
+ghost use Rattle.merges.specs.Going.{Slots, Made};
+ghost use Rattle.merges.specs.Search.{hitOf, Tested};
+ghost use Rattle.merges.specs.Search.Links.{Outs, Lowest, Reaching, Meeting, Searchable, Links, Linking};
+ghost use Rattle.merges.specs.Search.Sums.{Sum, Sums, Resums};
+
+// The numbers of clusters: 125 constraints and 62 unions at most. Three parts a step take as many places.
+const PLACES: usize = 192;
+// The elements.
+const ELEMENTS: usize = 64;
+
+// ---- a list of merges
+
+// A list of merges: the parts of each, ascending, their joints, and the clusters at the end, a dead one 0. Places beyond are 0.
+pub struct Run {
+    pub steps: usize,
+    pub parts: [u16; PLACES],
+    pub joints: [u64; ELEMENTS],
+    pub slots: [u64; PLACES],
+}
+
+// No merge of no constraint.
+pub fn no_run() -> Run
+    ensures { λ r. ⌜ r ≡ runOf [] [] ⌝ }
+{
+    Run {
+        steps: 0,
+        parts: [0u16; PLACES],
+        joints: [0u64; ELEMENTS],
+        slots: [0u64; PLACES],
+    }
+}
+
+// Does each two of the three share exactly one element, three different ones in all?
+pub fn open3(a: u64, b: u64, c: u64) -> bool
+    ensures { λ r. ⌜ r ≡ openTest a b c ⌝ }
+{
+    let x = a & b;
+    let y = b & c;
+    let z = a & c;
+    if u64::count_ones(x) != 1 {
+        return false;
+    }
+    if u64::count_ones(y) != 1 {
+        return false;
+    }
+    if u64::count_ones(z) != 1 {
+        return false;
+    }
+    if x == y {
+        return false;
+    }
+    if y == z {
+        return false;
+    }
+    x != z
+}
+
+// The clusters before any merge: the first e of `start`.
+pub fn begin(start: &[u64; 200], e: usize) -> [u64; PLACES]
+    requires { ⌜ Start (now start) e ⌝ }
+    ensures { λ r. ⌜ r ≡ block 192 0 (take e (now (start .entry))) ⌝ }
+{
+    let mut slots = [0u64; PLACES];
+    let mut i: usize = 0;
+    while i < e {
+        slots[i] = start[i];
+        i += 1;
+    }
+    slots
+}
+
+// Merges clusters i, j and k, which ascend, as step `steps`: its parts and its joint are noted, the three die, and their union, which is answered, is
+// cluster `used`.
+pub fn step(
+    slots: &mut [u64; PLACES],
+    parts: &mut [u16; PLACES],
+    joints: &mut [u64; ELEMENTS],
+    used: usize,
+    steps: usize,
+    i: usize,
+    j: usize,
+    k: usize,
+) -> u64
+    requires { ⌜ (i < used) × (j < used) × (k < used) × (used < 192) × (steps < 62) ⌝ }
+    ensures { λ r. ⌜ Made (now (slots .entry)) (now (parts .entry)) (now (joints .entry)) used steps (numbers i j k) r (now (slots .exit)) (now (parts .exit)) (now (joints .exit)) ⌝ }
+{
+    let a = slots[i];
+    let b = slots[j];
+    let c = slots[k];
+    joints[steps] = (a & b) | (b & c) | (a & c);
+    parts[3 * steps] = i as u16;
+    parts[3 * steps + 1] = j as u16;
+    parts[3 * steps + 2] = k as u16;
+    let u = a | b | c;
+    slots[i] = 0;
+    slots[j] = 0;
+    slots[k] = 0;
+    slots[used] = u;
+    u
+}
+
+// ---- the search for the first open merge
 
 // The elements outside x that are linked to two of its own.
-pub fn outs(links: &[u64; 64], x: u64) -> u64
+fn outs(links: &[u64; ELEMENTS], x: u64) -> u64
     ensures { λ r. ⌜ Outs (now (links .entry)) x r ⌝ }
 {
     let mut rest = x;
@@ -27,7 +130,7 @@ pub fn outs(links: &[u64; 64], x: u64) -> u64
 }
 
 // The union of the clusters of a block: numbers 8b to 8b + 7.
-fn sum(slots: &[u64; 192], b: usize) -> u64
+fn sum(slots: &[u64; PLACES], b: usize) -> u64
     requires { ⌜ b < 24 ⌝ }
     ensures { λ r. ⌜ Sum (now (slots .entry)) b r ⌝ }
 {
@@ -41,7 +144,7 @@ fn sum(slots: &[u64; 192], b: usize) -> u64
 }
 
 // The union of each block.
-pub fn sums_of(slots: &[u64; 192]) -> [u64; 24]
+fn sums_of(slots: &[u64; PLACES]) -> [u64; 24]
     ensures { λ r. ⌜ Sums (now (slots .entry)) r ⌝ }
 {
     let mut sums = [0u64; 24];
@@ -55,7 +158,7 @@ pub fn sums_of(slots: &[u64; 192]) -> [u64; 24]
 }
 
 // The unions of the blocks after clusters i, j, k and n changed.
-fn resum(sums: &mut [u64; 24], slots: &[u64; 192], i: usize, j: usize, k: usize, n: usize)
+fn resum(sums: &mut [u64; 24], slots: &[u64; PLACES], i: usize, j: usize, k: usize, n: usize)
     requires { ⌜ (i < 192) × (j < 192) × (k < 192) × (n < 192) ⌝ }
     ensures { λ r. ⌜ Resums (now (slots .entry)) (now (sums .entry)) i j k n (now (sums .exit)) ⌝ }
 {
@@ -92,10 +195,10 @@ fn skip(sums: &[u64; 24], used: usize, from: usize, a: u64, b: u64) -> usize
 }
 
 // The lowest cluster that reaches an element, below `from` only among those that meet `last`; `used` if there is none.
-pub fn lowest_reaching(
-    slots: &[u64; 192],
+fn lowest_reaching(
+    slots: &[u64; PLACES],
     sums: &[u64; 24],
-    links: &[u64; 64],
+    links: &[u64; ELEMENTS],
     used: usize,
     from: usize,
     last: u64,
@@ -122,8 +225,8 @@ pub fn lowest_reaching(
 }
 
 // The lowest cluster from `from` on that meets both a and b; `used` if there is none.
-pub fn lowest_meeting(
-    slots: &[u64; 192],
+fn lowest_meeting(
+    slots: &[u64; PLACES],
     sums: &[u64; 24],
     used: usize,
     from: usize,
@@ -146,74 +249,49 @@ pub fn lowest_meeting(
     used
 }
 
-// Does each two of the three share exactly one element, three different ones in all?
-pub fn open3(a: u64, b: u64, c: u64) -> bool
-    ensures { λ r. ⌜ r ≡ openTest a b c ⌝ }
-{
-    let x = a & b;
-    let y = b & c;
-    let z = a & c;
-    if u64::count_ones(x) != 1 {
-        return false;
-    }
-    if u64::count_ones(y) != 1 {
-        return false;
-    }
-    if u64::count_ones(z) != 1 {
-        return false;
-    }
-    if x == y {
-        return false;
-    }
-    if y == z {
-        return false;
-    }
-    x != z
-}
-
-// What a search for an open merge finds: the numbers of its three clusters, ascending.
-pub enum Found {
+// What the search finds: the numbers of an open merge, ascending.
+enum Hit {
     At(usize, usize, usize),
     Nothing,
 }
 
 // The first open merge. Where two living clusters may share two elements, an open merge or nothing.
-pub fn first_open(
-    slots: &[u64; 192],
+fn first_open(
+    slots: &[u64; PLACES],
     sums: &[u64; 24],
-    links: &[u64; 64],
+    links: &[u64; ELEMENTS],
     used: usize,
     from: usize,
     last: u64,
-) -> Found
+) -> Hit
     requires { ⌜ (from ≤ used) × (used ≤ 192) × Sums (now slots) (now sums) ⌝ }
-    ensures sound { λ r. ⌜ Sound (now (slots .entry)) used r ⌝ }
-    ensures first { λ r. ⌜ (Ready (now (slots .entry)) (now (links .entry)) used from last → told r ≡ firstOf 0 (now (slots .entry))) ⌝ }
+    ensures tested { λ r. ⌜ Tested (now (slots .entry)) used r ⌝ }
+    ensures first { λ r. ⌜ (Searchable (now (slots .entry)) (now (links .entry)) used from last → hitOf r ≡ firstOf 0 (now (slots .entry))) ⌝ }
 {
     let i = lowest_reaching(slots, sums, links, used, from, last);
     if used <= i {
-        return Found::Nothing;
+        return Hit::Nothing;
     }
     let x = slots[i];
     let o = outs(links, x);
     let j = lowest_meeting(slots, sums, used, i + 1, x, o);
     if used <= j {
-        return Found::Nothing;
+        return Hit::Nothing;
     }
     let y = slots[j];
     let k = lowest_meeting(slots, sums, used, j + 1, x ^ (x & y), y ^ (y & x));
     if used <= k {
-        return Found::Nothing;
+        return Hit::Nothing;
     }
     if open3(x, y, slots[k]) {
-        Found::At(i, j, k)
+        Hit::At(i, j, k)
     } else {
-        Found::Nothing
+        Hit::Nothing
     }
 }
 
 // Links the elements of u with each other.
-pub fn link(links: &mut [u64; 64], u: u64)
+fn link(links: &mut [u64; ELEMENTS], u: u64)
     requires { ⌜ length (now links) ≡ 64 ⌝ }
     ensures { λ r. ⌜ Linking (now (links .entry)) u (now (links .exit)) ⌝ }
 {
@@ -225,102 +303,52 @@ pub fn link(links: &mut [u64; 64], u: u64)
     }
 }
 
-// Merges clusters i, j and k: they die, and their union, which is answered, is cluster `used`.
-pub fn merge(
-    slots: &mut [u64; 192],
-    links: &mut [u64; 64],
-    used: usize,
-    i: usize,
-    j: usize,
-    k: usize,
-) -> u64
-    requires { ⌜ (i < used) × (j < used) × (k < used) × (used < 192) × (length (now links) ≡ 64) ⌝ }
-    ensures { λ r. ⌜ Merging (now (slots .entry)) (now (links .entry)) used (numbers i j k) r (now (slots .exit)) (now (links .exit)) ⌝ }
+// The links of the clusters below `used`.
+fn link_all(slots: &[u64; PLACES], used: usize) -> [u64; ELEMENTS]
+    requires { ⌜ (used ≤ 192) × (length (now slots) ≡ 192) ⌝ }
+    ensures { λ r. ⌜ Links (take used (now (slots .entry))) r × (length r ≡ 64) ⌝ }
 {
-    let u = slots[i] | slots[j] | slots[k];
-    slots[i] = 0;
-    slots[j] = 0;
-    slots[k] = 0;
-    slots[used] = u;
-    link(links, u);
-    u
-}
-
-// The links of the first e clusters.
-pub fn link_all(slots: &[u64; 192], e: usize) -> [u64; 64]
-    requires { ⌜ (e ≤ 192) × (length (now slots) ≡ 192) ⌝ }
-    ensures { λ r. ⌜ Links (take e (now (slots .entry))) r × (length r ≡ 64) ⌝ }
-{
-    let mut links = [0u64; 64];
+    let mut links = [0u64; ELEMENTS];
     let mut i: usize = 0;
-    while i < e {
+    while i < used {
         link(&mut links, slots[i]);
         i += 1;
     }
     links
 }
 
-// Notes step `steps`, which merges i, j and k: its parts and its joint.
-pub fn note(
-    parts: &mut [u16; 192],
-    joints: &mut [u64; 64],
-    slots: &[u64; 192],
-    steps: usize,
-    i: usize,
-    j: usize,
-    k: usize,
-)
-    requires { ⌜ (steps < 62) × (i < 192) × (j < 192) × (k < 192) ⌝ }
-    ensures { λ r. ⌜ Noted (now (parts .entry)) (now (joints .entry)) (now (slots .entry)) steps (numbers i j k) (now (parts .exit)) (now (joints .exit)) ⌝ }
+// ---- what the search answers
+
+// Is a merge open among the clusters below `used`, which merges of constraints that are not over have left?
+pub fn some_open(slots: &[u64; PLACES], used: usize) -> bool
+    requires { ⌜ (used ≤ 192) × (length (now slots) ≡ 192) ⌝ }
+    ensures { λ r. ⌜ ((cs : List ℕ) (p : List Merge) → NotOver cs → Slots cs p (now (slots .entry)) used → r ≡ isSome (firstOf 0 (final cs p))) ⌝ }
 {
-    let a = slots[i];
-    let b = slots[j];
-    let c = slots[k];
-    joints[steps] = (a & b) | (b & c) | (a & c);
-    parts[3 * steps] = i as u16;
-    parts[3 * steps + 1] = j as u16;
-    parts[3 * steps + 2] = k as u16;
+    let sums = sums_of(slots);
+    let links = link_all(slots, used);
+    match first_open(slots, &sums, &links, used, 0, 0) {
+        Hit::At(_, _, _) => true,
+        Hit::Nothing => false,
+    }
 }
 
-// No parts noted.
-pub fn no_parts() -> [u16; 192]
-    ensures { λ r. ⌜ r ≡ replicate 192 0 ⌝ }
+// The engine's plan for the constraints that are the first e of `start`. Of constraints that are over, a list of merges.
+pub fn merge_all(start: &[u64; 200], e: usize) -> Run
+    requires { ⌜ Start (now start) e ⌝ }
+    ensures { λ r. ⌜ Planned (take e (now (start .entry))) r ⌝ }
 {
-    [0u16; 192]
-}
-
-// No joints noted.
-pub fn no_joints() -> [u64; 64]
-    ensures { λ r. ⌜ r ≡ replicate 64 0 ⌝ }
-{
-    [0u64; 64]
-}
-
-// A list of merges: the parts of each, ascending, their joints, and the clusters at the end, a dead one 0. Places beyond are 0.
-pub struct Run {
-    pub steps: usize,
-    pub parts: [u16; 192],
-    pub joints: [u64; 64],
-    pub slots: [u64; 192],
-}
-
-// The engine's plan for e constraints, given as the first e clusters. Of constraints that are over, a list of merges.
-pub fn merge_all(start: [u64; 192], e: usize) -> Run
-    requires { ⌜ Begun start e ⌝ }
-    ensures { λ r. ⌜ Ran (take e start) r ⌝ }
-{
-    let mut slots = start;
+    let mut slots = begin(start, e);
     let mut sums = sums_of(&slots);
     let mut links = link_all(&slots, e);
-    let mut parts = no_parts();
-    let mut joints = no_joints();
+    let mut parts = [0u16; PLACES];
+    let mut joints = [0u64; ELEMENTS];
     let mut steps: usize = 0;
     let mut from: usize = 0;
     let mut last: u64 = 0;
     loop {
         let used = e + steps;
-        let found = first_open(&slots, &sums, &links, used, from, last);
-        let Found::At(i, j, k) = found else {
+        let hit = first_open(&slots, &sums, &links, used, from, last);
+        let Hit::At(i, j, k) = hit else {
             return Run {
                 steps,
                 parts,
@@ -328,8 +356,8 @@ pub fn merge_all(start: [u64; 192], e: usize) -> Run
                 slots,
             };
         };
-        note(&mut parts, &mut joints, &slots, steps, i, j, k);
-        last = merge(&mut slots, &mut links, used, i, j, k);
+        last = step(&mut slots, &mut parts, &mut joints, used, steps, i, j, k);
+        link(&mut links, last);
         resum(&mut sums, &slots, i, j, k, used);
         from = i;
         steps += 1;

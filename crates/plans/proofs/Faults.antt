@@ -2,9 +2,9 @@
 use mathlib.Core.Path.{_≡_, _∙_}
 use mathlib.Core.Bool.{true, false}
 use Prim.Native.Nat.{ℕ}
+use Rattle.theory.specs.Tests.{yes-branch, no-branch}
 use Rattle.theory.specs.Merge.{Merge}
 use Rattle.theory.specs.Plan.{openTest}
-use Rattle.merges.proofs.Branch.{yes-branch, no-branch}
 use Rattle.plans.specs.Check.{misnamed, faultOf}
 
 module _ (a b c : ℕ) (m : Merge) where

@@ -3,12 +3,11 @@
 -- Assumes nothing.
 use mathlib.Core.Bool.{Bool, true, false, _||_}
 use mathlib.Core.List.{List, [], _∷_}
-use mathlib.Core.Option.{Option, none, some}
 use Prim.Native.Nat.{ℕ, zero, suc, _%_}
 use lib.Dec.{eqb}
 use lib.ListN.{length}
 use Rattle.theory.specs.Merge.{slot, Merge, merge, put}
-use Rattle.theory.specs.Plan.{openTest, firstOf}
+use Rattle.theory.specs.Plan.{openTest, firstOf, isSome}
 use Rattle.merges.specs.Run.{runOf}
 use Rattle.merges.specs.declared.Run.{Run}
 use Rattle.plans.specs.declared.Parts.{Parts}
@@ -37,10 +36,6 @@ savedSteps (i ∷ j ∷ k ∷ l) = merge i j k ∷ savedSteps l
 savedSteps (i ∷ j ∷ []) = []
 savedSteps (i ∷ []) = []
 savedSteps [] = []
-
-abbrev pub isSome : Option Merge → Bool
-isSome none = false
-isSome (some m) = true
 
 -- the rule that refuses the steps, 0 if none; 16: after the last step a merge is still open
 unfoldable pub stepsFault : List ℕ → List Merge → ℕ

@@ -11,8 +11,8 @@ use lib.Count.{ones}
 use lib.ListN.{length}
 use Rattle.theory.specs.Set.{_∩_}
 use Rattle.theory.specs.Merge.{slot, Merge, put, Valid, final}
-use Rattle.theory.specs.Plan.{openTest, firstOf}
-use Rattle.plans.specs.Check.{misnamed, savedSteps, isSome, planFault}
+use Rattle.theory.specs.Plan.{openTest, firstOf, isSome}
+use Rattle.plans.specs.Check.{misnamed, savedSteps, planFault}
 pub mod Proof
 
 -- 14: two of the step's clusters share two or more elements

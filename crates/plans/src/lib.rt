@@ -1,15 +1,12 @@
 // The check of a saved plan. Document 01, "Refused", rules 12, 13, 15 and 16. Contracts cite specs/Check.antt.
 ghost use mathlib.Core.Path.{_≡_};
-ghost use Prim.Native.Nat.{_+_, _≤_, _<_, min, max};
+ghost use Prim.Native.Nat.{_<_, min, max};
 ghost use lib.ListN.{length, take};
 ghost use Rattle.theory.specs.Constraints.{NotOver};
 ghost use Rattle.theory.specs.Merge.{slot, merge as numbers};
-ghost use Rattle.theory.specs.Plan.{ascending, firstOf};
-ghost use Rattle.merges.specs.Links.{Ready};
-ghost use Rattle.merges.specs.Search.{Merging};
-ghost use Rattle.merges.specs.Run.{Begun, Noted};
-ghost use Rattle.plans.specs.Check.{misnamed as isMisnamed, faultOf, stepFault, isSome, asMerge, answerOf, checkOf};
-use merges::Found;
+ghost use Rattle.theory.specs.Plan.{ascending};
+ghost use Rattle.merges.specs.Run.{Start};
+ghost use Rattle.plans.specs.Check.{misnamed as isMisnamed, faultOf, stepFault, asMerge, answerOf, checkOf};
 use merges::Run;
 
 // A number of a saved plan as a place.
@@ -102,39 +99,6 @@ fn fault_at(slots: &[u64; 192], i: usize, j: usize, k: usize) -> u8
     step_fault(a, b, c, i, j, k)
 }
 
-// Notes the step and merges its parts.
-fn take_step(
-    slots: &mut [u64; 192],
-    links: &mut [u64; 64],
-    parts: &mut [u16; 192],
-    joints: &mut [u64; 64],
-    e: usize,
-    steps: usize,
-    p: Parts,
-) -> u64
-    requires { ⌜ (p .i < e + steps) × (p .j < e + steps) × (p .k < e + steps) × (e + steps < 192) × (steps < 62) × (length (now links) ≡ 64) ⌝ }
-    ensures noted { λ r. ⌜ Noted (now (parts .entry)) (now (joints .entry)) (now (slots .entry)) steps (asMerge p) (now (parts .exit)) (now (joints .exit)) ⌝ }
-    ensures merged { λ r. ⌜ Merging (now (slots .entry)) (now (links .entry)) (e + steps) (asMerge p) r (now (slots .exit)) (now (links .exit)) ⌝ }
-{
-    let i = p.i;
-    let j = p.j;
-    let k = p.k;
-    merges::note(parts, joints, slots, steps, i, j, k);
-    merges::merge(slots, links, e + steps, i, j, k)
-}
-
-// Is a merge open?
-fn some_open(slots: &[u64; 192], links: &[u64; 64], used: usize) -> bool
-    requires { ⌜ used ≤ 192 ⌝ }
-    ensures { λ r. ⌜ (Ready (now (slots .entry)) (now (links .entry)) used 0 0 → r ≡ isSome (firstOf 0 (now (slots .entry)))) ⌝ }
-{
-    let sums = merges::sums_of(slots);
-    match merges::first_open(slots, &sums, links, used, 0, 0) {
-        Found::At(_, _, _) => true,
-        Found::Nothing => false,
-    }
-}
-
 pub enum Outcome {
     Accepted,
     Refused(u8),
@@ -150,33 +114,24 @@ fn refused(rule: u8) -> Checked
     requires { ⌜ 0 < rule ⌝ }
     ensures { λ r. ⌜ ((run : Run) → r ≡ answerOf rule run) ⌝ }
 {
-    let parts = merges::no_parts();
-    let joints = merges::no_joints();
-    let slots = [0u64; 192];
-    let run = Run {
-        steps: 0,
-        parts,
-        joints,
-        slots,
-    };
+    let run = merges::no_run();
     Checked {
         outcome: Outcome::Refused(rule),
         run,
     }
 }
 
-// The check of a saved plan against e constraints, given as the first e clusters, that are not over.
-pub fn check_plan(start: [u64; 192], e: usize, plan: &[u16]) -> Checked
-    requires { ⌜ Begun start e × NotOver (take e start) ⌝ }
-    ensures { λ r. ⌜ r ≡ checkOf (take e start) (now (plan .entry)) ⌝ }
+// The check of a saved plan against the constraints that are the first e of `start`, which are not over.
+pub fn check_plan(start: &[u64; 200], e: usize, plan: &[u16]) -> Checked
+    requires { ⌜ Start (now start) e × NotOver (take e (now start)) ⌝ }
+    ensures { λ r. ⌜ r ≡ checkOf (take e (now (start .entry))) (now (plan .entry)) ⌝ }
 {
     if plan.len() % 3 != 0 {
         return refused(12);
     }
-    let mut slots = start;
-    let mut links = merges::link_all(&slots, e);
-    let mut parts = merges::no_parts();
-    let mut joints = merges::no_joints();
+    let mut slots = merges::begin(start, e);
+    let mut parts = [0u16; 192];
+    let mut joints = [0u64; 64];
     let mut steps: usize = 0;
     let mut at: usize = 0;
     while at < plan.len() {
@@ -188,11 +143,11 @@ pub fn check_plan(start: [u64; 192], e: usize, plan: &[u16]) -> Checked
             return refused(fault);
         }
         let p = ascend(i, j, k);
-        take_step(&mut slots, &mut links, &mut parts, &mut joints, e, steps, p);
+        merges::step(&mut slots, &mut parts, &mut joints, e + steps, steps, p.i, p.j, p.k);
         steps += 1;
         at += 3;
     }
-    if some_open(&slots, &links, e + steps) {
+    if merges::some_open(&slots, e + steps) {
         return refused(16);
     }
     let run = Run {

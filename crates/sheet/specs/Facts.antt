@@ -1,10 +1,11 @@
 -- The facts of a sheet: its elements in order and its constraints in order. The counts n and e are the lengths. A `Sheet` of the code holds them in
 -- blocks of 64 and 200 places, blank beyond the counts.
-use Prim.Native.Nat.{ℕ, zero, suc, _+_, _*_, _-_, _/_, _%_}
+use Prim.Native.Nat.{ℕ, zero, suc, _+_, _*_, _/_, _%_}
 use mathlib.Core.Bool.{Bool, true, false}
-use mathlib.Core.List.{List, [], _∷_, _++_}
+use mathlib.Core.List.{List, [], _∷_}
 use lib.Dec.{eqb}
-use lib.ListN.{length, take, replicate}
+use lib.ListN.{length, take}
+use Rattle.theory.specs.Block.{block}
 use Rattle.sheet.specs.declared.Kind.{Kind}
 use Rattle.sheet.specs.declared.Kind.the-variants.{Point, Line}
 use Rattle.sheet.specs.declared.Element.{Element}
@@ -51,10 +52,6 @@ blankElement = record { kind = Point }
 
 abbrev pub blankConstraint : Constraint
 blankConstraint = record { first = 0; second = 0; size = Missing }
-
--- a list in a block of so many places, blank beyond it
-abbrev pub block : {A : Type 0} → ℕ → A → List A → List A
-block places blank xs = xs ++ replicate (places - length xs) blank
 
 unfoldable pub sheetOf : Facts → Sheet
 sheetOf f = record {

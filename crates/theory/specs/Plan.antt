@@ -37,6 +37,11 @@ unfoldable pub firstOf : ℕ → List ℕ → Option Merge
 firstOf i [] = none
 firstOf i (a ∷ s) = elim (secondOf a i (suc i) s) [ some m ↦ some m | none ↦ firstOf (suc i) s ]
 
+-- is there one?
+abbrev pub isSome : Option Merge → Bool
+isSome none = false
+isSome (some m) = true
+
 -- the plan, at most f steps of it
 unfoldable pub plan : ℕ → List ℕ → List Merge
 plan zero s = []

@@ -1,8 +1,9 @@
--- Laws of tests that compute: a conjunction, an equality and a difference of numbers, one of three numbers. Assumes nothing.
+-- Laws of tests that compute: a conjunction, an equality and a difference of numbers, one of three numbers, the branch taken. Assumes nothing.
 use mathlib.Core.Path.{_≡_, refl, subst}
 use mathlib.Core.Logic.{_≢_, _⊎_, inl, inr, ⊎-elim}
 use mathlib.Core.Bool.{Bool, true, false, not, _&&_}
 use Prim.Native.Nat.{ℕ}
+use native.Mathlib.Omega.{arith}
 use native.Mathlib.Decide.{ℕ-discrete}
 use lib.Dec.{T, eqb, eqb→eq, eqb-refl, T-not, not-T}
 
@@ -42,3 +43,13 @@ one-of x a b c = go (ℕ-discrete x a) (ℕ-discrete x b) (ℕ-discrete x c)
     go (no n) (yes e) r = yes (inr (inl e))
     go (no n) (no k) (yes e) = yes (inr (inr e))
     go (no n) (no k) (no l) = no (⊎-elim n (⊎-elim k l))
+
+-- ---- the branch that a test takes
+
+pub yes-branch : {A : Type 0} (t : Bool) (p q : A) → t ≡ true → p ≡ elim t [ true ↦ p | false ↦ q ]
+yes-branch true p q e = refl
+yes-branch false p q e = absurd (let z : _≡_ {A = ℕ} 0 1 = cc in omega arith)
+
+pub no-branch : {A : Type 0} (t : Bool) (p q : A) → t ≡ false → q ≡ elim t [ true ↦ p | false ↦ q ]
+no-branch true p q e = absurd (let z : _≡_ {A = ℕ} 0 1 = cc in omega arith)
+no-branch false p q e = refl

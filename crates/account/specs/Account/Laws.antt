@@ -6,13 +6,15 @@ use mathlib.Core.Bool.{true, false, _&&_}
 use mathlib.Core.List.{List, [], _∷_, _++_, map}
 use lib.Dec.{ltb}
 use lib.IntN.{ℤ, pos}
-use lib.ListN.{length, getD, take, replicate, length-append, length-replicate}
+use lib.ListN.{length, getD, take, length-append, length-replicate}
+use Rattle.theory.specs.Block.{block}
+use Rattle.theory.specs.Block.Laws.{getD-block, take-block}
 use Rattle.theory.specs.Constraints.{NotOver}
 use Rattle.theory.specs.Merge.{Merge, slot, Valid, final, left}
 use Rattle.theory.specs.Verdict.{judged}
 use Rattle.theory.specs.Placement.{placed, jointKind}
 use Rattle.sheet.specs.declared.Sheet.{Sheet}
-use Rattle.sheet.specs.Facts.{Facts, factsOf, block}
+use Rattle.sheet.specs.Facts.{Facts, factsOf}
 use Rattle.sheet.specs.Graph.{graphOf}
 use Rattle.sheet.specs.Graph.Laws.{length-clusters}
 use Rattle.theory.specs.declared.Verdict.{Verdict}
@@ -20,16 +22,16 @@ use Rattle.theory.specs.declared.Ways.the-variants.{Unknown}
 use Rattle.theory.specs.declared.Step.{Step}
 use Rattle.theory.specs.Graph.{listVerdict, stepsOf}
 use Rattle.graph.specs.Arrays.{constraintSize, endPair, EndsBelow64}
-use Rattle.merges.specs.Held.{padded}
-use Rattle.merges.specs.Run.{Begun, runOf}
+use Rattle.merges.specs.Run.{runOf, Start}
+use Rattle.merges.specs.Run.Laws.{length-final}
 use Rattle.merges.specs.declared.Run.{Run}
-use Rattle.merges.proofs.State.{length-final}
 use Rattle.engine.specs.Steps.{waysBy, stepFrom, Stepped}
 use Rattle.engine.specs.Steps.Laws.{stepped-are}
 use Rattle.judge.specs.Listing.Blocks.{Blocks}
+use Rattle.judge.specs.Listing.Laws.{map-map}
 use Rattle.judge.specs.declared.Judged.{Judged}
 use Rattle.judge.specs.Judged.{listed}
-use Rattle.judge.specs.Judged.Laws.{few, ends-below-64, begun, begun-list, take-padded, steps-few, joints-long, settled}
+use Rattle.judge.specs.Judged.Laws.{few, ends-below-64, fine-starts, fine-list, steps-few, joints-long, settled}
 use Rattle.report.specs.Report.{report}
 use Rattle.report.specs.Pieces.{AllSmall}
 use Rattle.report.specs.Report.Bound.{report-most, small-steps}
@@ -42,8 +44,8 @@ pub record Fit (s : Sheet) : Type 0 where
   pub notOver : NotOver (graphOf (factsOf s) .clusters)
   pub few-constraints : s .e ≤ 125
   pub ends : EndsBelow64 (factsOf s .constraints)
-  pub begins : (slots : List ℕ) → slots ≡ block 192 0 (map endPair (factsOf s .constraints)) → Begun slots (s .e)
-  pub begins-list : (slots : List ℕ) → slots ≡ block 192 0 (map endPair (factsOf s .constraints)) → take (s .e) slots ≡ graphOf (factsOf s) .clusters
+  pub begins : (slots : List ℕ) → slots ≡ block 200 0 (map endPair (factsOf s .constraints)) → Start slots (s .e)
+  pub begins-list : (slots : List ℕ) → slots ≡ block 200 0 (map endPair (factsOf s .constraints)) → take (s .e) slots ≡ graphOf (factsOf s) .clusters
 
 pub fit : (s : Sheet) → Blocks s → NotOver (graphOf (factsOf s) .clusters) → Fit s
 fit s b fine =
@@ -53,21 +55,11 @@ fit s b fine =
       notOver = fine;
       few-constraints = rw (b .count) at (few f (b .elements-few) (b .elements-some) (b .constraints-few) (b .fine) fine);
       ends = ends-below-64 f (b .elements-few) (b .elements-some) (b .constraints-few) (b .fine) fine;
-      begins = λ slots are. begun f (b .elements-few) (b .elements-some) (b .constraints-few) (b .fine) fine slots (s .e) (sym (b .count)) are;
-      begins-list = λ slots are. begun-list f (b .elements-few) (b .elements-some) (b .constraints-few) (b .fine) fine slots (s .e) (sym (b .count)) are;
+      begins = λ slots are. fine-starts f (b .elements-few) (b .elements-some) (b .constraints-few) (b .fine) fine slots (s .e) (sym (b .count)) are;
+      begins-list = λ slots are. fine-list f (b .elements-few) (b .elements-some) (b .constraints-few) (b .fine) fine slots (s .e) (sym (b .count)) are;
     }
 
 -- ---- a missing size, and a place beyond the list, is 0
-
-getD-replicate : {A : Type 0} (k : ℕ) (d : A) (i : ℕ) → getD (replicate k d) i d ≡ d
-getD-replicate zero d i = refl
-getD-replicate (suc k) d zero = refl
-getD-replicate (suc k) d (suc i) = getD-replicate k d i
-
-getD-block : {A : Type 0} (l : List A) (k : ℕ) (d : A) (i : ℕ) → getD (l ++ replicate k d) i d ≡ getD l i d
-getD-block [] k d i = getD-replicate k d i
-getD-block (x ∷ l) k d zero = refl
-getD-block (x ∷ l) k d (suc i) = getD-block l k d i
 
 -- steps go by the sizes of the list alone
 sizes-same : (lines e : ℕ) (a b : List ℤ) (cs : List ℕ) (made : ℕ) (parts knots : List ℕ) (t : ℕ) → ((i : ℕ) → getD a i (pos 0) ≡ getD b i (pos 0))
@@ -105,7 +97,7 @@ stepped-sizes lines e a b cs run steps g h = record {
 pub record Told (s : Sheet) (run : Run) (lines : ℕ) (v : Verdict) (start : List ℕ) (sizes : List ℤ) (steps : List Step) : Type 0 where
   pub lines-are : lines ≡ graphOf (factsOf s) .lines
   pub v-is : (finals : List ℕ) → left finals + 2 * run .steps ≡ s .e → v ≡ judged lines (s .n) (s .e) (take (run .steps) (run .joints)) finals
-  pub start-is : start ≡ block 192 0 (map endPair (factsOf s .constraints))
+  pub start-is : start ≡ block 200 0 (map endPair (factsOf s .constraints))
   pub sizes-are : sizes ≡ block 200 (pos 0) (map constraintSize (factsOf s .constraints))
   pub stepped : Stepped lines (s .e) sizes start run steps
 
@@ -129,7 +121,7 @@ module _ (s : Sheet) (h : Fit s) (p : List Merge) (valid : Valid (graphOf (facts
   final-long : length (final (graphOf f .clusters) p) ≡ s .e + run .steps
   final-long = length-final p (graphOf f .clusters) ∙ rw (length-clusters f, h .sheet .count, steps-are)
 
-  slots-are : run .slots ≡ padded 192 (final (graphOf f .clusters) p)
+  slots-are : run .slots ≡ block 192 0 (final (graphOf f .clusters) p)
   unfolding runOf
   slots-are = ap (λ (r : Run). r .slots) is
 
@@ -137,7 +129,7 @@ module _ (s : Sheet) (h : Fit s) (p : List Merge) (valid : Valid (graphOf (facts
   slots-long = rw (slots-are, length-append, length-replicate) (omega (arith, final-long, steps-most, h .few-constraints))
 
   finals : take (s .e + run .steps) (run .slots) ≡ final (graphOf f .clusters) p
-  finals = ap (take (s .e + run .steps)) slots-are ∙ take-padded 192 (final (graphOf f .clusters) p) (s .e + run .steps) (sym final-long)
+  finals = ap (take (s .e + run .steps)) slots-are ∙ take-block 192 0 (final (graphOf f .clusters) p) (s .e + run .steps) (sym final-long)
 
   -- what they give is the list's own
   module _ (lines : ℕ) (v : Verdict) (start : List ℕ) (sizes : List ℤ) (steps : List Step) (t : Told s run lines v start sizes steps) where
@@ -148,11 +140,11 @@ module _ (s : Sheet) (h : Fit s) (p : List Merge) (valid : Valid (graphOf (facts
 
     pub steps-list : take (run .steps) steps ≡ stepsOf (graphOf f) p
     steps-list =
-        stepped-are (graphOf f) p run start steps valid is (h .begins start (t .start-is) .are ∙ ap (padded 192) (h .begins-list start (t .start-is)))
-        (omega (arith, steps-most, steps-are)) (rw (← t .lines-are, length-clusters f, h .sheet .count) stepped)
+        stepped-are (graphOf f) p run start steps valid is (t .start-is) (omega (arith, steps-most, steps-are))
+        (rw (← t .lines-are, length-clusters f, h .sheet .count) stepped)
       where
         same : (i : ℕ) → getD sizes i (pos 0) ≡ getD (graphOf f .sizes) i (pos 0)
-        same i = ap (λ (l : List ℤ). getD l i (pos 0)) (t .sizes-are) ∙ getD-block (map constraintSize (f .constraints)) (200 - length (map constraintSize (f .constraints))) (pos 0) i
+        same i = ap (λ (l : List ℤ). getD l i (pos 0)) (t .sizes-are) ∙ getD-block 200 (pos 0) (map constraintSize (f .constraints)) i
 
         stepped : Stepped lines (s .e) (graphOf f .sizes) start run steps
         stepped = stepped-sizes lines (s .e) sizes (graphOf f .sizes) start run steps same (t .stepped)

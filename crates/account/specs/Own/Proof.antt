@@ -19,7 +19,7 @@ use Rattle.theory.specs.declared.Finding.the-variants.{Fine}
 use Rattle.theory.specs.declared.Verdict.the-variants.{Over}
 use Rattle.theory.specs.Graph.{Graph, findingOf, verdictOf}
 use Rattle.theory.specs.Graph.Laws.{fine-verdict, fine-not-over, not-over-fine, length-steps, joints-steps}
-use Rattle.merges.specs.Held.{flat}
+use Rattle.merges.specs.Run.{flat}
 use Rattle.judge.specs.Judged.{planBy, planNumbers, finalsBy, finalClusters}
 use Rattle.plans.specs.Check.{savedSteps, planFault}
 use Rattle.plans.specs.Check.Laws.{accepted-maximal}

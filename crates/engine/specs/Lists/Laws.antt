@@ -5,31 +5,27 @@ use mathlib.Core.List.{List, [], _∷_, _++_, map, append-nil}
 use Prim.Native.Nat.{ℕ, zero, suc, _+_, _*_, _≤_, _<_}
 use native.Mathlib.Omega.{arith}
 use native.Mathlib.Numerals.{add-one}
-use lib.ListN.{length, getD, take, length-map}
+use lib.ListN.{length, getD, take}
 use lib.Seq.{take-suc}
+use Rattle.theory.specs.Block.Laws.{take-block}
 use Rattle.theory.specs.Constraints.{Among}
 use Rattle.theory.specs.Merge.{slot, Merge, final, live, left, total}
 use Rattle.theory.specs.Plan.{ascending}
-use Rattle.merges.specs.Held.{padded, flat}
-use Rattle.merges.specs.Run.{runOf}
-use Rattle.merges.proofs.Padded.{take-padded}
-use Rattle.merges.proofs.State.{length-flat, length-final}
+use Rattle.merges.specs.Run.{flat, runOf}
+use Rattle.merges.specs.Run.Laws.{length-numbers, length-final}
 use Rattle.engine.specs.Lists.{livingOf}
 
 -- ---- the plan's numbers
 
 pub plan-numbers : (cs : List ℕ) (p : List Merge) → take (3 * runOf cs p .steps) (runOf cs p .parts) ≡ flat (map ascending p)
 unfolding runOf
-plan-numbers cs p =
-    let e : 3 * length p ≡ length (flat (map ascending p)) = omega (arith, length-flat (map ascending p), length-map p ascending) in
-    ap (λ (n : ℕ). take n (padded 192 (flat (map ascending p)))) e ∙ take-padded 192 (flat (map ascending p))
+plan-numbers cs p = take-block 192 0 (flat (map ascending p)) (3 * length p) (sym (length-numbers p))
 
 -- ---- the final clusters
 
 pub final-clusters : (cs : List ℕ) (p : List Merge) → livingOf (take (length cs + runOf cs p .steps) (runOf cs p .slots)) ≡ livingOf (final cs p)
 unfolding runOf
-final-clusters cs p =
-    ap livingOf (ap (λ (n : ℕ). take n (padded 192 (final cs p))) (sym (length-final p cs)) ∙ take-padded 192 (final cs p))
+final-clusters cs p = ap livingOf (take-block 192 0 (final cs p) (length cs + length p) (sym (length-final p cs)))
 
 -- each once for each place that it lives at
 pub living-live : (s : List ℕ) (x : ℕ) → Among x (livingOf s) ↔ live s x

@@ -10,6 +10,8 @@ use lib.IntN.{ℤ, pos}
 use lib.ListN.{length, getD, take, length-take}
 use lib.Seq.{ext-getD, getD-take}
 use borrow.Author.Tests.{ltb-true}
+use Rattle.theory.specs.Block.{block}
+use Rattle.theory.specs.Block.Laws.{getD-block}
 use Rattle.theory.specs.Merge.{slot, Merge, merge, three, joint, OpenAt, put, Valid, joints}
 use Rattle.theory.specs.Merge.Numbered.{Place, new, old, place, length-put}
 use Rattle.theory.specs.Plan.{ascending}
@@ -21,10 +23,8 @@ use Rattle.theory.specs.declared.JointKind.{JointKind}
 use Rattle.theory.specs.declared.Ways.{Ways}
 use Rattle.theory.specs.declared.Ways.the-variants.{Unknown}
 use Rattle.theory.specs.declared.Step.{Step}
-use Rattle.merges.specs.Held.{padded, flat}
-use Rattle.merges.specs.Run.{runOf}
+use Rattle.merges.specs.Run.{flat, runOf}
 use Rattle.merges.specs.declared.Run.{Run}
-use Rattle.merges.proofs.Padded.{slot-padded}
 use Rattle.engine.specs.Steps.{waysBy, stepFrom, blankStep, Stepped}
 
 -- ---- placements go by initial clusters only
@@ -120,26 +120,26 @@ steps-from g (m ∷ p) s base (suc t) v k h b l =
 
 -- reading the arrays is reading the lists
 read-lists : (lines e : ℕ) (sizes : List ℤ) (cs parts knots : List ℕ) (t : ℕ)
-    → stepFrom lines e sizes (padded 192 cs) e (padded 192 parts) (padded 64 knots) t ≡ stepFrom lines e sizes cs e parts knots t
+    → stepFrom lines e sizes (block 200 0 cs) e (block 192 0 parts) (block 64 0 knots) t ≡ stepFrom lines e sizes cs e parts knots t
 unfolding stepFrom waysBy
 read-lists lines e sizes cs parts knots t =
-    let i = slot-padded 192 parts (3 * t) in
-    let j = slot-padded 192 parts (3 * t + 1) in
-    let k = slot-padded 192 parts (3 * t + 2) in
-    let x = slot-padded 64 knots t in
+    let i = getD-block 192 0 parts (3 * t) in
+    let j = getD-block 192 0 parts (3 * t + 1) in
+    let k = getD-block 192 0 parts (3 * t + 2) in
+    let x = getD-block 64 0 knots t in
     let m = merge (slot parts (3 * t)) (slot parts (3 * t + 1)) (slot parts (3 * t + 2)) in
-    let w : waysBy lines (jointKind lines (slot (padded 64 knots) t)) e sizes (padded 192 cs) (merge (slot (padded 192 parts) (3 * t)) (slot (padded 192 parts) (3 * t + 1)) (slot (padded 192 parts) (3 * t + 2)))
+    let w : waysBy lines (jointKind lines (slot (block 64 0 knots) t)) e sizes (block 200 0 cs) (merge (slot (block 192 0 parts) (3 * t)) (slot (block 192 0 parts) (3 * t + 1)) (slot (block 192 0 parts) (3 * t + 2)))
     ≡ waysBy lines (jointKind lines (slot knots t)) e sizes cs m =
-    (λ z. waysBy lines (jointKind lines (x z)) e sizes (padded 192 cs) (merge (i z) (j z) (k z)))
+    (λ z. waysBy lines (jointKind lines (x z)) e sizes (block 200 0 cs) (merge (i z) (j z) (k z)))
     ∙ (λ z. elim (ltb (m .i) e && (ltb (m .j) e && ltb (m .k) e)) [
-      | true ↦ placed lines (jointKind lines (slot knots t)) (slot-padded 192 cs (m .i) z) (slot-padded 192 cs (m .j) z) (getD sizes (m .i) (pos 0)) (getD sizes (m .j) (pos 0)) (getD sizes (m .k) (pos 0))
+      | true ↦ placed lines (jointKind lines (slot knots t)) (getD-block 200 0 cs (m .i) z) (getD-block 200 0 cs (m .j) z) (getD sizes (m .i) (pos 0)) (getD sizes (m .j) (pos 0)) (getD sizes (m .k) (pos 0))
       | false ↦ Unknown
     ]) in
     λ z. record { made = e + t; i = i z; j = j z; k = k z; joint = x z; kind = jointKind lines (x z); ways = w z }
 
 -- the steps that the arrays of a run give are those of its list of merges
 pub stepped-are : (g : Graph) (p : List Merge) (run : Run) (start : List ℕ) (steps : List Step) → Valid (g .clusters) p → run ≡ runOf (g .clusters) p
-    → start ≡ padded 192 (g .clusters) → length p ≤ 62 → Stepped (g .lines) (length (g .clusters)) (g .sizes) start run steps
+    → start ≡ block 200 0 (g .clusters) → length p ≤ 62 → Stepped (g .lines) (length (g .clusters)) (g .sizes) start run steps
     → take (run .steps) steps ≡ stepsOf g p
 unfolding runOf
 stepped-are g p run start steps v h b f w =

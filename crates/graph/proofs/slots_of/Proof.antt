@@ -9,7 +9,7 @@ use Rattle.graph.proofs.slots_of.Statement.{statement}
 use Rattle.graph.proofs.slots_of.Tie as tie
 
 abbrev Inv-loop : tie.InvT-loop
-Inv-loop e cs slots₀ i₀ slots i = Filling endPair cs 192 0 e i slots
+Inv-loop e cs slots₀ i₀ slots i = Filling endPair cs 200 0 e i slots
 
 abbrev μ-loop : tie.MeasureT-loop
 μ-loop e cs slots₀ i₀ slots i = e - i
@@ -18,7 +18,7 @@ long : (c : tie.Start Inv-loop μ-loop) → length (c .args .t1) ≡ 200
 long c = search needs
 
 loop-holds : tie.Need-loop-holds Inv-loop μ-loop
-loop-holds c = filling-none endPair (c .args .t1) 192 0 (c .args .e)
+loop-holds c = filling-none endPair (c .args .t1) 200 0 (c .args .e)
 
 mul-c : tie.Need-mul-c Inv-loop μ-loop
 mul-c c = search needs
@@ -50,12 +50,12 @@ loop-again : tie.Need-loop-again Inv-loop μ-loop
 loop-again c =
     let s = c .before .before .before .before in
     let a = c .before .before .before .loop in
-    rw (c .pair-of .ensures) (filling-more endPair (s .args .t1) 192 0 (s .args .e) (a .i) (a .slots) _ (c .before .before .loop-test .taken) (rw (long s) (omega (arith, s .pre .0))) (s .pre .0) (a .inv))
+    rw (c .pair-of .ensures) (filling-more endPair (s .args .t1) 200 0 (s .args .e) (a .i) (a .slots) _ (c .before .before .loop-test .taken) (rw (long s) (omega (arith, s .pre .0))) (s .pre .0) (a .inv))
 
 returns : tie.Need-returns Inv-loop μ-loop
 returns c =
     let s = c .before .before in
-    filling-all endPair (s .args .t1) 192 0 (s .args .e) (c .before .loop .i) (c .before .loop .slots) (c .loop-test .left) (s .pre .0) (c .before .loop .inv)
+    filling-all endPair (s .args .t1) 200 0 (s .args .e) (c .before .loop .i) (c .before .loop .slots) (c .loop-test .left) (s .pre .0) (c .before .loop .inv)
 
 pub slots-of-spec : {M : Type 1} → statement M
 slots-of-spec =

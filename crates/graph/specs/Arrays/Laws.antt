@@ -8,7 +8,7 @@ use mathlib.Core.List.{List, [], _∷_, _++_, map}
 use lib.ListN.{length, take, drop, getD, set, replicate, length-set, length-replicate}
 use lib.Seq.{take-suc, take-suc-set, getD-take, length-take-le}
 use Rattle.sheet.specs.declared.Constraint.{Constraint}
-use Rattle.sheet.specs.Facts.{block}
+use Rattle.theory.specs.Block.{block}
 use Rattle.sheet.specs.Facts.Laws.{still-blank, filled}
 use Rattle.graph.specs.Arrays.{EndsBelow64}
 

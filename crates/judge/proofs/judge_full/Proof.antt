@@ -18,12 +18,12 @@ run-of-requires c κs = (c .pre .0, omega (arith, c .pre .1, sheet c .in-blocks 
 mul-if1 : tie.Need-mul-if1
 mul-if1 c =
     let s = c .before .before in
-    omega (arith, steps-room (s .args .s) (sheet s) (c .before .run-of .result) (c .before .run-of .ensures), sheet s .columns .few)
+    omega (arith, steps-room (s .args .s) (sheet s) (c .before .run-of .result) (c .before .run-of .ensures .merged), sheet s .columns .few)
 
 add-if1 : tie.Need-add-if1
 add-if1 c =
     let s = c .before .before in
-    omega (arith, steps-room (s .args .s) (sheet s) (c .before .run-of .result) (c .before .run-of .ensures), sheet s .columns .few)
+    omega (arith, steps-room (s .args .s) (sheet s) (c .before .run-of .result) (c .before .run-of .ensures .merged), sheet s .columns .few)
 
 listed-by-requires : tie.Need-listed-by-requires
 listed-by-requires c κs =
@@ -34,7 +34,7 @@ returns : tie.Need-returns
 returns c =
     let s = c .before .before .before .before .before in
     let r = c .before .before .before .before .run-of in
-    let fine = one-left (s .args .s) (sheet s) (r .result) (r .ensures) (c .before .if1 .taken) in
+    let fine = one-left (s .args .s) (sheet s) (r .result) (r .ensures .merged) (c .before .if1 .taken) in
     c .listed-by .ensures fine ∙ sym (fine-judged (s .args .s) (sheet s) fine)
 
 over-of-requires : tie.Need-over-of-requires

@@ -4,9 +4,9 @@ use mathlib.Core.Path.{_≡_, sym, ap, _∙_, subst}
 use mathlib.Core.List.{List}
 use lib.ListN.{length, take}
 use Rattle.sheet.specs.Facts.{Facts, factsOf}
-use Rattle.merges.specs.Run.{Ran}
+use Rattle.merges.specs.Run.{Planned}
 use Rattle.judge.specs.Listing.Blocks.{Blocks, passed-blocks}
-use Rattle.judge.specs.Judged.Laws.{ends-in-64, start-list, start-begun}
+use Rattle.judge.specs.Judged.Laws.{ends-in-64, start-list, starts}
 use Rattle.judge.proofs.run_of.Statement.{statement}
 use Rattle.judge.proofs.run_of.Tie as tie
 
@@ -27,14 +27,14 @@ slots-of-requires c κs =
 merge-all-requires : tie.Need-merge-all-requires
 merge-all-requires c κs =
     let s = c .before .before in
-    start-begun (facts s) (in-blocks s .elements-few) (in-blocks s .constraints-few) (in-blocks s .fine) (c .slots-of .result) (s .args .s .e) (sym (in-blocks s .count)) (c .slots-of .ensures)
+    starts (facts s) (in-blocks s .elements-few) (in-blocks s .constraints-few) (in-blocks s .fine) (c .slots-of .result) (s .args .s .e) (sym (in-blocks s .count)) (c .slots-of .ensures)
     (rw (in-blocks s .count) (s .pre .1))
 
 returns : tie.Need-returns
 returns c =
     let s = c .before .before .before in
     let g = c .before .slots-of in
-    subst (λ (cs : List ℕ). Ran cs (c .merge-all .result))
+    subst (λ (cs : List ℕ). Planned cs (c .merge-all .result))
     (start-list (facts s) (in-blocks s .elements-few) (in-blocks s .constraints-few) (in-blocks s .fine) (g .result) (s .args .s .e) (sym (in-blocks s .count)) (g .ensures)) (c .merge-all .ensures)
 
 pub run-of-spec : {M : Type 1} → statement M

@@ -4,7 +4,8 @@ use native.Mathlib.Omega.{arith}
 use mathlib.Core.Path.{_≡_, sym, ap, _∙_}
 use mathlib.Core.List.{List, [], map}
 use lib.ListN.{length, take, length-map, length-append, length-replicate}
-use lib.Seq.{take-append-seam}
+use Rattle.theory.specs.Block.{block}
+use Rattle.theory.specs.Block.Laws.{take-block}
 use Rattle.theory.specs.Constraints.{NotOver, Pairs}
 use Rattle.theory.specs.Over.Laws.{fine-most}
 use Rattle.theory.specs.Merge.{Merge, Valid, final, joints, left}
@@ -12,21 +13,16 @@ use Rattle.theory.specs.Merge.Count.{steps-left}
 use Rattle.theory.specs.Verdict.{judged}
 use Rattle.theory.specs.declared.Verdict.{Verdict}
 use Rattle.theory.specs.Graph.{listVerdict}
-use Rattle.sheet.specs.Facts.{Facts, block}
+use Rattle.sheet.specs.Facts.{Facts}
 use Rattle.sheet.specs.Rules.{constraintsFault}
 use Rattle.sheet.specs.Graph.{graphOf}
 use Rattle.sheet.specs.Graph.Laws.{length-clusters, clusters-pairs, clusters-below}
 use Rattle.graph.specs.Arrays.{endPair, EndsBelow64}
-use Rattle.merges.specs.Held.{padded}
-use Rattle.merges.specs.Run.{Begun, runOf}
+use Rattle.merges.specs.Run.{runOf, Start}
+use Rattle.merges.specs.Run.Laws.{length-joints}
 use Rattle.merges.specs.declared.Run.{Run}
 use Rattle.judge.specs.Judged.{listed}
-use Rattle.merges.proofs.State.{length-joints}
 use Rattle.judge.specs.Listing.Laws.{each-ends}
-
--- the first places of a padded list
-pub take-padded : (k : ℕ) (l : List ℕ) (n : ℕ) → n ≡ length l → take n (padded k l) ≡ l
-take-padded k l n e = rw e (take-append-seam l _)
 
 module _ (f : Facts) (elements : length (f .elements) ≤ 64) (constraints : length (f .constraints) ≤ 200)
     (none : constraintsFault (f .elements) [] (f .constraints) ≡ 0) where
@@ -37,17 +33,16 @@ module _ (f : Facts) (elements : length (f .elements) ≤ 64) (constraints : len
   }
 
   -- the array of initial clusters
-  module _ (slots : List ℕ) (e : ℕ) (count : e ≡ length (f .constraints)) (are : slots ≡ block 192 0 (map endPair (f .constraints))) where
+  module _ (slots : List ℕ) (e : ℕ) (count : e ≡ length (f .constraints)) (are : slots ≡ block 200 0 (map endPair (f .constraints))) where
     pub start-list : take e slots ≡ graphOf f .clusters
     start-list =
-        ap (take e) are ∙ take-padded 192 (map endPair (f .constraints)) e (count ∙ sym (simp length-map))
+        ap (take e) are ∙ take-block 200 0 (map endPair (f .constraints)) e (count ∙ sym (simp length-map))
 
-    pub start-begun : length (f .constraints) ≤ 125 → Begun slots e
-    start-begun most = record {
+    pub starts : length (f .constraints) ≤ 125 → Start slots e
+    starts most = record {
       few = rw count most;
       count = rw (start-list, count) (simp length-map);
       pairs = rw start-list (clusters-pairs f none);
-      are = are ∙ ap (padded 192) (sym start-list);
     }
 
 module _ (f : Facts) (elements : length (f .elements) ≤ 64) (two : 2 ≤ length (f .elements)) (constraints : length (f .constraints) ≤ 200)
@@ -60,12 +55,12 @@ module _ (f : Facts) (elements : length (f .elements) ≤ 64) (two : 2 ≤ lengt
   pub ends-below-64 : EndsBelow64 (f .constraints)
   ends-below-64 = ends-in-64 f elements constraints none
 
-  module _ (slots : List ℕ) (e : ℕ) (count : e ≡ length (f .constraints)) (are : slots ≡ block 192 0 (map endPair (f .constraints))) where
-    pub begun-list : take e slots ≡ graphOf f .clusters
-    begun-list = start-list f elements constraints none slots e count are
+  module _ (slots : List ℕ) (e : ℕ) (count : e ≡ length (f .constraints)) (are : slots ≡ block 200 0 (map endPair (f .constraints))) where
+    pub fine-list : take e slots ≡ graphOf f .clusters
+    fine-list = start-list f elements constraints none slots e count are
 
-    pub begun : Begun slots e
-    begun = start-begun f elements constraints none slots e count are few
+    pub fine-starts : Start slots e
+    fine-starts = starts f elements constraints none slots e count are few
 
 -- ---- the judgement of a list of merges in arrays
 

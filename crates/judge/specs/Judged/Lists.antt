@@ -3,8 +3,10 @@ use Prim.Native.Nat.{ℕ, zero, suc, _+_, _-_, _*_, _≤_}
 use native.Mathlib.Omega.{arith}
 use mathlib.Core.Path.{_≡_, refl, sym, ap, _∙_, subst}
 use mathlib.Core.List.{List, [], _∷_, _++_, map}
-use lib.ListN.{length, take, replicate, length-map, length-append, length-replicate}
+use lib.ListN.{length, take, replicate}
 use lib.Seq.{take-all}
+use Rattle.theory.specs.Block.{block}
+use Rattle.theory.specs.Block.Laws.{length-block, take-block}
 use Rattle.theory.specs.Constraints.{Pairs, Below, NotOver}
 use Rattle.theory.specs.Over.Laws.{overOf-fine}
 use Rattle.theory.specs.Merge.{final, joints}
@@ -15,13 +17,11 @@ use Rattle.theory.specs.declared.Finding.{Finding}
 use Rattle.theory.specs.declared.Finding.the-variants.{Fine, First}
 use Rattle.theory.specs.Graph.{Graph, findingOf, verdictOf}
 use Rattle.theory.specs.Graph.Laws.{first-verdict, fine-verdict}
-use Rattle.merges.specs.Held.{padded, flat}
-use Rattle.merges.specs.Run.{runOf}
-use Rattle.merges.proofs.State.{length-flat, length-final}
+use Rattle.merges.specs.Run.{flat, runOf}
+use Rattle.merges.specs.Run.Laws.{length-numbers, length-final}
 use Rattle.engine.specs.Lists.{livingOf}
 use Rattle.judge.specs.declared.Judged.{Judged}
 use Rattle.judge.specs.Judged.{listed, planned, overFound, judgedBy, judgedOf, planBy, planNumbers, finalsBy, finalClusters}
-use Rattle.judge.specs.Judged.Laws.{take-padded}
 
 -- zeros name no living cluster
 living-none : (k : ℕ) → livingOf (replicate k 0) ≡ []
@@ -44,9 +44,6 @@ module _ (g : Graph) (paired : Pairs (g .clusters)) (below : Below (g .n) (g .cl
     pub finals : livingOf (take 192 (j .run .slots)) ≡ finalClusters g
     pub verdict-is : j .verdict ≡ verdictOf g
 
-  padded-long : (k : ℕ) (l : List ℕ) → length l ≤ k → length (padded k l) ≡ k
-  padded-long k l h = rw (length-append, length-replicate) (omega arith)
-
   plan-held : findingOf g ≡ Fine → Held (planned g)
   unfolding listed runOf planNumbers finalClusters
   plan-held q =
@@ -55,14 +52,14 @@ module _ (g : Graph) (paired : Pairs (g .clusters)) (below : Below (g .n) (g .cl
       let v = plan-of-maximal cs paired .valid in
       let s = steps-left cs paired p v in
       let e = few (overOf-fine (g .n) cs paired below q) in
-      let l : length (flat (map ascending p)) ≡ 3 * length p = length-flat (map ascending p) ∙ ap (λ (k : ℕ). 3 * k) (simp length-map) in
+      let l : length (flat (map ascending p)) ≡ 3 * length p = length-numbers p in
       let m : length (final cs p) ≡ length cs + length p = length-final p cs in
       record {
         steps-most = omega arith;
-        parts-long = padded-long 192 (flat (map ascending p)) (omega arith);
-        slots-long = padded-long 192 (final cs p) (omega arith);
-        numbers = take-padded 192 (flat (map ascending p)) (3 * length p) (sym l) ∙ sym (ap (λ (o : Finding). flat (map ascending (planBy g o))) q);
-        finals = ap livingOf (take-all 192 (padded 192 (final cs p)) (omega (arith, padded-long 192 (final cs p) (omega arith)))) ∙ living-append (final cs p) (192 - length (final cs p)) ∙ sym (ap (finalsBy g) q);
+        parts-long = length-block 192 0 (flat (map ascending p)) (omega arith);
+        slots-long = length-block 192 0 (final cs p) (omega arith);
+        numbers = take-block 192 0 (flat (map ascending p)) (3 * length p) (sym l) ∙ sym (ap (λ (o : Finding). flat (map ascending (planBy g o))) q);
+        finals = ap livingOf (take-all 192 (block 192 0 (final cs p)) (omega (arith, length-block 192 0 (final cs p) (omega arith)))) ∙ living-append (final cs p) (192 - length (final cs p)) ∙ sym (ap (finalsBy g) q);
         verdict-is = sym (fine-verdict g q);
       }
 

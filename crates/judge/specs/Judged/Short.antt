@@ -25,7 +25,7 @@ use Rattle.sheet.specs.Rules.{sheetFault}
 use Rattle.peeling.specs.Core.{Core, Loose, Told}
 use Rattle.peeling.specs.Core.Peeling.{core-none}
 use Rattle.peeling.specs.Core.Merging.{loose-one}
-use Rattle.merges.specs.Run.{Ran, runOf}
+use Rattle.merges.specs.Run.{runOf, Merged}
 use Rattle.merges.specs.declared.Run.{Run}
 use Rattle.judge.specs.Listing.{columnsOf}
 use Rattle.judge.specs.Listing.Laws.{masks-are, listed}
@@ -56,17 +56,17 @@ whole s g none =
     }
 
 module _ (s : Sheet) (w : Whole s) where
-  pub steps-room : (run : Run) → Ran (graphOf (factsOf s) .clusters) run → 2 * run .steps ≤ s .e
+  pub steps-room : (run : Run) → Merged (graphOf (factsOf s) .clusters) run → 2 * run .steps ≤ s .e
   unfolding runOf
-  steps-room run ran =
-      omega (arith, steps-left (graphOf (factsOf s) .clusters) (w .in-blocks .paired) (ran .p) (ran .valid), w .count, ap (λ (r : Run). r .steps) (ran .is))
+  steps-room run merged =
+      omega (arith, steps-left (graphOf (factsOf s) .clusters) (w .in-blocks .paired) (merged .p) (merged .valid), w .count, ap (λ (r : Run). r .steps) (merged .is))
 
   -- merges that leave one cluster show that the sheet is not over
-  pub one-left : (run : Run) → Ran (graphOf (factsOf s) .clusters) run → 2 * run .steps + 1 ≡ s .e → NotOver (graphOf (factsOf s) .clusters)
+  pub one-left : (run : Run) → Merged (graphOf (factsOf s) .clusters) run → 2 * run .steps + 1 ≡ s .e → NotOver (graphOf (factsOf s) .clusters)
   unfolding runOf
-  one-left run ran one =
-      one-fine (graphOf (factsOf s) .clusters) (w .in-blocks .paired) (ran .p) (ran .valid)
-      (omega (arith, steps-left (graphOf (factsOf s) .clusters) (w .in-blocks .paired) (ran .p) (ran .valid), w .count, one, ap (λ (r : Run). r .steps) (ran .is)))
+  one-left run merged one =
+      one-fine (graphOf (factsOf s) .clusters) (w .in-blocks .paired) (merged .p) (merged .valid)
+      (omega (arith, steps-left (graphOf (factsOf s) .clusters) (w .in-blocks .paired) (merged .p) (merged .valid), w .count, one, ap (λ (r : Run). r .steps) (merged .is)))
 
   none-found : NotOver (graphOf (factsOf s) .clusters) → findingOf (graphOf (factsOf s)) ≡ Fine
   none-found = fine-finding (graphOf (factsOf s)) (w .in-blocks .paired) (w .in-blocks .below)

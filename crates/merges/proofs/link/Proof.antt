@@ -4,7 +4,7 @@ use native.Mathlib.Omega.{arith}
 use borrow.Author.Needs.{needs}
 use lib.Bits.{and-le-r}
 use lib.Count.{trailingZeros}
-use Rattle.merges.proofs.Digits.{lowest-below}
+use Rattle.theory.specs.Set.Lowest.{lowest-below}
 use Rattle.merges.proofs.Linkage.{Partly, partly-none, partly-next, partly-all}
 use Rattle.merges.proofs.link.Statement.{statement}
 use Rattle.merges.proofs.link.Tie as tie
@@ -20,7 +20,7 @@ low : (c : tie.In-loop Inv-loop μ-loop) → trailingZeros 64 (c .before .loop .
 low c = lowest-below 64 (c .before .loop .rest) (c .before .loop .inv .fits) (c .loop-test .taken)
 
 loop-holds : tie.Need-loop-holds Inv-loop μ-loop
-loop-holds c = partly-none (c .args .links .now) (c .args .u) (search needs) (c .pre)
+loop-holds c = partly-none (search needs) (c .pre)
 
 cast-p : tie.Need-cast-p Inv-loop μ-loop
 cast-p c = omega (arith, low c)
@@ -37,37 +37,17 @@ mul-links-2 c = omega (arith, low (c .before))
 element-write-links : tie.Need-element-write-links Inv-loop μ-loop
 element-write-links c = low (c .before)
 
-sub-rest : tie.Need-sub-rest Inv-loop μ-loop
-sub-rest c = omega arith
-
 loop-less : tie.Need-loop-less Inv-loop μ-loop
 loop-less c = omega (arith, and-le-r (c .before .before .loop .rest) (c .before .before .loop .rest - 1))
 
 loop-again : tie.Need-loop-again Inv-loop μ-loop
-loop-again c =
-    let a = c .before .before .before .args in
-    let l = c .before .before .loop in
-    partly-next (a .links .now) (a .u) (l .links) (l .rest) (l .inv) (c .before .loop-test .taken)
+loop-again c = partly-next (c .before .before .loop .inv) (c .before .loop-test .taken)
 
 returns : tie.Need-returns Inv-loop μ-loop
-returns c =
-    let a = c .before .before .args in
-    let l = c .before .loop in
-    partly-all (a .links .now) (a .u) (l .links) (l .rest) (l .inv) (search needs)
+returns c = partly-all (c .before .loop .inv) (search needs)
 
 pub link-spec : {M : Type 1} → statement M
 link-spec =
     tie.close
-    (tie.spec
-    Inv-loop
-    μ-loop
-    loop-holds
-    cast-p
-    mul-links
-    element-copy-out-links
-    mul-links-2
-    element-write-links
-    sub-rest
-    loop-less
-    loop-again
-    returns)
+    (tie.spec Inv-loop μ-loop loop-holds cast-p mul-links element-copy-out-links mul-links-2 element-write-links
+    (λ c. omega arith) loop-less loop-again returns)

@@ -7,34 +7,19 @@ use native.Mathlib.Numerals.{add-one}
 use borrow.Author.Needs.{needs}
 use lib.ListN.{length, take, getD}
 use lib.Seq.{take-suc}
-use Rattle.merges.specs.Links.{Links}
-use Rattle.merges.proofs.State.{links-none, links-add}
+use Rattle.merges.specs.Search.Links.{Links}
+use Rattle.merges.proofs.Searching.{links-none, links-add}
 use Rattle.merges.proofs.link_all.Statement.{statement}
 use Rattle.merges.proofs.link_all.Tie as tie
 
 abbrev Inv-loop : tie.InvT-loop
-Inv-loop slots e links₀ i₀ links i = (i ≤ e) × Links (take i slots) links × (length links ≡ 64)
+Inv-loop slots used links₀ i₀ links i = (i ≤ used) × Links (take i slots) links × (length links ≡ 64)
 
 abbrev μ-loop : tie.MeasureT-loop
-μ-loop slots e links₀ i₀ links i = e - i
+μ-loop slots used links₀ i₀ links i = used - i
 
 loop-holds : tie.Need-loop-holds Inv-loop μ-loop
 loop-holds c = (search needs, links-none 64, refl)
-
-mul-link : tie.Need-mul-link Inv-loop μ-loop
-mul-link c = search needs
-
-element-copy-out-link : tie.Need-element-copy-out-link Inv-loop μ-loop
-element-copy-out-link c = search needs
-
-link-requires : tie.Need-link-requires Inv-loop μ-loop
-link-requires c κs = search needs
-
-add-i : tie.Need-add-i Inv-loop μ-loop
-add-i c = search needs
-
-loop-less : tie.Need-loop-less Inv-loop μ-loop
-loop-less c = search needs
 
 loop-again : tie.Need-loop-again Inv-loop μ-loop
 loop-again c =
@@ -44,7 +29,7 @@ loop-again c =
     let h : l .i < length (a .slots .now) = search needs in (
       search needs,
       subst (λ (s : List ℕ). Links s (c .link .last .0)) (sym (ap (λ (n : ℕ). take n (a .slots .now)) (add-one (l .i)) ∙ take-suc (a .slots .now) (l .i) 0 h))
-          (links-add (take (l .i) (a .slots .now)) (l .links) (c .link .last .0) (getD (a .slots .now) (l .i) 0) (l .inv .1) e),
+          (links-add (l .inv .1) e),
       e .long ∙ l .inv .2,
     )
 
@@ -52,20 +37,11 @@ returns : tie.Need-returns Inv-loop μ-loop
 returns c =
     let a = c .before .before .args in
     let l = c .before .loop in
-    let h : l .i ≡ a .e = omega (arith, l .inv .0, c .loop-test .left) in
+    let h : l .i ≡ a .used = omega (arith, l .inv .0, c .loop-test .left) in
     (subst (λ (n : ℕ). Links (take n (a .slots .now)) (l .links)) h (l .inv .1), l .inv .2)
 
 pub link-all-spec : {M : Type 1} → statement M
 link-all-spec =
     tie.close
-    (tie.spec
-    Inv-loop
-    μ-loop
-    loop-holds
-    mul-link
-    element-copy-out-link
-    link-requires
-    add-i
-    loop-less
-    loop-again
-    returns)
+    (tie.spec Inv-loop μ-loop loop-holds (λ c. search needs) (λ c. search needs) (λ c κs. search needs)
+    (λ c. search needs) (λ c. search needs) loop-again returns)

@@ -4,7 +4,7 @@ use native.Mathlib.Omega.{arith}
 use borrow.Author.Needs.{needs}
 use lib.Bits.{and-le-r}
 use lib.Count.{trailingZeros}
-use Rattle.merges.proofs.Digits.{lowest-below}
+use Rattle.theory.specs.Set.Lowest.{lowest-below}
 use Rattle.merges.proofs.Gather.{Seen, seen-none, seen-next, seen-all}
 use Rattle.merges.proofs.outs.Statement.{statement}
 use Rattle.merges.proofs.outs.Tie as tie
@@ -20,7 +20,7 @@ low : (c : tie.In-loop Inv-loop μ-loop) → trailingZeros 64 (c .before .loop .
 low c = lowest-below 64 (c .before .loop .rest) (c .before .loop .inv .fits) (c .loop-test .taken)
 
 loop-holds : tie.Need-loop-holds Inv-loop μ-loop
-loop-holds c = seen-none (c .args .links .now) (c .args .x) (search needs)
+loop-holds c = seen-none (search needs)
 
 cast-p : tie.Need-cast-p Inv-loop μ-loop
 cast-p c = omega (arith, low c)
@@ -31,35 +31,17 @@ mul-l c = omega (arith, low c)
 element-copy-out-l : tie.Need-element-copy-out-l Inv-loop μ-loop
 element-copy-out-l c = low c
 
-sub-rest : tie.Need-sub-rest Inv-loop μ-loop
-sub-rest c = omega arith
-
 loop-less : tie.Need-loop-less Inv-loop μ-loop
 loop-less c = omega (arith, and-le-r (c .before .before .loop .rest) (c .before .before .loop .rest - 1))
 
 loop-again : tie.Need-loop-again Inv-loop μ-loop
-loop-again c =
-    let a = c .before .before .before .args in
-    let l = c .before .before .loop in
-    seen-next (a .links .now) (a .x) (l .rest) (l .once) (l .twice) (l .inv) (c .before .loop-test .taken)
+loop-again c = seen-next (c .before .before .loop .inv) (c .before .loop-test .taken)
 
 returns : tie.Need-returns Inv-loop μ-loop
-returns c =
-    let a = c .before .before .args in
-    let l = c .before .loop in
-    seen-all (a .links .now) (a .x) (l .rest) (l .once) (l .twice) (l .inv) (search needs)
+returns c = seen-all (c .before .loop .inv) (search needs)
 
 pub outs-spec : {M : Type 1} → statement M
 outs-spec =
     tie.close
-    (tie.spec
-    Inv-loop
-    μ-loop
-    loop-holds
-    cast-p
-    mul-l
-    element-copy-out-l
-    sub-rest
-    loop-less
-    loop-again
+    (tie.spec Inv-loop μ-loop loop-holds cast-p mul-l element-copy-out-l (λ c. omega arith) loop-less loop-again
     returns)

@@ -9,7 +9,8 @@ use lib.ListN.{length, take, set, length-set}
 use lib.Seq.{take-suc-set, take-all}
 use Rattle.sheet.specs.declared.Element.{Element}
 use Rattle.sheet.specs.declared.Constraint.{Constraint}
-use Rattle.sheet.specs.Facts.{elementsOf, block, blankElement}
+use Rattle.theory.specs.Block.{block}
+use Rattle.sheet.specs.Facts.{elementsOf, blankElement}
 use Rattle.sheet.specs.Facts.Laws.{elementsOf-length}
 use Rattle.pattern_c.specs.Columns.{constraintIn, constraintsIn, sheetIn}
 

@@ -7,19 +7,10 @@ use borrow.Author.Needs.{needs}
 use Rattle.plans.proofs.cluster_at.Statement.{statement}
 use Rattle.plans.proofs.cluster_at.Tie as tie
 
-mul-result : tie.Need-mul-result
-mul-result c = search needs
-
-element-copy-out-result : tie.Need-element-copy-out-result
-element-copy-out-result c = search needs
-
-returns : tie.Need-returns
-returns c = search needs
-
 returns-2 : tie.Need-returns-2
 returns-2 c =
     let h : length (c .before .args .slots .now) ≤ c .before .args .i = omega arith in
     sym (List·getD-eq-default (c .before .args .slots .now) 0 h)
 
 pub cluster-at-spec : {M : Type 1} → statement M
-cluster-at-spec = tie.close (tie.spec mul-result element-copy-out-result returns returns-2)
+cluster-at-spec = tie.close (tie.spec (λ c. search needs) (λ c. search needs) (λ c. search needs) returns-2)

@@ -6,18 +6,6 @@ use borrow.Author.Needs.{needs}
 use Rattle.plans.proofs.fault_at.Statement.{statement}
 use Rattle.plans.proofs.fault_at.Tie as tie
 
-cluster-at-requires : tie.Need-cluster-at-requires
-cluster-at-requires c κs = search needs
-
-cluster-at-requires-2 : tie.Need-cluster-at-requires-2
-cluster-at-requires-2 c κs = search needs
-
-cluster-at-requires-3 : tie.Need-cluster-at-requires-3
-cluster-at-requires-3 c κs = search needs
-
-step-fault-requires : tie.Need-step-fault-requires
-step-fault-requires c κs = search needs
-
 returns : tie.Need-returns
 unfolding stepFault
 returns c =
@@ -28,9 +16,4 @@ returns c =
 pub fault-at-spec : {M : Type 1} → statement M
 fault-at-spec =
     tie.close
-    (tie.spec
-    cluster-at-requires
-    cluster-at-requires-2
-    cluster-at-requires-3
-    step-fault-requires
-    returns)
+    (tie.spec (λ c κs. search needs) (λ c κs. search needs) (λ c κs. search needs) (λ c κs. search needs) returns)

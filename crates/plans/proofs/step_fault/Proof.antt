@@ -6,16 +6,10 @@ use borrow.Author.Needs.{needs}
 use Rattle.plans.proofs.step_fault.Statement.{statement}
 use Rattle.plans.proofs.step_fault.Tie as tie
 
-misnamed-requires : tie.Need-misnamed-requires
-misnamed-requires c κs = search needs
-
 returns : tie.Need-returns
 returns c =
     let a = c .before .before .args in
     fault-13 (a .a) (a .b) (a .c) (merge (a .i) (a .j) (a .k)) (sym (c .before .misnamed .ensures) ∙ c .if1 .taken)
-
-open3-requires : tie.Need-open3-requires
-open3-requires c κs = search needs
 
 returns-2 : tie.Need-returns-2
 returns-2 c =
@@ -30,4 +24,4 @@ returns-3 c =
     (sym (c .before .before .before .misnamed .ensures) ∙ c .before .before .if1 .left) (sym (c .before .open3 .ensures) ∙ c .if2 .left)
 
 pub step-fault-spec : {M : Type 1} → statement M
-step-fault-spec = tie.close (tie.spec misnamed-requires returns open3-requires returns-2 returns-3)
+step-fault-spec = tie.close (tie.spec (λ c κs. search needs) returns (λ c κs. search needs) returns-2 returns-3)

@@ -10,11 +10,11 @@ use lib.Dec.{T, eqb}
 use lib.ListN.{length}
 use borrow.Author.Tests.{eqb-true, eqb-false, ne-eqb, eq-eqb}
 use Rattle.theory.specs.Merge.{slot, Merge, OpenAt, put, Valid, final, Maximal}
-use Rattle.theory.specs.Plan.{openTest, firstOf}
+use Rattle.theory.specs.Plan.{openTest, firstOf, isSome}
 use Rattle.theory.specs.Plan.Search.{Found, found, nothing, first-found, open-test, test-open}
 use Rattle.theory.specs.Plan.Laws.{none-is}
-use Rattle.merges.specs.Held.{flat}
-use Rattle.plans.specs.Check.{misnamed, faultOf, stepFault, savedSteps, isSome, stepsFault, planFault}
+use Rattle.merges.specs.Run.{flat}
+use Rattle.plans.specs.Check.{misnamed, faultOf, stepFault, savedSteps, stepsFault, planFault}
 
 is-true : (b : Bool) → T b → b ≡ true
 is-true true t = refl

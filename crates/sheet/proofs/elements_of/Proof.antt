@@ -9,7 +9,8 @@ use lib.ListN.{length, take, drop, set, replicate, length-set}
 use lib.Seq.{take-suc-set, length-take-le}
 use Rattle.sheet.specs.declared.Kind.{Kind}
 use Rattle.sheet.specs.declared.Element.{Element}
-use Rattle.sheet.specs.Facts.{elementOf, elementsOf, blankElement, block}
+use Rattle.theory.specs.Block.{block}
+use Rattle.sheet.specs.Facts.{elementOf, elementsOf, blankElement}
 use Rattle.sheet.specs.Facts.Laws.{still-blank, filled, elementsOf-length}
 use Rattle.sheet.proofs.elements_of.Statement.{statement}
 use Rattle.sheet.proofs.elements_of.Tie as tie

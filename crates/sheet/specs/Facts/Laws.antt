@@ -13,7 +13,8 @@ use Rattle.theory.specs.Set.{at}
 use Rattle.sheet.specs.declared.Kind.{Kind}
 use Rattle.sheet.specs.declared.Kind.the-variants.{Point, Line}
 use Rattle.sheet.specs.declared.Element.{Element}
-use Rattle.sheet.specs.Facts.{kindOf, lineBit, elementOf, elementsOf, linesOf, blankElement, block}
+use Rattle.theory.specs.Block.{block}
+use Rattle.sheet.specs.Facts.{kindOf, lineBit, elementOf, elementsOf, linesOf, blankElement}
 
 -- ---- a walk over the first n places
 

@@ -310,3 +310,42 @@ cut-below n x = mask-lt x n
 pub size-full : (n : ℕ) → ones (full n) ≡ n
 unfolding full
 size-full n = ones-ones n
+
+-- ---- a set and its elements
+
+pub filled : (a p : ℕ) → at p a ≡ 1 → a ≢ 0
+filled a p e z = omega (arith, ap (at p) z, at-zero p)
+
+pub element : (a : ℕ) → a ≢ 0 → (p : ℕ) × (at p a ≡ 1)
+element a n = by (ones a) refl
+  where
+    by : (k : ℕ) → ones a ≡ k → (p : ℕ) × (at p a ≡ 1)
+    by zero e = absurd (n (size-none a e))
+    by (suc k) e = some a (omega arith)
+
+pub counted : (a p : ℕ) → at p a ≡ 1 → 1 ≤ ones a
+counted a p e = by (ones a) refl
+  where
+    by : (k : ℕ) → ones a ≡ k → 1 ≤ ones a
+    by zero z = absurd (filled a p e (size-none a z))
+    by (suc k) z = omega arith
+
+-- two sets that share an element meet
+pub meets : (a b p : ℕ) → at p a ≡ 1 → at p b ≡ 1 → a ∩ b ≢ 0
+meets a b p i j = filled (a ∩ b) p (both p a b i j)
+
+-- an element not in a set
+pub out : (p a : ℕ) → (at p a ≡ 1 → ⊥) → at p a ≡ 0
+out p a n = by (ℕ-discrete (at p a) 1)
+  where
+    by : Dec (at p a ≡ 1) → at p a ≡ 0
+    by (yes e) = absurd (n e)
+    by (no m) = omega (arith, at-le p a)
+
+-- two single sets with an element in common are one
+pub same-single : (a b p : ℕ) → ones a ≡ 1 → ones b ≡ 1 → at p a ≡ 1 → at p b ≡ 1 → a ≡ b
+same-single a b p ea eb ia ib = by (ℕ-discrete a b)
+  where
+    by : Dec (a ≡ b) → a ≡ b
+    by (yes e) = e
+    by (no n) = absurd (omega (arith, singles-apart a b ea eb n, counted (a ∩ b) p (both p a b ia ib)))

@@ -18,6 +18,5 @@ pub record Sums (s sums : List ℕ) : Type 0 where
   pub each : (b : ℕ) → b < 24 → Sum s b (getD sums b 0)
 
 -- the unions after the clusters i, j, k and n changed, whatever they were before
-unfoldable pub Resums : List ℕ → List ℕ → ℕ → ℕ → ℕ → ℕ → List ℕ → Type 0
-Resums s sums i j k n sums′ =
-    (old : List ℕ) → Sums old sums → ((c : ℕ) → c ≢ i → c ≢ j → c ≢ k → c ≢ n → slot s c ≡ slot old c) → Sums s sums′
+pub record Resums (s sums : List ℕ) (i j k n : ℕ) (sums′ : List ℕ) : Type 0 where
+  pub again : {old : List ℕ} → Sums old sums → ((c : ℕ) → c ≢ i → c ≢ j → c ≢ k → c ≢ n → slot s c ≡ slot old c) → Sums s sums′

@@ -1,14 +1,12 @@
--- The lowest element of a set, the set without it, and what one set has beyond another, digit by digit. Assumes nothing.
-use mathlib.Core.Path.{_≡_, refl, sym, ap, ap₂, _∙_, subst}
-use mathlib.Core.Logic.{_≢_, _⊎_, inl, inr}
-use Prim.Native.Nat.{ℕ, zero, suc, _+_, _-_, _*_, _/_, _%_, _^_, _≤_, _<_, min, max}
+-- The lowest element of a set, the set without it, and what one set has beyond another, as the machine's words give them. Assumes nothing.
+use mathlib.Core.Path.{_≡_, refl, ap, _∙_}
+use mathlib.Core.Logic.{_≢_}
+use Prim.Native.Nat.{ℕ, zero, suc, _-_, _/_, _%_, _^_, _<_, min}
 use native.Mathlib.Omega.{arith}
-use native.Mathlib.Decide.{ℕ-discrete}
 use lib.Bits.{bitAnd, bitXor, differ, xor-step, and-step}
 use lib.Count.{trailingZeros, under}
 use Rattle.theory.specs.Set.{_∩_, at}
-use Rattle.theory.specs.Set.Laws.{at-and, at-le, at-zero}
-use Rattle.merges.specs.Links.{beyond}
+use Rattle.theory.specs.Set.Laws.{at-and, at-zero}
 
 -- ---- elements of a number of k digits
 
@@ -97,7 +95,7 @@ xor-split a b =
     differ-two (suc zero) (suc (suc y)) l m = absurd (omega arith)
     differ-two (suc (suc x)) y l m = absurd (omega arith)
 
-pub at-beyond : (y a b : ℕ) → at y (beyond a b) ≡ at y a - at y b
+pub at-beyond : (y a b : ℕ) → at y (bitXor a (bitAnd a b)) ≡ at y a - at y b
 unfolding at
 at-beyond zero a b =
     xor-split a (bitAnd a b) .0 ∙ ap (differ (a % 2)) (omega (arith, and-step a b)) ∙ digit-beyond (a % 2) (b % 2) (omega arith) (omega arith)

@@ -26,7 +26,7 @@ pub record Linking (links : List ℕ) (u : ℕ) (next : List ℕ) : Type 0 where
   pub outside : (p : ℕ) → at p u ≡ 0 → linked next p ≡ linked links p
 
 -- r lies outside x and is linked to two elements of x
-pub record Reached (links : List ℕ) (x r : ℕ) : Type 0 where
+pub record Reaches (links : List ℕ) (x r : ℕ) : Type 0 where
   pub p : ℕ
   pub q : ℕ
   pub differ : p ≢ q
@@ -38,8 +38,8 @@ pub record Reached (links : List ℕ) (x r : ℕ) : Type 0 where
 
 -- o is the set of the elements that x reaches
 pub record Outs (links : List ℕ) (x o : ℕ) : Type 0 where
-  pub only : (r : ℕ) → at r o ≡ 1 → Reached links x r
-  pub every : (r : ℕ) → Reached links x r → at r o ≡ 1
+  pub only : (r : ℕ) → at r o ≡ 1 → Reaches links x r
+  pub every : (r : ℕ) → Reaches links x r → at r o ≡ 1
 
 -- what a has beyond b
 abbrev pub beyond : ℕ → ℕ → ℕ
@@ -54,16 +54,20 @@ pub record Lowest (P : ℕ → Type 0) (lo hi r : ℕ) : Type 0 where
 
 -- cluster c reaches an element, and meets `last` if it stands below `from`
 abbrev pub Reaching : List ℕ → List ℕ → ℕ → ℕ → ℕ → Type 0
-Reaching s links from last c = (c < from → slot s c ∩ last ≢ 0) × ((r : ℕ) × Reached links (slot s c) r)
+Reaching s links from last c = (c < from → slot s c ∩ last ≢ 0) × ((r : ℕ) × Reaches links (slot s c) r)
 
 -- cluster c meets both a and b
 abbrev pub Meeting : List ℕ → ℕ → ℕ → ℕ → Type 0
 Meeting s a b c = (slot s c ∩ a ≢ 0) × (slot s c ∩ b ≢ 0)
 
--- what the search for the first open merge relies on: two living clusters share at most one element; the links are those of the living
--- clusters; none lives from `used` on; and a cluster below `from` that takes part in an open merge meets `last`
-pub record Ready (s links : List ℕ) (used from last : ℕ) : Type 0 where
+-- a cluster below `from` that takes part in an open merge meets `last`
+pub record Since (s : List ℕ) (from last : ℕ) : Type 0 where
+  pub meets : (i j k : ℕ) → OpenAt s (merge i j k) → i < from → slot s i ∩ last ≢ 0
+
+-- what the search relies on: two living clusters share at most one element; the links are those of the living clusters; none lives from `used` on;
+-- and what lies below `from` was looked at but for what meets `last`
+pub record Searchable (s links : List ℕ) (used from last : ℕ) : Type 0 where
   pub apart : (i j : ℕ) → i ≢ j → slot s i ≢ 0 → slot s j ≢ 0 → ones (slot s i ∩ slot s j) ≤ 1
   pub linking : Links s links
   pub beyond : (n : ℕ) → used ≤ n → slot s n ≡ 0
-  pub since : (i j k : ℕ) → OpenAt s (merge i j k) → i < from → slot s i ∩ last ≢ 0
+  pub since : Since s from last
