@@ -1,11 +1,10 @@
 -- The report of a sheet's facts. Document 01, "The report", and "Clusters and merges": the answer to an accepted saved plan is the report for that plan,
 -- its steps in the saved order.
 use Prim.Native.Nat.{ℕ, zero, suc}
-use mathlib.Core.Path.{_≡_}
 use mathlib.Core.List.{List}
 use lib.ListN.{length}
 use Rattle.theory.specs.Over.{Finding, fine, first, overOf}
-use Rattle.theory.specs.Merge.{Merge, Valid, final}
+use Rattle.theory.specs.Merge.{Merge, final}
 use Rattle.theory.specs.Plan.{planOf}
 use Rattle.theory.specs.Verdict.{listVerdict}
 use Rattle.sheet.specs.Facts.{Facts, linesOf}
@@ -14,8 +13,6 @@ use Rattle.space.specs.declared.Written.{Written}
 use Rattle.space.specs.declared.Written.the-variants.{Refused}
 use Rattle.space.specs.Space.{answer, after}
 use Rattle.answer.specs.Answer.{asVerdict, stepsOf}
-use Rattle.merges.specs.Run.{runOf}
-use Rattle.merges.specs.declared.Run.{Run}
 use Rattle.plans.specs.Check.{savedSteps, planFault}
 use Rattle.report.specs.Report as lines
 use Rattle.report.specs.Report.{overReport}

@@ -93,7 +93,8 @@ pub fn step(
     k: usize,
 ) -> u64
     requires { ⌜ (i < used) × (j < used) × (k < used) × (used < 192) × (steps < 62) ⌝ }
-    ensures { λ r. ⌜ Made (now (slots .entry)) (now (parts .entry)) (now (joints .entry)) used steps (numbers i j k) r (now (slots .exit)) (now (parts .exit)) (now (joints .exit)) ⌝ }
+    ensures { λ r. ⌜ Made (now (slots .entry)) (now (parts .entry)) (now (joints .entry)) used steps (numbers i j k) r (now (slots .exit))
+        (now (parts .exit)) (now (joints .exit)) ⌝ }
 {
     let a = slots[i];
     let b = slots[j];

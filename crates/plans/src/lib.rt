@@ -143,7 +143,16 @@ pub fn check_plan(start: &[u64; 200], e: usize, plan: &[u16]) -> Checked
             return refused(fault);
         }
         let p = ascend(i, j, k);
-        merges::step(&mut slots, &mut parts, &mut joints, e + steps, steps, p.i, p.j, p.k);
+        merges::step(
+            &mut slots,
+            &mut parts,
+            &mut joints,
+            e + steps,
+            steps,
+            p.i,
+            p.j,
+            p.k,
+        );
         steps += 1;
         at += 3;
     }

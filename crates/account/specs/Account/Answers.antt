@@ -20,7 +20,7 @@ use Rattle.sheet.specs.Graph.{clustersOf}
 use Rattle.space.specs.declared.Written.the-variants.{Refused}
 use Rattle.space.specs.Space.{answer, after}
 use Rattle.answer.specs.Answer.{asVerdict, verdictNumber}
-use Rattle.merges.specs.Run.{runOf, Merged}
+use Rattle.merges.specs.Run.{runOf}
 use Rattle.merges.specs.declared.Run.{Run}
 use Rattle.judge.specs.declared.Judged.{Judged}
 use Rattle.judge.specs.Judged.{listed, overFound, judgedBy, judgedOf}

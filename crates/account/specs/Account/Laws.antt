@@ -1,12 +1,12 @@
 -- The report of a list of merges, from the arrays that hold the list. Assumes nothing.
-use Prim.Native.Nat.{ℕ, zero, suc, _+_, _-_, _*_, _≤_, _<_}
+use Prim.Native.Nat.{ℕ, _+_, _-_, _*_, _≤_, _<_}
 use native.Mathlib.Omega.{arith}
 use mathlib.Core.Path.{_≡_, refl, sym, ap, _∙_, subst}
 use mathlib.Core.Bool.{true, false, _&&_}
-use mathlib.Core.List.{List, [], _∷_, _++_, map}
+use mathlib.Core.List.{List, map}
 use lib.Dec.{ltb}
 use lib.IntN.{ℤ, pos}
-use lib.ListN.{length, getD, take, replicate, length-map, length-append, length-replicate}
+use lib.ListN.{length, getD, take, length-append, length-replicate}
 use Rattle.theory.specs.Block.Laws.{getD-block, take-block}
 use Rattle.theory.specs.Constraints.{NotOver, Pairs, Below}
 use Rattle.theory.specs.Merge.{Merge, merge, slot, Valid, final}
