@@ -1,10 +1,9 @@
 -- The report of a sheet's graph. Document 01, "The report", and "Clusters and merges": the answer to an accepted saved plan is the report for that plan,
 -- its steps in the saved order.
 use Prim.Native.Nat.{ℕ, zero, suc}
-use mathlib.Core.Path.{_≡_}
 use mathlib.Core.List.{List}
 use lib.ListN.{length}
-use Rattle.theory.specs.Merge.{Merge, Valid, final}
+use Rattle.theory.specs.Merge.{Merge, final}
 use Rattle.theory.specs.Plan.{planOf}
 use Rattle.theory.specs.Graph.{Graph, findingOf, listVerdict, stepsOf}
 use Rattle.theory.specs.declared.Finding.{Finding}
@@ -14,8 +13,6 @@ use Rattle.sheet.specs.Graph.{overFault}
 use Rattle.space.specs.declared.Written.{Written}
 use Rattle.space.specs.declared.Written.the-variants.{Refused}
 use Rattle.space.specs.Space.{answer, after}
-use Rattle.merges.specs.Run.{runOf}
-use Rattle.merges.specs.declared.Run.{Run}
 use Rattle.plans.specs.Check.{savedSteps, planFault}
 use Rattle.report.specs.Report.{report, overReport}
 pub mod Laws

@@ -1,10 +1,10 @@
 -- The unions of the blocks of eight clusters. Assumes nothing.
 use mathlib.Core.Path.{_≡_, refl, sym, ap, _∙_, subst}
-use mathlib.Core.Logic.{_≢_, _⊎_, inl, inr, ⊎-elim}
+use mathlib.Core.Logic.{_≢_, inl, inr, ⊎-elim}
 use mathlib.Core.List.{List}
 use Prim.Native.Nat.{ℕ, _+_, _*_, _/_, _≤_, _<_}
 use native.Mathlib.Omega.{arith}
-use native.Mathlib.Decide.{ℕ-discrete, decLt}
+use native.Mathlib.Decide.{ℕ-discrete}
 use lib.Bits.{bitOr}
 use lib.ListN.{length, getD, set, length-set}
 use lib.Seq.{getD-set-same, getD-set-other}
@@ -72,7 +72,8 @@ stored {s} sums n {r} h l u b o = by (ℕ-discrete b n)
   where
     by : Dec (b ≡ n) → Sum s b (getD (set sums n r) b 0)
     by (yes e) =
-        subst (Sum s b) (sym (ap (λ (m : ℕ). getD (set sums n r) m 0) e ∙ getD-set-same sums n r 0 (omega arith))) (subst (λ (m : ℕ). Sum s m r) (sym e) u)
+        subst (Sum s b) (sym (ap (λ (m : ℕ). getD (set sums n r) m 0) e ∙ getD-set-same sums n r 0 (omega arith)))
+        (subst (λ (m : ℕ). Sum s m r) (sym e) u)
     by (no e) = subst (Sum s b) (sym (getD-set-other sums n b r 0 e)) (o e)
 
 -- a block in which none changed
@@ -89,21 +90,22 @@ other-block b c m e h z = h (sym e ∙ ap (λ (x : ℕ). x / 8) z)
 -- the clusters i, j, k and n changed, and the union of each one's block is stored
 pub resums : {s : List ℕ} (sums : List ℕ) (i j k n : ℕ) {p q r t : ℕ} → i < 192 → j < 192 → k < 192 → n < 192 → Sum s (i / 8) p → Sum s (j / 8) q
     → Sum s (k / 8) r → Sum s (n / 8) t → Resums s sums i j k n (set (set (set (set sums (i / 8) p) (j / 8) q) (k / 8) r) (n / 8) t)
-resums sums i j k n {p} {q} {r} {t} hi hj hk hn ui uj uk un = record { again = λ w same.
-  let s1 = set sums (i / 8) p in
-  let s2 = set s1 (j / 8) q in
-  let s3 = set s2 (k / 8) r in
-  let l1 : length s1 ≡ 24 = length-set sums (i / 8) p ∙ w .long in
-  let l2 : length s2 ≡ 24 = length-set s1 (j / 8) q ∙ l1 in
-  let l3 : length s3 ≡ 24 = length-set s2 (k / 8) r ∙ l2 in
-  record {
-    long = length-set s3 (n / 8) t ∙ l3;
-    each = λ b h.
-        stored s3 (n / 8) (omega arith) l3 un b (λ nn. stored s2 (k / 8) (omega arith) l2 uk b
-        (λ nk. stored s1 (j / 8) (omega arith) l1 uj b (λ nj. stored sums (i / 8) (omega arith) (w .long) ui b
-        (λ ni. same-sum (w .each b h)
-        (λ c e. same c (other-block b c i e ni) (other-block b c j e nj) (other-block b c k e nk) (other-block b c n e nn))))));
-  }
+resums sums i j k n {p} {q} {r} {t} hi hj hk hn ui uj uk un = record {
+  again = λ w same.
+      let s1 = set sums (i / 8) p in
+      let s2 = set s1 (j / 8) q in
+      let s3 = set s2 (k / 8) r in
+      let l1 : length s1 ≡ 24 = length-set sums (i / 8) p ∙ w .long in
+      let l2 : length s2 ≡ 24 = length-set s1 (j / 8) q ∙ l1 in
+      let l3 : length s3 ≡ 24 = length-set s2 (k / 8) r ∙ l2 in
+      record {
+        long = length-set s3 (n / 8) t ∙ l3;
+        each = λ b h.
+            stored s3 (n / 8) (omega arith) l3 un b (λ nn. stored s2 (k / 8) (omega arith) l2 uk b
+            (λ nk. stored s1 (j / 8) (omega arith) l1 uj b (λ nj. stored sums (i / 8) (omega arith) (w .long) ui b
+            (λ ni. same-sum (w .each b h)
+            (λ c e. same c (other-block b c i e ni) (other-block b c j e nj) (other-block b c k e nk) (other-block b c n e nn))))));
+      };
 }
 
 -- a merge changes no other cluster

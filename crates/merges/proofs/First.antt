@@ -3,7 +3,7 @@
 use mathlib.Core.Path.{_≡_, sym, ap, subst}
 use mathlib.Core.Logic.{_≢_, _⊎_, inl, inr}
 use mathlib.Core.List.{List}
-use Prim.Native.Nat.{ℕ, _+_, _-_, _≤_, _<_}
+use Prim.Native.Nat.{ℕ, _+_, _≤_, _<_}
 use native.Mathlib.Omega.{arith}
 use native.Mathlib.Decide.{ℕ-discrete, decLe, decLt}
 use lib.Count.{ones}
@@ -134,9 +134,10 @@ module _ {s links : List ℕ} {used from last : ℕ} (ready : Searchable s links
             let q = beyond-of (slot s i) (slot s j) (e .0) (eq .1) in
             let r = beyond-of (slot s j) (slot s i) (f .0) (fr .1) in
             let p = shared in
-            triangle s (ready .apart) i j k (p .0) (e .0) (f .0) (λ z. omega (arith, lj .low)) (λ z. omega (arith, lk .low))
+            triangle (ready .apart) i j k (p .0) (e .0) (f .0) (λ z. omega (arith, lj .low)) (λ z. omega (arith, lk .low))
             (λ z. omega (arith, lj .low, lk .low)) (λ z. omega (arith, ap (λ (y : ℕ). at y (slot s j)) z, p .1, q .1))
-            (λ z. omega (arith, ap (λ (y : ℕ). at y (slot s i)) z, p .2, r .1)) (λ z. omega (arith, ap (λ (y : ℕ). at y (slot s i)) z, q .0, r .1)) (p .2) (p .1) (q .0)
+            (λ z. omega (arith, ap (λ (y : ℕ). at y (slot s i)) z, p .2, r .1))
+            (λ z. omega (arith, ap (λ (y : ℕ). at y (slot s i)) z, q .0, r .1)) (p .2) (p .1) (q .0)
             (eq .0) (r .0) (fr .0)
 
         pub found : First s (merge i j k)
@@ -153,7 +154,8 @@ module _ {s links : List ℕ} {used from last : ℕ} (ready : Searchable s links
               where
                 by-j : (e : i ≡ m .i) → Dec (j ≡ m .j) → (j < m .j) ⊎ ((j ≡ m .j) × (k ≤ m .k))
                 by-j e (yes f) =
-                    let w : OpenAt s (merge i j (m .k)) = subst (λ (z : ℕ). OpenAt s (merge i z (m .k))) (sym f) (subst (λ (z : ℕ). OpenAt s (merge z (m .j) (m .k))) (sym e) u) in
+                    let v1 = subst (λ (z : ℕ). OpenAt s (merge z (m .j) (m .k))) (sym e) u in
+                    let w = subst (λ (z : ℕ). OpenAt s (merge i z (m .k))) (sym f) v1 in
                     inr (f, last-at (m .k) (omega (arith, v .1)) w)
                 by-j e (no n) =
                     inl (omega (arith, second (m .j) (m .k) (subst (λ (z : ℕ). OpenAt s (merge z (m .j) (m .k))) (sym e) u), n))

@@ -1,6 +1,6 @@
 -- The elements that a cluster reaches, gathered one element of the cluster after another. Assumes nothing.
-use mathlib.Core.Path.{_≡_, refl, sym, ap, _∙_, subst}
-use mathlib.Core.Logic.{_≢_, _⊎_, inl, inr, ⊎-elim}
+use mathlib.Core.Path.{_≡_, sym, ap, _∙_, subst}
+use mathlib.Core.Logic.{_≢_, _⊎_, inl, inr}
 use mathlib.Core.List.{List}
 use Prim.Native.Nat.{ℕ, _-_, _^_, _<_}
 use native.Mathlib.Omega.{arith}
@@ -112,4 +112,9 @@ module _ {links : List ℕ} {x rest once twice : ℕ} (w : Seen links x rest onc
 
       every : (r : ℕ) → Reaches links x r → at r (beyond twice x) ≡ 1
       every r h =
-          omega (arith, at-beyond r twice x, h .out, w .twice-every (h .p) (h .q) r (h .differ) (h .p-in) (h .q-in) (none (h .p)) (none (h .q)) (h .by-p) (h .by-q))
+          omega (
+            arith,
+            at-beyond r twice x,
+            h .out,
+            w .twice-every (h .p) (h .q) r (h .differ) (h .p-in) (h .q-in) (none (h .p)) (none (h .q)) (h .by-p) (h .by-q),
+          )

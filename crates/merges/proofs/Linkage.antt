@@ -1,16 +1,16 @@
 -- The elements of a set, linked with each other one after another. Assumes nothing.
-use mathlib.Core.Path.{_≡_, refl, sym, ap, _∙_, subst}
-use mathlib.Core.Logic.{_≢_, _⊎_, inl, inr}
+use mathlib.Core.Path.{_≡_, refl, sym, ap, _∙_}
+use mathlib.Core.Logic.{_≢_}
 use mathlib.Core.List.{List}
 use Prim.Native.Nat.{ℕ, _-_, _^_, _<_}
 use native.Mathlib.Omega.{arith}
 use native.Mathlib.Decide.{ℕ-discrete}
 use lib.Bits.{bitAnd, bitOr, and-le-l}
 use lib.Count.{trailingZeros}
-use lib.ListN.{length, getD, set, length-set}
+use lib.ListN.{length, set, length-set}
 use lib.Seq.{getD-set-same, getD-set-other}
 use Rattle.theory.specs.Set.{_∩_, _∪_, at}
-use Rattle.theory.specs.Set.Laws.{at-zero, at-le, in-both}
+use Rattle.theory.specs.Set.Laws.{at-zero, in-both}
 use Rattle.theory.specs.Set.Lowest.{lowest-in, lowest-below, rest-lowest, rest-other}
 use Rattle.merges.specs.Search.Links.{linked, Linking}
 
@@ -58,7 +58,8 @@ module _ {links : List ℕ} {u : ℕ} {now : List ℕ} {rest : ℕ} (w : Partly 
         waits : (p : ℕ) → at p (bitAnd rest (rest - 1)) ≡ 1 → p ≡ p₀ → ⊥
         waits p e z = omega (arith, rest-lowest rest (w .fits) some, ap (λ (y : ℕ). at y (bitAnd rest (rest - 1))) z)
 
-        done-at : (p : ℕ) → at p u ≡ 1 → at p (bitAnd rest (rest - 1)) ≡ 0 → Dec (p ≡ p₀) → linked (set now p₀ (linked now p₀ ∪ u)) p ≡ linked links p ∪ u
+        done-at : (p : ℕ) → at p u ≡ 1 → at p (bitAnd rest (rest - 1)) ≡ 0 → Dec (p ≡ p₀)
+            → linked (set now p₀ (linked now p₀ ∪ u)) p ≡ linked links p ∪ u
         done-at p i o (yes e) =
             ap (linked (set now p₀ (linked now p₀ ∪ u))) e
             ∙ getD-set-same now p₀ (linked now p₀ ∪ u) 0 (omega (arith, w .long, w .room, lowest-below 64 rest (w .fits) some))

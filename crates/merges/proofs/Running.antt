@@ -1,12 +1,12 @@
 -- The engine's plan in arrays: merges that came first, until none is open. Assumes nothing.
-use mathlib.Core.Path.{_≡_, refl, sym, ap, _∙_, subst}
+use mathlib.Core.Path.{_≡_, sym, _∙_, subst}
 use mathlib.Core.List.{List, [], _∷_, _++_}
 use mathlib.Core.Option.{none, some}
 use Prim.Native.Nat.{ℕ, _+_, _<_}
 use lib.ListN.{length, take, replicate}
 use Rattle.theory.specs.Block.{block}
 use Rattle.theory.specs.Constraints.{NotOver}
-use Rattle.theory.specs.Merge.{Merge, merge, three, OpenAt, union, put, final, Ended}
+use Rattle.theory.specs.Merge.{Merge, merge, OpenAt, put, final, Ended}
 use Rattle.theory.specs.Plan.{firstOf, First, IsPlan}
 use Rattle.theory.specs.Plan.Laws.{ascending-same, some-first, none-ended, plan-of-one}
 use Rattle.merges.specs.Run.{places, Start, Planned}
@@ -52,7 +52,8 @@ running-start b h ls n = record {
   since = λ fine. since-none;
 }
 
-module _ {cs : List ℕ} {e : ℕ} {slots links parts joints : List ℕ} {steps from last : ℕ} (w : Running cs e slots links parts joints steps from last) where
+module _ {cs : List ℕ} {e : ℕ} {slots links parts joints : List ℕ} {steps from last : ℕ}
+    (w : Running cs e slots links parts joints steps from last) where
   can-search : NotOver cs → Searchable slots links (e + steps) from last
   can-search fine = searchable fine (w .going .clusters) (w .linking) (w .since fine)
 

@@ -6,16 +6,16 @@ use mathlib.Core.Option.{Option}
 use Prim.Native.Nat.{ℕ, _≤_, _<_}
 use native.Mathlib.Omega.{arith}
 use native.Mathlib.Decide.{ℕ-discrete}
-use lib.Count.{ones}
 use lib.ListN.{length, replicate, length-append, List·getD-append, List·getD-eq-default}
 use lib.Seq.{getD-append-seam}
 use Rattle.theory.specs.Block.Laws.{getD-blank}
 use Rattle.theory.specs.Set.{_∩_, at}
 use Rattle.theory.specs.Set.Laws.{at-le, at-zero, in-either, or-left, or-right, filled, meets}
-use Rattle.theory.specs.Constraints.{NotOver, Pairs}
-use Rattle.theory.specs.Merge.{slot, Merge, merge, three, OpenAt, union, put, Part, Valid, final, Ended}
+use Rattle.theory.specs.Constraints.{NotOver}
+use Rattle.theory.specs.Merge.{slot, Merge, merge, three, OpenAt, union, put, Part, final, Ended}
 use Rattle.theory.specs.Merge.Family.{Distinct}
-use Rattle.theory.specs.Merge.Numbered.{Place, new, old, place, part-dec, alive-lt, put-new, put-old, cleared-other, good-final, start-good, start-distinct}
+use Rattle.theory.specs.Merge.Numbered.{Place, new, old, place, part-dec, alive-lt, put-new, put-old, cleared-other, good-final, start-good}
+use Rattle.theory.specs.Merge.Numbered.{start-distinct}
 use Rattle.theory.specs.Merge.Threes.{part-a, part-b, part-c}
 use Rattle.theory.specs.Merge.Family.Invariant.{share}
 use Rattle.theory.specs.Plan.{NotAfter, ascending, First, firstOf}
@@ -162,15 +162,16 @@ since-none = record { meets = λ i j k o l. absurd (omega arith) }
 
 module _ {cs : List ℕ} (fine : NotOver cs) {p : List Merge} {slots links : List ℕ} {used from last : ℕ} (h : Slots cs p slots used)
     (ls : Links (final cs p) links) (since : Since (final cs p) from last) where
-  apart-of : (i j : ℕ) → i ≢ j → slot (final cs p) i ≢ 0 → slot (final cs p) j ≢ 0 → ones (slot (final cs p) i ∩ slot (final cs p) j) ≤ 1
-  unfolding Distinct
-  apart-of i j ne hi hj =
-      let g = good-final cs fine p cs (start-good cs (h .pairs) fine) (start-distinct cs (h .pairs) fine) (h .valid) in
-      share cs fine (g .0) (slot (final cs p) i) (slot (final cs p) j) (i, refl, hi) (j, refl, hj) (λ e. ne (g .1 i j hi e))
-
   pub searchable : Searchable slots links used from last
+  unfolding Distinct
   searchable = record {
-    apart = λ i j ne hi hj. rw (same i, same j) (apart-of i j ne (λ z. hi (same i ∙ z)) (λ z. hj (same j ∙ z)));
+    apart = record {
+      share = λ i j ne hi hj.
+          let g = good-final cs fine p cs (start-good cs (h .pairs) fine) (start-distinct cs (h .pairs) fine) (h .valid) in
+          let li : slot (final cs p) i ≢ 0 = λ z. hi (same i ∙ z) in
+          let lj : slot (final cs p) j ≢ 0 = λ z. hj (same j ∙ z) in
+          rw (same i, same j) (share cs fine (g .0) (slot (final cs p) i) (slot (final cs p) j) (i, refl, li) (j, refl, lj) (λ e. ne (g .1 i j li e)));
+    };
     linking = record {
       only = λ q r e. let c = ls .only q r e in (c .0, ap (at q) (same (c .0)) ∙ c .1, ap (at r) (same (c .0)) ∙ c .2);
       every = λ c q r i j. ls .every c q r (sym (ap (at q) (same c)) ∙ i) (sym (ap (at r) (same c)) ∙ j);

@@ -3,33 +3,37 @@
 use mathlib.Core.Path.{sym, ap, _∙_, subst, _≡_}
 use mathlib.Core.Logic.{_≢_, Ne·symm}
 use mathlib.Core.List.{List}
-use Prim.Native.Nat.{ℕ, _≤_}
+use Prim.Native.Nat.{ℕ}
 use native.Mathlib.Omega.{arith}
 use native.Mathlib.Decide.{ℕ-discrete}
 use lib.Count.{ones}
 use Rattle.theory.specs.Set.{_∩_, at}
 use Rattle.theory.specs.Set.Laws.{some, two-in, both, in-both, filled, counted, out, same-single}
-use Rattle.theory.specs.Merge.{slot, merge, OpenAt}
+use Rattle.theory.specs.Merge.{slot, merge, OpenAt, ShareOne}
 use Rattle.merges.specs.Search.Links.{Links, Reaches}
 
 -- ---- clusters that share at most one element
 
-module _ (s : List ℕ) (apart : (i j : ℕ) → i ≢ j → slot s i ≢ 0 → slot s j ≢ 0 → ones (slot s i ∩ slot s j) ≤ 1) where
+module _ {s : List ℕ} (apart : ShareOne s) where
   -- one element in common
   pub one-shared : (i j p : ℕ) → i ≢ j → at p (slot s i) ≡ 1 → at p (slot s j) ≡ 1 → ones (slot s i ∩ slot s j) ≡ 1
   one-shared i j p n a b =
-      omega (arith, apart i j n (filled (slot s i) p a) (filled (slot s j) p b), counted (slot s i ∩ slot s j) p (both p (slot s i) (slot s j) a b))
+      omega (
+        arith,
+        apart .share i j n (filled (slot s i) p a) (filled (slot s j) p b),
+        counted (slot s i ∩ slot s j) p (both p (slot s i) (slot s j) a b),
+      )
 
   -- and no second
   pub same-shared : (i j p q : ℕ) → i ≢ j → at p (slot s i) ≡ 1 → at p (slot s j) ≡ 1 → at q (slot s i) ≡ 1 → at q (slot s j) ≡ 1 → p ≡ q
-  same-shared i j p q n a b d e = go (ℕ-discrete p q)
+  same-shared i j p q n a b d e = by (ℕ-discrete p q)
     where
-      go : Dec (p ≡ q) → p ≡ q
-      go (yes h) = h
-      go (no h) =
+      by : Dec (p ≡ q) → p ≡ q
+      by (yes h) = h
+      by (no h) =
           absurd (omega (
             arith,
-            apart i j n (filled (slot s i) p a) (filled (slot s j) p b),
+            apart .share i j n (filled (slot s i) p a) (filled (slot s j) p b),
             two-in (slot s i ∩ slot s j) p q (both p (slot s i) (slot s j) a b) (both q (slot s i) (slot s j) d e) h,
           ))
 
@@ -47,11 +51,17 @@ module _ (s : List ℕ) (apart : (i j : ℕ) → i ≢ j → slot s i ≢ 0 → 
       ab = one-shared i j p ij pi pj;
       bc = one-shared j k r jk rj rk;
       ac = one-shared i k q ik qi qk;
-      ab≢bc = λ e. pr (same-shared j k p r jk pj (in-both p (slot s j) (slot s k) (subst (λ (z : ℕ). at p z ≡ 1) e (both p (slot s i) (slot s j) pi pj)) .1) rj rk);
-      bc≢ac = λ e. qr (same-shared i k q r ik qi qk (in-both r (slot s i) (slot s k) (subst (λ (z : ℕ). at r z ≡ 1) e (both r (slot s j) (slot s k) rj rk)) .0) rk);
-      ab≢ac = λ e. pq (same-shared i k p q ik pi (in-both p (slot s i) (slot s k) (subst (λ (z : ℕ). at p z ≡ 1) e (both p (slot s i) (slot s j) pi pj)) .1) qi qk);
+      ab≢bc = λ e. pr (same-shared j k p r jk pj (moved p i j j k e pi pj .1) rj rk);
+      bc≢ac = λ e. qr (same-shared i k q r ik qi qk (moved r j k i k e rj rk .0) rk);
+      ab≢ac = λ e. pq (same-shared i k p q ik pi (moved p i j i k e pi pj .1) qi qk);
     };
   }
+    where
+      -- what two share is what two others share
+      moved : (p a b c d : ℕ) → slot s a ∩ slot s b ≡ slot s c ∩ slot s d → at p (slot s a) ≡ 1 → at p (slot s b) ≡ 1
+          → (at p (slot s c) ≡ 1) × (at p (slot s d) ≡ 1)
+      moved p a b c d e pa pb =
+          in-both p (slot s c) (slot s d) (subst (λ (z : ℕ). at p z ≡ 1) e (both p (slot s a) (slot s b) pa pb))
 
 -- the three elements of an open merge
 pub record Corners (s : List ℕ) (i j k : ℕ) : Type 0 where
@@ -116,7 +126,7 @@ module _ {s links : List ℕ} (ls : Links s links) where
         c .r-j,
       )
 
-  module _ (apart : (i j : ℕ) → i ≢ j → slot s i ≢ 0 → slot s j ≢ 0 → ones (slot s i ∩ slot s j) ≤ 1) where
+  module _ (apart : ShareOne s) where
     -- in and out
     apart-by : (c d r : ℕ) → at r (slot s c) ≡ 1 → at r (slot s d) ≡ 0 → c ≢ d
     apart-by c d r a b e = omega (arith, ap (λ (z : ℕ). at r (slot s z)) e)
@@ -127,7 +137,7 @@ module _ {s links : List ℕ} (ls : Links s links) where
     -- a cluster j that shares p with i, and an element r that i reaches: a third cluster closes the merge, and holds r
     pub closed : (i j p r : ℕ) → at p (slot s i) ≡ 1 → at p (slot s j) ≡ 1 → at r (slot s j) ≡ 1 → Reaches links (slot s i) r
         → (k : ℕ) × OpenAt s (merge i j k) × (at r (slot s k) ≡ 1)
-    closed i j p r pi pj rj h = go (ℕ-discrete p (h .p))
+    closed i j p r pi pj rj h = close (ℕ-discrete p (h .p))
       where
         i≢j : i ≢ j
         i≢j = Ne·symm (apart-by j i r rj (h .out))
@@ -136,14 +146,14 @@ module _ {s links : List ℕ} (ls : Links s links) where
             → (k : ℕ) × OpenAt s (merge i j k) × (at r (slot s k) ≡ 1)
         by q n qi (k, qk, rk) = (
           k,
-          triangle s apart i j k p q r i≢j (λ e. n (same-shared s apart i j p q i≢j pi pj qi (subst (λ (z : ℕ). at q (slot s z) ≡ 1) (sym e) qk)))
+          triangle apart i j k p q r i≢j (λ e. n (same-shared apart i j p q i≢j pi pj qi (subst (λ (z : ℕ). at q (slot s z) ≡ 1) (sym e) qk)))
               (Ne·symm (apart-by k i r rk (h .out))) n (other (slot s i) p r pi (h .out)) (other (slot s i) q r qi (h .out)) pi pj qi qk rj rk,
           rk,
         )
 
-        go : Dec (p ≡ h .p) → (k : ℕ) × OpenAt s (merge i j k) × (at r (slot s k) ≡ 1)
-        go (yes e) = by (h .q) (λ f. h .differ (sym e ∙ f)) (h .q-in) (ls .only (h .q) r (h .by-q))
-        go (no n) = by (h .p) n (h .p-in) (ls .only (h .p) r (h .by-p))
+        close : Dec (p ≡ h .p) → (k : ℕ) × OpenAt s (merge i j k) × (at r (slot s k) ≡ 1)
+        close (yes e) = by (h .q) (λ f. h .differ (sym e ∙ f)) (h .q-in) (ls .only (h .q) r (h .by-q))
+        close (no n) = by (h .p) n (h .p-in) (ls .only (h .p) r (h .by-p))
 
     -- a cluster that reaches an element takes part in an open merge
     pub reached-open : (i r : ℕ) → Reaches links (slot s i) r → (j : ℕ) × (k : ℕ) × OpenAt s (merge i j k) × (at r (slot s j) ≡ 1)

@@ -8,16 +8,18 @@ ghost use Rattle.theory.specs.Block.{block};
 ghost use Rattle.theory.specs.Constraints.{NotOver};
 ghost use Rattle.theory.specs.Merge.{Merge, merge as numbers, final};
 ghost use Rattle.theory.specs.Plan.{openTest, firstOf, isSome};
-ghost use Rattle.merges.specs.Run.{runOf, Start, Planned};
+ghost use Rattle.merges.specs.Run.{mostSteps, places, runOf, Start, Planned};
 ghost use Rattle.merges.specs.Going.{Slots, Made};
 ghost use Rattle.merges.specs.Search.{hitOf, Tested};
 ghost use Rattle.merges.specs.Search.Links.{Outs, Lowest, Reaching, Meeting, Searchable, Links, Linking};
 ghost use Rattle.merges.specs.Search.Sums.{Sum, Sums, Resums};
 
-// The numbers of clusters: 125 constraints and 62 unions at most. Three parts a step take as many places.
-const PLACES: usize = 192;
-// The elements.
-const ELEMENTS: usize = 64;
+// Places for the clusters of 125 constraints and 62 steps, and for three parts a step.
+pub const PLACES: usize = 192;
+// Places for an element or a step each.
+pub const ELEMENTS: usize = 64;
+// The search keeps the union of each eight clusters.
+const BLOCKS: usize = 24;
 
 // ---- a list of merges
 
@@ -69,7 +71,7 @@ pub fn open3(a: u64, b: u64, c: u64) -> bool
 // The clusters before any merge: the first e of `start`.
 pub fn begin(start: &[u64; 200], e: usize) -> [u64; PLACES]
     requires { ⌜ Start (now start) e ⌝ }
-    ensures { λ r. ⌜ r ≡ block 192 0 (take e (now (start .entry))) ⌝ }
+    ensures { λ r. ⌜ r ≡ block places 0 (take e (now (start .entry))) ⌝ }
 {
     let mut slots = [0u64; PLACES];
     let mut i: usize = 0;
@@ -92,8 +94,9 @@ pub fn step(
     j: usize,
     k: usize,
 ) -> u64
-    requires { ⌜ (i < used) × (j < used) × (k < used) × (used < 192) × (steps < 62) ⌝ }
-    ensures { λ r. ⌜ Made (now (slots .entry)) (now (parts .entry)) (now (joints .entry)) used steps (numbers i j k) r (now (slots .exit)) (now (parts .exit)) (now (joints .exit)) ⌝ }
+    requires { ⌜ (i < used) × (j < used) × (k < used) × (used < places) × (steps < mostSteps) ⌝ }
+    ensures { λ r. ⌜ Made (now (slots .entry)) (now (parts .entry)) (now (joints .entry)) used steps (numbers i j k) r (now (slots .exit))
+        (now (parts .exit)) (now (joints .exit)) ⌝ }
 {
     let a = slots[i];
     let b = slots[j];
@@ -144,12 +147,12 @@ fn sum(slots: &[u64; PLACES], b: usize) -> u64
 }
 
 // The union of each block.
-fn sums_of(slots: &[u64; PLACES]) -> [u64; 24]
+fn sums_of(slots: &[u64; PLACES]) -> [u64; BLOCKS]
     ensures { λ r. ⌜ Sums (now (slots .entry)) r ⌝ }
 {
-    let mut sums = [0u64; 24];
+    let mut sums = [0u64; BLOCKS];
     let mut b: usize = 0;
-    while b < 24 {
+    while b < BLOCKS {
         let s = sum(slots, b);
         sums[b] = s;
         b += 1;
@@ -158,8 +161,8 @@ fn sums_of(slots: &[u64; PLACES]) -> [u64; 24]
 }
 
 // The unions of the blocks after clusters i, j, k and n changed.
-fn resum(sums: &mut [u64; 24], slots: &[u64; PLACES], i: usize, j: usize, k: usize, n: usize)
-    requires { ⌜ (i < 192) × (j < 192) × (k < 192) × (n < 192) ⌝ }
+fn resum(sums: &mut [u64; BLOCKS], slots: &[u64; PLACES], i: usize, j: usize, k: usize, n: usize)
+    requires { ⌜ (i < places) × (j < places) × (k < places) × (n < places) ⌝ }
     ensures { λ r. ⌜ Resums (now (slots .entry)) (now (sums .entry)) i j k n (now (sums .exit)) ⌝ }
 {
     let a = i / 8;
@@ -177,8 +180,8 @@ fn resum(sums: &mut [u64; 24], slots: &[u64; PLACES], i: usize, j: usize, k: usi
 }
 
 // The lowest number from `from` on whose block meets both a and b; `used` if there is none.
-fn skip(sums: &[u64; 24], used: usize, from: usize, a: u64, b: u64) -> usize
-    requires { ⌜ (from ≤ used) × (used ≤ 192) ⌝ }
+fn skip(sums: &[u64; BLOCKS], used: usize, from: usize, a: u64, b: u64) -> usize
+    requires { ⌜ (from ≤ used) × (used ≤ places) ⌝ }
     ensures { λ r. ⌜ Lowest (λ c. Meeting (now (sums .entry)) a b (c / 8)) from used r ⌝ }
 {
     let mut c = from;
@@ -197,13 +200,13 @@ fn skip(sums: &[u64; 24], used: usize, from: usize, a: u64, b: u64) -> usize
 // The lowest cluster that reaches an element, below `from` only among those that meet `last`; `used` if there is none.
 fn lowest_reaching(
     slots: &[u64; PLACES],
-    sums: &[u64; 24],
+    sums: &[u64; BLOCKS],
     links: &[u64; ELEMENTS],
     used: usize,
     from: usize,
     last: u64,
 ) -> usize
-    requires { ⌜ (from ≤ used) × (used ≤ 192) × Sums (now slots) (now sums) ⌝ }
+    requires { ⌜ (from ≤ used) × (used ≤ places) × Sums (now slots) (now sums) ⌝ }
     ensures { λ r. ⌜ Lowest (Reaching (now (slots .entry)) (now (links .entry)) from last) 0 used r ⌝ }
 {
     let mut c = skip(sums, from, 0, last, last);
@@ -227,13 +230,13 @@ fn lowest_reaching(
 // The lowest cluster from `from` on that meets both a and b; `used` if there is none.
 fn lowest_meeting(
     slots: &[u64; PLACES],
-    sums: &[u64; 24],
+    sums: &[u64; BLOCKS],
     used: usize,
     from: usize,
     a: u64,
     b: u64,
 ) -> usize
-    requires { ⌜ (from ≤ used) × (used ≤ 192) × Sums (now slots) (now sums) ⌝ }
+    requires { ⌜ (from ≤ used) × (used ≤ places) × Sums (now slots) (now sums) ⌝ }
     ensures { λ r. ⌜ Lowest (Meeting (now (slots .entry)) a b) from used r ⌝ }
 {
     let mut c = skip(sums, used, from, a, b);
@@ -258,13 +261,13 @@ enum Hit {
 // The first open merge. Where two living clusters may share two elements, an open merge or nothing.
 fn first_open(
     slots: &[u64; PLACES],
-    sums: &[u64; 24],
+    sums: &[u64; BLOCKS],
     links: &[u64; ELEMENTS],
     used: usize,
     from: usize,
     last: u64,
 ) -> Hit
-    requires { ⌜ (from ≤ used) × (used ≤ 192) × Sums (now slots) (now sums) ⌝ }
+    requires { ⌜ (from ≤ used) × (used ≤ places) × Sums (now slots) (now sums) ⌝ }
     ensures tested { λ r. ⌜ Tested (now (slots .entry)) used r ⌝ }
     ensures first { λ r. ⌜ (Searchable (now (slots .entry)) (now (links .entry)) used from last → hitOf r ≡ firstOf 0 (now (slots .entry))) ⌝ }
 {
@@ -305,7 +308,7 @@ fn link(links: &mut [u64; ELEMENTS], u: u64)
 
 // The links of the clusters below `used`.
 fn link_all(slots: &[u64; PLACES], used: usize) -> [u64; ELEMENTS]
-    requires { ⌜ (used ≤ 192) × (length (now slots) ≡ 192) ⌝ }
+    requires { ⌜ (used ≤ places) × (length (now slots) ≡ places) ⌝ }
     ensures { λ r. ⌜ Links (take used (now (slots .entry))) r × (length r ≡ 64) ⌝ }
 {
     let mut links = [0u64; ELEMENTS];
@@ -321,7 +324,7 @@ fn link_all(slots: &[u64; PLACES], used: usize) -> [u64; ELEMENTS]
 
 // Is a merge open among the clusters below `used`, which merges of constraints that are not over have left?
 pub fn some_open(slots: &[u64; PLACES], used: usize) -> bool
-    requires { ⌜ (used ≤ 192) × (length (now slots) ≡ 192) ⌝ }
+    requires { ⌜ (used ≤ places) × (length (now slots) ≡ places) ⌝ }
     ensures { λ r. ⌜ ((cs : List ℕ) (p : List Merge) → NotOver cs → Slots cs p (now (slots .entry)) used → r ≡ isSome (firstOf 0 (final cs p))) ⌝ }
 {
     let sums = sums_of(slots);

@@ -11,7 +11,7 @@ use lib.Seq.{drop-cons}
 use borrow.Author.Tests.{eq-eqb, ne-eqb}
 use Rattle.theory.specs.Block.{block}
 use Rattle.theory.specs.Tests.{yes-branch, no-branch}
-use Rattle.theory.specs.Merge.{slot, Merge, merge, OpenAt, put, final}
+use Rattle.theory.specs.Merge.{Merge, merge, OpenAt, put, final}
 use Rattle.theory.specs.Plan.{ascending, firstOf, isSome}
 use Rattle.merges.specs.Run.{Start, runOf}
 use Rattle.merges.specs.Run.Laws.{final-snoc}
@@ -130,7 +130,8 @@ module _ {cs : List ℕ} {e : ℕ} {l slots parts joints : List ℕ} {steps at :
     last-fault : (b : Bool) → b ≡ isSome (firstOf 0 (final cs (w .p))) → _≡_ {A = ℕ} (elim b [ true ↦ 16 | false ↦ 0 ]) (planFault cs l)
     unfolding stepsFault savedSteps
     last-fault b f =
-        ap (λ (x : Bool). the-fault x) f ∙ sym (w .told ∙ ap (λ (r : List ℕ). stepsFault (final cs (w .p)) (savedSteps r)) none-left) ∙ whole cs l mult
+        ap (λ (x : Bool). the-fault x) f
+        ∙ sym (w .told ∙ ap (λ (r : List ℕ). stepsFault (final cs (w .p)) (savedSteps r)) none-left) ∙ whole cs l mult
       where
         the-fault : Bool → ℕ
         the-fault x = elim x [ true ↦ 16 | false ↦ 0 ]
@@ -144,7 +145,8 @@ module _ {cs : List ℕ} {e : ℕ} {l slots parts joints : List ℕ} {steps at :
     saved = w .rest ∙ ap (λ (r : List ℕ). w .p ++ savedSteps r) none-left ∙ append-nil (w .p)
 
     pub accepts : false ≡ isSome (firstOf 0 (final cs (w .p)))
-        → _≡_ {A = Checked} (record { outcome = Accepted; run = record { steps = steps; parts = parts; joints = joints; slots = slots } }) (checkOf cs l)
+        → _≡_ {A = Checked}
+        (record { outcome = Accepted; run = record { steps = steps; parts = parts; joints = joints; slots = slots } }) (checkOf cs l)
     unfolding checkOf
     accepts f =
         (λ t. record { outcome = Accepted; run = (going-run (w .going) ∙ ap (runOf cs) (sym saved)) t })

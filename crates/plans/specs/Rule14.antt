@@ -5,12 +5,12 @@ use mathlib.Core.Path.{_≡_}
 use mathlib.Core.Logic.{_≢_}
 use mathlib.Core.Bool.{Bool, true, false, _||_}
 use mathlib.Core.List.{List, [], _∷_}
-use Prim.Native.Nat.{ℕ, zero, suc, _%_, _≤_}
+use Prim.Native.Nat.{ℕ, zero, suc, _%_}
 use lib.Dec.{leb, eqb}
 use lib.Count.{ones}
 use lib.ListN.{length}
 use Rattle.theory.specs.Set.{_∩_}
-use Rattle.theory.specs.Merge.{slot, Merge, put, Valid, final}
+use Rattle.theory.specs.Merge.{slot, Merge, put, Valid, final, ShareOne}
 use Rattle.theory.specs.Plan.{openTest, firstOf, isSome}
 use Rattle.plans.specs.Check.{misnamed, savedSteps, planFault}
 pub mod Proof
@@ -33,10 +33,6 @@ stepsFault14 s (m ∷ p) = elim (stepFault14 s m) [ zero ↦ stepsFault14 (put s
 -- the rule that refuses the plan l against the constraints cs, 0 if none, with rule 14 among the rules
 unfoldable pub planFault14 : List ℕ → List ℕ → ℕ
 planFault14 cs l = elim (eqb (length l % 3) 0) [ true ↦ stepsFault14 cs (savedSteps l) | false ↦ 12 ]
-
--- two different living clusters share at most one element
-pub record ShareOne (s : List ℕ) : Type 0 where
-  pub share : (i j : ℕ) → i ≢ j → slot s i ≢ 0 → slot s j ≢ 0 → ones (slot s i ∩ slot s j) ≤ 1
 
 pub record Never14 (cs : List ℕ) : Type 0 where
   -- after any list of merges, each open at its turn

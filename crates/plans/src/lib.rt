@@ -5,8 +5,10 @@ ghost use lib.ListN.{length, take};
 ghost use Rattle.theory.specs.Constraints.{NotOver};
 ghost use Rattle.theory.specs.Merge.{slot, merge as numbers};
 ghost use Rattle.theory.specs.Plan.{ascending};
-ghost use Rattle.merges.specs.Run.{Start};
+ghost use Rattle.merges.specs.Run.{places, Start};
 ghost use Rattle.plans.specs.Check.{misnamed as isMisnamed, faultOf, stepFault, asMerge, answerOf, checkOf};
+use merges::ELEMENTS;
+use merges::PLACES;
 use merges::Run;
 
 // A number of a saved plan as a place.
@@ -17,11 +19,11 @@ fn wide(x: u16) -> usize
 }
 
 // The cluster of a number, 0 if it is dead or was never made.
-fn cluster_at(slots: &[u64; 192], i: usize) -> u64
-    requires { ⌜ length (now slots) ≡ 192 ⌝ }
+fn cluster_at(slots: &[u64; PLACES], i: usize) -> u64
+    requires { ⌜ length (now slots) ≡ places ⌝ }
     ensures { λ r. ⌜ r ≡ slot (now (slots .entry)) i ⌝ }
 {
-    if i < 192 { slots[i] } else { 0 }
+    if i < PLACES { slots[i] } else { 0 }
 }
 
 // Rule 13: one of the three is no living cluster, or one is named twice.
@@ -89,8 +91,8 @@ fn ascend(i: usize, j: usize, k: usize) -> Parts
 }
 
 // The rule that refuses the step that names i, j and k, or 0.
-fn fault_at(slots: &[u64; 192], i: usize, j: usize, k: usize) -> u8
-    requires { ⌜ length (now slots) ≡ 192 ⌝ }
+fn fault_at(slots: &[u64; PLACES], i: usize, j: usize, k: usize) -> u8
+    requires { ⌜ length (now slots) ≡ places ⌝ }
     ensures { λ r. ⌜ r ≡ stepFault (now (slots .entry)) (numbers i j k) ⌝ }
 {
     let a = cluster_at(slots, i);
@@ -130,8 +132,8 @@ pub fn check_plan(start: &[u64; 200], e: usize, plan: &[u16]) -> Checked
         return refused(12);
     }
     let mut slots = merges::begin(start, e);
-    let mut parts = [0u16; 192];
-    let mut joints = [0u64; 64];
+    let mut parts = [0u16; PLACES];
+    let mut joints = [0u64; ELEMENTS];
     let mut steps: usize = 0;
     let mut at: usize = 0;
     while at < plan.len() {
@@ -143,7 +145,16 @@ pub fn check_plan(start: &[u64; 200], e: usize, plan: &[u16]) -> Checked
             return refused(fault);
         }
         let p = ascend(i, j, k);
-        merges::step(&mut slots, &mut parts, &mut joints, e + steps, steps, p.i, p.j, p.k);
+        merges::step(
+            &mut slots,
+            &mut parts,
+            &mut joints,
+            e + steps,
+            steps,
+            p.i,
+            p.j,
+            p.k,
+        );
         steps += 1;
         at += 3;
     }

@@ -6,7 +6,7 @@ use mathlib.Core.Path.{_≡_}
 use mathlib.Core.Logic.{_≢_, _↔_, _⊎_}
 use mathlib.Core.Bool.{Bool, true, false, _||_}
 use mathlib.Core.List.{List, [], _∷_, _++_}
-use Prim.Native.Nat.{ℕ, zero, suc, _+_, _-_, _*_}
+use Prim.Native.Nat.{ℕ, zero, suc, _+_, _-_, _*_, _≤_}
 use lib.Dec.{eqb}
 use lib.Count.{ones}
 use lib.ListN.{length, getD, set}
@@ -86,6 +86,10 @@ Valid s (m ∷ p) = OpenAt s m × Valid (put s m) p
 abbrev pub final : List ℕ → List Merge → List ℕ
 final s [] = s
 final s (m ∷ p) = final (put s m) p
+
+-- two different living clusters share at most one element
+pub record ShareOne (s : List ℕ) : Type 0 where
+  pub share : (i j : ℕ) → i ≢ j → slot s i ≢ 0 → slot s j ≢ 0 → ones (slot s i ∩ slot s j) ≤ 1
 
 -- none is open
 unfoldable pub Ended : List ℕ → Type 0

@@ -8,7 +8,6 @@ use Rattle.sheet.specs.Graph.{graphOf}
 use Rattle.theory.specs.Constraints.{NotOver}
 use Rattle.theory.specs.Over.Laws.{overOf-fine}
 use Rattle.plans.specs.Check.{checkOf}
-use Rattle.merges.specs.Run.{Merged}
 use Rattle.judge.specs.Listing.Blocks.{passed-blocks}
 use Rattle.account.specs.Account.Laws.{Fit, fit}
 use Rattle.account.specs.Account.Answers.{saved-refused, Took, saved-taken}

@@ -10,7 +10,6 @@ use Rattle.sheet.specs.Graph.{graphOf}
 use Rattle.sheet.specs.Graph.Laws.{length-clusters}
 use Rattle.space.specs.Space.{answer, after}
 use Rattle.report.specs.Report.{overReport}
-use Rattle.merges.specs.Run.{Merged}
 use Rattle.account.specs.Account.{reportOf}
 use Rattle.judge.specs.Listing.Blocks.{Blocks, passed-blocks}
 use Rattle.account.specs.Account.Answers.{OverFound, over-found, PlanFound, plan-found}

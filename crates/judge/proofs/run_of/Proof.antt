@@ -26,16 +26,18 @@ slots-of-requires c κs =
 
 merge-all-requires : tie.Need-merge-all-requires
 merge-all-requires c κs =
-    let s = c .before .before in
-    starts (facts s) (in-blocks s .elements-few) (in-blocks s .constraints-few) (in-blocks s .fine) (c .slots-of .result) (s .args .s .e) (sym (in-blocks s .count)) (c .slots-of .ensures)
-    (rw (in-blocks s .count) (s .pre .1))
+    let s = c .before .before .before in
+    let g = c .before .slots-of in
+    starts (facts s) (in-blocks s .elements-few) (in-blocks s .constraints-few) (in-blocks s .fine) (g .result) (s .args .s .e)
+    (sym (in-blocks s .count)) (g .ensures) (rw (in-blocks s .count) (s .pre .1))
 
 returns : tie.Need-returns
 returns c =
-    let s = c .before .before .before in
-    let g = c .before .slots-of in
+    let s = c .before .before .before .before in
+    let g = c .before .before .slots-of in
     subst (λ (cs : List ℕ). Planned cs (c .merge-all .result))
-    (start-list (facts s) (in-blocks s .elements-few) (in-blocks s .constraints-few) (in-blocks s .fine) (g .result) (s .args .s .e) (sym (in-blocks s .count)) (g .ensures)) (c .merge-all .ensures)
+    (start-list (facts s) (in-blocks s .elements-few) (in-blocks s .constraints-few) (in-blocks s .fine) (g .result) (s .args .s .e)
+    (sym (in-blocks s .count)) (g .ensures)) (c .merge-all .ensures)
 
 pub run-of-spec : {M : Type 1} → statement M
 run-of-spec = tie.close (tie.spec slots-of-requires merge-all-requires returns)

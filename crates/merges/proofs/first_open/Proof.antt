@@ -1,11 +1,10 @@
 -- `merges::first_open` meets its contract: what it finds is tested, and by `First` it is the first. Assumes nothing.
-use mathlib.Core.Path.{_≡_, sym, _∙_, subst}
-use mathlib.Core.Logic.{_≢_}
-use Prim.Native.Nat.{ℕ, _+_, _≤_, _<_}
+use mathlib.Core.Path.{sym, _∙_, subst}
+use Prim.Native.Nat.{_<_}
 use native.Mathlib.Omega.{arith}
 use borrow.Author.Needs.{needs}
 use lib.Dec.{T}
-use Rattle.theory.specs.Merge.{slot, merge, OpenAt}
+use Rattle.theory.specs.Merge.{slot, merge}
 use Rattle.theory.specs.Plan.{First}
 use Rattle.theory.specs.Plan.Laws.{first-is, none-is}
 use Rattle.theory.specs.Plan.Search.{open-test, test-open}

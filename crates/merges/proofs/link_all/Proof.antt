@@ -5,7 +5,7 @@ use Prim.Native.Nat.{ℕ, _-_, _≤_, _<_}
 use native.Mathlib.Omega.{arith}
 use native.Mathlib.Numerals.{add-one}
 use borrow.Author.Needs.{needs}
-use lib.ListN.{length, take, getD}
+use lib.ListN.{length, take}
 use lib.Seq.{take-suc}
 use Rattle.merges.specs.Search.Links.{Links}
 use Rattle.merges.proofs.Searching.{links-none, links-add}
@@ -28,7 +28,8 @@ loop-again c =
     let e = c .link .ensures in
     let h : l .i < length (a .slots .now) = search needs in (
       search needs,
-      subst (λ (s : List ℕ). Links s (c .link .last .0)) (sym (ap (λ (n : ℕ). take n (a .slots .now)) (add-one (l .i)) ∙ take-suc (a .slots .now) (l .i) 0 h))
+      subst (λ (s : List ℕ). Links s (c .link .last .0))
+          (sym (ap (λ (n : ℕ). take n (a .slots .now)) (add-one (l .i)) ∙ take-suc (a .slots .now) (l .i) 0 h))
           (links-add (l .inv .1) e),
       e .long ∙ l .inv .2,
     )

@@ -1,7 +1,6 @@
 -- `merges::lowest_meeting` meets its contract: no cluster passed meets both. Assumes nothing.
 use mathlib.Core.Logic.{⊎-elim}
-use Prim.Native.Nat.{_+_, _-_}
-use native.Mathlib.Omega.{arith}
+use Prim.Native.Nat.{_-_}
 use borrow.Author.Needs.{needs}
 use Rattle.theory.specs.Set.{_∩_}
 use Rattle.merges.specs.Search.Links.{Meeting}

@@ -35,7 +35,8 @@ returns c =
 
 -- the cluster tested is passed
 tested : (c : tie.Joined2 Inv-loop μ-loop)
-    → NoneYet (Reaching (c .before .before .before .before .before .before .args .slots .now) (c .before .before .before .before .before .before .args .links .now)
+    → NoneYet (Reaching (c .before .before .before .before .before .before .args .slots .now)
+    (c .before .before .before .before .before .before .args .links .now)
     (c .before .before .before .before .before .before .args .from) (c .before .before .before .before .before .before .args .last)) 0
     (c .before .before .before .before .before .before .args .used) (c .before .before .before .before .loop .c + 1)
 unfolding _∩_

@@ -1,5 +1,5 @@
 -- `merges::merge_all` meets its contract: the loop keeps `Running`. Assumes nothing.
-use mathlib.Core.Path.{_≡_, sym, ap, _∙_, subst}
+use mathlib.Core.Path.{sym, ap, _∙_, subst}
 use mathlib.Core.List.{List}
 use Prim.Native.Nat.{ℕ, _+_, _-_, _≤_, _<_}
 use native.Mathlib.Omega.{arith}
@@ -91,7 +91,8 @@ loop-again c =
     let l = d .before .before .before .before .before .before .loop in
     let o = tested d in
     let g = c .before .before .before .before .before .step .ensures in (
-      running-next (l .inv .0) _ _ _ (o .0) (o .1) (o .3) (λ ready. ap hitOf (sym (d .hit .given .1)) ∙ d .before .before .first-open .ensures .1 ready) g
+      running-next (l .inv .0) _ _ _ (o .0) (o .1) (o .3)
+          (λ ready. ap hitOf (sym (d .hit .given .1)) ∙ d .before .before .first-open .ensures .1 ready) g
           (c .before .before .before .link .ensures),
       c .resum .ensures .again (l .inv .1) (made-other g),
       omega (arith, o .0, o .1, o .2),

@@ -7,13 +7,14 @@ use native.Mathlib.Omega.{arith}
 use lib.ListN.{length, set, take, replicate, length-append}
 use Rattle.theory.specs.Block.{block}
 use Rattle.theory.specs.Block.Laws.{length-block, getD-block, store-block}
-use Rattle.theory.specs.Merge.{slot, Merge, merge, three, OpenAt, union, joint, cleared, put, Valid, final, joints as jointsOf}
+use Rattle.theory.specs.Merge.{slot, Merge, three, OpenAt, union, joint, cleared, put, final, joints as jointsOf}
 use Rattle.theory.specs.Merge.Count.{steps-left}
 use Rattle.theory.specs.Merge.Numbered.{alive-lt}
 use Rattle.theory.specs.Plan.{ascending}
 use Rattle.theory.specs.Plan.Order.{open-ascending, put-ascending, joint-ascending}
 use Rattle.merges.specs.Run.{places, mostSteps, flat, runOf, Start}
-use Rattle.merges.specs.Run.Laws.{final-snoc, valid-snoc, joints-snoc, flat-snoc, length-final, length-numbers, length-joints, store-three, three-block, put-block}
+use Rattle.merges.specs.Run.Laws.{final-snoc, valid-snoc, joints-snoc, flat-snoc, length-final, length-numbers, length-joints, store-three}
+use Rattle.merges.specs.Run.Laws.{three-block, put-block}
 use Rattle.merges.specs.Going.{Slots, Going, Made}
 use Rattle.merges.specs.declared.Run.{Run}
 
@@ -115,7 +116,8 @@ module _ {cs : List ℕ} {e : ℕ} {p : List Merge} {slots parts joints : List �
       parts-next =
           g .parts-are
           ∙ ap (λ (a : List ℕ). set (set (set a (3 * steps) (r .i)) (3 * steps + 1) (r .j)) (3 * steps + 2) (r .k)) (w .parts-are)
-          ∙ store-three places (flat (map ascending p)) (3 * steps) (r .i) (r .j) (r .k) (omega (arith, length-numbers p, steps-are)) (omega (arith, going-fewer))
+          ∙ store-three places (flat (map ascending p)) (3 * steps) (r .i) (r .j) (r .k) (omega (arith, length-numbers p, steps-are))
+          (omega (arith, going-fewer))
           ∙ ap (block places 0) (sym (flat-snoc p m r up))
 
       joints-next : joints′ ≡ block 64 0 (jointsOf cs (p ++ (m ∷ [])))

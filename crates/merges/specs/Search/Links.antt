@@ -5,10 +5,9 @@ use mathlib.Core.Logic.{_≢_}
 use mathlib.Core.List.{List}
 use Prim.Native.Nat.{ℕ, _≤_, _<_}
 use lib.Bits.{bitAnd, bitXor}
-use lib.Count.{ones}
 use lib.ListN.{length, getD}
 use Rattle.theory.specs.Set.{_∩_, _∪_, at}
-use Rattle.theory.specs.Merge.{slot, merge, OpenAt}
+use Rattle.theory.specs.Merge.{slot, merge, OpenAt, ShareOne}
 
 -- the elements linked to p
 abbrev pub linked : List ℕ → ℕ → ℕ
@@ -67,7 +66,7 @@ pub record Since (s : List ℕ) (from last : ℕ) : Type 0 where
 -- what the search relies on: two living clusters share at most one element; the links are those of the living clusters; none lives from `used` on;
 -- and what lies below `from` was looked at but for what meets `last`
 pub record Searchable (s links : List ℕ) (used from last : ℕ) : Type 0 where
-  pub apart : (i j : ℕ) → i ≢ j → slot s i ≢ 0 → slot s j ≢ 0 → ones (slot s i ∩ slot s j) ≤ 1
+  pub apart : ShareOne s
   pub linking : Links s links
   pub beyond : (n : ℕ) → used ≤ n → slot s n ≡ 0
   pub since : Since s from last

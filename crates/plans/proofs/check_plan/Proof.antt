@@ -73,7 +73,8 @@ returns-2 : tie.Need-returns-2 Inv-loop μ-loop
 returns-2 c =
     let f = c .before .before in
     let d = f .before .before .before .before .before .before .before .before in
-    refused-by _ _ (c .refused2 .ensures) (refuses (d .before .loop .inv) (mult (d .before)) (d .loop-test .taken) (fault-is f) (c .before .if2 .taken))
+    refused-by _ _ (c .refused2 .ensures)
+    (refuses (d .before .loop .inv) (mult (d .before)) (d .loop-test .taken) (fault-is f) (c .before .if2 .taken))
 
 step-requires : tie.Need-step-requires Inv-loop μ-loop
 step-requires c κs =

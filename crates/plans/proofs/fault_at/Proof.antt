@@ -11,7 +11,8 @@ unfolding stepFault
 returns c =
     let a = c .before .before .before .before .args in
     c .step-fault .ensures
-    ∙ (λ t. faultOf (c .before .before .before .cluster-at .ensures t) (c .before .before .cluster-at2 .ensures t) (c .before .cluster-at3 .ensures t) (merge (a .i) (a .j) (a .k)))
+    ∙ (λ t. faultOf (c .before .before .before .cluster-at .ensures t) (c .before .before .cluster-at2 .ensures t) (c .before .cluster-at3 .ensures t)
+    (merge (a .i) (a .j) (a .k)))
 
 pub fault-at-spec : {M : Type 1} → statement M
 fault-at-spec =

@@ -115,7 +115,8 @@ steps-fine [] s e = go (firstOf 0 s) (first-found s) e
     go o (nothing n) e = record { valid = tt; ended = n }
 steps-fine (m ∷ p) s e = go (stepFault s m) refl e (steps-fine p (put s m))
   where
-    go : (k : ℕ) → stepFault s m ≡ k → _≡_ {A = ℕ} (elim k [ zero ↦ stepsFault (put s m) p | suc r ↦ suc r ]) 0 → (stepsFault (put s m) p ≡ 0 → Maximal (put s m) p)
+    go : (k : ℕ) → stepFault s m ≡ k → _≡_ {A = ℕ} (elim k [ zero ↦ stepsFault (put s m) p | suc r ↦ suc r ]) 0
+        → (stepsFault (put s m) p ≡ 0 → Maximal (put s m) p)
         → Maximal s (m ∷ p)
     go zero h e ih = let x = ih e in record { valid = (fault-open s m h, x .valid); ended = x .ended }
     go (suc r) h e ih = absurd (omega arith)

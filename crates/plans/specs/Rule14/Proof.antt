@@ -1,6 +1,5 @@
 -- The check answers every list of numbers as it would with rule 14, where two living clusters share at most one element. Assumes nothing.
 use mathlib.Core.Path.{_≡_, refl, ap, _∙_}
-use mathlib.Core.Logic.{_≢_}
 use mathlib.Core.Bool.{Bool, true, false, _||_}
 use mathlib.Core.List.{List, [], _∷_}
 use Prim.Native.Nat.{ℕ, zero, suc, _%_}
@@ -10,11 +9,11 @@ use lib.Count.{ones}
 use lib.ListN.{length}
 use borrow.Author.Tests.{lt-leb}
 use Rattle.theory.specs.Set.{_∩_}
-use Rattle.theory.specs.Merge.{slot, Merge, put, Valid, final}
+use Rattle.theory.specs.Merge.{slot, Merge, put, Valid, final, ShareOne}
 use Rattle.theory.specs.Plan.{openTest}
 use Rattle.plans.specs.Check.{misnamed, faultOf, stepFault, savedSteps, stepsFault, planFault}
 use Rattle.plans.specs.Check.Laws.{Named, named-well, fault-open, fault-range}
-use Rattle.plans.specs.Rule14.{overlapping, faultOf14, stepFault14, stepsFault14, planFault14, ShareOne, Never14}
+use Rattle.plans.specs.Rule14.{overlapping, faultOf14, stepFault14, stepsFault14, planFault14, Never14}
 
 -- a step of different living clusters meets rule 14 in none
 apart : (s : List ℕ) → ShareOne s → (m : Merge) → Named s m → overlapping (slot s (m .i)) (slot s (m .j)) (slot s (m .k)) ≡ false
@@ -41,7 +40,8 @@ step-same s h m = by (misnamed a b c m) refl
     otherwise = elim (openTest a b c) [ true ↦ 0 | false ↦ 15 ]
 
     by : (x : Bool) → misnamed a b c m ≡ x
-        → _≡_ {A = ℕ} (elim x [ true ↦ 13 | false ↦ elim (overlapping a b c) [ true ↦ 14 | false ↦ otherwise ] ]) (elim x [ true ↦ 13 | false ↦ otherwise ])
+        → _≡_ {A = ℕ} (elim x [ true ↦ 13 | false ↦ elim (overlapping a b c) [ true ↦ 14 | false ↦ otherwise ] ])
+        (elim x [ true ↦ 13 | false ↦ otherwise ])
     by true q = refl
     by false q = λ t. elim (apart s h m (named-well s m q) t) [ true ↦ 14 | false ↦ otherwise ]
 
