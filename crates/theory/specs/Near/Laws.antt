@@ -72,13 +72,14 @@ module _ {start : List ℕ} {e : ℕ} (s : Standing start e) where
 
 -- ---- a set of two elements
 
+-- it is the pair of any two of its elements
+pub pair-is : (m x y : ℕ) → ones m ≡ 2 → at x m ≡ 1 → at y m ≡ 1 → x ≢ y → m ≡ pair x y
+unfolding pair
+pair-is m x y two e f n = sym (size-eq m (pair x y) (pair-in x y m e f) (omega (arith, two, size-add (2 ^ y) x (at-other x y n), size-pow y)))
+
 -- one of them is x, and the other
 pub pair-with : (m x : ℕ) → ones m ≡ 2 → at x m ≡ 1 → (y : ℕ) × (y ≢ x) × (m ≡ pair x y)
-unfolding pair
-pair-with m x two e =
-    let o = other m x (omega arith) in
-    let size = size-add (2 ^ o .0) x (at-other x (o .0) (Ne·symm (o .2))) in
-    (o .0, o .2, sym (size-eq m (pair x (o .0)) (pair-in x (o .0) m e (o .1)) (omega (arith, two, size, size-pow (o .0)))))
+pair-with m x two e = let o = other m x (omega arith) in (o .0, o .2, pair-is m x (o .0) two e (o .1) (Ne·symm (o .2)))
 
 pub pair-other : (x y z : ℕ) → x ≢ z → pair x y ≡ pair x z → y ≡ z
 pair-other x y z n e = ⊎-elim
@@ -188,9 +189,15 @@ module _ (x a : ℕ) (e : at x a ≡ 1) where
           (λ w k. less-other y w ys in-ys (λ r. once .0 (subst (λ (v : ℕ). Among v cs) (ap (pair x) r ∙ sym (o .2)) k)) ∙ h w (inr k)) in
           omega (arith, rest, size-less y (ys ∩ a) (both y ys a in-ys in-a), ap ones (less-and y ys a in-ys in-a))
 
-  -- with the elements that are constrained with x
-  pub near-counts : (cs near : List ℕ) → Simple cs → Near cs near → x < 64 → carried cs a ≤ carried cs (a - 2 ^ x) + ones (getD near x 0 ∩ a)
-  near-counts cs near s n l = counts-in cs (s .pairs) (s .once) (getD near x 0) (λ y i. n .says x y l .1 i)
+  -- as many at most as elements that are constrained with x, by the first c constraints or by all
+  module _ (cs near : List ℕ) (s : Simple cs) (n : Near cs near) (l : x < 64) where
+    pub near-counts-take : (c : ℕ) → carried (take c cs) a ≤ carried (take c cs) (a - 2 ^ x) + ones (getD near x 0 ∩ a)
+    near-counts-take c =
+        counts-in (take c cs) (pairs-take c cs (s .pairs)) (once-take c cs (s .once)) (getD near x 0)
+        (λ y i. n .says x y l .1 (among-take (pair x y) c cs i))
+
+    pub near-counts : carried cs a ≤ carried cs (a - 2 ^ x) + ones (getD near x 0 ∩ a)
+    near-counts = counts-in cs (s .pairs) (s .once) (getD near x 0) (λ y i. n .says x y l .1 i)
 
 -- an element that is constrained with x is another one, below 64
 pub near-other : (cs near : List ℕ) → Simple cs → Near cs near → (x y : ℕ) → x < 64 → at y (getD near x 0) ≡ 1 → (y ≢ x) × (y < 64)
@@ -200,3 +207,29 @@ near-other cs near s n x y l e =
       λ p. omega (arith, s .pairs (pair x y) i, ap (λ (z : ℕ). ones (pair x z)) p, ap ones (sub-or (2 ^ x) (2 ^ x) (sub-refl (2 ^ x))), size-pow x),
       at-below 64 y (pair x y) (s .below (pair x y) i) (at-end x y .1),
     )
+
+-- ---- what a set of two elements carries
+
+carried-none : (cs : List ℕ) → Pairs cs → (x : ℕ) → ones x ≡ 2 → (Among x cs → ⊥) → carried cs x ≡ 0
+unfolding carried Pairs
+carried-none [] pairs x two n = refl
+carried-none (m ∷ cs) pairs x two n = go (has-dec m x) (carried-none cs (λ y h. pairs y (inr h)) x two (λ h. n (inr h)))
+  where
+    go : Has m x → carried cs x ≡ 0 → has m x + carried cs x ≡ 0
+    go (inside i q) r = absurd (n (inl (sym (size-eq x m i (omega (arith, two, pairs m (inl refl)))))))
+    go (outside k q) r = omega arith
+
+one-most : (cs : List ℕ) → Pairs cs → Once cs → (x : ℕ) → ones x ≡ 2 → carried cs x ≤ 1
+unfolding carried Pairs
+one-most [] pairs once x two = omega arith
+one-most (m ∷ cs) pairs once x two = go (has-dec m x) (one-most cs (λ y h. pairs y (inr h)) (once .1) x two)
+  where
+    go : Has m x → carried cs x ≤ 1 → has m x + carried cs x ≤ 1
+    go (inside i q) r =
+        let e : m ≡ x = size-eq x m i (omega (arith, two, pairs m (inl refl))) in
+        omega (arith, carried-none cs (λ y h. pairs y (inr h)) x two (λ h. once .0 (subst (λ (z : ℕ). Among z cs) (sym e) h)))
+    go (outside k q) r = omega arith
+
+-- no more than one
+pub carried-one : (cs : List ℕ) → Simple cs → (x : ℕ) → ones x ≡ 2 → carried cs x ≤ 1
+carried-one cs s x two = one-most cs (s .pairs) (s .once) x two

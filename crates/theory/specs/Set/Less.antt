@@ -88,6 +88,14 @@ less-and x a b e f = ext ((a - 2 ^ x) ∩ b) ((a ∩ b) - 2 ^ x) (λ y. go y (�
         (omega (arith, at-and x (a - 2 ^ x) b, less-same x a e, less-same x (a ∩ b) here))
     go y (no n) = omega (arith, at-and y (a - 2 ^ x) b, at-and y a b, less-other x y a e n, less-other x y (a ∩ b) here n)
 
+-- and in one that has not got it
+pub less-out : (x a b : ℕ) → at x a ≡ 1 → at x b ≡ 0 → (a - 2 ^ x) ∩ b ≡ a ∩ b
+less-out x a b e z = ext ((a - 2 ^ x) ∩ b) (a ∩ b) (λ y. go y (ℕ-discrete y x))
+  where
+    go : (y : ℕ) → Dec (y ≡ x) → at y ((a - 2 ^ x) ∩ b) ≡ at y (a ∩ b)
+    go y (yes q) = omega (arith, at-and y (a - 2 ^ x) b, at-and y a b, ap (λ (i : ℕ). at i b) q, z)
+    go y (no n) = omega (arith, at-and y (a - 2 ^ x) b, at-and y a b, less-other x y a e n)
+
 -- put back
 pub less-or : (x a : ℕ) → at x a ≡ 1 → 2 ^ x ∪ (a - 2 ^ x) ≡ a
 less-or x a e = ext (2 ^ x ∪ (a - 2 ^ x)) a (λ y. go y (ℕ-discrete y x))
