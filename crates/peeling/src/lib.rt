@@ -35,7 +35,7 @@ fn drop_low(m: u64) -> u64
 }
 
 // The lowest element of a set.
-fn lowest(m: u64) -> u8
+pub fn lowest(m: u64) -> u8
     requires { ⌜ 0 < m ⌝ }
     ensures { λ r. ⌜ (r < 64) × (at r m ≡ 1) ⌝ }
 {

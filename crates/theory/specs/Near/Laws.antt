@@ -8,13 +8,13 @@ use native.Mathlib.Omega.{arith}
 use lib.Bits.{bitOr}
 use lib.Count.{ones}
 use lib.ListN.{length, take, getD, set, length-set, replicate, length-replicate}
-use lib.Seq.{getD-set-same, getD-set-other, length-take-le}
+use lib.Seq.{getD-set-same, getD-set-other, getD-take, length-take-le}
 use Rattle.theory.specs.Set.{_∩_, _∪_, _⊑_, at}
 use Rattle.theory.specs.Set.Laws.{at-or, at-le, at-zero, at-same, at-other, bit, size-eq, size-pow, size-add, sub-refl, sub-or, or-left, or-right, other, both}
 use Rattle.theory.specs.Set.Less.{at-below, less-other, less-and, size-less, sub-less}
 use Rattle.theory.specs.Constraints.{pair, has, carried, Among, Pairs, Below}
 use Rattle.theory.specs.Constraints.Laws.{Has, inside, outside, has-dec, has-in, size-pair, pair-below, at-pair, at-end, pair-in, pair-ends, pair-comm}
-use Rattle.theory.specs.Over.Laws.{among-take, pairs-take, below-take}
+use Rattle.theory.specs.Over.Laws.{among-take, among-at, pairs-take, below-take}
 use Rattle.theory.specs.Near.{Once, Simple, Standing, Near}
 
 -- ---- one more at the end of a list
@@ -69,6 +69,13 @@ simple-take k cs s = record {
 module _ {start : List ℕ} {e : ℕ} (s : Standing start e) where
   pub standing-count : length (take e start) ≡ e
   standing-count = length-take-le e start (omega (arith, s .places, s .few))
+
+  pub standing-item : (c : ℕ) → c < e → getD start c 0 ≡ getD (take e start) c 0
+  standing-item c h = sym (getD-take e start c 0 h)
+
+  pub standing-two : (c : ℕ) → c < e → ones (getD start c 0) ≡ 2
+  unfolding Pairs
+  standing-two c h = ap ones (standing-item c h) ∙ s .simple .pairs (getD (take e start) c 0) (among-at c (take e start) (omega (arith, standing-count)))
 
 -- ---- a set of two elements
 
