@@ -27,8 +27,8 @@ pub record Few (cs : List ℕ) (u x k : ℕ) : Type 0 where
 pub record Loose (cs : List ℕ) : Type 0 where
   pub least : (a : ℕ) → a < 2 ^ 64 → 1 ≤ ones a → (x : ℕ) × (at x a ≡ 1) × (carried cs a ≤ carried cs (a - 2 ^ x) + 2)
 
--- the sets within u tell whether the first c constraints are over, and a set's part within u carries all but two for each element that it lacks; where
--- nothing is left, the constraints are loose
+-- the sets within u tell whether the first c constraints are over, and a set's part within u carries all but two for each element that it lacks;
+-- where nothing is left, the constraints are loose
 pub record Core (cs : List ℕ) (u : ℕ) : Type 0 where
   pub small : u < 2 ^ 64
   pub fine : (c : ℕ) → ((a : ℕ) → a ⊑ u → 2 ≤ ones a → carried (take c cs) a + 3 ≤ 2 * ones a) → NotOver (take c cs)

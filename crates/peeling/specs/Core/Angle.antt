@@ -29,7 +29,8 @@ angle-more near lines v x p q h = go (eqb (ones (corner near v x)) 3)
     go true = refl
     go false = refl
 
-pub all-told : (cs near : List ℕ) → Simple cs → Near cs near → (lines left : ℕ) (angle : Bool) → Taken near lines left angle → Told cs lines left angle
+pub all-told : (cs near : List ℕ) → Simple cs → Near cs near → (lines left : ℕ) (angle : Bool) → Taken near lines left angle
+    → Told cs lines left angle
 all-told cs near simple is-near lines left angle t = record {
   core = core-peeled cs near simple is-near left (t .peeled);
   angle-is = λ z k two most below count. t .angle-is ∙ go left (t .peeled) z k two most below count;

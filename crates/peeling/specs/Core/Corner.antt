@@ -3,14 +3,14 @@
 use mathlib.Core.Path.{_≡_, sym, ap, _∙_, subst}
 use mathlib.Core.Logic.{_≢_, _⊎_, inl, inr, ⊎-elim, Ne·symm}
 use mathlib.Core.List.{List}
-use Prim.Native.Nat.{ℕ, _+_, _-_, _^_, _≤_, _<_}
+use Prim.Native.Nat.{ℕ, _-_, _^_, _≤_, _<_}
 use native.Mathlib.Omega.{arith}
 use native.Mathlib.Decide.{ℕ-discrete}
 use lib.Count.{ones}
 use lib.ListN.{getD}
 use Rattle.theory.specs.Set.{_∩_, _∪_, _⊑_, at}
-use Rattle.theory.specs.Set.Laws.{at-or, at-le, at-same, at-other, bit, ext, zero-ext, size-eq, size-pow, size-or, sub-trans, sub-antisymm, or-least, other, some, two-in, both, in-both, in-either, or-left, or-right}
-use Rattle.theory.specs.Constraints.{Among, Pairs, same, carried}
+use Rattle.theory.specs.Set.Laws.{at-or, at-le, at-same, at-other, bit, ext, zero-ext, size-eq, size-pow, size-or, sub-trans, sub-antisymm, or-least, other, two-in, both, in-both, in-either, or-left, or-right}
+use Rattle.theory.specs.Constraints.{Among, Pairs}
 use Rattle.theory.specs.Constraints.Laws.{pairs-share}
 use Rattle.theory.specs.Near.{Simple, Near}
 use Rattle.theory.specs.Near.Laws.{pair-is}

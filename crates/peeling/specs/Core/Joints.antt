@@ -13,7 +13,7 @@ use lib.ListN.{length, getD}
 use lib.Pow.{pow-pos, pow-mono}
 use Rattle.theory.specs.Tests.{eq-test}
 use Rattle.theory.specs.Set.{_∩_, _⊑_, at, full}
-use Rattle.theory.specs.Set.Laws.{at-and, at-le, at-other, bit, ext, size-le, size-eq, size-zero, size-full, size-pow, size-or, sub-refl, sub-trans, sub-antisymm, and-l, and-r, and-most, sub-and, some, both, in-both, in-either, below-full}
+use Rattle.theory.specs.Set.Laws.{at-and, at-le, at-other, bit, size-le, size-eq, size-zero, size-full, size-pow, size-or, sub-refl, sub-trans, sub-antisymm, and-l, and-r, and-most, sub-and, some, both, in-both, in-either, below-full}
 use Rattle.theory.specs.Constraints.{Among, Pairs, Below, pair, same, carried, NotOver}
 use Rattle.theory.specs.Constraints.Laws.{carried-small, carried-full, pair-ends}
 use Rattle.theory.specs.Merge.{Three, joint, Merge, Maximal, joints}
@@ -48,8 +48,8 @@ corners-three {near = near} {v = v} x p q h n = go (eqb (ones (corner near v x))
     go true t = refl
     go false t = absurd t
 
-module _ (cs near : List ℕ) (simple : Simple cs) (is-near : Near cs near) (n : ℕ) (below : Below n cs) (fine : NotOver cs) (low : 2 ≤ n) (most : n ≤ 64)
-    (count : length cs + 3 ≡ 2 * n) where
+module _ (cs near : List ℕ) (simple : Simple cs) (is-near : Near cs near) (n : ℕ) (below : Below n cs) (fine : NotOver cs) (low : 2 ≤ n)
+    (most : n ≤ 64) (count : length cs + 3 ≡ 2 * n) where
   pairs : Pairs cs
   pairs = simple .pairs
 

@@ -17,7 +17,8 @@ sub-lowest c = omega (arith, at-room (c .before .args .a) (c .before .args .pair
 lowest-requires : tie.Need-lowest-requires
 lowest-requires c κs =
     let s = c .before in
-    subst (λ (z : ℕ). 0 < s .args .pair - z) (sym (c .single .ensures)) (less-some (s .args .a) (s .args .pair) (s .pre .2) (omega (arith, s .pre .0)))
+    subst (λ (z : ℕ). 0 < s .args .pair - z) (sym (c .single .ensures))
+    (less-some (s .args .a) (s .args .pair) (s .pre .2) (omega (arith, s .pre .0)))
 
 returns : tie.Need-returns
 returns c =

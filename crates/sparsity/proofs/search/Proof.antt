@@ -1,7 +1,7 @@
 -- `search` meets its contract. The loop's invariant: the constraints before c use freedoms and are not over. Assumes nothing.
 use mathlib.Core.Path.{refl, sym, _∙_, subst}
 use mathlib.Core.Logic.{⊎-elim}
-use Prim.Native.Nat.{ℕ, _-_}
+use Prim.Native.Nat.{_-_}
 use borrow.Author.Needs.{needs}
 use native.Mathlib.Omega.{arith}
 use lib.ListN.{take, getD}
@@ -43,7 +43,9 @@ lowest-requires c κs =
     two-pos (getD (s .args .start .now) (c .before .before .before .loop .c) 0) (two-ends (s .pre .0) (c .before .before .loop-test .taken) refl)
 
 other-end-requires : tie.Need-other-end-requires Inv-loop μ-loop
-other-end-requires c κs = (two-ends (c .before .before .before .before .before .before .pre .0) (c .before .before .before .loop-test .taken) refl, c .lowest .ensures .0, c .lowest .ensures .1)
+other-end-requires c κs =
+    let h = c .before .before .before .loop-test .taken in
+    (two-ends (c .before .before .before .before .before .before .pre .0) h refl, c .lowest .ensures .0, c .lowest .ensures .1)
 
 gather-requires : tie.Need-gather-requires Inv-loop μ-loop
 gather-requires c κs =
@@ -66,9 +68,12 @@ returns c =
     let l = c .before .before .before .before .before .before .before .before .before .before .before .before .before .before .loop in
     let h = c .before .before .before .before .before .before .before .before .before .before .before .before .before .loop-test .taken in
     let lc = in-list (s .pre .0) h in
-    let ends = ends-at (s .pre .0) h refl (c .before .before .before .before .before .before .before .before .before .before .lowest .ensures) (c .before .before .before .before .before .before .before .before .before .other-end .ensures) in
+    let a = c .before .before .before .before .before .before .before .before .before .before .lowest in
+    let b = c .before .before .before .before .before .before .before .before .before .other-end in
+    let ends = ends-at (s .pre .0) h refl (a .ensures) (b .ensures) in
     let g = c .before .before .before .before .before .gather in
-    let i = told-in (s .pre .1) (l .c) lc (standing-item (s .pre .0) (l .c) h) (c .before .before .before .before .before .before .before .before .before .before .before .if1 .taken) in
+    let within = c .before .before .before .before .before .before .before .before .before .before .before .if1 .taken in
+    let i = told-in (s .pre .1) (l .c) lc (standing-item (s .pre .0) (l .c) h) within in
     λ n below.
     answer-first (s .pre .0 .simple) n below
     (over-here (s .pre .0 .simple) (s .pre .1) (l .c) lc ends (l .inv .0) i (g .ensures .0)
@@ -131,7 +136,8 @@ loop-again c =
       ⊎-elim (λ w. lent-by (v .6 ∙ w .7) (v .7 ∙ w .8) (w .3 .ensures .1)) (λ w. lent-by (v .6 ∙ w .2) (v .7 ∙ w .3) (l .inv .1)) (v .3 .came),
     ))
     (λ v. (
-      kept-by (s .pre .1) (l .c) lc (v .1) (v .4) (v .5) (kept-skip (s .pre .1) (l .c) lc (told-out (s .pre .1) (l .c) lc q (v .0 .left)) (l .inv .0)),
+      kept-by (s .pre .1) (l .c) lc (v .1) (v .4) (v .5)
+          (kept-skip (s .pre .1) (l .c) lc (told-out (s .pre .1) (l .c) lc q (v .0 .left)) (l .inv .0)),
       lent-by (v .2) (v .3) (l .inv .1),
     ))
     (c .if1 .came)
@@ -140,9 +146,10 @@ returns-2 : tie.Need-returns-2 Inv-loop μ-loop
 returns-2 c =
     let s = c .before .before .before in
     let l = c .before .loop in
+    let cs = take (s .args .e) (s .args .start .now) in
     λ n below.
     answer-not (s .pre .0 .simple) n below
-    (subst NotOver (take-all (l .c) (take (s .args .e) (s .args .start .now)) (omega (arith, standing-count (s .pre .0), c .loop-test .left))) (l .inv .0 .fine))
+    (subst NotOver (take-all (l .c) cs (omega (arith, standing-count (s .pre .0), c .loop-test .left))) (l .inv .0 .fine))
 
 pub search-spec : {M : Type 1} → statement M
 search-spec =

@@ -1,4 +1,5 @@
--- Laws of the answer: the search from its start, a constraint that does not lie in u, one that uses a freedom, and one that finds none. Assumes nothing.
+-- Laws of the answer: the search from its start, a constraint that does not lie in u, one that uses a freedom, and one that finds none.
+-- Assumes nothing.
 use mathlib.Core.Path.{_≡_, refl, sym, ap, ap₂, _∙_, subst}
 use mathlib.Core.Logic.{_≢_, _⊎_, inl, inr, ⊎-elim}
 use mathlib.Core.List.{List}
@@ -259,7 +260,8 @@ module _ {cs : List ℕ} {u : ℕ} (simple : Simple cs) (core : Core cs u) (c : 
   -- ---- the same, of what the code has
 
   -- once and twice with the constraint that the code has as r
-  pub kept-marks : (once twice : ℕ) {t new : List (List ℕ)} {one two r : ℕ} → r ≡ getD cs c 0 → t ≡ new → one ≡ bitOr once r → two ≡ bitOr twice (bitAnd once r)
+  pub kept-marks : (once twice : ℕ) {t new : List (List ℕ)} {one two r : ℕ} → r ≡ getD cs c 0 → t ≡ new → one ≡ bitOr once r
+      → two ≡ bitOr twice (bitAnd once r)
       → Kept cs u (suc c) new (once ∪ m) (twice ∪ (once ∩ m)) → Kept cs u (c + 1) t one two
   unfolding _∪_ _∩_
   kept-marks once twice q et e1 e2 k =

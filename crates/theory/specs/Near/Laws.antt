@@ -75,7 +75,8 @@ module _ {start : List ℕ} {e : ℕ} (s : Standing start e) where
 
   pub standing-two : (c : ℕ) → c < e → ones (getD start c 0) ≡ 2
   unfolding Pairs
-  standing-two c h = ap ones (standing-item c h) ∙ s .simple .pairs (getD (take e start) c 0) (among-at c (take e start) (omega (arith, standing-count)))
+  standing-two c h =
+      ap ones (standing-item c h) ∙ s .simple .pairs (getD (take e start) c 0) (among-at c (take e start) (omega (arith, standing-count)))
 
 -- ---- a set of two elements
 
@@ -87,6 +88,11 @@ pair-is m x y two e f n = sym (size-eq m (pair x y) (pair-in x y m e f) (omega (
 -- one of them is x, and the other
 pub pair-with : (m x : ℕ) → ones m ≡ 2 → at x m ≡ 1 → (y : ℕ) × (y ≢ x) × (m ≡ pair x y)
 pair-with m x two e = let o = other m x (omega arith) in (o .0, o .2, pair-is m x (o .0) two e (o .1) (Ne·symm (o .2)))
+
+-- its ends are two elements
+pub pair-apart : (x y : ℕ) → ones (pair x y) ≡ 2 → x ≢ y
+unfolding pair
+pair-apart x y two q = omega (arith, two, ap (λ (z : ℕ). ones (pair x z)) (sym q), ap ones (sub-or (2 ^ x) (2 ^ x) (sub-refl (2 ^ x))), size-pow x)
 
 pub pair-other : (x y z : ℕ) → x ≢ z → pair x y ≡ pair x z → y ≡ z
 pair-other x y z n e = ⊎-elim
@@ -134,7 +140,8 @@ module _ (cs near : List ℕ) (n : Near cs near) (a b : ℕ) (la : a < 64) (lb :
           go : Dec (y ≡ z) → Among (pair x y) (cs ++ pair a b ∷ [])
           go (yes p) = among-back (pair x y) cs (pair a b ∷ []) (inl (ap (pair x) p ∙ sym e))
           go (no p) =
-              among-front (pair x y) cs (pair a b ∷ []) (n .says x y l .0 (omega (arith, i, ap (at y) g, at-or y (getD near x 0) (2 ^ z), at-other y z p)))
+              among-front (pair x y) cs (pair a b ∷ [])
+              (n .says x y l .0 (omega (arith, i, ap (at y) g, at-or y (getD near x 0) (2 ^ z), at-other y z p)))
 
       back : Among (pair x y) (cs ++ pair a b ∷ []) → at y (getD new x 0) ≡ 1
       back h = ap (at y) g ∙ ⊎-elim
@@ -208,12 +215,10 @@ module _ (x a : ℕ) (e : at x a ≡ 1) where
 
 -- an element that is constrained with x is another one, below 64
 pub near-other : (cs near : List ℕ) → Simple cs → Near cs near → (x y : ℕ) → x < 64 → at y (getD near x 0) ≡ 1 → (y ≢ x) × (y < 64)
-unfolding Pairs Below pair
+unfolding Pairs Below
 near-other cs near s n x y l e =
-    let i = n .says x y l .0 e in (
-      λ p. omega (arith, s .pairs (pair x y) i, ap (λ (z : ℕ). ones (pair x z)) p, ap ones (sub-or (2 ^ x) (2 ^ x) (sub-refl (2 ^ x))), size-pow x),
-      at-below 64 y (pair x y) (s .below (pair x y) i) (at-end x y .1),
-    )
+    let i = n .says x y l .0 e in
+    (Ne·symm (pair-apart x y (s .pairs (pair x y) i)), at-below 64 y (pair x y) (s .below (pair x y) i) (at-end x y .1))
 
 -- ---- what a set of two elements carries
 
