@@ -1,14 +1,13 @@
 -- `over_of` meets its contract. Assumes nothing.
-use mathlib.Core.Path.{_≡_, sym, ap, _∙_, subst}
+use mathlib.Core.Path.{sym, ap, _∙_, subst}
 use mathlib.Core.List.{List}
-use lib.ListN.{length, take}
+use lib.ListN.{length}
 use Rattle.theory.specs.Constraints.{Below}
 use Rattle.theory.specs.Near.{Near}
 use Rattle.theory.specs.Over.{overOf}
 use Rattle.sheet.specs.Facts.{factsOf}
 use Rattle.sparsity.specs.Answer.{asOver}
-use Rattle.judge.specs.Listing.Laws.{ends-paired, near-clusters, start-clusters, standing}
-use Rattle.judge.specs.Listing.Blocks.{Blocks, passed-blocks}
+use Rattle.judge.specs.Listing.Blocks.{Blocks, passed-blocks, ends-paired, near-clusters, start-clusters, standing}
 use Rattle.judge.specs.Judged.Laws.{ends-in-64}
 use Rattle.judge.proofs.over_of.Statement.{statement}
 use Rattle.judge.proofs.over_of.Tie as tie
@@ -17,16 +16,28 @@ in-blocks : (c : tie.Start) → Blocks (c .args .s)
 in-blocks c = passed-blocks (c .args .s) (c .good .0) (c .pre)
 
 near-of-requires : tie.Need-near-of-requires
-near-of-requires c κs = ?a
+near-of-requires c κs =
+    let b = in-blocks (c .before) in
+    (b .most, ends-in-64 (factsOf (c .before .args .s)) (b .elements-few) (b .constraints-few) (b .fine), ends-paired b)
 
 start-of-requires : tie.Need-start-of-requires
-start-of-requires c κs = ?b
+start-of-requires c κs =
+    let b = in-blocks (c .before .before) in
+    (b .most, ends-in-64 (factsOf (c .before .before .args .s)) (b .elements-few) (b .constraints-few) (b .fine))
 
 find-over-requires : tie.Need-find-over-requires
-find-over-requires c κs = ?c
+find-over-requires c κs =
+    let b = in-blocks (c .before .before .before .before .before) in
+    let are = c .before .before .start-of .ensures in
+    let near = c .before .before .before .near-of in
+    (standing b are, subst (λ (cs : List _). Near cs (near .result)) (sym (start-clusters b are)) (near-clusters b (near .ensures)))
 
 returns : tie.Need-returns
-returns c = ?d
+returns c =
+    let s = c .before .before .before .before .before .before in
+    let n = length (factsOf (s .args .s) .elements) in
+    let same = start-clusters (in-blocks s) (c .before .before .before .start-of .ensures) in
+    c .find-over .ensures n (subst (Below n) (sym same) (in-blocks s .below)) ∙ ap (λ (cs : List _). asOver (overOf n cs)) same
 
 pub over-of-spec : {M : Type 1} → statement M
 over-of-spec = tie.close (tie.spec near-of-requires start-of-requires find-over-requires returns)

@@ -7,16 +7,15 @@ use mathlib.Core.Logic.{inl, inr}
 use mathlib.Core.Bool.{Bool, true, false, _&&_, _||_}
 use mathlib.Core.List.{List, [], _∷_, _++_, map}
 use lib.Dec.{T, eqb}
-use lib.ListN.{length, take, getD, length-map, length-append, length-replicate}
-use lib.Seq.{take-append-seam}
+use lib.ListN.{length, getD}
 use lib.Pow.{pow-mono}
 use native.Mathlib.Nat.{le-of-suc-le-suc}
 use Rattle.theory.specs.Constraints.{pair, clusters, Among, Below, Pairs}
 use Rattle.theory.specs.Constraints.Laws.{pair-one, sound-below, sound-pairs}
-use Rattle.theory.specs.Near.{Once, Simple, Standing, Near}
+use Rattle.theory.specs.Near.{Once, Simple}
 use Rattle.sheet.specs.declared.Element.{Element}
 use Rattle.sheet.specs.declared.Constraint.{Constraint}
-use Rattle.sheet.specs.Facts.{Facts, block}
+use Rattle.sheet.specs.Facts.{Facts}
 use Rattle.sheet.specs.Rules.{stands, constraintFault, constraintsFault}
 use Rattle.sheet.specs.Rules.Laws.{ends-true}
 use Rattle.sheet.specs.Accepted.Laws.{taken, none-else}
@@ -92,22 +91,3 @@ module _ (f : Facts) (elements : length (f .elements) ≤ 64) (constraints : len
     below = λ x i. omega (arith, clusters-below x i, pow-mono elements);
     once = each-once (f .elements) (f .constraints) [] fine;
   }
-
-  -- the arrays that are made of them: the initial clusters, and who is constrained with whom
-  module _ {e : ℕ} (count : length (f .constraints) ≡ e) where
-    pub ends-paired : Pairs (map endPair (f .constraints))
-    ends-paired = rw (map-map (f .constraints)) clusters-pairs
-
-    pub near-clusters : {near : List ℕ} → Near (map endPair (f .constraints)) near → Near (clustersOf f) near
-    near-clusters n = rw (map-map (f .constraints)) at n
-
-    module _ {start : List ℕ} (are : start ≡ block 200 0 (map endPair (f .constraints))) where
-      pub start-clusters : take e start ≡ clustersOf f
-      start-clusters = rw (are, ← count, ← length-map endPair (f .constraints), take-append-seam) (map-map (f .constraints))
-
-      pub standing : Standing start e
-      standing = record {
-        places = rw (are, length-append, length-replicate, length-map) (omega arith);
-        few = rw (← count) constraints;
-        simple = rw start-clusters clusters-simple;
-      }
