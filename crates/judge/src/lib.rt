@@ -9,7 +9,6 @@ ghost use Rattle.sheet.specs.Facts.{factsOf};
 ghost use Rattle.sheet.specs.Rules.{sheetFault};
 ghost use Rattle.sheet.specs.Graph.{graphOf};
 ghost use Rattle.peeling.specs.Core.{Told};
-ghost use Rattle.judge.specs.Listing.{columnsOf};
 ghost use Rattle.judge.specs.Judged.{planned as plannedOf, overFound, judgedOf};
 use merges::Run;
 use peeling::Peeling;
@@ -17,49 +16,26 @@ use sheet::Sheet;
 use theory::Finding;
 use theory::Verdict;
 
-// The ends of a sheet's constraints in two columns, 0 beyond them.
-pub struct Columns {
-    pub firsts: [u8; 200],
-    pub seconds: [u8; 200],
-}
-
-fn columns_of(s: Sheet) -> Columns
-    requires { ⌜ sheetFault s ≡ 0 ⌝ }
-    ensures { λ r. ⌜ r ≡ columnsOf (factsOf s) ⌝ }
-{
-    let e = s.e;
-    let mut firsts = [0u8; 200];
-    let mut seconds = [0u8; 200];
-    let mut i: usize = 0;
-    while i < e {
-        let c = s.constraints[i];
-        firsts[i] = c.first;
-        seconds[i] = c.second;
-        i += 1;
-    }
-    Columns { firsts, seconds }
-}
-
 // The first constraint that makes the sheet over, with the smallest set; Fine where it is not over.
 pub fn over_of(s: Sheet) -> Finding
     requires { ⌜ sheetFault s ≡ 0 ⌝ }
     ensures { λ r. ⌜ r ≡ findingOf (graphOf (factsOf s)) ⌝ }
 {
-    let columns = columns_of(s);
-    let firsts = columns.firsts;
-    let seconds = columns.seconds;
-    sparsity::find_over(&firsts, &seconds, s.e)
+    let cs = s.constraints;
+    let e = s.e;
+    let near = graph::near_of(cs, e);
+    let start = graph::start_of(cs, e);
+    sparsity::find_over(&near, &start, e)
 }
 
 // What is left of a sheet when elements with at most two constraints are taken away one after another, and whether three lines went so.
 fn peels(s: Sheet, lines: u64) -> Peeling
     requires { ⌜ sheetFault s ≡ 0 ⌝ }
-    ensures { λ r. ⌜ Told (columnsOf (factsOf s) .firsts) (columnsOf (factsOf s) .seconds) (s .e) lines (r .left) (r .angle) ⌝ }
+    ensures { λ r. ⌜ Told (clustersOf (factsOf s)) lines (r .left) (r .angle) ⌝ }
 {
-    let columns = columns_of(s);
-    let firsts = columns.firsts;
-    let seconds = columns.seconds;
-    peeling::peel_of(&firsts, &seconds, s.e, lines)
+    let cs = s.constraints;
+    let near = graph::near_of(cs, s.e);
+    peeling::peel_of(&near, lines)
 }
 
 // What is judged of a sheet: its verdict; of an over sheet the first constraint and the smallest set, and no merge; else the engine's plan.

@@ -5,10 +5,9 @@ use mathlib.Core.List.{List, [], _∷_}
 use Prim.Native.Nat.{ℕ, _+_, _*_, _-_, _^_, _≤_, _<_}
 use lib.Count.{ones}
 use lib.Dec.{eqb}
-use lib.ListN.{length, getD}
+use lib.ListN.{length, take, getD}
 use Rattle.theory.specs.Set.{_∩_, _∪_, _⊑_, at, full}
-use Rattle.theory.specs.Constraints.{Below, pair, carried, NotOver}
-use Rattle.theory.specs.Over.Listed.{ends, masks}
+use Rattle.theory.specs.Constraints.{Below, carried, NotOver}
 use Rattle.theory.specs.Merge.{joints}
 use Rattle.theory.specs.Plan.{planOf}
 use Rattle.theory.specs.Verdict.{angled}
@@ -28,21 +27,15 @@ pub record Few (cs : List ℕ) (u x k : ℕ) : Type 0 where
 pub record Loose (cs : List ℕ) : Type 0 where
   pub least : (a : ℕ) → a < 2 ^ 64 → 1 ≤ ones a → (x : ℕ) × (at x a ≡ 1) × (carried cs a ≤ carried cs (a - 2 ^ x) + 2)
 
--- the sets within u tell whether the first c of e constraints are over, and a set's part within u carries all but two for each element that it lacks; where
--- nothing is left, the constraints are loose
-pub record Core (us vs : List ℕ) (e u : ℕ) : Type 0 where
+-- the sets within u tell whether the first c constraints are over, and a set's part within u carries all but two for each element that it lacks;
+-- where nothing is left, the constraints are loose
+pub record Core (cs : List ℕ) (u : ℕ) : Type 0 where
   pub small : u < 2 ^ 64
-  pub fine : (c : ℕ) → c ≤ e → ((a : ℕ) → a ⊑ u → 2 ≤ ones a → carried (masks us vs c) a + 3 ≤ 2 * ones a) → NotOver (masks us vs c)
-  pub cut : (c a : ℕ) → c ≤ e → carried (masks us vs c) a + 2 * ones (a ∩ u) ≤ carried (masks us vs c) (a ∩ u) + 2 * ones a
-  pub loose : u ≡ 0 → Loose (masks us vs e)
+  pub fine : (c : ℕ) → ((a : ℕ) → a ⊑ u → 2 ≤ ones a → carried (take c cs) a + 3 ≤ 2 * ones a) → NotOver (take c cs)
+  pub cut : (c a : ℕ) → carried (take c cs) a + 2 * ones (a ∩ u) ≤ carried (take c cs) (a ∩ u) + 2 * ones a
+  pub loose : u ≡ 0 → Loose cs
 
 -- ---- taking elements away
-
--- item x of near holds the elements that share one of the first c constraints with x
-pub record Near (us vs : List ℕ) (c : ℕ) (near : List ℕ) : Type 0 where
-  pub places : length near ≡ 64
-  pub told : (x y : ℕ) → x < 64 → at y (getD near x 0) ≡ 1 → (d : ℕ) × (d < c) × (ends us vs d ≡ pair x y)
-  pub counts : (x a : ℕ) → x < 64 → at x a ≡ 1 → carried (masks us vs c) a ≤ carried (masks us vs c) (a - 2 ^ x) + ones (getD near x 0 ∩ a)
 
 -- elements of u with at most two neighbours in u
 pub record Light (near : List ℕ) (u todo : ℕ) : Type 0 where
@@ -68,7 +61,6 @@ pub record Taken (near : List ℕ) (lines left : ℕ) (angle : Bool) : Type 0 wh
   pub angle-is : angle ≡ angled lines (corners peeled)
 
 -- the core; and of 2n-3 constraints that leave none, whether some joint of the plan is three lines
-pub record Told (us vs : List ℕ) (e lines left : ℕ) (angle : Bool) : Type 0 where
-  pub core : Core us vs e left
-  pub angle-is : left ≡ 0 → (n : ℕ) → 2 ≤ n → n ≤ 64 → Below n (masks us vs e) → e + 3 ≡ 2 * n
-      → angle ≡ angled lines (joints (masks us vs e) (planOf (masks us vs e)))
+pub record Told (cs : List ℕ) (lines left : ℕ) (angle : Bool) : Type 0 where
+  pub core : Core cs left
+  pub angle-is : left ≡ 0 → (n : ℕ) → 2 ≤ n → n ≤ 64 → Below n cs → length cs + 3 ≡ 2 * n → angle ≡ angled lines (joints cs (planOf cs))

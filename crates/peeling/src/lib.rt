@@ -2,14 +2,15 @@
 // more than 2m-3 constraints, and has no smaller one in it, has three at each element: the core tells all that is to be known of "over"
 // (document 01, "Verdict names: over"). The contracts cite this crate's `Core`.
 ghost use mathlib.Core.Path.{_≡_};
-ghost use Prim.Native.Nat.{_-_, _^_, _≤_, _<_};
+ghost use mathlib.Core.List.{List};
+ghost use Prim.Native.Nat.{ℕ, _-_, _^_, _<_};
 ghost use mathlib.Core.Bool.{_&&_, _||_};
 ghost use lib.Count.{ones};
 ghost use lib.Dec.{eqb};
 ghost use Rattle.theory.specs.Set.{_⊑_, at, full};
-ghost use Rattle.theory.specs.Over.Listed.{Listed};
+ghost use Rattle.theory.specs.Near.{Simple, Near};
 ghost use Rattle.theory.specs.Verdict.{allLines};
-ghost use Rattle.peeling.specs.Core.{Core, Near, Light, Taken, Told};
+ghost use Rattle.peeling.specs.Core.{Core, Light, Taken, Told};
 
 // A byte as an index.
 pub fn wide(x: u8) -> usize
@@ -26,27 +27,6 @@ pub fn single(x: u8) -> u64
     1u64 << (x as u32)
 }
 
-// For each element the set of those that share one of e constraints with it.
-fn near_of(firsts: &[u8; 200], seconds: &[u8; 200], e: usize) -> [u64; 64]
-    requires { ⌜ Listed (now firsts) (now seconds) e ⌝ }
-    ensures { λ r. ⌜ Near (now (firsts .entry)) (now (seconds .entry)) e r ⌝ }
-{
-    let mut near = [0u64; 64];
-    let mut c: usize = 0;
-    while c < e {
-        let a = firsts[c];
-        let b = seconds[c];
-        let i = wide(a);
-        let j = wide(b);
-        let p = near[i] | single(b);
-        let q = near[j] | single(a);
-        near[i] = p;
-        near[j] = q;
-        c = c + 1;
-    }
-    near
-}
-
 // A set without its lowest element.
 fn drop_low(m: u64) -> u64
     ensures { λ r. ⌜ ones r ≡ ones m - 1 ⌝ }
@@ -55,7 +35,7 @@ fn drop_low(m: u64) -> u64
 }
 
 // The lowest element of a set.
-fn lowest(m: u64) -> u8
+pub fn lowest(m: u64) -> u8
     requires { ⌜ 0 < m ⌝ }
     ensures { λ r. ⌜ (r < 64) × (at r m ≡ 1) ⌝ }
 {
@@ -140,21 +120,18 @@ fn peel(near: &[u64; 64], low: u64, lines: u64) -> Peeling
     Peeling { left, angle }
 }
 
-// The elements that an over set can have; and where there is none, and e is 2n-3 of n elements, whether some joint of the plan is three lines.
-pub fn peel_of(firsts: &[u8; 200], seconds: &[u8; 200], e: usize, lines: u64) -> Peeling
-    requires { ⌜ Listed (now firsts) (now seconds) e ⌝ }
-    ensures { λ r. ⌜ Told (now (firsts .entry)) (now (seconds .entry)) e lines (r .left) (r .angle) ⌝ }
+// The elements that an over set can have; and where there is none, and 2n-3 constraints of n elements, whether some joint of the plan is three lines.
+pub fn peel_of(near: &[u64; 64], lines: u64) -> Peeling
+    ensures { λ r. ⌜ ((cs : List ℕ) → Simple cs → Near cs (now (near .entry)) → Told cs lines (r .left) (r .angle)) ⌝ }
 {
-    let near = near_of(firsts, seconds, e);
-    let low = light_all(&near);
-    peel(&near, low, lines)
+    let low = light_all(near);
+    peel(near, low, lines)
 }
 
 // The elements that an over set can have.
-pub fn core_of(firsts: &[u8; 200], seconds: &[u8; 200], e: usize) -> u64
-    requires { ⌜ Listed (now firsts) (now seconds) e ⌝ }
-    ensures { λ r. ⌜ Core (now (firsts .entry)) (now (seconds .entry)) e r ⌝ }
+pub fn core_of(near: &[u64; 64]) -> u64
+    ensures { λ r. ⌜ ((cs : List ℕ) → Simple cs → Near cs (now (near .entry)) → Core cs r) ⌝ }
 {
-    let peeling = peel_of(firsts, seconds, e, 0);
+    let peeling = peel_of(near, 0);
     peeling.left
 }

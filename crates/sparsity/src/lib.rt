@@ -5,9 +5,11 @@ ghost use mathlib.Core.Path.{_≡_};
 ghost use mathlib.Core.Logic.{_≢_};
 ghost use Prim.Native.Nat.{ℕ, _+_, _≤_, _<_};
 ghost use lib.Count.{ones};
-ghost use Rattle.theory.specs.Constraints.{pair, Below};
+ghost use lib.ListN.{take};
+ghost use Rattle.theory.specs.Set.{at};
+ghost use Rattle.theory.specs.Constraints.{Below};
+ghost use Rattle.theory.specs.Near.{Standing, Near};
 ghost use Rattle.theory.specs.Over.{overOf};
-ghost use Rattle.theory.specs.Over.Listed.{masks, Listed};
 ghost use Rattle.sparsity.specs.Freedoms.{same, free, Table, FreeBelow};
 ghost use Rattle.sparsity.specs.Reach.{item, Visit, Lent, Found, Way, Gained, Gathered, Placed};
 ghost use Rattle.peeling.specs.Core.{Core};
@@ -189,19 +191,19 @@ fn place(own: [[u8; 2]; 64], a: u8, b: u8) -> [[u8; 2]; 64]
     t
 }
 
-// The set of two elements.
-fn pair_of(a: u8, b: u8) -> u64
-    requires { ⌜ (a < 64) × (b < 64) ⌝ }
-    ensures { λ r. ⌜ r ≡ pair a b ⌝ }
+// The other element of a set of two.
+fn other_end(pair: u64, a: u8) -> u8
+    requires { ⌜ (ones pair ≡ 2) × (a < 64) × (at a pair ≡ 1) ⌝ }
+    ensures { λ r. ⌜ (r < 64) × (at r pair ≡ 1) × (a ≢ r) ⌝ }
 {
-    peeling::single(a) | peeling::single(b)
+    peeling::lowest(pair - peeling::single(a))
 }
 
 // The first of e constraints that makes those up to it over, with the smallest set, where the sets within core tell. An end that has one constraint
 // at most takes the next without a search: once and twice are the elements with one and with two.
-fn search(firsts: &[u8; 200], seconds: &[u8; 200], e: usize, core: u64) -> Finding
-    requires { ⌜ Listed (now firsts) (now seconds) e × Core (now firsts) (now seconds) e core ⌝ }
-    ensures { λ r. ⌜ ((n : ℕ) → Below n (masks (now (firsts .entry)) (now (seconds .entry)) e) → r ≡ overOf n (masks (now (firsts .entry)) (now (seconds .entry)) e)) ⌝ }
+fn search(start: &[u64; 200], e: usize, core: u64) -> Finding
+    requires { ⌜ Standing (now start) e × Core (take e (now start)) core ⌝ }
+    ensures { λ r. ⌜ ((n : ℕ) → Below n (take e (now (start .entry))) → r ≡ overOf n (take e (now (start .entry)))) ⌝ }
 {
     let mut own = all_free();
     let mut queue = [0u8; 64];
@@ -210,10 +212,10 @@ fn search(firsts: &[u8; 200], seconds: &[u8; 200], e: usize, core: u64) -> Findi
     let mut twice: u64 = 0;
     let mut c: usize = 0;
     while c < e {
-        let a = firsts[c];
-        let b = seconds[c];
-        let pair = pair_of(a, b);
+        let pair = start[c];
         if pair & core == pair {
+            let a = peeling::lowest(pair);
+            let b = other_end(pair, a);
             if pair & twice == pair {
                 let t = gather(own, &mut queue, &mut from, a, b);
                 if free_ends(t, a, b) < 4 {
@@ -235,14 +237,15 @@ fn search(firsts: &[u8; 200], seconds: &[u8; 200], e: usize, core: u64) -> Findi
     Finding::Fine
 }
 
-// The first of e constraints that makes those up to it over, with the smallest set; Fine where they are not over.
-pub fn find_over(firsts: &[u8; 200], seconds: &[u8; 200], e: usize) -> Finding
-    requires { ⌜ Listed (now firsts) (now seconds) e ⌝ }
-    ensures { λ r. ⌜ ((n : ℕ) → Below n (masks (now (firsts .entry)) (now (seconds .entry)) e) → r ≡ overOf n (masks (now (firsts .entry)) (now (seconds .entry)) e)) ⌝ }
+// The first of e constraints that makes those up to it over, with the smallest set; Fine where they are not over. The constraints are the first e
+// places of start, and near tells who is constrained with whom.
+pub fn find_over(near: &[u64; 64], start: &[u64; 200], e: usize) -> Finding
+    requires { ⌜ Standing (now start) e × Near (take e (now start)) (now near) ⌝ }
+    ensures { λ r. ⌜ ((n : ℕ) → Below n (take e (now (start .entry))) → r ≡ overOf n (take e (now (start .entry)))) ⌝ }
 {
-    let core = peeling::core_of(firsts, seconds, e);
+    let core = peeling::core_of(near);
     if core == 0 {
         return Finding::Fine;
     }
-    search(firsts, seconds, e, core)
+    search(start, e, core)
 }

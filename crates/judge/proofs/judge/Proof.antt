@@ -13,7 +13,7 @@ sheet c =
     whole (c .args .s) (c .good .0) (c .pre)
 
 add-if1 : tie.Need-add-if1
-add-if1 c = omega (arith, sheet (c .before) .columns .few)
+add-if1 c = omega (arith, sheet (c .before) .in-blocks .most)
 
 mul-if1 : tie.Need-mul-if1
 mul-if1 c = omega (arith, sheet (c .before .before) .in-blocks .elements-most)

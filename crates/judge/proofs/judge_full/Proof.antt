@@ -18,12 +18,12 @@ run-of-requires c κs = (c .pre .0, omega (arith, c .pre .1, sheet c .in-blocks 
 mul-if1 : tie.Need-mul-if1
 mul-if1 c =
     let s = c .before .before in
-    omega (arith, steps-room (s .args .s) (sheet s) (c .before .run-of .result) (c .before .run-of .ensures .merged), sheet s .columns .few)
+    omega (arith, steps-room (s .args .s) (sheet s) (c .before .run-of .result) (c .before .run-of .ensures .merged), sheet s .in-blocks .most)
 
 add-if1 : tie.Need-add-if1
 add-if1 c =
     let s = c .before .before in
-    omega (arith, steps-room (s .args .s) (sheet s) (c .before .run-of .result) (c .before .run-of .ensures .merged), sheet s .columns .few)
+    omega (arith, steps-room (s .args .s) (sheet s) (c .before .run-of .result) (c .before .run-of .ensures .merged), sheet s .in-blocks .most)
 
 listed-by-requires : tie.Need-listed-by-requires
 listed-by-requires c κs =

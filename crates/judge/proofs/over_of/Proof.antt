@@ -1,35 +1,41 @@
-use borrow.Author.Needs.{needs}
+-- `over_of` meets its contract. Assumes nothing.
 use mathlib.Core.Path.{sym, ap, _∙_, subst}
 use Rattle.theory.specs.Constraints.{Below}
+use Rattle.theory.specs.Near.{Near}
 use Rattle.theory.specs.Over.{overOf}
-use Rattle.theory.specs.Over.Listed.{masks, Listed}
 use Rattle.sheet.specs.Facts.{factsOf}
 use Rattle.sheet.specs.Graph.{graphOf}
-use Rattle.judge.specs.declared.Columns.{Columns}
-use Rattle.judge.specs.Judged.Short.{Whole, whole}
+use Rattle.judge.specs.Listing.Blocks.{Blocks, passed-blocks, ends-paired, near-clusters, start-clusters, standing}
+use Rattle.judge.specs.Judged.Laws.{ends-in-64}
 use Rattle.judge.proofs.over_of.Statement.{statement}
 use Rattle.judge.proofs.over_of.Tie as tie
 
-sheet : (c : tie.Start) → Whole (c .args .s)
-sheet c =
-    whole (c .args .s) (c .good .0) (c .pre)
+in-blocks : (c : tie.Start) → Blocks (c .args .s)
+in-blocks c = passed-blocks (c .args .s) (c .good .0) (c .pre)
 
-columns-of-requires : tie.Need-columns-of-requires
-columns-of-requires c κs = search needs
+near-of-requires : tie.Need-near-of-requires
+near-of-requires c κs =
+    let b = in-blocks (c .before) in
+    (b .most, ends-in-64 (factsOf (c .before .args .s)) (b .elements-few) (b .constraints-few) (b .fine), ends-paired b)
+
+start-of-requires : tie.Need-start-of-requires
+start-of-requires c κs =
+    let b = in-blocks (c .before .before) in
+    (b .most, ends-in-64 (factsOf (c .before .before .args .s)) (b .elements-few) (b .constraints-few) (b .fine))
 
 find-over-requires : tie.Need-find-over-requires
 find-over-requires c κs =
-    let s = c .before .before .before .before .before in
-    subst (λ (r : Columns). Listed (r .firsts) (r .seconds) (s .args .s .e)) (sym (c .before .before .before .before .columns-of .ensures)) (sheet s .columns)
+    let b = in-blocks (c .before .before .before .before .before) in
+    let are = c .before .before .start-of .ensures in
+    let near = c .before .before .before .near-of in
+    (standing b are, subst (λ (cs : List _). Near cs (near .result)) (sym (start-clusters b are)) (near-clusters b (near .ensures)))
 
 returns : tie.Need-returns
 returns c =
     let s = c .before .before .before .before .before .before in
     let n = graphOf (factsOf (s .args .s)) .n in
-    let r = c .before .before .before .before .before .columns-of in
-    let m =
-    ap (λ (r : Columns). masks (r .firsts) (r .seconds) (s .args .s .e)) (r .ensures) ∙ sheet s .masks-are in
-    c .find-over .ensures n (subst (Below n) (sym m) (sheet s .in-blocks .below)) ∙ ap (overOf n) m
+    let same = start-clusters (in-blocks s) (c .before .before .before .start-of .ensures) in
+    c .find-over .ensures n (subst (Below n) (sym same) (in-blocks s .below)) ∙ ap (overOf n) same
 
 pub over-of-spec : {M : Type 1} → statement M
-over-of-spec = tie.close (tie.spec columns-of-requires find-over-requires returns)
+over-of-spec = tie.close (tie.spec near-of-requires start-of-requires find-over-requires returns)

@@ -1,29 +1,28 @@
+-- `peels` meets its contract. Assumes nothing.
 use borrow.Author.Needs.{needs}
-use mathlib.Core.Path.{_≡_, sym, _∙_, subst}
-use Rattle.theory.specs.Over.Listed.{Listed}
-use Rattle.peeling.specs.Core.{Told}
-use Rattle.judge.specs.declared.Columns.{Columns}
-use Rattle.judge.specs.Judged.Short.{Whole, whole}
+use Rattle.sheet.specs.Facts.{factsOf}
+use Rattle.sheet.specs.Graph.{clustersOf}
+use Rattle.judge.specs.Listing.Blocks.{Blocks, passed-blocks, ends-paired, near-clusters}
+use Rattle.judge.specs.Judged.Laws.{ends-in-64}
 use Rattle.judge.proofs.peels.Statement.{statement}
 use Rattle.judge.proofs.peels.Tie as tie
 
-sheet : (c : tie.Start) → Whole (c .args .s)
-sheet c =
-    whole (c .args .s) (c .good .0) (c .pre)
+in-blocks : (c : tie.Start) → Blocks (c .args .s)
+in-blocks c = passed-blocks (c .args .s) (c .good .0) (c .pre)
 
-columns-of-requires : tie.Need-columns-of-requires
-columns-of-requires c κs = search needs
+near-of-requires : tie.Need-near-of-requires
+near-of-requires c κs =
+    let b = in-blocks (c .before) in
+    (b .most, ends-in-64 (factsOf (c .before .args .s)) (b .elements-few) (b .constraints-few) (b .fine), ends-paired b)
 
 peel-of-requires : tie.Need-peel-of-requires
-peel-of-requires c κs =
-    let s = c .before .before .before .before .before in
-    subst (λ (r : Columns). Listed (r .firsts) (r .seconds) (s .args .s .e)) (sym (c .before .before .before .before .columns-of .ensures)) (sheet s .columns)
+peel-of-requires c κs = search needs
 
 returns : tie.Need-returns
 returns c =
-    let a = c .before .before .before .before .before .before .args in
-    let r = c .peel-of .result in
-    subst (λ (k : Columns). Told (k .firsts) (k .seconds) (a .s .e) (a .lines) (r .left) (r .angle)) (c .before .before .before .before .before .columns-of .ensures) (c .peel-of .ensures)
+    let s = c .before .before .before .before in
+    let b = in-blocks s in
+    c .peel-of .ensures (clustersOf (factsOf (s .args .s))) (b .simple) (near-clusters b (c .before .before .near-of .ensures))
 
 pub peels-spec : {M : Type 1} → statement M
-peels-spec = tie.close (tie.spec columns-of-requires peel-of-requires returns)
+peels-spec = tie.close (tie.spec near-of-requires peel-of-requires returns)

@@ -11,7 +11,7 @@ sheet c =
     whole (c .args .s) (c .good .0) (c .pre)
 
 add-used : tie.Need-add-used
-add-used c = omega (arith, sheet (c .before) .columns .few)
+add-used c = omega (arith, sheet (c .before) .in-blocks .most)
 
 mul-if1 : tie.Need-mul-if1
 mul-if1 c = omega (arith, sheet (c .before) .in-blocks .elements-most)

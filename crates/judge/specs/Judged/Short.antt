@@ -1,14 +1,12 @@
--- A sheet that no rule refuses as theory takes it, and what its counts and columns decide without a plan. Assumes nothing.
+-- A sheet that no rule refuses as theory takes it, and what its counts decide without a plan. Assumes nothing.
 use Prim.Native.Nat.{ℕ, _+_, _*_, _≤_, _<_}
 use native.Mathlib.Omega.{arith}
-use mathlib.Core.Path.{_≡_, sym, ap, ap₂, _∙_, subst}
+use mathlib.Core.Path.{_≡_, sym, ap, _∙_, subst}
 use mathlib.Core.Bool.{Bool, true, false}
-use mathlib.Core.List.{List}
 use lib.Count.{ones}
 use lib.ListN.{length}
 use Rattle.theory.specs.Constraints.{NotOver}
 use Rattle.theory.specs.Over.Laws.{fine-most}
-use Rattle.theory.specs.Over.Listed.{masks, Listed}
 use Rattle.theory.specs.Merge.{joints}
 use Rattle.theory.specs.Merge.Count.{steps-left}
 use Rattle.theory.specs.Merge.One.{one-fine}
@@ -22,13 +20,11 @@ use Rattle.theory.specs.Graph.Short.{not-angled, verdict-more, verdict-angle, v
 use Rattle.sheet.specs.declared.Sheet.{Sheet}
 use Rattle.sheet.specs.Facts.{factsOf}
 use Rattle.sheet.specs.Rules.{sheetFault}
-use Rattle.peeling.specs.Core.{Core, Loose, Told}
+use Rattle.peeling.specs.Core.{Core, Told}
 use Rattle.peeling.specs.Core.Peeling.{core-none}
 use Rattle.peeling.specs.Core.Merging.{loose-one}
 use Rattle.merges.specs.Run.{runOf, Merged}
 use Rattle.merges.specs.declared.Run.{Run}
-use Rattle.judge.specs.Listing.{columnsOf}
-use Rattle.judge.specs.Listing.Laws.{masks-are, listed}
 use Rattle.judge.specs.Listing.Blocks.{Blocks, passed-blocks}
 use Rattle.sheet.proofs.Passed.{Passed}
 use Rattle.sheet.specs.Graph.{graphOf}
@@ -37,23 +33,12 @@ use Rattle.judge.specs.declared.Judged.{Judged}
 use Rattle.judge.specs.Judged.Lists.{judged-held}
 use Rattle.judge.specs.Judged.{planned, judgedBy, judgedOf}
 
--- with its ends in columns
 pub record Whole (s : Sheet) : Type 0 where
   pub in-blocks : Blocks s
   pub count : length (graphOf (factsOf s) .clusters) ≡ s .e
-  pub columns : Listed (columnsOf (factsOf s) .firsts) (columnsOf (factsOf s) .seconds) (s .e)
-  pub masks-are : masks (columnsOf (factsOf s) .firsts) (columnsOf (factsOf s) .seconds) (s .e) ≡ graphOf (factsOf s) .clusters
 
 pub whole : (s : Sheet) → Passed s → sheetFault s ≡ 0 → Whole s
-whole s g none =
-    let f = factsOf s in
-    let b = passed-blocks s g none in
-    record {
-      in-blocks = b;
-      count = length-clusters f ∙ b .count;
-      columns = rw (b .count) at (listed f (b .elements-few) (b .constraints-few) (b .fine));
-      masks-are = rw (b .count) at (masks-are f);
-    }
+whole s g none = let b = passed-blocks s g none in record { in-blocks = b; count = length-clusters (factsOf s) ∙ b .count }
 
 module _ (s : Sheet) (w : Whole s) where
   pub steps-room : (run : Run) → Merged (graphOf (factsOf s) .clusters) run → 2 * run .steps ≤ s .e
@@ -105,16 +90,15 @@ module _ (s : Sheet) (w : Whole s) where
 
   -- 2n-3 constraints that peel off to the last element
   module _ (lines left : ℕ) (angle : Bool) (are : lines ≡ graphOf (factsOf s) .lines) (count : s .e + 3 ≡ 2 * s .n)
-      (t : Told (columnsOf (factsOf s) .firsts) (columnsOf (factsOf s) .seconds) (s .e) lines left angle) (none : left ≡ 0) where
+      (t : Told (graphOf (factsOf s) .clusters) lines left angle) (none : left ≡ 0) where
     fine : NotOver (graphOf (factsOf s) .clusters)
-    fine =
-        subst NotOver (w .masks-are)
-        (core-none (columnsOf (factsOf s) .firsts) (columnsOf (factsOf s) .seconds) (s .e) (subst (Core (columnsOf (factsOf s) .firsts) (columnsOf (factsOf s) .seconds) (s .e)) none (t .core)))
+    fine = core-none (graphOf (factsOf s) .clusters) (subst (Core (graphOf (factsOf s) .clusters)) none (t .core))
 
     angle-is : angle ≡ angled (graphOf (factsOf s) .lines) (joints (graphOf (factsOf s) .clusters) (planOf (graphOf (factsOf s) .clusters)))
     angle-is =
-        t .angle-is none (s .n) (w .in-blocks .elements-two) (w .in-blocks .elements-most) (rw (w .masks-are, ← w .in-blocks .elements-count) (w .in-blocks .below)) count
-        ∙ ap₂ (λ (z : ℕ) (cs : List ℕ). angled z (joints cs (planOf cs))) are (w .masks-are)
+        t .angle-is none (s .n) (w .in-blocks .elements-two) (w .in-blocks .elements-most) (rw (← w .in-blocks .elements-count) (w .in-blocks .below))
+        (omega (arith, w .count, count))
+        ∙ ap (λ (z : ℕ). angled z (joints (clustersOf (factsOf s)) (planOf (clustersOf (factsOf s))))) are
 
     pub angle-peeled : angle ≡ true → verdictOf (graphOf (factsOf s)) ≡ Angle
     angle-peeled e = verdict-angle (graphOf (factsOf s)) (none-found fine) (sym angle-is ∙ e)
@@ -125,4 +109,6 @@ module _ (s : Sheet) (w : Whole s) where
         let cs = graphOf (factsOf s) .clusters in
         let full : length cs + 3 ≡ 2 * n = omega (arith, w .in-blocks .elements-count, w .count, count) in
         verdict-one (graphOf (factsOf s)) (none-found fine) (sym angle-is ∙ e) full
-        (loose-one n cs (omega (arith, w .in-blocks .elements-count, w .in-blocks .elements-two)) (omega (arith, w .in-blocks .elements-count, w .in-blocks .elements-most)) (w .in-blocks .paired) (w .in-blocks .below) fine (subst Loose (w .masks-are) (t .core .loose none)) full (planOf cs) (plan-of-maximal cs (w .in-blocks .paired)))
+        (loose-one n cs (omega (arith, w .in-blocks .elements-count, w .in-blocks .elements-two))
+        (omega (arith, w .in-blocks .elements-count, w .in-blocks .elements-most)) (w .in-blocks .paired) (w .in-blocks .below) fine
+        (t .core .loose none) full (planOf cs) (plan-of-maximal cs (w .in-blocks .paired)))

@@ -1,20 +1,24 @@
--- A sheet in its blocks that no rule refuses. Assumes nothing.
-use Prim.Native.Nat.{_≤_}
+-- A sheet in its blocks that no rule refuses, and the arrays that are made of its constraints. Assumes nothing.
+use Prim.Native.Nat.{ℕ, _≤_}
+use native.Mathlib.Omega.{arith}
 use borrow.Author.Tests.{leb-true}
-use mathlib.Core.Path.{_≡_}
-use mathlib.Core.List.{[]}
+use mathlib.Core.Path.{_≡_, sym, ap, ap₂, _∙_}
+use mathlib.Core.List.{List, [], map}
 use lib.Dec.{leb}
-use lib.ListN.{length}
-use lib.Seq.{length-take-le}
+use lib.ListN.{length, take, length-map, length-append, length-replicate}
+use lib.Seq.{length-take-le, take-append-seam}
 use Rattle.theory.specs.Constraints.{Below, Pairs}
+use Rattle.theory.specs.Near.{Simple, Standing, Near}
 use Rattle.sheet.specs.declared.Sheet.{Sheet}
-use Rattle.sheet.specs.Facts.{factsOf}
+use Rattle.sheet.specs.Facts.{factsOf, block}
 use Rattle.sheet.specs.Rules.{constraintsFault, sheetFault}
 use Rattle.sheet.specs.Rules.Laws.{and-true}
 use Rattle.sheet.specs.RoundTrip.Blocks.{constraints-most, sheetFault-none}
 use Rattle.sheet.proofs.Passed.{Passed, elements-long, constraints-long}
 use Rattle.sheet.specs.Graph.{graphOf}
 use Rattle.sheet.specs.Graph.Laws.{clusters-pairs, clusters-below}
+use Rattle.graph.specs.Arrays.{endPair}
+use Rattle.judge.specs.Listing.Laws.{clusters-simple}
 
 pub record Blocks (s : Sheet) : Type 0 where
   pub elements-two : 2 ≤ s .n
@@ -28,6 +32,7 @@ pub record Blocks (s : Sheet) : Type 0 where
   pub constraints-few : length (factsOf s .constraints) ≤ 200
   pub paired : Pairs (graphOf (factsOf s) .clusters)
   pub below : Below (graphOf (factsOf s) .n) (graphOf (factsOf s) .clusters)
+  pub simple : Simple (graphOf (factsOf s) .clusters)
 
 pub blocks : (s : Sheet) → length (s .elements) ≡ 64 → length (s .constraints) ≡ 200 → sheetFault s ≡ 0 → Blocks s
 blocks s long-elements long none =
@@ -50,7 +55,30 @@ blocks s long-elements long none =
       constraints-few = rw k e;
       paired = clusters-pairs (factsOf s) (h .2);
       below = clusters-below (factsOf s) (h .2);
+      simple = clusters-simple (factsOf s) (rw l m) (h .2);
     }
 
 pub passed-blocks : (s : Sheet) → Passed s → sheetFault s ≡ 0 → Blocks s
 passed-blocks s g none = blocks s (elements-long s g) (constraints-long s g) none
+
+-- ---- the arrays that are made of its constraints: the initial clusters, and who is constrained with whom
+
+module _ {s : Sheet} (b : Blocks s) where
+  pub ends-paired : Pairs (map endPair (factsOf s .constraints))
+  ends-paired = rw (map-map (factsOf s .constraints)) (b .paired)
+
+  pub near-clusters : {near : List ℕ} → Near (map endPair (factsOf s .constraints)) near → Near (clustersOf (factsOf s)) near
+  near-clusters n = rw (map-map (factsOf s .constraints)) at n
+
+  module _ {start : List ℕ} (are : start ≡ block 200 0 (map endPair (factsOf s .constraints))) where
+    pub start-clusters : take (s .e) start ≡ clustersOf (factsOf s)
+    start-clusters =
+        let l : s .e ≡ length (map endPair (factsOf s .constraints)) = rw length-map (sym (b .count)) in
+        ap₂ take l are ∙ take-append-seam (map endPair (factsOf s .constraints)) _ ∙ map-map (factsOf s .constraints)
+
+    pub standing : Standing start (s .e)
+    standing = record {
+      places = ap length are ∙ simp (length-append, length-replicate, length-map) (omega (arith, b .constraints-few));
+      few = b .most;
+      simple = rw start-clusters (b .simple);
+    }

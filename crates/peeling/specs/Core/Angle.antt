@@ -1,26 +1,21 @@
 -- Three lines among the corners are three lines in a joint of the plan. Assumes nothing.
-use mathlib.Core.Path.{_≡_, refl, sym, ap, ap₂, _∙_, subst}
-use mathlib.Core.Logic.{_≢_, Iff·symm}
+use mathlib.Core.Path.{_≡_, refl, sym, ap₂, _∙_, subst}
+use mathlib.Core.Logic.{Iff·symm}
 use mathlib.Core.Bool.{Bool, true, false, _||_, _&&_}
 use mathlib.Core.List.{List, _∷_}
-use Prim.Native.Nat.{ℕ, _+_, _*_, _^_, _-_, _≤_, _<_}
-use native.Mathlib.Omega.{arith}
+use Prim.Native.Nat.{ℕ, _+_, _*_, _^_, _-_, _≤_}
 use lib.Count.{ones}
 use lib.Dec.{eqb}
-use lib.ListN.{getD}
+use lib.ListN.{length, getD}
 use Rattle.theory.specs.Set.{_∩_, _∪_, at}
-use Rattle.theory.specs.Set.Laws.{size-pow, sub-or, sub-refl}
-use Rattle.theory.specs.Constraints.{Among, Below, pair}
-use Rattle.theory.specs.Constraints.Laws.{at-end}
-use Rattle.theory.specs.Over.Laws.{among-at}
-use Rattle.theory.specs.Over.Listed.{ends, masks, Listed}
-use Rattle.theory.specs.Over.Listed.Laws.{length-masks, masks-at, masks-pairs, ends-two}
+use Rattle.theory.specs.Constraints.{Below}
+use Rattle.theory.specs.Near.{Simple, Near}
 use Rattle.theory.specs.Merge.{joints}
 use Rattle.theory.specs.Plan.{planOf}
 use Rattle.theory.specs.Plan.Laws.{plan-of-maximal}
 use Rattle.theory.specs.Verdict.{allLines, angled}
 use Rattle.theory.specs.Verdict.Laws.{angled-same}
-use Rattle.peeling.specs.Core.{Near, Core, Light, Peeled, less, corner, corners, Taken, Told}
+use Rattle.peeling.specs.Core.{Core, Light, Peeled, less, corner, corners, Taken, Told}
 use Rattle.peeling.specs.Core.Peeling.{core-peeled, core-none}
 use Rattle.peeling.specs.Core.Joints.{joints-are}
 
@@ -34,41 +29,19 @@ angle-more near lines v x p q h = go (eqb (ones (corner near v x)) 3)
     go true = refl
     go false = refl
 
-module _ (us vs : List ℕ) (e : ℕ) (l : Listed us vs e) (near : List ℕ) (n : Near us vs e near) where
-  told : (x y : ℕ) → x < 64 → at y (getD near x 0) ≡ 1 → (m : ℕ) × Among m (masks us vs e) × (at x m ≡ 1) × (at y m ≡ 1) × (y ≢ x)
-  unfolding pair
-  told x y h i =
-      let d = n .told x y h i in
-      let a = at-end x y in (
-        ends us vs (d .0),
-        subst (λ (z : ℕ). Among z (masks us vs e)) (masks-at us vs (d .0) e (d .1)) (among-at (d .0) (masks us vs e) (omega (arith, length-masks us vs e, d .1))),
-        ap (at x) (d .2) ∙ a .0,
-        ap (at y) (d .2) ∙ a .1,
-        λ q.
-            omega (
-              arith,
-              ends-two us vs e l (d .0) (d .1),
-              ap ones (d .2 ∙ ap (pair x) q ∙ sub-or (2 ^ x) (2 ^ x) (sub-refl (2 ^ x))),
-              size-pow x,
-            ),
-      )
-
-  pub all-told : (lines left : ℕ) (angle : Bool) → Taken near lines left angle → Told us vs e lines left angle
-  all-told lines left angle t = record {
-    core = core-peeled us vs e l near n left (t .peeled);
-    angle-is = λ z k two most below count.
-        t .angle-is
-        ∙ go left (t .peeled) z k two most below count;
-  }
-    where
-      go : (u : ℕ) (d : Peeled near u) → u ≡ 0 → (k : ℕ) → 2 ≤ k → k ≤ 64 → Below k (masks us vs e) → e + 3 ≡ 2 * k
-          → angled lines (corners d) ≡ angled lines (joints (masks us vs e) (planOf (masks us vs e)))
-      go u d z k two most below count =
-          let cs = masks us vs e in
-          let pairs = masks-pairs us vs e l in
-          let fine = core-none us vs e (subst (Core us vs e) z (core-peeled us vs e l near n u d)) in
-          angled-same lines (corners d) (joints cs (planOf cs))
-          (λ y. Iff·symm (joints-are cs near pairs k below fine two most (omega (arith, length-masks us vs e, count)) (n .counts) told u d z (planOf cs) (plan-of-maximal cs pairs) y))
+pub all-told : (cs near : List ℕ) → Simple cs → Near cs near → (lines left : ℕ) (angle : Bool) → Taken near lines left angle
+    → Told cs lines left angle
+all-told cs near simple is-near lines left angle t = record {
+  core = core-peeled cs near simple is-near left (t .peeled);
+  angle-is = λ z k two most below count. t .angle-is ∙ go left (t .peeled) z k two most below count;
+}
+  where
+    go : (u : ℕ) (d : Peeled near u) → u ≡ 0 → (k : ℕ) → 2 ≤ k → k ≤ 64 → Below k cs → length cs + 3 ≡ 2 * k
+        → angled lines (corners d) ≡ angled lines (joints cs (planOf cs))
+    go u d z k two most below count =
+        let fine = core-none cs (subst (Core cs) z (core-peeled cs near simple is-near u d)) in
+        angled-same lines (corners d) (joints cs (planOf cs))
+        (λ y. Iff·symm (joints-are cs near simple is-near k below fine two most count u d z (planOf cs) (plan-of-maximal cs (simple .pairs)) y))
 
 -- ---- one element taken away
 

@@ -3,19 +3,21 @@
 use mathlib.Core.Path.{_≡_, sym, ap, _∙_, subst}
 use mathlib.Core.Logic.{_≢_, _⊎_, inl, inr, ⊎-elim, Ne·symm}
 use mathlib.Core.List.{List}
-use Prim.Native.Nat.{ℕ, _+_, _-_, _^_, _≤_, _<_}
+use Prim.Native.Nat.{ℕ, _-_, _^_, _≤_, _<_}
 use native.Mathlib.Omega.{arith}
 use native.Mathlib.Decide.{ℕ-discrete}
 use lib.Count.{ones}
 use lib.ListN.{getD}
 use Rattle.theory.specs.Set.{_∩_, _∪_, _⊑_, at}
-use Rattle.theory.specs.Set.Laws.{at-or, at-le, at-same, at-other, bit, ext, zero-ext, size-eq, size-pow, size-or, sub-trans, sub-antisymm, or-least, other, some, two-in, both, in-both, in-either, or-left, or-right}
-use Rattle.theory.specs.Constraints.{Among, Pairs, same, carried}
-use Rattle.theory.specs.Constraints.Laws.{carried-pos, carried-small, pairs-share}
+use Rattle.theory.specs.Set.Laws.{at-or, at-le, at-same, at-other, bit, ext, zero-ext, size-eq, size-pow, size-or, sub-trans, sub-antisymm, or-least, other, two-in, both, in-both, in-either, or-left, or-right}
+use Rattle.theory.specs.Constraints.{Among, Pairs}
+use Rattle.theory.specs.Constraints.Laws.{pairs-share}
+use Rattle.theory.specs.Near.{Simple, Near}
+use Rattle.theory.specs.Near.Laws.{pair-is}
 use Rattle.theory.specs.Merge.{Open, Three, union, joint}
 use Rattle.theory.specs.Merge.Threes.{meet-open, size-joint}
 use Rattle.theory.specs.Merge.Family.{Fam, In, Same, after}
-use Rattle.peeling.specs.Less.{less-same, less-other, less-sub, size-less, sub-less}
+use Rattle.theory.specs.Set.Less.{less-same, less-other, less-sub, size-less, sub-less}
 use Rattle.peeling.specs.Core.{corner}
 
 -- a set that has just these two elements
@@ -34,28 +36,15 @@ two-are s p q n i j h z k = go (ℕ-discrete z p) (ℕ-discrete z q)
 unfoldable pub Parted : List ℕ → ℕ → Fam
 Parted cs a y = (y ≡ a) ⊎ (Among y cs × (y ⊑ a → ⊥))
 
-module _ (cs near : List ℕ) (pairs : Pairs cs)
-    (counts : (x a : ℕ) → x < 64 → at x a ≡ 1 → carried cs a ≤ carried cs (a - 2 ^ x) + ones (getD near x 0 ∩ a))
-    (told : (x y : ℕ) → x < 64 → at y (getD near x 0) ≡ 1 → (m : ℕ) × Among m cs × (at x m ≡ 1) × (at y m ≡ 1) × (y ≢ x)) where
+module _ (cs near : List ℕ) (simple : Simple cs) (is-near : Near cs near) where
+  two-ends : (m : ℕ) → Among m cs → ones m ≡ 2
+  unfolding Pairs
+  two-ends m i = simple .pairs m i
+
   -- a neighbour by a constraint
   has-near : (x p m : ℕ) → x < 64 → Among m cs → at x m ≡ 1 → at p m ≡ 1 → p ≢ x → at p (getD near x 0) ≡ 1
-  unfolding Pairs
   has-near x p m l i xm pm ne =
-      let s = size-less x m xm in
-      let z = pairs m i in
-      let y = some (getD near x 0 ∩ m) (omega (arith, counts x m l xm, carried-pos cs m i, carried-small cs pairs (m - 2 ^ x) (omega arith))) in
-      let b = in-both (y .0) (getD near x 0) m (y .1) in
-      go (y .0) (b .0) (b .1) (ℕ-discrete p (y .0))
-    where
-      go : (y : ℕ) → at y (getD near x 0) ≡ 1 → at y m ≡ 1 → Dec (p ≡ y) → at p (getD near x 0) ≡ 1
-      go y e f (yes q) = ap (λ (w : ℕ). at w (getD near x 0)) q ∙ e
-      go y e f (no n) =
-          absurd (omega (
-            arith,
-            two-in (m - 2 ^ x) p y (less-other x p m xm ne ∙ pm) (less-other x y m xm (told x y l e .4) ∙ f) n,
-            size-less x m xm,
-            pairs m i,
-          ))
+      is-near .says x p l .1 (subst (λ (z : ℕ). Among z cs) (pair-is m x p (two-ends m i) xm pm (Ne·symm ne)) i)
 
   -- an element x of a put back on what a is without it
   module _ (v a x : ℕ) (small : x < 64) (within : a ⊑ v) (xa : at x a ≡ 1) (two : ones (getD near x 0 ∩ v) ≤ 2) where
@@ -91,7 +80,7 @@ module _ (cs near : List ℕ) (pairs : Pairs cs)
     unfolding Pairs
     end m i h o =
         let xm = has-x m h o in
-        let p = other m x (omega (arith, pairs m i)) in
+        let p = other m x (omega (arith, two-ends m i)) in
         let pa : at (p .0) a ≡ 1 = omega (arith, h .le (p .0), p .1, at-le (p .0) a) in
         record {
           p = p .0;
@@ -102,7 +91,7 @@ module _ (cs near : List ℕ) (pairs : Pairs cs)
           p≢x = p .2;
           p-b = less-other x (p .0) a xa (p .2) ∙ pa;
           p-near = both (p .0) (getD near x 0) v (has-near x (p .0) m small i xm (p .1) (p .2)) (omega (arith, within .le (p .0), pa, at-le (p .0) v));
-          only = two-are m x (p .0) (Ne·symm (p .2)) xm (p .1) (omega (arith, pairs m i));
+          only = two-are m x (p .0) (Ne·symm (p .2)) xm (p .1) (omega (arith, two-ends m i));
         }
 
     -- two constraints at x with the same other end are one
@@ -115,7 +104,7 @@ module _ (cs near : List ℕ) (pairs : Pairs cs)
         go (no r) =
             absurd (omega (
               arith,
-              pairs-share m k (pairs m (e .among)) (pairs k (f .among)) r,
+              pairs-share m k (two-ends m (e .among)) (two-ends k (f .among)) r,
               two-in (m ∩ k) x (e .p) (both x m k (e .x-in) (f .x-in)) (both (e .p) m k (e .p-in) (subst (λ (w : ℕ). at w k ≡ 1) (sym q) (f .p-in))) (Ne·symm (e .p≢x)),
             ))
 

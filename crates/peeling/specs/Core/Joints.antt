@@ -13,23 +13,21 @@ use lib.ListN.{length, getD}
 use lib.Pow.{pow-pos, pow-mono}
 use Rattle.theory.specs.Tests.{eq-test}
 use Rattle.theory.specs.Set.{_∩_, _⊑_, at, full}
-use Rattle.theory.specs.Set.Laws.{at-and, at-le, at-other, bit, ext, size-le, size-eq, size-zero, size-full, size-pow, size-or, sub-refl, sub-trans, sub-antisymm, and-l, and-r, and-most, sub-and, some, both, in-both, in-either, below-full}
-use Rattle.theory.specs.Constraints.{Among, Pairs, Below, same, carried, NotOver}
-use Rattle.theory.specs.Constraints.Laws.{carried-small, carried-full}
+use Rattle.theory.specs.Set.Laws.{at-and, at-le, at-other, bit, size-le, size-eq, size-zero, size-full, size-pow, size-or, sub-refl, sub-trans, sub-antisymm, and-l, and-r, and-most, sub-and, some, both, in-both, in-either, below-full}
+use Rattle.theory.specs.Constraints.{Among, Pairs, Below, pair, same, carried, NotOver}
+use Rattle.theory.specs.Constraints.Laws.{carried-small, carried-full, pair-ends}
 use Rattle.theory.specs.Merge.{Three, joint, Merge, Maximal, joints}
 use Rattle.theory.specs.Merge.Threes.{size-joint}
 use Rattle.theory.specs.Merge.Family.{Fam, Same, after, ValidIn, finalIn, EndedIn, jointsIn, start, threes}
 use Rattle.theory.specs.Merge.Family.Outcome.{ended-same, every-order-in}
 use Rattle.theory.specs.Merge.Numbered.{joints-threes, as-start, ended-there}
-use Rattle.peeling.specs.Less.{at-below, less-same, less-other, size-less}
+use Rattle.theory.specs.Set.Less.{at-below, less-and, less-out, size-less}
+use Rattle.theory.specs.Near.{Simple, Near}
+use Rattle.theory.specs.Near.Laws.{near-counts}
 use Rattle.peeling.specs.Core.{Peeled, whole, less, corner, corners}
+use Rattle.peeling.specs.Core.Peeling.{peeled-small}
 use Rattle.peeling.specs.Core.Merging.{one-between, two-between}
 use Rattle.peeling.specs.Core.Corner.{Parted, end, t, isopen, knot-is, merged}
-
-left-room : {near : List ℕ} (u : ℕ) → Peeled near u → u < 2 ^ 64
-unfolding full
-left-room u whole = omega (arith, pow-pos 64)
-left-room u (less {u = v} x p q h) = omega (arith, left-room v p)
 
 -- a step that takes away no corner of three, and one that does
 corners-few : {near : List ℕ} {v : ℕ} (x : ℕ) (p : Peeled near v) (q : at x v ≡ 1) (h : ones (getD near x 0 ∩ v) ≤ 2) → ones (corner near v x) ≢ 3
@@ -50,9 +48,11 @@ corners-three {near = near} {v = v} x p q h n = go (eqb (ones (corner near v x))
     go true t = refl
     go false t = absurd t
 
-module _ (cs near : List ℕ) (pairs : Pairs cs) (n : ℕ) (below : Below n cs) (fine : NotOver cs) (low : 2 ≤ n) (most : n ≤ 64) (count : length cs + 3 ≡ 2 * n)
-    (counts : (x a : ℕ) → x < 64 → at x a ≡ 1 → carried cs a ≤ carried cs (a - 2 ^ x) + ones (getD near x 0 ∩ a))
-    (told : (x y : ℕ) → x < 64 → at y (getD near x 0) ≡ 1 → (m : ℕ) × Among m cs × (at x m ≡ 1) × (at y m ≡ 1) × (y ≢ x)) where
+module _ (cs near : List ℕ) (simple : Simple cs) (is-near : Near cs near) (n : ℕ) (below : Below n cs) (fine : NotOver cs) (low : 2 ≤ n)
+    (most : n ≤ 64) (count : length cs + 3 ≡ 2 * n) where
+  pairs : Pairs cs
+  pairs = simple .pairs
+
   inside : (m : ℕ) → Among m cs → m ⊑ full n
   unfolding Below
   inside m i = below-full n m (below m i)
@@ -60,22 +60,10 @@ module _ (cs near : List ℕ) (pairs : Pairs cs) (n : ℕ) (below : Below n cs) 
   -- ---- what is left of the n elements
 
   cut-out : (v x : ℕ) → at x v ≡ 1 → at x (v ∩ full n) ≡ 0 → (v - 2 ^ x) ∩ full n ≡ v ∩ full n
-  cut-out v x e z = ext ((v - 2 ^ x) ∩ full n) (v ∩ full n) (λ y. digit y (ℕ-discrete y x))
-    where
-      digit : (y : ℕ) → Dec (y ≡ x) → at y ((v - 2 ^ x) ∩ full n) ≡ at y (v ∩ full n)
-      digit y (yes r) =
-          subst (λ (i : ℕ). at i ((v - 2 ^ x) ∩ full n) ≡ at i (v ∩ full n)) (sym r)
-          (omega (arith, at-and x (v - 2 ^ x) (full n), less-same x v e, z))
-      digit y (no k) = omega (arith, at-and y (v - 2 ^ x) (full n), at-and y v (full n), less-other x y v e k)
+  cut-out v x e z = less-out x v (full n) e (omega (arith, at-and x v (full n), at-le x (full n)))
 
   cut-in : (v x : ℕ) → at x v ≡ 1 → at x (v ∩ full n) ≡ 1 → (v - 2 ^ x) ∩ full n ≡ (v ∩ full n) - 2 ^ x
-  cut-in v x e z = ext ((v - 2 ^ x) ∩ full n) ((v ∩ full n) - 2 ^ x) (λ y. digit y (ℕ-discrete y x))
-    where
-      digit : (y : ℕ) → Dec (y ≡ x) → at y ((v - 2 ^ x) ∩ full n) ≡ at y ((v ∩ full n) - 2 ^ x)
-      digit y (yes r) =
-          subst (λ (i : ℕ). at i ((v - 2 ^ x) ∩ full n) ≡ at i ((v ∩ full n) - 2 ^ x)) (sym r)
-          (omega (arith, at-and x (v - 2 ^ x) (full n), less-same x v e, less-same x (v ∩ full n) z))
-      digit y (no k) = omega (arith, at-and y (v - 2 ^ x) (full n), at-and y v (full n), less-other x y v e k, less-other x y (v ∩ full n) z k)
+  cut-in v x e z = less-and x v (full n) e (in-both x v (full n) z .1)
 
   all-of : full 64 ∩ full n ≡ full n
   unfolding full
@@ -97,7 +85,7 @@ module _ (cs near : List ℕ) (pairs : Pairs cs) (n : ℕ) (below : Below n cs) 
             arith,
             ih (omega arith),
             fine ((v ∩ full n) - 2 ^ x) k,
-            counts x (v ∩ full n) (at-below 64 x v (left-room v p) q) z,
+            near-counts x (v ∩ full n) z cs near simple is-near (at-below 64 x v (peeled-small v p) q),
             size-le (getD near x 0 ∩ v) (getD near x 0 ∩ (v ∩ full n)) (and-most (and-l (getD near x 0) (v ∩ full n)) (sub-trans (and-r (getD near x 0) (v ∩ full n)) (and-l v (full n)))),
             two,
           ))
@@ -115,8 +103,8 @@ module _ (cs near : List ℕ) (pairs : Pairs cs) (n : ℕ) (below : Below n cs) 
       go zero e = e
       go (suc k) e =
           let y = some (getD near x 0 ∩ v) (omega arith) in
-          let m = told x (y .0) l (in-both (y .0) (getD near x 0) v (y .1) .0) in
-          absurd (omega (arith, both x v (full n) xv (omega (arith, inside (m .0) (m .1) .le x, m .2, at-le x (full n))), z))
+          let i = is-near .says x (y .0) l .0 (in-both (y .0) (getD near x 0) v (y .1) .0) in
+          absurd (omega (arith, both x v (full n) xv (pair-ends x (y .0) (full n) (inside (pair x (y .0)) i) .0), z))
 
   corner-few : (v x : ℕ) → x < 64 → at x v ≡ 1 → at x (v ∩ full n) ≡ 0 → ones (corner near v x) ≢ 3
   corner-few v x l xv z e = omega (arith, e, size-or (2 ^ x) (getD near x 0 ∩ v), size-pow x, lone v x l xv z)
@@ -132,8 +120,7 @@ module _ (cs near : List ℕ) (pairs : Pairs cs) (n : ℕ) (below : Below n cs) 
           here (no r) = absurd (omega (arith, at-other y x r, e))
       pick y (inr e) =
           let i = in-both y (getD near x 0) v e in
-          let m = told x y l (i .0) in
-          both y v (full n) (i .1) (omega (arith, inside (m .0) (m .1) .le y, m .3, at-le y (full n)))
+          both y v (full n) (i .1) (pair-ends x y (full n) (inside (pair x y) (is-near .says x y l .0 (i .0))) .1)
 
       go : (y : ℕ) → (at y (corner near v x) ≡ 0) ⊎ (at y (corner near v x) ≡ 1) → at y (corner near v x) ≤ at y (v ∩ full n)
       go y (inl e) = omega arith
@@ -141,7 +128,7 @@ module _ (cs near : List ℕ) (pairs : Pairs cs) (n : ℕ) (below : Below n cs) 
 
   module _ (v x : ℕ) (p : Peeled near v) (q : at x v ≡ 1) (two : ones (getD near x 0 ∩ v) ≤ 2) where
     small : x < 64
-    small = at-below 64 x v (left-room v p) q
+    small = at-below 64 x v (peeled-small v p) q
 
     step-out : at x (v ∩ full n) ≡ 0 → (G : Fam) → Merges v p G → Merges (v - 2 ^ x) (less x p q two) G
     step-out z G (l, valid, ends, js) =
@@ -160,13 +147,13 @@ module _ (cs near : List ℕ) (pairs : Pairs cs) (n : ℕ) (below : Below n cs) 
         let more : carried cs b′ + 2 ≤ carried cs a′ = omega (arith, tight-at v p (omega arith), tb) in
         let w = two-between cs a′ b′ more in
         let m≢k : w .m ≢ w .k = λ f. omega (arith, w .twice f, pairs (w .m) (w .m-is .among), fine (w .m) (omega (arith, pairs (w .m) (w .m-is .among)))) in
-        let em = end cs near pairs counts told v (v ∩ full n) x small (and-l v (full n)) z two (w .m) (w .m-is .among) (w .m-is .in-a) (w .m-is .not-b) in
-        let ek = end cs near pairs counts told v (v ∩ full n) x small (and-l v (full n)) z two (w .k) (w .k-is .among) (w .k-is .in-a) (w .k-is .not-b) in
-        let t′ = t cs near pairs counts told v (v ∩ full n) x small (and-l v (full n)) z two (w .m) (w .k) em ek m≢k in
+        let em = end cs near simple is-near v (v ∩ full n) x small (and-l v (full n)) z two (w .m) (w .m-is .among) (w .m-is .in-a) (w .m-is .not-b) in
+        let ek = end cs near simple is-near v (v ∩ full n) x small (and-l v (full n)) z two (w .k) (w .k-is .among) (w .k-is .in-a) (w .k-is .not-b) in
+        let t′ = t cs near simple is-near v (v ∩ full n) x small (and-l v (full n)) z two (w .m) (w .k) em ek m≢k in
         let s′ : Same G (Parted cs b′) = subst (λ (c : ℕ). Same G (Parted cs c)) e s in
-        let i = ih (after G t′) (merged cs near pairs counts told v (v ∩ full n) x small (and-l v (full n)) z two (w .m) (w .k) em ek m≢k G s′) in
-        let kn = knot-is cs near pairs counts told v (v ∩ full n) x small (and-l v (full n)) z two (w .m) (w .k) em ek m≢k in
-        let o = isopen cs near pairs counts told v (v ∩ full n) x small (and-l v (full n)) z two (w .m) (w .k) em ek m≢k in (
+        let i = ih (after G t′) (merged cs near simple is-near v (v ∩ full n) x small (and-l v (full n)) z two (w .m) (w .k) em ek m≢k G s′) in
+        let kn = knot-is cs near simple is-near v (v ∩ full n) x small (and-l v (full n)) z two (w .m) (w .k) em ek m≢k in
+        let o = isopen cs near simple is-near v (v ∩ full n) x small (and-l v (full n)) z two (w .m) (w .k) em ek m≢k in (
           t′ ∷ i .0,
           (
             record { ina = s′ b′ .1 (inl refl); inb = s′ (w .m) .1 (inr (w .m-is .among, w .m-is .not-b)); inc = s′ (w .k) .1 (inr (w .k-is .among, w .k-is .not-b)); open3 = o },
@@ -198,7 +185,7 @@ module _ (cs near : List ℕ) (pairs : Pairs cs) (n : ℕ) (below : Below n cs) 
   last-two u (less {u = v} x p q two) h = go (decLe 2 (ones ((v - 2 ^ x) ∩ full n))) (bit (at x (v ∩ full n)) (at-le x (v ∩ full n))) (λ k. last-two v p k)
     where
       l : x < 64
-      l = at-below 64 x v (left-room v p) q
+      l = at-below 64 x v (peeled-small v p) q
 
       go : Dec (2 ≤ ones ((v - 2 ^ x) ∩ full n)) → (at x (v ∩ full n) ≡ 0) ⊎ (at x (v ∩ full n) ≡ 1)
           → (ones (v ∩ full n) ≤ 2 → (w : ℕ) × (c : Peeled near w) × (ones (w ∩ full n) ≡ 2) × (corners p ≡ corners c))

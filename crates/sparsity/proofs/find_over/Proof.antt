@@ -1,5 +1,6 @@
 -- `find_over` meets its contract. Assumes nothing.
 use mathlib.Core.Path.{subst}
+use lib.ListN.{take}
 use Rattle.peeling.specs.Core.{Core}
 use Rattle.peeling.specs.Core.Peeling.{core-none}
 use Rattle.sparsity.specs.Answer.Laws.{answer-not}
@@ -13,14 +14,15 @@ core-of-requires c κs = search needs
 returns : tie.Need-returns
 returns c =
     let s = c .before .before in
-    let us = s .args .firsts .now in
-    let vs = s .args .seconds .now in
+    let cs = take (s .args .e) (s .args .start .now) in
     λ n below.
-    answer-not (s .pre) n below
-    (core-none us vs (s .args .e) (subst (Core us vs (s .args .e)) (c .if1 .taken) (c .before .core-of .ensures)))
+    answer-not (s .pre .0 .simple) n below
+    (core-none cs (subst (Core cs) (c .if1 .taken) (c .before .core-of .ensures cs (s .pre .0 .simple) (s .pre .1))))
 
 search-requires : tie.Need-search-requires
-search-requires c κs = search needs
+search-requires c κs =
+    let s = c .before .before in
+    (s .pre .0, c .before .core-of .ensures (take (s .args .e) (s .args .start .now)) (s .pre .0 .simple) (s .pre .1))
 
 returns-2 : tie.Need-returns-2
 returns-2 c = search needs

@@ -1,23 +1,25 @@
 -- `search` meets its contract. The loop's invariant: the constraints before c use freedoms and are not over. Assumes nothing.
 use mathlib.Core.Path.{refl, sym, _∙_, subst}
 use mathlib.Core.Logic.{⊎-elim}
-use Prim.Native.Nat.{ℕ, _-_}
+use Prim.Native.Nat.{_-_}
 use borrow.Author.Needs.{needs}
 use native.Mathlib.Omega.{arith}
+use lib.ListN.{take, getD}
+use lib.Seq.{take-all}
+use Rattle.theory.specs.Near.Laws.{standing-count, standing-item}
 use Rattle.theory.specs.Constraints.{NotOver}
-use Rattle.theory.specs.Over.Listed.{masks}
 use Rattle.sparsity.specs.Reach.{Lent}
 use Rattle.sparsity.specs.Reach.Visits.{lent-by}
 use Rattle.sparsity.specs.Answer.{Kept, Ready}
-use Rattle.sparsity.specs.Answer.Laws.{kept-start, la, lb, apart, told-in, told-out, ready-lone, ready-four, over-here, kept-by, kept-marks, kept-skip, kept-placed, answer-not, answer-first}
+use Rattle.sparsity.specs.Answer.Laws.{kept-start, told-in, told-out, ready-lone, ready-four, over-here, kept-by, kept-marks, kept-skip, kept-placed, in-list, two-ends, two-pos, ends-at, answer-not, answer-first}
 use Rattle.sparsity.proofs.search.Statement.{statement}
 use Rattle.sparsity.proofs.search.Tie as tie
 
 abbrev Inv-loop : tie.InvT-loop
-Inv-loop firsts seconds e core own₀ queue₀ from₀ once₀ twice₀ c₀ own queue from once twice c = Kept firsts seconds e core c own once twice × Lent queue from
+Inv-loop start e core own₀ queue₀ from₀ once₀ twice₀ c₀ own queue from once twice c = Kept (take e start) core c own once twice × Lent queue from
 
 abbrev μ-loop : tie.MeasureT-loop
-μ-loop firsts seconds e core own₀ queue₀ from₀ once₀ twice₀ c₀ own queue from once twice c = e - c
+μ-loop start e core own₀ queue₀ from₀ once₀ twice₀ c₀ own queue from once twice c = e - c
 
 all-free-requires : tie.Need-all-free-requires Inv-loop μ-loop
 all-free-requires c κs = search needs
@@ -25,103 +27,117 @@ all-free-requires c κs = search needs
 loop-holds : tie.Need-loop-holds Inv-loop μ-loop
 loop-holds c =
     let s = c .before in (
-      kept-start (s .args .firsts .now) (s .args .seconds .now) (s .args .e) (s .args .core) (c .all-free .result) (s .pre .1 .small) (c .all-free .ensures),
+      kept-start (take (s .args .e) (s .args .start .now)) (s .args .core) (c .all-free .result) (s .pre .1 .small) (c .all-free .ensures),
       record { places = refl; places′ = refl },
     )
 
-element-copy-out-a : tie.Need-element-copy-out-a Inv-loop μ-loop
-element-copy-out-a c = omega (arith, c .loop-test .taken, c .before .before .before .pre .0 .few)
+mul-pair : tie.Need-mul-pair Inv-loop μ-loop
+mul-pair c = omega (arith, c .loop-test .taken, c .before .before .before .pre .0 .few)
 
-element-copy-out-b : tie.Need-element-copy-out-b Inv-loop μ-loop
-element-copy-out-b c = omega (arith, c .before .loop-test .taken, c .before .before .before .before .pre .0 .few)
+element-copy-out-pair : tie.Need-element-copy-out-pair Inv-loop μ-loop
+element-copy-out-pair c = omega (arith, c .loop-test .taken, c .before .before .before .pre .0 .few)
 
-pair-of-requires : tie.Need-pair-of-requires Inv-loop μ-loop
-pair-of-requires c κs =
+lowest-requires : tie.Need-lowest-requires Inv-loop μ-loop
+lowest-requires c κs =
     let s = c .before .before .before .before .before in
-    let l = c .before .before .before .loop in
-    let h = c .before .before .loop-test .taken in
-    (la (s .pre .0) (s .pre .1) (l .c) h, lb (s .pre .0) (s .pre .1) (l .c) h)
+    two-pos (getD (s .args .start .now) (c .before .before .before .loop .c) 0) (two-ends (s .pre .0) (c .before .before .loop-test .taken) refl)
+
+other-end-requires : tie.Need-other-end-requires Inv-loop μ-loop
+other-end-requires c κs =
+    let h = c .before .before .before .loop-test .taken in
+    (two-ends (c .before .before .before .before .before .before .pre .0) h refl, c .lowest .ensures .0, c .lowest .ensures .1)
 
 gather-requires : tie.Need-gather-requires Inv-loop μ-loop
 gather-requires c κs =
-    let s = c .before .before .before .before .before .before .before .before .before .before in
     let l = c .before .before .before .before .before .before .before .before .loop in
-    let h = c .before .before .before .before .before .before .before .loop-test .taken in
-    (l .inv .0 .table, la (s .pre .0) (s .pre .1) (l .c) h, lb (s .pre .0) (s .pre .1) (l .c) h, apart (s .pre .0) (s .pre .1) (l .c) h, l .inv .1)
+    let b = c .before .before .before .other-end .ensures in
+    (l .inv .0 .table, c .before .before .before .before .lowest .ensures .0, b .0, b .2, l .inv .1)
 
 free-ends-requires : tie.Need-free-ends-requires Inv-loop μ-loop
-free-ends-requires c κs =
-    let s = c .before .before .before .before .before .before .before .before .before .before .before in
-    let l = c .before .before .before .before .before .before .before .before .before .loop in
-    let h = c .before .before .before .before .before .before .before .before .loop-test .taken in
-    (la (s .pre .0) (s .pre .1) (l .c) h, lb (s .pre .0) (s .pre .1) (l .c) h)
+free-ends-requires c κs = (c .before .before .before .before .before .lowest .ensures .0, c .before .before .before .before .other-end .ensures .0)
 
 seek-requires : tie.Need-seek-requires Inv-loop μ-loop
 seek-requires c κs =
-    let s = c .before .before .before .before .before .before .before .before .before .before .before .before .before .before .before in
-    let l = c .before .before .before .before .before .before .before .before .before .before .before .before .before .loop in
-    let h = c .before .before .before .before .before .before .before .before .before .before .before .before .loop-test .taken in
-    (c .before .before .before .before .gather .ensures .0 .again .table, la (s .pre .0) (s .pre .1) (l .c) h, lb (s .pre .0) (s .pre .1) (l .c) h, apart (s .pre .0) (s .pre .1) (l .c) h, c .before .before .before .before .gather .ensures .1)
+    let g = c .before .before .before .before .gather .ensures in
+    let b = c .before .before .before .before .before .before .before .before .other-end .ensures in
+    (g .0 .again .table, c .before .before .before .before .before .before .before .before .before .lowest .ensures .0, b .0, b .2, g .1)
 
 returns : tie.Need-returns Inv-loop μ-loop
 returns c =
     let s = c .before .before .before .before .before .before .before .before .before .before .before .before .before .before .before .before in
     let l = c .before .before .before .before .before .before .before .before .before .before .before .before .before .before .loop in
     let h = c .before .before .before .before .before .before .before .before .before .before .before .before .before .loop-test .taken in
+    let lc = in-list (s .pre .0) h in
+    let a = c .before .before .before .before .before .before .before .before .before .before .lowest in
+    let b = c .before .before .before .before .before .before .before .before .before .other-end in
+    let ends = ends-at (s .pre .0) h refl (a .ensures) (b .ensures) in
     let g = c .before .before .before .before .before .gather in
-    let i = told-in (s .pre .0) (s .pre .1) (l .c) h (c .before .before .before .before .before .before .before .before .before .before .pair-of .ensures) (c .before .before .before .before .before .before .before .before .before .if1 .taken) in
+    let within = c .before .before .before .before .before .before .before .before .before .before .before .if1 .taken in
+    let i = told-in (s .pre .1) (l .c) lc (standing-item (s .pre .0) (l .c) h) within in
     λ n below.
-    answer-first (s .pre .0) n below
-    (over-here (s .pre .0) (s .pre .1) (l .c) h (l .inv .0) i (g .ensures .0)
+    answer-first (s .pre .0 .simple) n below
+    (over-here (s .pre .0 .simple) (s .pre .1) (l .c) lc ends (l .inv .0) i (g .ensures .0)
     (omega (arith, c .before .before .before .before .free-ends .ensures, c .before .before .before .if3 .taken)) (c .seek .ensures))
 
 place-requires : tie.Need-place-requires Inv-loop μ-loop
 place-requires c κs =
     let s = c .before .before .before .before .before .before .before .before in
     let l = c .before .before .before .before .before .before .loop in
-    let us = s .args .firsts .now in
-    let vs = s .args .seconds .now in
     let h = c .before .before .before .before .before .loop-test .taken in
-    let q = c .before .before .pair-of .ensures in
-    let i = told-in (s .pre .0) (s .pre .1) (l .c) h q (c .before .if1 .taken) in
-    let r : Ready us vs (s .args .core) (l .c) (c .if2 .own) =
+    let lc = in-list (s .pre .0) h in
+    let a = c .before .before .lowest in
+    let b = c .before .other-end in
+    let ends = ends-at (s .pre .0) h refl (a .ensures) (b .ensures) in
+    let q = standing-item (s .pre .0) (l .c) h in
+    let i = told-in (s .pre .1) (l .c) lc q (c .before .before .before .if1 .taken) in
+    let cs = take (s .args .e) (s .args .start .now) in
+    let r : Ready cs (s .args .core) (l .c) (a .result) (b .result) (c .if2 .own) =
     ⊎-elim
     (λ w.
-    subst (Ready us vs (s .args .core) (l .c)) (sym (w .6))
-    (ready-four (s .pre .0) (s .pre .1) (l .c) h (l .inv .0) i (w .3 .ensures .0) (omega (arith, w .4 .ensures, w .5 .left))))
-    (λ w. subst (Ready us vs (s .args .core) (l .c)) (sym (w .1)) (ready-lone (s .pre .0) (s .pre .1) (l .c) h (l .inv .0) i (told-out (s .pre .0) (s .pre .1) (l .c) h q (w .0 .left))))
+    subst (Ready cs (s .args .core) (l .c) (a .result) (b .result)) (sym (w .6))
+    (ready-four (s .pre .0 .simple) (s .pre .1) (l .c) lc ends (l .inv .0) i (w .3 .ensures .0) (omega (arith, w .4 .ensures, w .5 .left))))
+    (λ w.
+    subst (Ready cs (s .args .core) (l .c) (a .result) (b .result)) (sym (w .1))
+    (ready-lone (s .pre .0 .simple) (s .pre .1) (l .c) lc ends (l .inv .0) i (told-out (s .pre .1) (l .c) lc q (w .0 .left))))
     (c .if2 .came) in
-    (r .table, la (s .pre .0) (s .pre .1) (l .c) h, lb (s .pre .0) (s .pre .1) (l .c) h, r .open-end)
+    (r .table, a .ensures .0, b .ensures .0, r .open-end)
 
 add-c : tie.Need-add-c Inv-loop μ-loop
-add-c c = omega (arith, c .before .before .before .before .loop-test .taken)
+add-c c = omega (arith, c .before .before .loop-test .taken)
 
 loop-less : tie.Need-loop-less Inv-loop μ-loop
-loop-less c = omega (arith, c .before .before .before .before .loop-test .taken)
+loop-less c = omega (arith, c .before .before .loop-test .taken)
 
 loop-again : tie.Need-loop-again Inv-loop μ-loop
 loop-again c =
-    let s = c .before .before .before .before .before .before .before in
-    let l = c .before .before .before .before .before .loop in
-    let us = s .args .firsts .now in
-    let vs = s .args .seconds .now in
-    let h = c .before .before .before .before .loop-test .taken in
-    let q = c .before .pair-of .ensures in
+    let s = c .before .before .before .before .before in
+    let l = c .before .before .before .loop in
+    let h = c .before .before .loop-test .taken in
+    let lc = in-list (s .pre .0) h in
+    let q = standing-item (s .pre .0) (l .c) h in
+    let cs = take (s .args .e) (s .args .start .now) in
     ⊎-elim
     (λ v.
-    let i = told-in (s .pre .0) (s .pre .1) (l .c) h q (v .0 .taken) in
-    let r : Ready us vs (s .args .core) (l .c) (v .1 .own) =
+    let a = v .1 in
+    let b = v .2 in
+    let ends = ends-at (s .pre .0) h refl (a .ensures) (b .ensures) in
+    let i = told-in (s .pre .1) (l .c) lc q (v .0 .taken) in
+    let r : Ready cs (s .args .core) (l .c) (a .result) (b .result) (v .3 .own) =
     ⊎-elim
     (λ w.
-    subst (Ready us vs (s .args .core) (l .c)) (sym (w .6))
-    (ready-four (s .pre .0) (s .pre .1) (l .c) h (l .inv .0) i (w .3 .ensures .0) (omega (arith, w .4 .ensures, w .5 .left))))
-    (λ w. subst (Ready us vs (s .args .core) (l .c)) (sym (w .1)) (ready-lone (s .pre .0) (s .pre .1) (l .c) h (l .inv .0) i (told-out (s .pre .0) (s .pre .1) (l .c) h q (w .0 .left))))
-    (v .1 .came) in (
-      kept-marks (s .pre .0) (s .pre .1) (l .c) h (l .once) (l .twice) q (v .3) (v .6) (v .7) (kept-placed (s .pre .0) (s .pre .1) (l .c) h (l .inv .0) i r (v .2 .ensures)),
-      ⊎-elim (λ w. lent-by (v .4 ∙ w .7) (v .5 ∙ w .8) (w .3 .ensures .1)) (λ w. lent-by (v .4 ∙ w .2) (v .5 ∙ w .3) (l .inv .1)) (v .1 .came),
+    subst (Ready cs (s .args .core) (l .c) (a .result) (b .result)) (sym (w .6))
+    (ready-four (s .pre .0 .simple) (s .pre .1) (l .c) lc ends (l .inv .0) i (w .3 .ensures .0) (omega (arith, w .4 .ensures, w .5 .left))))
+    (λ w.
+    subst (Ready cs (s .args .core) (l .c) (a .result) (b .result)) (sym (w .1))
+    (ready-lone (s .pre .0 .simple) (s .pre .1) (l .c) lc ends (l .inv .0) i (told-out (s .pre .1) (l .c) lc q (w .0 .left))))
+    (v .3 .came) in (
+      kept-marks (s .pre .0 .simple) (s .pre .1) (l .c) lc ends (l .once) (l .twice) q (v .5) (v .8) (v .9)
+          (kept-placed (s .pre .0 .simple) (s .pre .1) (l .c) lc ends (l .inv .0) i r (v .4 .ensures)),
+      ⊎-elim (λ w. lent-by (v .6 ∙ w .7) (v .7 ∙ w .8) (w .3 .ensures .1)) (λ w. lent-by (v .6 ∙ w .2) (v .7 ∙ w .3) (l .inv .1)) (v .3 .came),
     ))
     (λ v. (
-      kept-by (s .pre .0) (s .pre .1) (l .c) h (v .1) (v .4) (v .5) (kept-skip (s .pre .0) (s .pre .1) (l .c) h (told-out (s .pre .0) (s .pre .1) (l .c) h q (v .0 .left)) (l .inv .0)),
+      kept-by (s .pre .1) (l .c) lc (v .1) (v .4) (v .5)
+          (kept-skip (s .pre .1) (l .c) lc (told-out (s .pre .1) (l .c) lc q (v .0 .left)) (l .inv .0)),
       lent-by (v .2) (v .3) (l .inv .1),
     ))
     (c .if1 .came)
@@ -130,9 +146,10 @@ returns-2 : tie.Need-returns-2 Inv-loop μ-loop
 returns-2 c =
     let s = c .before .before .before in
     let l = c .before .loop in
+    let cs = take (s .args .e) (s .args .start .now) in
     λ n below.
-    answer-not (s .pre .0) n below
-    (subst (λ (k : ℕ). NotOver (masks (s .args .firsts .now) (s .args .seconds .now) k)) (omega (arith, l .inv .0 .below, c .loop-test .left)) (l .inv .0 .fine))
+    answer-not (s .pre .0 .simple) n below
+    (subst NotOver (take-all (l .c) cs (omega (arith, standing-count (s .pre .0), c .loop-test .left))) (l .inv .0 .fine))
 
 pub search-spec : {M : Type 1} → statement M
 search-spec =
@@ -142,9 +159,10 @@ search-spec =
     μ-loop
     all-free-requires
     loop-holds
-    element-copy-out-a
-    element-copy-out-b
-    pair-of-requires
+    mul-pair
+    element-copy-out-pair
+    lowest-requires
+    other-end-requires
     gather-requires
     free-ends-requires
     seek-requires

@@ -1,24 +1,24 @@
--- Laws of the answer: the search from its start, a constraint that does not lie in u, one that uses a freedom, and one that finds none. Assumes nothing.
+-- Laws of the answer: the search from its start, a constraint that does not lie in u, one that uses a freedom, and one that finds none.
+-- Assumes nothing.
 use mathlib.Core.Path.{_≡_, refl, sym, ap, ap₂, _∙_, subst}
 use mathlib.Core.Logic.{_≢_, _⊎_, inl, inr, ⊎-elim}
 use mathlib.Core.List.{List}
-use Prim.Native.Nat.{ℕ, suc, _+_, _*_, _-_, _^_, _≤_, _<_}
-use native.Mathlib.Nat.{le-refl, lt-trans, ne-of-lt}
+use Prim.Native.Nat.{ℕ, zero, suc, _+_, _*_, _-_, _^_, _≤_, _<_}
 use native.Mathlib.Decide.{decLe}
 use native.Mathlib.Numerals.{add-one}
 use native.Mathlib.Omega.{arith}
 use lib.Bits.{bitAnd, bitOr}
 use lib.Count.{ones}
-use lib.ListN.{getD}
+use lib.ListN.{length, take, getD}
 use Rattle.theory.specs.Set.{_∩_, _∪_, _⊑_, at}
-use Rattle.theory.specs.Set.Laws.{at-and, at-or, at-le, bit, sub-refl, sub-trans, and-l, and-r, and-sub, sub-and, two-in}
+use Rattle.theory.specs.Set.Laws.{at-and, at-or, at-le, bit, size-zero, sub-refl, sub-trans, and-l, and-r, and-sub, sub-and, two-in}
 use Rattle.theory.specs.Constraints.{pair, has, carried, NotOver, Below}
-use Rattle.theory.specs.Constraints.Laws.{Has, inside, outside, has-dec, at-end}
-use Rattle.theory.specs.Over.{IsOver, Tight, Smallest, FirstOver, overOf}
-use Rattle.theory.specs.Over.Laws.{tight-over, within-smallest, finds-overOf}
-use Rattle.peeling.specs.Less.{sub-below, less-sub, size-less}
-use Rattle.theory.specs.Over.Listed.{ends, masks, Listed}
-use Rattle.theory.specs.Over.Listed.Laws.{carried-more, length-masks, take-masks, masks-at, masks-pairs, carried-none, pair-in, pair-ends, has-not, has-other, pair-comm}
+use Rattle.theory.specs.Constraints.Laws.{Has, inside, outside, has-dec, at-end, pair-in, pair-ends, has-not, has-other, pair-comm}
+use Rattle.theory.specs.Over.{Tight, Smallest, FirstOver, overOf}
+use Rattle.theory.specs.Over.Laws.{carried-next, tight-over, within-smallest, finds-overOf}
+use Rattle.theory.specs.Set.Less.{sub-below, less-sub, size-less}
+use Rattle.theory.specs.Near.{Simple, Standing}
+use Rattle.theory.specs.Near.Laws.{simple-take, standing-count, standing-item, standing-two, pair-is, carried-one}
 use Rattle.theory.specs.declared.Finding.the-variants.{Fine, First}
 use Rattle.sparsity.specs.Freedoms.{free, frees, Table, Balanced, Closed, FreeBelow}
 use Rattle.sparsity.specs.Freedoms.Laws.{free-table, free-closed, free-balanced, kept-le, closed-kept, kept-closed, frees-two, frees-less, frees-only}
@@ -27,13 +27,13 @@ use Rattle.sparsity.specs.Reach.{Found, Gathered, Placed}
 use Rattle.sparsity.specs.Reach.Laws.{found-first, found-second, found-closed, found-none, stuck-none, seen-within}
 use Rattle.peeling.specs.Core.{Few, Core}
 use Rattle.peeling.specs.Core.Laws.{few-none, few-other, few-outside, few-more}
-use Rattle.sparsity.specs.Answer.{Kept, Ready}
+use Rattle.sparsity.specs.Answer.{EndsAt, Kept, Ready}
 
 -- ---- the start
 
-pub kept-start : (us vs : List ℕ) (e u : ℕ) (own : List (List ℕ)) → u < 2 ^ 64 → FreeBelow 64 own → Kept us vs e u 0 own 0 0
-unfolding masks NotOver carried
-kept-start us vs e u own l f = record {
+pub kept-start : (cs : List ℕ) (u : ℕ) (own : List (List ℕ)) → u < 2 ^ 64 → FreeBelow 64 own → Kept cs u 0 own 0 0
+unfolding NotOver carried
+kept-start cs u own l f = record {
   below = omega arith;
   table = free-table own f;
   closed = free-closed own f u l;
@@ -43,55 +43,61 @@ kept-start us vs e u own l f = record {
   lone = λ x z. record { few = λ a h q. omega arith };
 }
 
-module _ {us vs : List ℕ} {e u : ℕ} (l : Listed us vs e) (core : Core us vs e u) (c : ℕ) (lc : c < e) where
-  abbrev a : ℕ
-  a = getD us c 0
+module _ {cs : List ℕ} {u : ℕ} (core : Core cs u) (c : ℕ) (lc : c < length cs) where
+  -- the constraint as the code has it, r, and a set w
+  pub told-in : {r w : ℕ} → r ≡ getD cs c 0 → bitAnd r w ≡ r → getD cs c 0 ⊑ w
+  unfolding _∩_
+  told-in {r} {w} q t = subst (λ (z : ℕ). z ⊑ w) q (and-sub r w t)
 
-  abbrev b : ℕ
-  b = getD vs c 0
+  pub told-out : {r w : ℕ} → r ≡ getD cs c 0 → (bitAnd r w ≡ r → ⊥) → getD cs c 0 ⊑ w → ⊥
+  unfolding _∩_
+  told-out {r} {w} q t h = t (subst (λ (z : ℕ). bitAnd z w ≡ z) (sym q) (sub-and (getD cs c 0) w h))
 
-  abbrev m : ℕ
-  m = ends us vs c
-
-  abbrev old : List ℕ
-  old = masks us vs c
-
-  abbrev new : List ℕ
-  new = masks us vs (suc c)
-
-  more : (x : ℕ) → carried new x ≡ carried old x + has m x
-  more x = carried-more us vs c x
-
-  pub la : a < 64
-  la = lt-trans (l .ascend c lc) (l .below c lc)
-
-  pub lb : b < 64
-  lb = l .below c lc
-
-  pub apart : a ≢ b
-  apart = ne-of-lt (l .ascend c lc)
+  -- one more constraint, of what the code has
+  pub kept-by : {t new : List (List ℕ)} {one two p q : ℕ} → t ≡ new → one ≡ p → two ≡ q → Kept cs u (suc c) new p q → Kept cs u (c + 1) t one two
+  kept-by {t} {new} {one} {two} {p} {q} et e1 e2 k = rw (add-one, et, e1, e2) k
 
   -- ---- a constraint that does not lie in u
 
-  module _ (out : m ⊑ u → ⊥) where
-    none : (x : ℕ) → x ⊑ u → has m x ≡ 0
-    none x h = go (has-dec m x)
+  module _ (out : getD cs c 0 ⊑ u → ⊥) where
+    none : (x : ℕ) → x ⊑ u → has (getD cs c 0) x ≡ 0
+    none x h = go (has-dec (getD cs c 0) x)
       where
-        go : Has m x → has m x ≡ 0
+        go : Has (getD cs c 0) x → has (getD cs c 0) x ≡ 0
         go (inside i q) = absurd (out (sub-trans i h))
         go (outside n q) = q
 
-    pub kept-skip : {own : List (List ℕ)} {once twice : ℕ} → Kept us vs e u c own once twice → Kept us vs e u (suc c) own once twice
+    pub kept-skip : {own : List (List ℕ)} {once twice : ℕ} → Kept cs u c own once twice → Kept cs u (suc c) own once twice
     unfolding NotOver
-    kept-skip {own} k = record {
-      below = lc;
-      table = k .table;
-      closed = k .closed;
-      balanced = balanced-outside old new m u own (k .balanced) more none;
-      fine = core .fine (suc c) lc (λ x h two. omega (arith, more x, none x h, k .fine x two));
-      never = λ x z. few-outside old new m more u x 0 (k .never x z) none;
-      lone = λ x z. few-outside old new m more u x 1 (k .lone x z) none;
-    }
+    kept-skip {own} k =
+        let old = take c cs in
+        let new = take (suc c) cs in
+        let m = getD cs c 0 in
+        let more : (x : ℕ) → carried new x ≡ carried old x + has m x = λ x. carried-next cs c x lc in
+        record {
+          below = lc;
+          table = k .table;
+          closed = k .closed;
+          balanced = balanced-outside old new m u own (k .balanced) more none;
+          fine = core .fine (suc c) (λ x h two. omega (arith, more x, none x h, k .fine x two));
+          never = λ x z. few-outside old new m more u x 0 (k .never x z) none;
+          lone = λ x z. few-outside old new m more u x 1 (k .lone x z) none;
+        }
+
+-- ---- constraint c, between a and b
+
+module _ {cs : List ℕ} {u : ℕ} (simple : Simple cs) (core : Core cs u) (c : ℕ) (lc : c < length cs) {a b : ℕ} (ends : EndsAt cs c a b) where
+  abbrev m : ℕ
+  m = pair a b
+
+  abbrev old : List ℕ
+  old = take c cs
+
+  abbrev new : List ℕ
+  new = take (suc c) cs
+
+  more : (x : ℕ) → carried new x ≡ carried old x + has m x
+  more x = rw (← ends .is) (carried-next cs c x lc)
 
   -- ---- a constraint that uses a freedom
 
@@ -108,23 +114,23 @@ module _ {us vs : List ℕ} {e u : ℕ} (l : Listed us vs e) (core : Core us vs 
             → (m ≡ pair (p .from) (p .to)) × (p .from < 64) × (p .from ≢ p .to) × (at (p .to) u ≡ 1) × (p .to < 64)
         go (inl q) = (
           ap₂ pair (sym (q .0)) (sym (q .1)),
-          omega (arith, la, q .0),
-          λ z. apart (sym (q .0) ∙ z ∙ q .1),
+          omega (arith, ends .low, q .0),
+          λ z. ends .apart (sym (q .0) ∙ z ∙ q .1),
           ap (λ (z : ℕ). at z u) (q .1) ∙ i .1,
-          omega (arith, lb, q .1),
+          omega (arith, ends .high, q .1),
         )
         go (inr q) = (
           pair-comm a b ∙ ap₂ pair (sym (q .0)) (sym (q .1)),
-          omega (arith, lb, q .0),
-          λ z. apart (sym (q .1) ∙ sym z ∙ q .0),
+          omega (arith, ends .high, q .0),
+          λ z. ends .apart (sym (q .1) ∙ sym z ∙ q .0),
           ap (λ (z : ℕ). at z u) (q .1) ∙ i .0,
-          omega (arith, la, q .1),
+          omega (arith, ends .low, q .1),
         )
 
     pub kept-next : (once twice : ℕ) → ((x : ℕ) → at x once ≡ 0 → Few old u x 0) → ((x : ℕ) → at x twice ≡ 0 → Few old u x 1)
-        → Kept us vs e u (suc c) fresh (once ∪ m) (twice ∪ (once ∩ m))
+        → Kept cs u (suc c) fresh (once ∪ m) (twice ∪ (once ∩ m))
     kept-next once twice never lone =
-        subst (λ (t : List (List ℕ)). Kept us vs e u (suc c) t (once ∪ m) (twice ∪ (once ∩ m))) (sym (p .stores)) (record {
+        subst (λ (t : List (List ℕ)). Kept cs u (suc c) t (once ∪ m) (twice ∪ (once ∩ m))) (sym (p .stores)) (record {
           below = lc;
           table = stored-table own table (p .from) (p .slot) (p .to) (o .1) (p .two) (o .4);
           closed = stored-closed own table (p .from) (p .slot) (p .to) (o .1) (p .two) u (λ q. o .3) closed;
@@ -156,19 +162,19 @@ module _ {us vs : List ℕ} {e u : ℕ} (l : Listed us vs e) (core : Core us vs 
     -- four free entries
     pub four-fine : 4 ≤ free own a + free own b → NotOver new
     unfolding NotOver
-    four-fine four = core .fine (suc c) lc (λ x h two. go x h two (has-dec m x))
+    four-fine four = core .fine (suc c) (λ x h two. go x h two (has-dec m x))
       where
         go : (x : ℕ) → x ⊑ u → 2 ≤ ones x → Has m x → carried new x + 3 ≤ 2 * ones x
         go x h two (outside n q) = omega (arith, more x, right x two)
         go x h two (inside i q) =
             let o = pair-ends a b x i in
-            omega (arith, more x, bound x h, frees-two own x (low x h) a b apart (o .0) (o .1))
+            omega (arith, more x, bound x h, frees-two own x (low x h) a b (ends .apart) (o .0) (o .1))
 
     -- an end with one constraint at most
     module _ (x0 : ℕ) (end : at x0 m ≡ 1) (few : Few old u x0 1) where
       pub lone-fine : NotOver new
       unfolding NotOver
-      lone-fine = core .fine (suc c) lc (λ x h two. go x h two (has-dec m x))
+      lone-fine = core .fine (suc c) (λ x h two. go x h two (has-dec m x))
         where
           go : (x : ℕ) → x ⊑ u → 2 ≤ ones x → Has m x → carried new x + 3 ≤ 2 * ones x
           go x h two (outside n q) = omega (arith, more x, right x two)
@@ -181,7 +187,7 @@ module _ {us vs : List ℕ} {e u : ℕ} (l : Listed us vs e) (core : Core us vs 
               pick (yes k) =
                   let s = size-less x0 x there in
                   omega (arith, more x, few .few x h there, right (x - 2 ^ x0) (omega arith))
-              pick (no k) = omega (arith, more x, carried-none us vs e l c c lc (le-refl c) x (omega arith) i)
+              pick (no k) = omega (arith, carried-one new (simple-take (suc c) cs simple) x (omega arith))
 
       pub lone-free : 0 < free own x0
       lone-free =
@@ -204,14 +210,14 @@ module _ {us vs : List ℕ} {e u : ℕ} (l : Listed us vs e) (core : Core us vs 
       within = let o = pair-ends a b u inside-u in least u (o .0) (o .1) closed
 
       two-r : 2 ≤ ones r
-      two-r = two-in r a b ra rb apart
+      two-r = two-in r a b ra rb (ends .apart)
 
       exact : (carried old r + 3 ≡ 2 * ones r) × (free own a + free own b ≡ 3)
       unfolding NotOver
       exact =
           let h = low r within in
           let k = closed-kept own r h rc in
-          let f = frees-only own r h a b apart ra rb none in
+          let f = frees-only own r h a b (ends .apart) ra rb none in
           let o = balanced .all r within in
           let z = right r two-r in
           (omega arith, omega arith)
@@ -237,51 +243,39 @@ module _ {us vs : List ℕ} {e u : ℕ} (l : Listed us vs e) (core : Core us vs 
               (omega (
                 arith,
                 t .exact,
-                core .cut c y (omega arith),
+                core .cut c y,
                 balanced .all (y ∩ u) (and-r y u),
-                frees-two own (y ∩ u) h a b apart (first-in y t) (second-in y t),
+                frees-two own (y ∩ u) h a b (ends .apart) (first-in y t) (second-in y t),
                 exact .1,
               ))
 
-      pub first-over : FirstOver (masks us vs e) c r
+      pub first-over : FirstOver cs c r
       first-over = record {
-        listed = omega (arith, length-masks us vs e);
-        earlier = subst NotOver (sym (take-masks us vs c e (omega arith))) right;
-        over = subst IsOver (sym (take-masks us vs (suc c) e lc)) (tight-over old new m more right r two-r reached-tight);
-        smallest = subst (λ (cs : List ℕ). Smallest cs (getD (masks us vs e) c 0) r) (sym (take-masks us vs c e (omega arith)))
-            (subst (λ (z : ℕ). Smallest old z r) (sym (masks-at us vs c e lc)) reached-smallest);
+        listed = lc;
+        earlier = right;
+        over = tight-over old new m more right r two-r reached-tight;
+        smallest = rw (ends .is) reached-smallest;
       }
 
   -- ---- the same, of what the code has
 
-  pub kept-by : {t new : List (List ℕ)} {one two p q : ℕ} → t ≡ new → one ≡ p → two ≡ q → Kept us vs e u (suc c) new p q
-      → Kept us vs e u (c + 1) t one two
-  kept-by {t} {new} {one} {two} {p} {q} et e1 e2 k =
-      subst (λ (n : ℕ). Kept us vs e u n t one two) (sym (add-one c))
-      (subst (λ (z : List (List ℕ)). Kept us vs e u (suc c) z one two) (sym et)
-      (subst (λ (z : ℕ). Kept us vs e u (suc c) new z two) (sym e1) (subst (Kept us vs e u (suc c) new p) (sym e2) k)))
-
   -- once and twice with the constraint that the code has as r
-  pub kept-marks : (once twice : ℕ) {t new : List (List ℕ)} {one two r : ℕ} → r ≡ m → t ≡ new → one ≡ bitOr once r → two ≡ bitOr twice (bitAnd once r)
-      → Kept us vs e u (suc c) new (once ∪ m) (twice ∪ (once ∩ m)) → Kept us vs e u (c + 1) t one two
+  pub kept-marks : (once twice : ℕ) {t new : List (List ℕ)} {one two r : ℕ} → r ≡ getD cs c 0 → t ≡ new → one ≡ bitOr once r
+      → two ≡ bitOr twice (bitAnd once r)
+      → Kept cs u (suc c) new (once ∪ m) (twice ∪ (once ∩ m)) → Kept cs u (c + 1) t one two
   unfolding _∪_ _∩_
   kept-marks once twice q et e1 e2 k =
-      kept-by et (e1 ∙ ap (bitOr once) q) (e2 ∙ ap (λ (z : ℕ). bitOr twice (bitAnd once z)) q) k
+      kept-by core c lc et (e1 ∙ ap (bitOr once) (q ∙ ends .is)) (e2 ∙ ap (λ (z : ℕ). bitOr twice (bitAnd once z)) (q ∙ ends .is)) k
 
-  pub told-in : {r w : ℕ} → r ≡ m → bitAnd r w ≡ r → m ⊑ w
-  unfolding _∩_
-  told-in {r} {w} q t = subst (λ (z : ℕ). z ⊑ w) q (and-sub r w t)
+  module _ {own : List (List ℕ)} {once twice : ℕ} (k : Kept cs u c own once twice) (here : getD cs c 0 ⊑ u) where
+    inside-u : m ⊑ u
+    inside-u = subst (λ (z : ℕ). z ⊑ u) (ends .is) here
 
-  pub told-out : {r w : ℕ} → r ≡ m → (bitAnd r w ≡ r → ⊥) → m ⊑ w → ⊥
-  unfolding _∩_
-  told-out {r} {w} q t h = t (subst (λ (z : ℕ). bitAnd z w ≡ z) (sym q) (sub-and m w h))
-
-  module _ {own : List (List ℕ)} {once twice : ℕ} (k : Kept us vs e u c own once twice) (inside-u : m ⊑ u) where
     -- an end that is not in twice
-    pub ready-lone : (m ⊑ twice → ⊥) → Ready us vs u c own
+    pub ready-lone : (getD cs c 0 ⊑ twice → ⊥) → Ready cs u c a b own
     ready-lone n = go (bit (at a twice) (at-le a twice)) (bit (at b twice) (at-le b twice))
       where
-        lone : (x : ℕ) → at x m ≡ 1 → at x twice ≡ 0 → (0 < free own x → 0 < free own a + free own b) → Ready us vs u c own
+        lone : (x : ℕ) → at x m ≡ 1 → at x twice ≡ 0 → (0 < free own x → 0 < free own a + free own b) → Ready cs u c a b own
         lone x i z o = record {
           table = k .table;
           closed = k .closed;
@@ -290,10 +284,10 @@ module _ {us vs : List ℕ} {e u : ℕ} (l : Listed us vs e) (core : Core us vs 
           open-end = o (lone-free own (k .closed) (k .balanced) (k .fine) inside-u x i (k .lone x z));
         }
 
-        go : (at a twice ≡ 0) ⊎ (at a twice ≡ 1) → (at b twice ≡ 0) ⊎ (at b twice ≡ 1) → Ready us vs u c own
+        go : (at a twice ≡ 0) ⊎ (at a twice ≡ 1) → (at b twice ≡ 0) ⊎ (at b twice ≡ 1) → Ready cs u c a b own
         go (inl z) q = lone a (at-end a b .0) z (λ h. omega arith)
         go (inr p) (inl z) = lone b (at-end a b .1) z (λ h. omega arith)
-        go (inr p) (inr q) = absurd (n (pair-in a b twice p q))
+        go (inr p) (inr q) = absurd (n (subst (λ (z : ℕ). z ⊑ twice) (sym (ends .is)) (pair-in a b twice p q)))
 
     module _ {t : List (List ℕ)} (g : Gathered own a b t) where
       t-closed : Closed t u
@@ -303,7 +297,7 @@ module _ {us vs : List ℕ} {e u : ℕ} (l : Listed us vs e) (core : Core us vs 
       t-balanced = g .again .balanced old u (k .balanced)
 
       -- four free entries
-      pub ready-four : 4 ≤ free t a + free t b → Ready us vs u c t
+      pub ready-four : 4 ≤ free t a + free t b → Ready cs u c a b t
       ready-four h = record {
         table = g .again .table;
         closed = t-closed;
@@ -314,7 +308,7 @@ module _ {us vs : List ℕ} {e u : ℕ} (l : Listed us vs e) (core : Core us vs 
 
       -- fewer
       pub over-here : free t a + free t b < 4 → {queue from : List ℕ} {seen count place : ℕ} → Found t a b queue from seen count place
-          → FirstOver (masks us vs e) c seen
+          → FirstOver cs c seen
       over-here h {queue} {from} {seen} {count} {place} f =
           first-over t t-closed t-balanced (k .fine) inside-u (omega arith) seen (found-first f done) (found-second f done) (found-closed f done) (found-none f done)
           (λ w wa wb wc. seen-within (f .reached) w wa wb wc)
@@ -323,15 +317,36 @@ module _ {us vs : List ℕ} {e u : ℕ} (l : Listed us vs e) (core : Core us vs 
           done = stuck-none f (⊎-elim (λ (q : 4 ≤ free t a + free t b). absurd (omega arith)) (λ s. s) (g .most))
 
     -- the constraint is placed
-    pub kept-placed : {t new : List (List ℕ)} → Ready us vs u c t → Placed t a b new → Kept us vs e u (suc c) new (once ∪ m) (twice ∪ (once ∩ m))
+    pub kept-placed : {t new : List (List ℕ)} → Ready cs u c a b t → Placed t a b new → Kept cs u (suc c) new (once ∪ m) (twice ∪ (once ∩ m))
     kept-placed {t} {new} r p =
         kept-next t (r .table) (r .closed) (r .balanced) (r .right) new p inside-u once twice (k .never) (k .lone)
 
+-- ---- constraint c of those that stand in an array, as the code has it, with two elements that the code has found in it
+
+pub two-pos : (m : ℕ) → ones m ≡ 2 → 0 < m
+two-pos zero two = absurd (omega (arith, size-zero))
+two-pos (suc m) two = omega arith
+
+pub in-list : {start : List ℕ} {e c : ℕ} → Standing start e → c < e → c < length (take e start)
+in-list s h = omega (arith, standing-count s)
+
+module _ {start : List ℕ} {e c : ℕ} (s : Standing start e) (h : c < e) {m : ℕ} (q : m ≡ getD start c 0) where
+  pub two-ends : ones m ≡ 2
+  two-ends = ap ones q ∙ standing-two s c h
+
+  pub ends-at : {a b : ℕ} → (a < 64) × (at a m ≡ 1) → (b < 64) × (at b m ≡ 1) × (a ≢ b) → EndsAt (take e start) c a b
+  ends-at {a} {b} fa fb = record {
+    low = fa .0;
+    high = fb .0;
+    apart = fb .2;
+    is = sym (standing-item s c h) ∙ sym q ∙ pair-is m a b two-ends (fa .1) (fb .1) (fb .2);
+  }
+
 -- ---- the answer
 
-module _ {us vs : List ℕ} {e : ℕ} (l : Listed us vs e) (n : ℕ) (below : Below n (masks us vs e)) where
-  pub answer-not : NotOver (masks us vs e) → Fine ≡ overOf n (masks us vs e)
-  answer-not f = finds-overOf n (masks us vs e) (masks-pairs us vs e l) below Fine f
+module _ {cs : List ℕ} (simple : Simple cs) (n : ℕ) (below : Below n cs) where
+  pub answer-not : NotOver cs → Fine ≡ overOf n cs
+  answer-not f = finds-overOf n cs (simple .pairs) below Fine f
 
-  pub answer-first : {c x : ℕ} → FirstOver (masks us vs e) c x → First c x ≡ overOf n (masks us vs e)
-  answer-first {c} {x} f = finds-overOf n (masks us vs e) (masks-pairs us vs e l) below (First c x) f
+  pub answer-first : {c x : ℕ} → FirstOver cs c x → First c x ≡ overOf n cs
+  answer-first {c} {x} f = finds-overOf n cs (simple .pairs) below (First c x) f

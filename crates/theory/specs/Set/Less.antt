@@ -8,8 +8,8 @@ use native.Mathlib.Decide.{ℕ-discrete, decLt}
 use lib.Arith.{bin-ind}
 use lib.Bits.{bitAnd, and-step, and-self, and-le-r}
 use lib.Count.{ones, ones-step, under, trailingZeros}
 use Rattle.theory.specs.Set.{_∩_, _∪_, _⊑_, at}
-use Rattle.theory.specs.Set.Laws.{at-and, at-or, at-le, at-zero, at-div, at-same, at-other, zero-ext, ext, size-add, bit, sub-and}
+use Rattle.theory.specs.Set.Laws.{at-and, at-or, at-le, at-zero, at-div, at-same, at-other, zero-ext, ext, size-zero, size-add, bit, sub-and}
 
 -- an element of a set below 2 ^ n is below n
 pub at-below : (n x a : ℕ) → a < 2 ^ n → at x a ≡ 1 → x < n
@@ -75,6 +75,27 @@ less-sub x a e = record { le = λ y. go y (ℕ-discrete y x) }
     go y (yes q) = subst (λ (z : ℕ). at z (a - 2 ^ x) ≤ at z a) (sym q) (omega (arith, less-same x a e))
     go y (no n) = omega (arith, less-other x y a e n)
 
+-- what is left of a set, in another that holds the element too
+pub less-and : (x a b : ℕ) → at x a ≡ 1 → at x b ≡ 1 → (a - 2 ^ x) ∩ b ≡ (a ∩ b) - 2 ^ x
+less-and x a b e f = ext ((a - 2 ^ x) ∩ b) ((a ∩ b) - 2 ^ x) (λ y. go y (ℕ-discrete y x))
+  where
+    here : at x (a ∩ b) ≡ 1
+    here = omega (arith, at-and x a b)
+
+    go : (y : ℕ) → Dec (y ≡ x) → at y ((a - 2 ^ x) ∩ b) ≡ at y ((a ∩ b) - 2 ^ x)
+    go y (yes q) =
+        subst (λ (z : ℕ). at z ((a - 2 ^ x) ∩ b) ≡ at z ((a ∩ b) - 2 ^ x)) (sym q)
+        (omega (arith, at-and x (a - 2 ^ x) b, less-same x a e, less-same x (a ∩ b) here))
+    go y (no n) = omega (arith, at-and y (a - 2 ^ x) b, at-and y a b, less-other x y a e n, less-other x y (a ∩ b) here n)
+
+-- and in one that has not got it
+pub less-out : (x a b : ℕ) → at x a ≡ 1 → at x b ≡ 0 → (a - 2 ^ x) ∩ b ≡ a ∩ b
+less-out x a b e z = ext ((a - 2 ^ x) ∩ b) (a ∩ b) (λ y. go y (ℕ-discrete y x))
+  where
+    go : (y : ℕ) → Dec (y ≡ x) → at y ((a - 2 ^ x) ∩ b) ≡ at y (a ∩ b)
+    go y (yes q) = omega (arith, at-and y (a - 2 ^ x) b, at-and y a b, ap (λ (i : ℕ). at i b) q, z)
+    go y (no n) = omega (arith, at-and y (a - 2 ^ x) b, at-and y a b, less-other x y a e n)
+
 -- put back
 pub less-or : (x a : ℕ) → at x a ≡ 1 → 2 ^ x ∪ (a - 2 ^ x) ≡ a
 less-or x a e = ext (2 ^ x ∪ (a - 2 ^ x)) a (λ y. go y (ℕ-discrete y x))
@@ -87,6 +108,20 @@ less-or x a e = ext (2 ^ x ∪ (a - 2 ^ x)) a (λ y. go y (ℕ-discrete y x))
 
 pub size-less : (x a : ℕ) → at x a ≡ 1 → suc (ones (a - 2 ^ x)) ≡ ones a
 size-less x a e = sym (size-add (a - 2 ^ x) x (less-same x a e)) ∙ ap ones (less-or x a e)
+
+-- another element of a, and there is one in a set of two
+pub less-in : (x y a : ℕ) → at x a ≡ 1 → at y (a - 2 ^ x) ≡ 1 → (at y a ≡ 1) × (x ≢ y)
+less-in x y a e i = (
+  omega (arith, less-sub x a e .le y, at-le y a),
+  λ q. omega (arith, less-same x a e, ap (λ (z : ℕ). at z (a - 2 ^ x)) q),
+)
+
+pub less-some : (x a : ℕ) → at x a ≡ 1 → 2 ≤ ones a → 0 < a - 2 ^ x
+less-some x a e two = go (a - 2 ^ x) refl
+  where
+    go : (b : ℕ) → a - 2 ^ x ≡ b → 0 < b
+    go zero q = absurd (omega (arith, size-less x a e, ap ones q, size-zero))
+    go (suc b) q = omega arith
 
 -- a set without x is a part of a that has not lost more
 pub sub-less : (x a b : ℕ) → at x a ≡ 1 → b ⊑ a → at x b ≡ 0 → b ⊑ a - 2 ^ x

@@ -1,0 +1,33 @@
+-- `other_end` meets its contract. Assumes nothing.
+use mathlib.Core.Path.{_≡_, sym, subst}
+use Prim.Native.Nat.{ℕ, _-_, _^_, _<_}
+use native.Mathlib.Omega.{arith}
+use Rattle.theory.specs.Set.{at}
+use Rattle.theory.specs.Set.Less.{at-room, less-in, less-some}
+use borrow.Author.Needs.{needs}
+use Rattle.sparsity.proofs.other_end.Statement.{statement}
+use Rattle.sparsity.proofs.other_end.Tie as tie
+
+single-requires : tie.Need-single-requires
+single-requires c κs = search needs
+
+sub-lowest : tie.Need-sub-lowest
+sub-lowest c = omega (arith, at-room (c .before .args .a) (c .before .args .pair) (c .before .pre .2))
+
+lowest-requires : tie.Need-lowest-requires
+lowest-requires c κs =
+    let s = c .before in
+    subst (λ (z : ℕ). 0 < s .args .pair - z) (sym (c .single .ensures))
+    (less-some (s .args .a) (s .args .pair) (s .pre .2) (omega (arith, s .pre .0)))
+
+returns : tie.Need-returns
+returns c =
+    let s = c .before .before in
+    let l = c .lowest in
+    let i : at (l .result) (s .args .pair - 2 ^ (s .args .a)) ≡ 1 =
+    subst (λ (z : ℕ). at (l .result) (s .args .pair - z) ≡ 1) (c .before .single .ensures) (l .ensures .1) in
+    let o = less-in (s .args .a) (l .result) (s .args .pair) (s .pre .2) i in
+    (l .ensures .0, o .0, o .1)
+
+pub other-end-spec : {M : Type 1} → statement M
+other-end-spec = tie.close (tie.spec single-requires sub-lowest lowest-requires returns)
