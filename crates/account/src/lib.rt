@@ -27,7 +27,7 @@ fn put_list(s: Sheet, run: Run, out: &mut [u8]) -> Written
     let elements = s.elements;
     let lines = sheet::lines_of(elements, n);
     let cs = s.constraints;
-    let start = graph::slots_of(cs, e);
+    let start = graph::start_of(cs, e);
     let sizes = graph::sizes_of(cs, e);
     let count = run.steps;
     let joints = run.joints;
@@ -60,7 +60,7 @@ fn check_listed(s: Sheet, plan: &[u16], out: &mut [u8]) -> Written
 {
     let e = s.e;
     let cs = s.constraints;
-    let start = graph::slots_of(cs, e);
+    let start = graph::start_of(cs, e);
     let checked = plans::check_plan(&start, e, plan);
     let outcome = checked.outcome;
     let run = checked.run;

@@ -55,21 +55,6 @@ fn pair_of(a: u8, b: u8) -> u64
 }
 
 // The initial clusters: the sets of two ends of the first e constraints, 0 beyond them.
-pub fn slots_of(cs: [Constraint; 200], e: usize) -> [u64; 200]
-    requires { ⌜ (e ≤ 200) × EndsBelow64 (take e cs) ⌝ }
-    ensures { λ r. ⌜ r ≡ block 200 0 (map endPair (take e cs)) ⌝ }
-{
-    let mut slots = [0u64; 200];
-    let mut i: usize = 0;
-    while i < e {
-        let c = cs[i];
-        slots[i] = pair_of(c.first, c.second);
-        i += 1;
-    }
-    slots
-}
-
-// The initial clusters in an array of 200 places.
 pub fn start_of(cs: [Constraint; 200], e: usize) -> [u64; 200]
     requires { ⌜ (e ≤ 200) × EndsBelow64 (take e cs) ⌝ }
     ensures { λ r. ⌜ r ≡ block 200 0 (map endPair (take e cs)) ⌝ }

@@ -31,7 +31,7 @@ pub fn over_of(s: Sheet) -> Finding
 // What is left of a sheet when elements with at most two constraints are taken away one after another, and whether three lines went so.
 fn peels(s: Sheet, lines: u64) -> Peeling
     requires { ⌜ sheetFault s ≡ 0 ⌝ }
-    ensures { λ r. ⌜ Told (clustersOf (factsOf s)) lines (r .left) (r .angle) ⌝ }
+    ensures { λ r. ⌜ Told (graphOf (factsOf s) .clusters) lines (r .left) (r .angle) ⌝ }
 {
     let cs = s.constraints;
     let near = graph::near_of(cs, s.e);
@@ -66,7 +66,7 @@ fn run_of(s: Sheet) -> Run
 {
     let cs = s.constraints;
     let e = s.e;
-    let start = graph::slots_of(cs, e);
+    let start = graph::start_of(cs, e);
     merges::merge_all(&start, e)
 }
 

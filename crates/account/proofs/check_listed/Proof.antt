@@ -20,8 +20,8 @@ sheet-fits c =
     let h = passed-blocks (c .args .s) (c .good .0) (c .pre .0) in
     fit (c .args .s) h (overOf-fine _ _ (h .paired) (h .below) (c .pre .1))
 
-slots-of-requires : tie.Need-slots-of-requires
-slots-of-requires c κs =
+start-of-requires : tie.Need-start-of-requires
+start-of-requires c κs =
     let h = sheet-fits (c .before .before .before) in
     (omega (arith, h .few-constraints), h .ends)
 
@@ -29,8 +29,8 @@ check-plan-requires : tie.Need-check-plan-requires
 check-plan-requires c κs =
     let o = c .before .before .before .before in
     let h = sheet-fits o in (
-      h .begins (c .slots-of .result) (c .slots-of .ensures),
-      subst NotOver (sym (h .begins-list (c .slots-of .result) (c .slots-of .ensures))) (h .notOver),
+      h .begins (c .start-of .result) (c .start-of .ensures),
+      subst NotOver (sym (h .begins-list (c .start-of .result) (c .start-of .ensures))) (h .notOver),
     )
 
 enum-known-outcome : tie.Need-enum-known-outcome
@@ -44,7 +44,7 @@ checked : (c : tie.After-check-plan) → c .check-plan .result ≡ checkOf (grap
 checked c =
     let o = c .before .before .before .before .before in
     c .check-plan .ensures
-    ∙ ap (λ (cs : List ℕ). checkOf cs (o .args .plan .now)) (sheet-fits o .begins-list (c .before .slots-of .result) (c .before .slots-of .ensures))
+    ∙ ap (λ (cs : List ℕ). checkOf cs (o .args .plan .now)) (sheet-fits o .begins-list (c .before .start-of .result) (c .before .start-of .ensures))
 
 module _ (c : tie.After-put-list-arg) where
   abbrev start : tie.Start
@@ -78,7 +78,7 @@ pub check-listed-spec : {M : Type 1} → statement M
 check-listed-spec =
     tie.close
     (tie.spec
-    slots-of-requires
+    start-of-requires
     check-plan-requires
     enum-known-outcome
     enum-told

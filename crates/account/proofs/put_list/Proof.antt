@@ -18,8 +18,8 @@ sheet-fits c =
 lines-of-requires : tie.Need-lines-of-requires
 lines-of-requires c κs = sheet-fits (c .before .before) .sheet .elements-most
 
-slots-of-requires : tie.Need-slots-of-requires
-slots-of-requires c κs =
+start-of-requires : tie.Need-start-of-requires
+start-of-requires c κs =
     let h = sheet-fits (c .before .before .before .before) in
     (omega (arith, h .few-constraints), h .ends)
 
@@ -58,12 +58,12 @@ module _ (c : tie.After-slots2) where
   sized = c .before .before .before .before .before .before .before .before .before
 
   told : Told (start .args .s) (start .args .run) (sized .before .before .before .lines-of .result) (c .before .before .before .before .before .settle .result)
-      (sized .before .slots-of .result) (sized .sizes-of .result) (c .before .before .steps-of .result)
+      (sized .before .start-of .result) (sized .sizes-of .result) (c .before .before .steps-of .result)
   told =
       record {
         lines-are = sized .before .before .before .lines-of .ensures;
         v-is = c .before .before .before .before .before .settle .ensures;
-        start-is = sized .before .slots-of .ensures;
+        start-is = sized .before .start-of .ensures;
         sizes-are = sized .sizes-of .ensures;
         stepped = c .before .before .steps-of .ensures;
       }
@@ -103,7 +103,7 @@ put-list-spec =
     tie.close
     (tie.spec
     lines-of-requires
-    slots-of-requires
+    start-of-requires
     sizes-of-requires
     settle-requires
     steps-of-requires

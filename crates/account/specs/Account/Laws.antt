@@ -28,7 +28,6 @@ use Rattle.merges.specs.declared.Run.{Run}
 use Rattle.engine.specs.Steps.{waysBy, stepFrom, Stepped}
 use Rattle.engine.specs.Steps.Laws.{stepped-are}
 use Rattle.judge.specs.Listing.Blocks.{Blocks}
-use Rattle.judge.specs.Listing.Laws.{map-map}
 use Rattle.judge.specs.declared.Judged.{Judged}
 use Rattle.judge.specs.Judged.{listed}
 use Rattle.judge.specs.Judged.Laws.{few, ends-below-64, fine-starts, fine-list, steps-few, joints-long, settled}

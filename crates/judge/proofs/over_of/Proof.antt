@@ -1,11 +1,12 @@
 -- `over_of` meets its contract. Assumes nothing.
 use mathlib.Core.Path.{sym, ap, _∙_, subst}
+use mathlib.Core.List.{List}
 use Rattle.theory.specs.Constraints.{Below}
 use Rattle.theory.specs.Near.{Near}
 use Rattle.theory.specs.Over.{overOf}
 use Rattle.sheet.specs.Facts.{factsOf}
 use Rattle.sheet.specs.Graph.{graphOf}
-use Rattle.judge.specs.Listing.Blocks.{Blocks, passed-blocks, ends-paired, near-clusters, start-clusters, standing}
+use Rattle.judge.specs.Listing.Blocks.{Blocks, passed-blocks, start-clusters, standing}
 use Rattle.judge.specs.Judged.Laws.{ends-in-64}
 use Rattle.judge.proofs.over_of.Statement.{statement}
 use Rattle.judge.proofs.over_of.Tie as tie
@@ -16,7 +17,7 @@ in-blocks c = passed-blocks (c .args .s) (c .good .0) (c .pre)
 near-of-requires : tie.Need-near-of-requires
 near-of-requires c κs =
     let b = in-blocks (c .before) in
-    (b .most, ends-in-64 (factsOf (c .before .args .s)) (b .elements-few) (b .constraints-few) (b .fine), ends-paired b)
+    (b .most, ends-in-64 (factsOf (c .before .args .s)) (b .elements-few) (b .constraints-few) (b .fine), b .paired)
 
 start-of-requires : tie.Need-start-of-requires
 start-of-requires c κs =
@@ -28,7 +29,7 @@ find-over-requires c κs =
     let b = in-blocks (c .before .before .before .before .before) in
     let are = c .before .before .start-of .ensures in
     let near = c .before .before .before .near-of in
-    (standing b are, subst (λ (cs : List _). Near cs (near .result)) (sym (start-clusters b are)) (near-clusters b (near .ensures)))
+    (standing b are, subst (λ (cs : List _). Near cs (near .result)) (sym (start-clusters b are)) (near .ensures))
 
 returns : tie.Need-returns
 returns c =

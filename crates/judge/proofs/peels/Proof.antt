@@ -1,8 +1,8 @@
 -- `peels` meets its contract. Assumes nothing.
 use borrow.Author.Needs.{needs}
 use Rattle.sheet.specs.Facts.{factsOf}
-use Rattle.sheet.specs.Graph.{clustersOf}
-use Rattle.judge.specs.Listing.Blocks.{Blocks, passed-blocks, ends-paired, near-clusters}
+use Rattle.sheet.specs.Graph.{graphOf}
+use Rattle.judge.specs.Listing.Blocks.{Blocks, passed-blocks}
 use Rattle.judge.specs.Judged.Laws.{ends-in-64}
 use Rattle.judge.proofs.peels.Statement.{statement}
 use Rattle.judge.proofs.peels.Tie as tie
@@ -13,7 +13,7 @@ in-blocks c = passed-blocks (c .args .s) (c .good .0) (c .pre)
 near-of-requires : tie.Need-near-of-requires
 near-of-requires c κs =
     let b = in-blocks (c .before) in
-    (b .most, ends-in-64 (factsOf (c .before .args .s)) (b .elements-few) (b .constraints-few) (b .fine), ends-paired b)
+    (b .most, ends-in-64 (factsOf (c .before .args .s)) (b .elements-few) (b .constraints-few) (b .fine), b .paired)
 
 peel-of-requires : tie.Need-peel-of-requires
 peel-of-requires c κs = search needs
@@ -22,7 +22,7 @@ returns : tie.Need-returns
 returns c =
     let s = c .before .before .before .before in
     let b = in-blocks s in
-    c .peel-of .ensures (clustersOf (factsOf (s .args .s))) (b .simple) (near-clusters b (c .before .before .near-of .ensures))
+    c .peel-of .ensures (graphOf (factsOf (s .args .s)) .clusters) (b .simple) (c .before .before .near-of .ensures)
 
 pub peels-spec : {M : Type 1} → statement M
 peels-spec = tie.close (tie.spec near-of-requires peel-of-requires returns)

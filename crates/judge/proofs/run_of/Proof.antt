@@ -19,25 +19,25 @@ module _ (c : tie.Start) where
   in-blocks =
       passed-blocks (c .args .s) (c .good .0) (c .pre .0)
 
-slots-of-requires : tie.Need-slots-of-requires
-slots-of-requires c κs =
+start-of-requires : tie.Need-start-of-requires
+start-of-requires c κs =
     let s = c .before in
     (omega (arith, s .pre .1), ends-in-64 (facts s) (in-blocks s .elements-few) (in-blocks s .constraints-few) (in-blocks s .fine))
 
 merge-all-requires : tie.Need-merge-all-requires
 merge-all-requires c κs =
     let s = c .before .before .before in
-    let g = c .before .slots-of in
+    let g = c .before .start-of in
     starts (facts s) (in-blocks s .elements-few) (in-blocks s .constraints-few) (in-blocks s .fine) (g .result) (s .args .s .e)
     (sym (in-blocks s .count)) (g .ensures) (rw (in-blocks s .count) (s .pre .1))
 
 returns : tie.Need-returns
 returns c =
     let s = c .before .before .before .before in
-    let g = c .before .before .slots-of in
+    let g = c .before .before .start-of in
     subst (λ (cs : List ℕ). Planned cs (c .merge-all .result))
     (start-list (facts s) (in-blocks s .elements-few) (in-blocks s .constraints-few) (in-blocks s .fine) (g .result) (s .args .s .e)
     (sym (in-blocks s .count)) (g .ensures)) (c .merge-all .ensures)
 
 pub run-of-spec : {M : Type 1} → statement M
-run-of-spec = tie.close (tie.spec slots-of-requires merge-all-requires returns)
+run-of-spec = tie.close (tie.spec start-of-requires merge-all-requires returns)

@@ -85,5 +85,5 @@ module _ (f : Facts) (p : List Merge) (paired : Pairs (graphOf f .clusters)) (va
       let tie : left (final cs p) + 2 * run .steps ≡ e =
       omega (arith, steps-left cs paired p valid, ap (λ (r : Run). r .steps) is, length-clusters f) in
       let a : v ≡ listVerdict (graphOf f) p =
-      h (final cs p) tie ∙ rw (is, l, m, k, ← length-clusters f, take-padded 64 (joints cs p) (length p) (sym (length-joints p cs))) in
+      h (final cs p) tie ∙ rw (is, l, m, k, ← length-clusters f, take-block 64 0 (joints cs p) (length p) (sym (length-joints p cs))) in
       cc

@@ -8,16 +8,16 @@ use lib.Dec.{leb}
 use lib.ListN.{length, take, length-map, length-append, length-replicate}
 use lib.Seq.{length-take-le, take-append-seam}
 use Rattle.theory.specs.Constraints.{Below, Pairs}
-use Rattle.theory.specs.Near.{Simple, Standing, Near}
+use Rattle.theory.specs.Near.{Simple, Standing}
 use Rattle.sheet.specs.declared.Sheet.{Sheet}
-use Rattle.sheet.specs.Facts.{factsOf, block}
+use Rattle.theory.specs.Block.{block}
+use Rattle.sheet.specs.Facts.{factsOf}
 use Rattle.sheet.specs.Rules.{constraintsFault, sheetFault}
 use Rattle.sheet.specs.Rules.Laws.{and-true}
 use Rattle.sheet.specs.RoundTrip.Blocks.{constraints-most, sheetFault-none}
 use Rattle.sheet.proofs.Passed.{Passed, elements-long, constraints-long}
 use Rattle.sheet.specs.Graph.{graphOf}
 use Rattle.sheet.specs.Graph.Laws.{clusters-pairs, clusters-below}
-use Rattle.graph.specs.Arrays.{endPair}
 use Rattle.judge.specs.Listing.Laws.{clusters-simple}
 
 pub record Blocks (s : Sheet) : Type 0 where
@@ -61,24 +61,17 @@ blocks s long-elements long none =
 pub passed-blocks : (s : Sheet) → Passed s → sheetFault s ≡ 0 → Blocks s
 passed-blocks s g none = blocks s (elements-long s g) (constraints-long s g) none
 
--- ---- the arrays that are made of its constraints: the initial clusters, and who is constrained with whom
+-- ---- the array of its initial clusters
 
-module _ {s : Sheet} (b : Blocks s) where
-  pub ends-paired : Pairs (map endPair (factsOf s .constraints))
-  ends-paired = rw (map-map (factsOf s .constraints)) (b .paired)
+module _ {s : Sheet} (b : Blocks s) {start : List ℕ} (are : start ≡ block 200 0 (graphOf (factsOf s) .clusters)) where
+  pub start-clusters : take (s .e) start ≡ graphOf (factsOf s) .clusters
+  start-clusters =
+      let l : s .e ≡ length (graphOf (factsOf s) .clusters) = rw length-map (sym (b .count)) in
+      ap₂ take l are ∙ take-append-seam (graphOf (factsOf s) .clusters) _
 
-  pub near-clusters : {near : List ℕ} → Near (map endPair (factsOf s .constraints)) near → Near (clustersOf (factsOf s)) near
-  near-clusters n = rw (map-map (factsOf s .constraints)) at n
-
-  module _ {start : List ℕ} (are : start ≡ block 200 0 (map endPair (factsOf s .constraints))) where
-    pub start-clusters : take (s .e) start ≡ clustersOf (factsOf s)
-    start-clusters =
-        let l : s .e ≡ length (map endPair (factsOf s .constraints)) = rw length-map (sym (b .count)) in
-        ap₂ take l are ∙ take-append-seam (map endPair (factsOf s .constraints)) _ ∙ map-map (factsOf s .constraints)
-
-    pub standing : Standing start (s .e)
-    standing = record {
-      places = ap length are ∙ simp (length-append, length-replicate, length-map) (omega (arith, b .constraints-few));
-      few = b .most;
-      simple = rw start-clusters (b .simple);
-    }
+  pub standing : Standing start (s .e)
+  standing = record {
+    places = ap length are ∙ simp (length-append, length-replicate, length-map) (omega (arith, b .constraints-few));
+    few = b .most;
+    simple = rw start-clusters (b .simple);
+  }

@@ -52,7 +52,7 @@ module _ (es : List Element) where
 
   -- a pair that stands before is none of the list's
   fresh : (cs done : List Constraint) → constraintsFault es done cs ≡ 0 → (a b : ℕ) → a < b → stands done a b ≡ true
-      → Among (pair a b) (clusters (map endsOf cs)) → ⊥
+      → Among (pair a b) (map clusterOf cs) → ⊥
   unfolding constraintsFault
   fresh (c ∷ cs) done e a b h s (inl q) =
       let t = taken es done c (none-else es (constraintFault es done c) (constraintsFault es (done ++ c ∷ []) cs) e .0) in
@@ -63,7 +63,7 @@ module _ (es : List Element) where
       (stands-before done c a b s) i
 
   -- none stands twice
-  each-once : (cs done : List Constraint) → constraintsFault es done cs ≡ 0 → Once (clusters (map endsOf cs))
+  each-once : (cs done : List Constraint) → constraintsFault es done cs ≡ 0 → Once (map clusterOf cs)
   unfolding constraintsFault
   each-once [] done e = tt
   each-once (c ∷ cs) done e =
@@ -71,7 +71,7 @@ module _ (es : List Element) where
       let l = ends-true (length es) (c .first) (c .second) (taken es done c (h .0) .ends-ascend) in
       (fresh cs (done ++ c ∷ []) (h .1) (c .first) (c .second) (l .0) (stands-here done c), each-once cs (done ++ c ∷ []) (h .1))
 
-module _ (f : Facts) (elements : length (f .elements) ≤ 64) (constraints : length (f .constraints) ≤ 200) (fine : constraintsFault (f .elements) [] (f .constraints) ≡ 0) where
+module _ (f : Facts) (elements : length (f .elements) ≤ 64) (fine : constraintsFault (f .elements) [] (f .constraints) ≡ 0) where
   pub clusters-simple : Simple (graphOf f .clusters)
   unfolding Below
   clusters-simple = record {
