@@ -13,6 +13,7 @@ use Rattle.theory.specs.Merge.One.{one-fine}
 use Rattle.theory.specs.Plan.{planOf}
 use Rattle.theory.specs.Plan.Laws.{plan-of-maximal}
 use Rattle.theory.specs.Verdict.{angled}
+use Rattle.theory.specs.declared.Finding.the-variants.{Fine}
 use Rattle.theory.specs.declared.Verdict.the-variants.{Over, Angle, Well, Under}
 use Rattle.theory.specs.Graph.{findingOf, verdictOf}
 use Rattle.theory.specs.Graph.Laws.{fine-finding}
