@@ -170,7 +170,8 @@ module _ {cs : List ℕ} (fine : NotOver cs) {p : List Merge} {slots links : Lis
           let g = good-final cs fine p cs (start-good cs (h .pairs) fine) (start-distinct cs (h .pairs) fine) (h .valid) in
           let li : slot (final cs p) i ≢ 0 = λ z. hi (same i ∙ z) in
           let lj : slot (final cs p) j ≢ 0 = λ z. hj (same j ∙ z) in
-          rw (same i, same j) (share cs fine (g .0) (slot (final cs p) i) (slot (final cs p) j) (i, refl, li) (j, refl, lj) (λ e. ne (g .1 i j li e)));
+          rw (same i, same j)
+          (share cs fine (g .0) (slot (final cs p) i) (slot (final cs p) j) (i, refl, li) (j, refl, lj) (λ e. ne (g .1 i j li e)));
     };
     linking = record {
       only = λ q r e. let c = ls .only q r e in (c .0, ap (at q) (same (c .0)) ∙ c .1, ap (at r) (same (c .0)) ∙ c .2);
