@@ -25,7 +25,8 @@ extern "C" {
 
 #define PATTERN_MAX_ELEMENTS    64   /* points and lines of a sheet, numbered from 0 */
 #define PATTERN_MAX_CONSTRAINTS 200  /* constraints of a sheet, numbered from 0 */
-#define PATTERN_MAX_SHEET       1814 /* bytes of a sheet: with this room no sheet is refused by 17 */
+#define PATTERN_MAX_SHEET       1814 /* bytes of a sheet that is read: it may carry tags */
+#define PATTERN_MAX_WRITTEN     1414 /* bytes of a written sheet: with this room no sheet is refused by 17 */
 #define PATTERN_MAX_REPORT      3786 /* bytes of a report: with this room no report is refused by 17 */
 
 /* The rules that refuse, in checking order. */
@@ -51,19 +52,20 @@ enum pattern_rule {
 
 /* Bits of a constraint's map. */
 #define PATTERN_SIZED  1 /* the size is given; a point and a line may go without, the point then on the line */
-#define PATTERN_TAGGED 2 /* the tag is given */
+#define PATTERN_TAGGED 2 /* a tag of two bytes follows the size: it is read and dropped, and never written */
 
 /*
- * Reads a sheet and writes it again: the same bytes. Tries rules 1 to 10 in the order of the fields,
- * then 17. Answers the count of bytes.
+ * Reads a sheet and writes it again: the same sheet with PATTERN_TAGGED clear and the tags gone, so
+ * the same bytes where it has none. Tries rules 1 to 10 in the order of the fields, then 17. Answers
+ * the count of bytes.
  */
 int32_t pattern_rewrite(const uint8_t *sheet, size_t len, uint8_t *out, size_t room);
 
 /*
- * Writes a sheet from its facts; constraint i stands in place i of the five lists. Tries rules 3 and
+ * Writes a sheet from its facts; constraint i stands in place i of the four lists. Tries rules 3 and
  * 5, each constraint by 6 to 9, then 17. Answers the count of bytes.
  * Places from e on and bits of lines from n on have no influence. A list may be shorter than e: an
- * end that it lacks is 0, a size or tag that it lacks is missing.
+ * end that it lacks is 0, a size that it lacks is missing.
  */
 int32_t pattern_write(
     size_t n,                                   /* count of elements */
@@ -71,9 +73,8 @@ int32_t pattern_write(
     uint64_t lines,                             /* bit i: element i is a line, else a point */
     const uint8_t *firsts, size_t firsts_len,   /* the first end, the lower one */
     const uint8_t *seconds, size_t seconds_len, /* the second end */
-    const uint8_t *maps, size_t maps_len,       /* PATTERN_SIZED and PATTERN_TAGGED; other bits have no influence */
+    const uint8_t *maps, size_t maps_len,       /* PATTERN_SIZED; other bits have no influence */
     const int32_t *sizes, size_t sizes_len,     /* distance in tenths of a millimetre, or angle in hundredths of a degree */
-    const uint16_t *tags, size_t tags_len,      /* any value */
     uint8_t *out, size_t room);
 
 /*
@@ -126,9 +127,9 @@ int32_t pattern_check_plan(const uint8_t *sheet, size_t len, const uint16_t *pla
 /*
  * Adds one constraint to a sketch: writes the sheet with that constraint last. The constraint is
  * given as its bytes in a sheet: first end, second end, map, then the size and the tag that the map
- * names. Tries rules 1 to 11 of the sheet, then 2 and 6 to 9 in the order of the constraint's
- * fields, 10 where bytes follow them, 11, and 17. Answers the count of bytes; pattern_verdict of
- * them is the sketch's new verdict.
+ * names; the tag is dropped. Tries rules 1 to 11 of the sheet, then 2 and 6 to 9 in the order of the
+ * constraint's fields, 10 where bytes follow them, 11, and 17. Answers the count of bytes;
+ * pattern_verdict of them is the sketch's new verdict.
  */
 int32_t pattern_add(
     const uint8_t *sheet, size_t len,

@@ -3,7 +3,7 @@
 use pattern_tests::facts::{Constraint, Kind, Sheet};
 use pattern_tests::graph::Graph;
 use pattern_tests::random::Random;
-use pattern_tests::{shapes, writer};
+use pattern_tests::{shapes, tags, writer};
 
 /// Sheets of one shape.
 pub struct Case {
@@ -40,7 +40,8 @@ fn case(name: &str, dress: Dress, mixed: bool, graph: impl Fn(&mut Random) -> Gr
     };
     let sheets: Vec<Sheet> = (0..POOL).map(|_| sheet()).collect();
     let (n, e) = (sheets[0].n(), sheets[0].e());
-    Case { name: name.to_string(), n, e, pool: sheets.iter().map(writer::bytes).collect() }
+    let pool = sheets.iter().map(|sheet| tags::on(&writer::bytes(sheet), dress.tags, random)).collect();
+    Case { name: name.to_string(), n, e, pool }
 }
 
 /// A graph as a sheet.
@@ -51,7 +52,6 @@ fn dressed(graph: &Graph, dress: Dress, random: &mut Random) -> Sheet {
         first: a as u8,
         second: b as u8,
         size: (kinds[a] == kinds[b] || random.chance(70)).then(|| random.between(1, 17_999) as i32),
-        tag: random.chance(dress.tags).then(|| random.bits() as u16),
     };
     let constraints = graph.pairs.iter().map(constraint).collect();
     Sheet { kinds, constraints }

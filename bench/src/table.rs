@@ -2,6 +2,7 @@
 
 use crate::cases::Case;
 use crate::timing::{Contender, SAMPLES, TURNS, lowest_medians};
+use pattern_tests::tags;
 
 /// Times the contenders on each case and prints the table; a ratio is the first one's time to that one's.
 pub fn print(title: &str, cases: &[Case], contenders: &mut [Contender]) {
@@ -76,7 +77,9 @@ fn growth(rows: &[(&Case, f64)]) {
 /// Ends the run where two contenders answer differently.
 fn agree(case: &Case, contenders: &mut [Contender]) {
     for bytes in &case.pool {
-        let answers: Vec<i32> = contenders.iter_mut().map(|contender| (contender.call)(bytes)).collect();
+        let kept = |contender: &Contender| if contender.keeps_tags { tags::length(bytes) as i32 } else { 0 };
+        let answer = |contender: &mut Contender| (contender.call)(bytes) - kept(contender);
+        let answers: Vec<i32> = contenders.iter_mut().map(answer).collect();
         assert!(answers.iter().all(|&answer| answer == answers[0]), "{}: {answers:?} on {bytes:02x?}", case.name);
     }
 }

@@ -17,12 +17,19 @@ pub type Call = Box<dyn FnMut(&[u8]) -> i32>;
 pub struct Contender {
     pub name: &'static str,
     pub call: Call,
+    /// Whether it writes the tags that it reads.
+    pub keeps_tags: bool,
 }
 
 impl Contender {
     /// A contender by its name and what it calls.
     pub fn new(name: &'static str, call: impl FnMut(&[u8]) -> i32 + 'static) -> Contender {
-        Contender { name, call: Box::new(call) }
+        Contender { name, call: Box::new(call), keeps_tags: false }
+    }
+
+    /// The contender as one that writes the tags that it reads.
+    pub fn keeping_tags(self) -> Contender {
+        Contender { keeps_tags: true, ..self }
     }
 }
 

@@ -13,7 +13,7 @@ mod c {
 /// What `yard_over` answers of a sheet that is not over.
 const SOUND: i32 = 256;
 
-/// Reads a sheet and writes it again.
+/// Reads a sheet and writes it again, tags included.
 pub fn rewrite(sheet: &[u8], out: &mut [u8]) -> i32 {
     unsafe { c::yard_rewrite_facts(sheet.as_ptr(), sheet.len(), out.as_mut_ptr(), out.len()) }
 }

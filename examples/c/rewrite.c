@@ -1,4 +1,4 @@
-/* Reads a sheet from a file and writes it to another, or says which rule refuses it. rewrite SHEET COPY */
+/* Reads a sheet from a file and writes it to another without its tags, or says which rule refuses it. rewrite SHEET COPY */
 #include <stdio.h>
 
 #include "pattern.h"
@@ -6,7 +6,7 @@
 int main(int argc, char **argv)
 {
     uint8_t sheet[PATTERN_MAX_SHEET + 1]; /* a byte more than any sheet, so that a longer file is refused as such */
-    uint8_t copy[PATTERN_MAX_SHEET];
+    uint8_t copy[PATTERN_MAX_WRITTEN];
 
     if (argc != 3) {
         fprintf(stderr, "usage: rewrite SHEET COPY\n");

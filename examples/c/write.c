@@ -1,4 +1,4 @@
-/* Writes a sheet from its facts: four points, five distances of 30 mm, a tag on the third. write SHEET */
+/* Writes a sheet from its facts: four points, five distances of 30 mm. write SHEET */
 #include <stdio.h>
 
 #include "pattern.h"
@@ -7,16 +7,15 @@ int main(int argc, char **argv)
 {
     const uint8_t firsts[] = {0, 0, 1, 1, 2};
     const uint8_t seconds[] = {1, 2, 2, 3, 3};
-    const uint8_t maps[] = {PATTERN_SIZED, PATTERN_SIZED, PATTERN_SIZED | PATTERN_TAGGED, PATTERN_SIZED, PATTERN_SIZED};
+    const uint8_t maps[] = {PATTERN_SIZED, PATTERN_SIZED, PATTERN_SIZED, PATTERN_SIZED, PATTERN_SIZED};
     const int32_t sizes[] = {300, 300, 300, 300, 300};
-    const uint16_t tags[] = {0, 0, 4660, 0, 0};
-    uint8_t sheet[PATTERN_MAX_SHEET];
+    uint8_t sheet[PATTERN_MAX_WRITTEN];
 
     if (argc != 2) {
         fprintf(stderr, "usage: write SHEET\n");
         return 2;
     }
-    int32_t count = pattern_write(4, 5, 0, firsts, 5, seconds, 5, maps, 5, sizes, 5, tags, 5, sheet, sizeof sheet);
+    int32_t count = pattern_write(4, 5, 0, firsts, 5, seconds, 5, maps, 5, sizes, 5, sheet, sizeof sheet);
     if (count < 0) {
         printf("refused %d\n", (int)-count);
         return 1;

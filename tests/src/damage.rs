@@ -3,7 +3,7 @@
 use crate::facts::{Columns, MOST_ELEMENTS, Sheet};
 use crate::merging::Merges;
 use crate::random::Random;
-use crate::writer;
+use crate::tags::starts;
 
 /// The bytes with one of them changed.
 pub fn changed(bytes: &[u8], random: &mut Random) -> Vec<u8> {
@@ -48,8 +48,8 @@ pub fn noise(random: &mut Random) -> Vec<u8> {
 }
 
 /// The bytes of a sheet with one fault aimed at a field, and sometimes a second.
-pub fn aimed(sheet: &Sheet, random: &mut Random) -> Vec<u8> {
-    let mut bytes = writer::bytes(sheet);
+pub fn aimed(sheet: &[u8], random: &mut Random) -> Vec<u8> {
+    let mut bytes = sheet.to_vec();
     for _ in 0..random.pick(&[1, 1, 1, 2]) {
         aim(sheet, &mut bytes, random);
     }
@@ -57,14 +57,9 @@ pub fn aimed(sheet: &Sheet, random: &mut Random) -> Vec<u8> {
 }
 
 /// Puts one fault into the bytes of a sheet, at the place where the sheet has the field.
-fn aim(sheet: &Sheet, bytes: &mut Vec<u8>, random: &mut Random) {
-    let count_at = 5 + sheet.n().div_ceil(8);
-    let mut starts = Vec::new();
-    let mut next = count_at + 1;
-    for constraint in &sheet.constraints {
-        starts.push(next);
-        next += writer::constraint_bytes(constraint).len();
-    }
+fn aim(sheet: &[u8], bytes: &mut Vec<u8>, random: &mut Random) {
+    let count_at = 5 + usize::from(sheet[4]).div_ceil(8);
+    let starts = starts(sheet);
     match random.below(if starts.is_empty() { 6 } else { 14 }) {
         0 => alter(&mut bytes[random.below(4)], random),
         1 => bytes[4] = random.pick(&[0, 1, 65, 66, 128, 255]),
@@ -107,7 +102,6 @@ pub fn facts(sheet: &Sheet, random: &mut Random) -> Columns {
         facts.seconds.push(random.byte() % 64);
         facts.maps.push(random.byte() % 4);
         facts.sizes.push(random.bits() as i32);
-        facts.tags.push(random.bits() as u16);
     }
     for _ in 0..random.below(4) {
         spoil(&mut facts, random);
@@ -129,7 +123,7 @@ fn spoil(facts: &mut Columns, random: &mut Random) {
 
 /// Puts one fault into a constraint of the facts, where there is one.
 fn spoil_constraint(facts: &mut Columns, random: &mut Random) {
-    let known = [facts.firsts.len(), facts.seconds.len(), facts.maps.len(), facts.sizes.len(), facts.tags.len()];
+    let known = [facts.firsts.len(), facts.seconds.len(), facts.maps.len(), facts.sizes.len()];
     let shortest = known.into_iter().min().unwrap_or(0).min(facts.e);
     if shortest == 0 {
         return;
@@ -153,12 +147,11 @@ fn spoil_constraint(facts: &mut Columns, random: &mut Random) {
 
 /// Makes one of the lists shorter.
 fn cut(facts: &mut Columns, at: usize, random: &mut Random) {
-    match random.below(5) {
+    match random.below(4) {
         0 => facts.firsts.truncate(at),
         1 => facts.seconds.truncate(at),
         2 => facts.maps.truncate(at),
-        3 => facts.sizes.truncate(at),
-        _ => facts.tags.truncate(at),
+        _ => facts.sizes.truncate(at),
     }
 }
 

@@ -7,7 +7,7 @@ use crate::{shapes, writer};
 
 /// Points with these constraints: the ends and the size.
 fn points(n: usize, constraints: &[(u8, u8, i32)]) -> Sheet {
-    let constraint = |&(first, second, size)| Constraint { first, second, size: Some(size), tag: None };
+    let constraint = |&(first, second, size)| Constraint { first, second, size: Some(size) };
     Sheet { kinds: vec![Kind::Point; n], constraints: constraints.iter().map(constraint).collect() }
 }
 

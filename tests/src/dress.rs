@@ -1,4 +1,4 @@
-//! A constraint graph dressed as a sheet: kinds, sizes and tags.
+//! A constraint graph dressed as a sheet: kinds and sizes.
 
 use crate::facts::{Constraint, Kind, Sheet};
 use crate::graph::Graph;
@@ -23,14 +23,13 @@ pub fn any(most: usize, random: &mut Random) -> Sheet {
     dress(&graph, random)
 }
 
-/// A graph with random kinds, sizes and tags.
+/// A graph with random kinds and sizes.
 pub fn dress(graph: &Graph, random: &mut Random) -> Sheet {
     let lines = random.pick(&[0, 0, 5, 30, 60, 100]);
-    let tags = random.pick(&[0, 0, 50, 100]);
     let sizes = random.pick(&[Sizes::Few, Sizes::Few, Sizes::Ends, Sizes::All]);
     let kind = |random: &mut Random| if random.chance(lines) { Kind::Line } else { Kind::Point };
     let kinds: Vec<Kind> = (0..graph.n).map(|_| kind(random)).collect();
-    let constraints = graph.pairs.iter().map(|&pair| constraint(&kinds, pair, sizes, tags, random)).collect();
+    let constraints = graph.pairs.iter().map(|&pair| constraint(&kinds, pair, sizes, random)).collect();
     Sheet { kinds, constraints }
 }
 
@@ -38,17 +37,12 @@ pub fn dress(graph: &Graph, random: &mut Random) -> Sheet {
 pub fn next(kinds: &[Kind], random: &mut Random) -> Constraint {
     let a = random.below(kinds.len());
     let b = (a + random.between(1, kinds.len() - 1)) % kinds.len();
-    constraint(kinds, (a.min(b), a.max(b)), Sizes::Few, 30, random)
+    constraint(kinds, (a.min(b), a.max(b)), Sizes::Few, random)
 }
 
-/// A constraint of a pair, with a tag by a chance of `tags` in a hundred.
-fn constraint(kinds: &[Kind], (a, b): (usize, usize), sizes: Sizes, tags: usize, random: &mut Random) -> Constraint {
-    Constraint {
-        first: a as u8,
-        second: b as u8,
-        size: size(kinds[a], kinds[b], sizes, random),
-        tag: random.chance(tags).then(|| random.bits() as u16),
-    }
+/// A constraint of a pair.
+fn constraint(kinds: &[Kind], (a, b): (usize, usize), sizes: Sizes, random: &mut Random) -> Constraint {
+    Constraint { first: a as u8, second: b as u8, size: size(kinds[a], kinds[b], sizes, random) }
 }
 
 /// A size in its range; between point and line it may be missing.

@@ -21,13 +21,12 @@ pub enum Kind {
     Line,
 }
 
-/// A constraint between two elements; a size or tag that is `None` is missing.
+/// A constraint between two elements; a size that is `None` is missing.
 #[derive(Clone, Copy, PartialEq, Eq, Debug)]
 pub struct Constraint {
     pub first: u8,
     pub second: u8,
     pub size: Option<i32>,
-    pub tag: Option<u16>,
 }
 
 impl Constraint {
@@ -72,11 +71,10 @@ pub struct Columns {
     pub seconds: Vec<u8>,
     pub maps: Vec<u8>,
     pub sizes: Vec<i32>,
-    pub tags: Vec<u16>,
 }
 
 impl Columns {
-    /// The facts of a sheet; a missing size or tag has a 0 in its list.
+    /// The facts of a sheet; a missing size has a 0 in its list.
     pub fn of(sheet: &Sheet) -> Columns {
         let constraints = &sheet.constraints;
         Columns {
@@ -87,7 +85,6 @@ impl Columns {
             seconds: constraints.iter().map(|c| c.second).collect(),
             maps: constraints.iter().map(map).collect(),
             sizes: constraints.iter().map(|c| c.size.unwrap_or(0)).collect(),
-            tags: constraints.iter().map(|c| c.tag.unwrap_or(0)).collect(),
         }
     }
 
@@ -98,18 +95,16 @@ impl Columns {
 
     /// Constraint i; what a short list lacks is blank.
     pub fn constraint(&self, i: usize) -> Constraint {
-        let map = self.maps.get(i).copied().unwrap_or(0);
-        let given = |bit: u8| map >> bit & 1 == 1;
+        let sized = self.maps.get(i).is_some_and(|map| map & 1 == 1);
         Constraint {
             first: self.firsts.get(i).copied().unwrap_or(0),
             second: self.seconds.get(i).copied().unwrap_or(0),
-            size: self.sizes.get(i).copied().filter(|_| given(0)),
-            tag: self.tags.get(i).copied().filter(|_| given(1)),
+            size: self.sizes.get(i).copied().filter(|_| sized),
         }
     }
 }
 
-/// The bit map of a constraint: bit 0 for a size, bit 1 for a tag.
+/// The bit map of a constraint: bit 0 for a size.
 pub fn map(constraint: &Constraint) -> u8 {
-    u8::from(constraint.size.is_some()) + 2 * u8::from(constraint.tag.is_some())
+    u8::from(constraint.size.is_some())
 }

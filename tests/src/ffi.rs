@@ -19,8 +19,6 @@ mod c {
             maps_len: usize,
             sizes: *const i32,
             sizes_len: usize,
-            tags: *const u16,
-            tags_len: usize,
             out: *mut u8,
             room: usize,
         ) -> i32;
@@ -70,8 +68,6 @@ pub fn write(facts: &Columns, out: &mut [u8]) -> i32 {
             facts.maps.len(),
             facts.sizes.as_ptr(),
             facts.sizes.len(),
-            facts.tags.as_ptr(),
-            facts.tags.len(),
             out.as_mut_ptr(),
             out.len(),
         )

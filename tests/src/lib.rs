@@ -3,7 +3,7 @@
 //!
 //! The reference: `facts`, `rules`, `reader`, `writer`, `over`, `matching`, `merging`, `verdict`, `placements`,
 //! `report`, `plans`, `sketch`, and `interface`, which gives the answers the C interface must give.
-//! The runs: `random`, `graph`, `shapes`, `dress`, `damage`, `space`, `run`, and `ffi`, the only unsafe code.
+//! The runs: `random`, `graph`, `shapes`, `dress`, `tags`, `damage`, `space`, `run`, and `ffi`, the only unsafe code.
 
 pub mod calls;
 pub mod damage;
@@ -28,5 +28,6 @@ pub mod set;
 pub mod shapes;
 pub mod sketch;
 pub mod space;
+pub mod tags;
 pub mod verdict;
 pub mod writer;

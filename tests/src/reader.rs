@@ -3,6 +3,9 @@
 use crate::facts::{Constraint, Kind, OPENING, Rule, Sheet};
 use crate::rules;
 
+/// The bytes of a tag, which is read and dropped.
+const TAG: usize = 2;
+
 /// The bytes that are still to be read.
 pub struct Fields<'a> {
     left: &'a [u8],
@@ -77,6 +80,8 @@ pub fn constraint(fields: &mut Fields, kinds: &[Kind], earlier: &[Constraint]) -
         rules::missing_size(a, b)?;
         None
     };
-    let tag = if map & 2 == 2 { Some(u16::from_le_bytes(fields.array()?)) } else { None };
-    Ok(Constraint { first, second, size, tag })
+    if map & 2 == 2 {
+        fields.take(TAG)?;
+    }
+    Ok(Constraint { first, second, size })
 }

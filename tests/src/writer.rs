@@ -38,6 +38,5 @@ pub fn bytes(sheet: &Sheet) -> Vec<u8> {
 pub fn constraint_bytes(constraint: &Constraint) -> Vec<u8> {
     let mut out = vec![constraint.first, constraint.second, map(constraint)];
     out.extend(constraint.size.iter().flat_map(|size| size.to_le_bytes()));
-    out.extend(constraint.tag.iter().flat_map(|tag| tag.to_le_bytes()));
     out
 }

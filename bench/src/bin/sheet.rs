@@ -7,7 +7,7 @@ use pattern_tests::ffi;
 fn main() {
     let mut contenders = vec![with("proved", ffi::rewrite), with("plain Rust", plain::sheet::rewrite)];
     #[cfg(feature = "yardstick")]
-    contenders.push(with("yardstick", pattern_bench::yardstick::rewrite));
+    contenders.push(with("yardstick", pattern_bench::yardstick::rewrite).keeping_tags());
     table::print("read and write", &cases::for_sheet(), &mut contenders);
 }
 

@@ -11,16 +11,16 @@ mod tests {
     use pattern_tests::interface::Found;
     use pattern_tests::random::Random;
     use pattern_tests::space::{Item, Space};
-    use pattern_tests::{damage, dress, interface, writer};
+    use pattern_tests::{damage, dress, interface, tags};
 
     /// Sheets, sound and damaged.
     fn sheets() -> impl Iterator<Item = Vec<u8>> {
         let mut random = Random::new(1);
         (0..4_000).flat_map(move |_| {
             let sheet = dress::any(64, &mut random);
-            let bytes = writer::bytes(&sheet);
+            let bytes = tags::any(&sheet, &mut random);
             let cut = bytes[..random.below(bytes.len())].to_vec();
-            [damage::aimed(&sheet, &mut random), damage::changed(&bytes, &mut random), cut, bytes]
+            [damage::aimed(&bytes, &mut random), damage::changed(&bytes, &mut random), cut, bytes]
         })
     }
 

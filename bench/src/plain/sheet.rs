@@ -3,18 +3,19 @@
 /// The number of the rule that refuses.
 pub type Rule = u8;
 
-/// The most bytes of a sheet.
-pub const MOST_BYTES: usize = 1814;
-/// The most bytes of a constraint.
+/// The most bytes of a written sheet.
+pub const MOST_BYTES: usize = 1414;
+/// The most bytes of a constraint that is read, its tag included.
 const LONGEST: usize = 9;
+/// The most bytes of a written constraint.
+const LONGEST_WRITTEN: usize = 7;
 
-/// A constraint; size and tag count where the map's bits 0 and 1 say so.
+/// A constraint; its size counts where `sized` is 1, else it is 0.
 #[derive(Clone, Copy)]
 pub struct Constraint {
     pub first: u8,
     pub second: u8,
-    pub map: u8,
-    pub tag: u16,
+    pub sized: u8,
     pub size: i32,
 }
 
@@ -26,7 +27,7 @@ pub struct Sheet {
     pub constraints: [Constraint; 200],
 }
 
-const BLANK: Constraint = Constraint { first: 0, second: 0, map: 0, tag: 0, size: 0 };
+const BLANK: Constraint = Constraint { first: 0, second: 0, sized: 0, size: 0 };
 
 impl Sheet {
     /// A sheet to read into.
@@ -113,13 +114,12 @@ fn read_constraint(
         return Err(8);
     }
     let mut size = i32::from_le_bytes(bytes[3..7].try_into().expect("four bytes"));
-    let mut tag = u16::from_le_bytes(bytes[7..].try_into().expect("two bytes"));
     if map & 1 == 0 {
-        (size, tag) = (0, size as u16);
+        size = 0;
     } else if !in_range(lines, size) {
         return Err(9);
     }
-    *constraint = Constraint { first, second, map, tag, size };
+    *constraint = Constraint { first, second, sized: map & 1, size };
     Ok(length(map))
 }
 
@@ -158,7 +158,7 @@ pub fn write(sheet: &Sheet, out: &mut [u8]) -> Result<usize, Rule> {
     if e > 200 {
         return Err(5);
     }
-    let mut bytes = [0; MOST_BYTES + LONGEST];
+    let mut bytes = [0; MOST_BYTES + LONGEST_WRITTEN];
     bytes[..4].copy_from_slice(b"PF01");
     bytes[4] = n as u8;
     bytes[5..13].copy_from_slice(&(lines & u64::MAX >> (64 - n)).to_le_bytes());
@@ -178,10 +178,10 @@ pub fn write(sheet: &Sheet, out: &mut [u8]) -> Result<usize, Rule> {
 /// Tries rules 6 to 9.
 #[inline(always)]
 fn check(constraint: &Constraint, n: usize, lines: u64, pairs: &mut Pairs) -> Result<(), Rule> {
-    let &Constraint { first, second, map, size, .. } = constraint;
+    let &Constraint { first, second, sized, size } = constraint;
     pairs.take(first, second, n)?;
     let lines = lines_of(lines, first, second);
-    if map & 1 == 0 {
+    if sized == 0 {
         return if lines == 1 { Ok(()) } else { Err(8) };
     }
     if in_range(lines, size) { Ok(()) } else { Err(9) }
@@ -189,16 +189,11 @@ fn check(constraint: &Constraint, n: usize, lines: u64, pairs: &mut Pairs) -> Re
 
 /// Writes a constraint into bytes that have room for any; its length.
 #[inline(always)]
-fn write_constraint(constraint: &Constraint, bytes: &mut [u8; LONGEST]) -> usize {
-    let &Constraint { first, second, map, size, tag } = constraint;
-    bytes[..3].copy_from_slice(&[first, second, map]);
-    if map & 1 == 1 {
-        bytes[3..7].copy_from_slice(&size.to_le_bytes());
-        bytes[7..].copy_from_slice(&tag.to_le_bytes());
-    } else {
-        bytes[3..5].copy_from_slice(&tag.to_le_bytes());
-    }
-    length(map)
+fn write_constraint(constraint: &Constraint, bytes: &mut [u8; LONGEST_WRITTEN]) -> usize {
+    let &Constraint { first, second, sized, size } = constraint;
+    bytes[..3].copy_from_slice(&[first, second, sized]);
+    bytes[3..].copy_from_slice(&size.to_le_bytes());
+    length(sized)
 }
 
 /// The length of a constraint with this map.

@@ -6,7 +6,6 @@ use lib.IntN.{ℤ, pos}
 use Rattle.space.specs.Text.{ascii}
 use Rattle.sheet.specs.declared.Size.{Size}
 use Rattle.sheet.specs.declared.Size.the-variants.{Given, Missing}
-use Rattle.sheet.specs.declared.Tag.the-variants.{Missing as NoTag}
 use Rattle.sheet.specs.declared.Constraint.{Constraint}
 use Rattle.sheet.specs.Facts.{Facts, sheetOf, elementsOf}
 use Rattle.sheet.specs.Rules.{sheetFault}
@@ -19,10 +18,10 @@ of n lines cs = record { elements = elementsOf n lines; constraints = cs }
 
 -- a distance or an angle, and a point on a line
 abbrev pub sized : ℕ → ℕ → ℕ → Constraint
-sized u v size = record { first = u; second = v; size = Given (pos size); tag = NoTag }
+sized u v size = record { first = u; second = v; size = Given (pos size) }
 
 abbrev pub on : ℕ → ℕ → Constraint
-on u v = record { first = u; second = v; size = Missing; tag = NoTag }
+on u v = record { first = u; second = v; size = Missing }
 
 pub record Row : Type 0 where
   pub facts : Facts

@@ -4,3 +4,4 @@ pub mod Judgements
 pub mod Plans
 pub mod Refusals
 pub mod Sketches
+pub mod Untagged

@@ -12,6 +12,7 @@ use Rattle.sheet.specs.Facts.{Facts, factsOf}
 use Rattle.sheet.specs.Field.{Field, value, refused, Bytes}
 use Rattle.sheet.specs.Decode.{readSheet}
 use Rattle.sheet.specs.Encode.{sheetBytes}
+use Rattle.sheet.specs.WithoutTags.{withoutTags}
 use Rattle.sheet.specs.Refusals.{Rule}
 use Rattle.writer.specs.Write.{writeAnswer}
 use Rattle.plans.specs.Check.{savedSteps}
@@ -39,7 +40,7 @@ Refusal high read items space k = Rule 1 high k ⊎ ((k ≡ 17) × Short read it
 pub record Refusals : Type 0 where
   pub read : (bytes : List ℕ) (k : ℕ) → readSheet bytes ≡ refused k → Rule 1 10 k
   pub verdict : (bytes : List ℕ) (k : ℕ) → judgementOf bytes ≡ No k → Rule 1 10 k
-  pub rewrite : (bytes space : List ℕ) (k : ℕ) → rewriteAnswer bytes space ≡ Refused k → Refusal 10 (readSheet bytes) (λ f. bytes) space k
+  pub rewrite : (bytes space : List ℕ) (k : ℕ) → rewriteAnswer bytes space ≡ Refused k → Refusal 10 (readSheet bytes) (λ f. withoutTags bytes) space k
   -- the writer, and an addition to a held sketch
   pub write : (s : Sheet) (space : List ℕ) (k : ℕ) → writeAnswer s space ≡ Refused k → Rule 3 9 k ⊎ ((k ≡ 17) × (length space < length (sheetBytes (factsOf s))))
   pub add : (s : Sheet) (c : Constraint) (k : ℕ) → addAnswer s c ≡ Not k → Rule 3 11 k

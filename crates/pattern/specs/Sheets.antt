@@ -9,6 +9,7 @@ use Rattle.space.specs.Space.{answer, after}
 use Rattle.sheet.specs.Facts.{Facts}
 use Rattle.sheet.specs.Field.{Field, value, refused}
 use Rattle.sheet.specs.Decode.{readSheet}
+use Rattle.sheet.specs.WithoutTags.{withoutTags}
 use Rattle.sheet.specs.Graph.{clustersOf}
 pub mod Laws
 pub mod Overs
@@ -25,12 +26,12 @@ itemsAnswer items bytes space = onFacts (readSheet bytes) (λ f. answer (items f
 unfoldable pub itemsAfter : (Facts → List ℕ) → List ℕ → List ℕ → List ℕ
 itemsAfter items bytes space = onFacts (readSheet bytes) (λ f. after (items f) space) (λ k. space)
 
--- reading and writing again gives the sheet's own bytes
+-- reading and writing again gives the same sheet with bit 1 clear and the tag bytes gone (document 02, 2026-11)
 unfoldable pub rewriteAnswer : List ℕ → List ℕ → Written
-rewriteAnswer bytes space = onFacts (readSheet bytes) (λ f. answer bytes space) (λ k. Refused k)
+rewriteAnswer bytes space = onFacts (readSheet bytes) (λ f. answer (withoutTags bytes) space) (λ k. Refused k)
 
 unfoldable pub rewriteAfter : List ℕ → List ℕ → List ℕ
-rewriteAfter bytes space = onFacts (readSheet bytes) (λ f. after bytes space) (λ k. space)
+rewriteAfter bytes space = onFacts (readSheet bytes) (λ f. after (withoutTags bytes) space) (λ k. space)
 
 -- ---- over (document 01, "Verdict names"): the first constraint and the smallest set; no item where the sheet is not over
 

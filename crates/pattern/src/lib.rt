@@ -39,7 +39,7 @@ pub fn write(sheet: Sheet, out: &mut [u8]) -> Written
     writer::write_sheet(sheet, out)
 }
 
-// A sheet read and written again: its own bytes, or the rule of 1 to 10 and 17 that refuses it.
+// A sheet read and written again: the same sheet without its tags, or the rule of 1 to 10 and 17 that refuses it.
 pub fn rewrite(bytes: &[u8], out: &mut [u8]) -> Written
     ensures { λ r. ⌜ (r ≡ rewriteAnswer (now (bytes .entry)) (now (out .entry))) × (now (out .exit) ≡ rewriteAfter (now (bytes .entry)) (now (out .entry))) ⌝ }
 {

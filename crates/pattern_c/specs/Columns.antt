@@ -1,6 +1,6 @@
--- The facts that the writer takes, size and tag given or missing (document 01, "Refused"), in columns: one list for each field of the constraints.
+-- The facts that the writer takes, a size given or missing (document 01, "Refused"), in columns: one list for each field of the constraints.
 -- A place that a list lacks is blank.
-use Prim.Native.Nat.{ℕ, zero, suc, _/_, _%_}
+use Prim.Native.Nat.{ℕ, zero, suc, _%_}
 use mathlib.Core.Bool.{_&&_}
 use mathlib.Core.List.{List, [], _∷_, _++_}
 use lib.Dec.{eqb, ltb}
@@ -8,35 +8,29 @@ use lib.IntN.{ℤ, pos}
 use lib.ListN.{length, getD}
 use Rattle.sheet.specs.declared.Size.{Size}
 use Rattle.sheet.specs.declared.Size.the-variants.{Given, Missing}
-use Rattle.sheet.specs.declared.Tag.{Tag}
-use Rattle.sheet.specs.declared.Tag.the-variants.{Given as TagGiven, Missing as NoTag}
 use Rattle.sheet.specs.declared.Constraint.{Constraint}
 use Rattle.sheet.specs.declared.Sheet.{Sheet}
 use Rattle.sheet.specs.Facts.{elementsOf, pick}
 pub mod Laws
 
--- bit 0 of the map: the size is given
+-- bit 0 of the map: the size is given; no other bit has an influence
 abbrev pub sizeIn : List ℕ → List ℤ → ℕ → Size
 sizeIn maps sizes i = pick (eqb (getD maps i 0 % 2) 1 && ltb i (length sizes)) (Given (getD sizes i (pos 0))) Missing
 
--- bit 1: the tag is given
-abbrev pub tagIn : List ℕ → List ℕ → ℕ → Tag
-tagIn maps tags i = pick (eqb (getD maps i 0 / 2 % 2) 1 && ltb i (length tags)) (TagGiven (getD tags i 0)) NoTag
-
-abbrev pub constraintIn : List ℕ → List ℕ → List ℕ → List ℤ → List ℕ → ℕ → Constraint
-constraintIn firsts seconds maps sizes tags i =
-    record { first = getD firsts i 0; second = getD seconds i 0; size = sizeIn maps sizes i; tag = tagIn maps tags i }
+abbrev pub constraintIn : List ℕ → List ℕ → List ℕ → List ℤ → ℕ → Constraint
+constraintIn firsts seconds maps sizes i =
+    record { first = getD firsts i 0; second = getD seconds i 0; size = sizeIn maps sizes i }
 
 -- the first k places
-unfoldable pub constraintsIn : List ℕ → List ℕ → List ℕ → List ℤ → List ℕ → ℕ → List Constraint
-constraintsIn firsts seconds maps sizes tags zero = []
-constraintsIn firsts seconds maps sizes tags (suc k) = constraintsIn firsts seconds maps sizes tags k ++ constraintIn firsts seconds maps sizes tags k ∷ []
+unfoldable pub constraintsIn : List ℕ → List ℕ → List ℕ → List ℤ → ℕ → List Constraint
+constraintsIn firsts seconds maps sizes zero = []
+constraintsIn firsts seconds maps sizes (suc k) = constraintsIn firsts seconds maps sizes k ++ constraintIn firsts seconds maps sizes k ∷ []
 
 -- bit i of lines: element i is a line
-unfoldable pub sheetIn : ℕ → ℕ → ℕ → List ℕ → List ℕ → List ℕ → List ℤ → List ℕ → Sheet
-sheetIn n e lines firsts seconds maps sizes tags = record {
+unfoldable pub sheetIn : ℕ → ℕ → ℕ → List ℕ → List ℕ → List ℕ → List ℤ → Sheet
+sheetIn n e lines firsts seconds maps sizes = record {
   n = n;
   e = e;
   elements = elementsOf 64 lines;
-  constraints = constraintsIn firsts seconds maps sizes tags 200;
+  constraints = constraintsIn firsts seconds maps sizes 200;
 }

@@ -10,12 +10,11 @@ ghost use Rattle.pattern.specs.Judgements.{judgementOf};
 ghost use Rattle.pattern.specs.Sketches.{extendAnswer, extendAfter};
 ghost use Rattle.judge.specs.Judged.{planNumbers, finalClusters};
 ghost use Rattle.pattern_c.specs.Numbers.{asCount, asNumber};
-ghost use Rattle.pattern_c.specs.Columns.{sizeIn, tagIn, constraintIn, constraintsIn, sheetIn};
+ghost use Rattle.pattern_c.specs.Columns.{sizeIn, constraintIn, constraintsIn, sheetIn};
 use pattern::Judgement;
 use sheet::Constraint;
 use sheet::Sheet;
 use sheet::Size;
-use sheet::Tag;
 use space::Written;
 
 // The count of items written, or minus the rule's number.
@@ -28,7 +27,7 @@ fn count(w: Written) -> i32
     }
 }
 
-// A sheet read and written again: its own bytes, or the rule of 1 to 10 and 17 that refuses it.
+// A sheet read and written again: the same sheet without its tags, or the rule of 1 to 10 and 17 that refuses it.
 #[no_mangle]
 pub extern "C" fn pattern_rewrite(sheet: &[u8], out: &mut [u8]) -> i32
     ensures { λ r. ⌜ (r ≡ asCount (rewriteAnswer (now (sheet .entry)) (now (out .entry)))) × (now (out .exit) ≡ rewriteAfter (now (sheet .entry)) (now (out .entry))) ⌝ }
@@ -55,59 +54,31 @@ fn size_at(maps: &[u8], sizes: &[i32], i: usize) -> Size
     Size::Missing
 }
 
-// The tag at a place of the columns.
-fn tag_at(maps: &[u8], tags: &[u16], i: usize) -> Tag
-    ensures { λ r. ⌜ r ≡ tagIn (now (maps .entry)) (now (tags .entry)) i ⌝ }
-{
-    if byte_at(maps, i) / 2 % 2 == 1 {
-        if i < tags.len() {
-            return Tag::Given(tags[i]);
-        }
-    }
-    Tag::Missing
-}
-
 // The constraint at a place of the columns.
-fn constraint_at(
-    firsts: &[u8],
-    seconds: &[u8],
-    maps: &[u8],
-    sizes: &[i32],
-    tags: &[u16],
-    i: usize,
-) -> Constraint
-    ensures { λ r. ⌜ r ≡ constraintIn (now (firsts .entry)) (now (seconds .entry)) (now (maps .entry)) (now (sizes .entry)) (now (tags .entry)) i ⌝ }
+fn constraint_at(firsts: &[u8], seconds: &[u8], maps: &[u8], sizes: &[i32], i: usize) -> Constraint
+    ensures { λ r. ⌜ r ≡ constraintIn (now (firsts .entry)) (now (seconds .entry)) (now (maps .entry)) (now (sizes .entry)) i ⌝ }
 {
     let size = size_at(maps, sizes, i);
-    let tag = tag_at(maps, tags, i);
     Constraint {
         first: byte_at(firsts, i),
         second: byte_at(seconds, i),
         size,
-        tag,
     }
 }
 
 // The block of 200 constraints in the columns.
-fn constraints_in(
-    firsts: &[u8],
-    seconds: &[u8],
-    maps: &[u8],
-    sizes: &[i32],
-    tags: &[u16],
-) -> [Constraint; 200]
-    ensures { λ r. ⌜ r ≡ constraintsIn (now (firsts .entry)) (now (seconds .entry)) (now (maps .entry)) (now (sizes .entry)) (now (tags .entry)) 200 ⌝ }
+fn constraints_in(firsts: &[u8], seconds: &[u8], maps: &[u8], sizes: &[i32]) -> [Constraint; 200]
+    ensures { λ r. ⌜ r ≡ constraintsIn (now (firsts .entry)) (now (seconds .entry)) (now (maps .entry)) (now (sizes .entry)) 200 ⌝ }
 {
     let none = Constraint {
         first: 0,
         second: 0,
         size: Size::Missing,
-        tag: Tag::Missing,
     };
     let mut cs = [none; 200];
     let mut i: usize = 0;
     while i < 200 {
-        cs[i] = constraint_at(firsts, seconds, maps, sizes, tags, i);
+        cs[i] = constraint_at(firsts, seconds, maps, sizes, i);
         i += 1;
     }
     cs
@@ -123,13 +94,12 @@ pub extern "C" fn pattern_write(
     seconds: &[u8],
     maps: &[u8],
     sizes: &[i32],
-    tags: &[u16],
     out: &mut [u8],
 ) -> i32
-    ensures { λ r. ⌜ (r ≡ asCount (writeAnswer (sheetIn n e lines (now (firsts .entry)) (now (seconds .entry)) (now (maps .entry)) (now (sizes .entry)) (now (tags .entry))) (now (out .entry)))) × (now (out .exit) ≡ writeAfter (sheetIn n e lines (now (firsts .entry)) (now (seconds .entry)) (now (maps .entry)) (now (sizes .entry)) (now (tags .entry))) (now (out .entry))) ⌝ }
+    ensures { λ r. ⌜ (r ≡ asCount (writeAnswer (sheetIn n e lines (now (firsts .entry)) (now (seconds .entry)) (now (maps .entry)) (now (sizes .entry))) (now (out .entry)))) × (now (out .exit) ≡ writeAfter (sheetIn n e lines (now (firsts .entry)) (now (seconds .entry)) (now (maps .entry)) (now (sizes .entry))) (now (out .entry))) ⌝ }
 {
     let elements = sheet::elements_of(64, lines);
-    let constraints = constraints_in(firsts, seconds, maps, sizes, tags);
+    let constraints = constraints_in(firsts, seconds, maps, sizes);
     let facts = Sheet {
         n,
         e,

@@ -1,12 +1,11 @@
 -- What each answer of the reader says, over the bytes s that it reads: the value with the bytes from the next cursor on, or the refusal
 -- (document 01, "Where each form goes": each field read answers a value with the next cursor or a refusal number).
-use Prim.Native.Nat.{ℕ, _+_, _<_, _^_}
+use Prim.Native.Nat.{ℕ, _<_}
 use mathlib.Core.Path.{_≡_}
 use mathlib.Core.List.{List, []}
 use lib.ListN.{drop}
 use Rattle.sheet.specs.declared.Element.{Element}
 use Rattle.sheet.specs.declared.Size.{Size}
-use Rattle.sheet.specs.declared.Tag.{Tag}
 use Rattle.sheet.specs.declared.Constraint.{Constraint}
 use Rattle.sheet.specs.Facts.{Facts, elementsOf, sheetOf}
 use Rattle.sheet.specs.Field.{Field, value, refused, next, openingBytes}
@@ -48,8 +47,8 @@ abbrev pub asSize : List ℕ → SizeRead → Field Size
 asSize s (size.Value v c) = value v (drop (c .at) s)
 asSize s (size.Refused k) = refused k
 
-abbrev pub asTag : List ℕ → TagRead → Field Tag
-asTag s (tag.Value v c) = value v (drop (c .at) s)
+abbrev pub asTag : List ℕ → TagRead → Field (Unit {0})
+asTag s (tag.Value c) = value tt (drop (c .at) s)
 asTag s (tag.Refused k) = refused k
 
 abbrev pub asConstraint : List ℕ → ConstraintRead → Field Constraint
@@ -60,12 +59,6 @@ asConstraint s (constraint.Refused k) = refused k
 abbrev pub ruleOf : {A : Type 0} → Field A → ℕ
 ruleOf (value a s) = 0
 ruleOf (refused k) = k
-
--- a number of k bytes that was read is below 256 ^ k, and the next cursor stands k bytes on, a place that fits
-pub record OfWidth (k at : ℕ) (r : NumberRead) : Type 0 where
-  pub below : (v : ℕ) (c : Cursor) → r ≡ number.Value v c → v < 256 ^ k
-  pub moves : (v : ℕ) (c : Cursor) → r ≡ number.Value v c → c .at ≡ at + k
-  pub within : (v : ℕ) (c : Cursor) → r ≡ number.Value v c → at + k < 2 ^ 64
 
 -- a number that was read is below the bound
 pub record Below (bound : ℕ) (r : NumberRead) : Type 0 where

@@ -6,19 +6,17 @@ ghost use mathlib.Core.List.{List, []};
 ghost use Prim.Native.Nat.{_≤_, _<_, _-_, _^_};
 ghost use lib.Dec.{eqb};
 ghost use lib.ListN.{length, drop};
-ghost use Rattle.sheet.specs.declared.Tag.the-variants.{Given as TagGiven, Missing as NoTag};
-ghost use Rattle.sheet.specs.Facts.{pick, elementsOf, linesOf};
+ghost use Rattle.sheet.specs.Facts.{elementsOf, linesOf};
 ghost use Rattle.sheet.specs.Field.{refused, byte, field, signed32, openingBytes, begins};
 ghost use Rattle.sheet.specs.Decode.{opening, size, tag, dimension, constraint, constraints, readKinds, readConstraints, readSheet};
 ghost use Rattle.sheet.specs.Noted.{Noted};
-ghost use Rattle.reader.specs.Answers.{ruleOf, asOpening, asByte, asNumber, asSize, asTag, asConstraint, asKinds, OfWidth, Below, factsWith, asReading, outcomeNumber};
+ghost use Rattle.reader.specs.Answers.{ruleOf, asOpening, asByte, asNumber, asSize, asTag, asConstraint, asKinds, Below, factsWith, asReading, outcomeNumber};
 use sheet::Constraint;
 use sheet::Element;
 use sheet::Kind;
 use sheet::PairKind;
 use sheet::Sheet;
 use sheet::Size;
-use sheet::Tag;
 
 // The place of the next byte.
 pub struct Cursor {
@@ -45,8 +43,9 @@ pub enum SizeRead {
     Refused(u8),
 }
 
+// A tag is dropped: what is left of it is the place after it.
 pub enum TagRead {
-    Value(Tag, Cursor),
+    Value(Cursor),
     Refused(u8),
 }
 
@@ -120,7 +119,7 @@ impl TagRead {
         ensures { λ k. ⌜ k ≡ ruleOf (asTag [] self) ⌝ }
     {
         match self {
-            TagRead::Value(_, _) => 0,
+            TagRead::Value(_) => 0,
             TagRead::Refused(k) => k,
         }
     }
@@ -181,7 +180,7 @@ pub fn read_byte(s: &[u8], c: Cursor) -> ByteRead
 pub fn read_number(s: &[u8], c: Cursor, k: usize) -> NumberRead
     requires { ⌜ k ≤ 8 ⌝ }
     ensures { λ r. ⌜ asNumber (now (s .entry)) r ≡ field k (drop (c .at) (now (s .entry))) ⌝ }
-    ensures { λ r. ⌜ OfWidth k (c .at) r ⌝ }
+    ensures { λ r. ⌜ Below (256 ^ k) r ⌝ }
 {
     let at = c.at;
     if bytes_left(s.len(), at) < k {
@@ -222,32 +221,17 @@ fn signed(u: u64) -> i32
     }
 }
 
-// The tag that two bytes are, where the bit stands.
-fn tag_of(bit: u8, t: u16) -> Tag
-    ensures { λ r. ⌜ r ≡ pick (eqb bit 1) (TagGiven t) NoTag ⌝ }
-{
-    if bit == 1 {
-        Tag::Given(t)
-    } else {
-        Tag::Missing
-    }
-}
-
-// The tag, where bit 1 of the map stands. Its bytes are read ahead, so that the way does not part at the bit.
-fn read_tag(s: &[u8], c: Cursor, bit: u8) -> TagRead
+// The tag, where bit 1 of the map stands: twice the bit is how many bytes are passed over, so that the way does not part at the bit.
+fn skip_tag(s: &[u8], c: Cursor, bit: u8) -> TagRead
     requires { ⌜ bit < 2 ⌝ }
     ensures { λ r. ⌜ asTag (now (s .entry)) r ≡ tag (eqb bit 1) (drop (c .at) (now (s .entry))) ⌝ }
 {
     let at = c.at;
-    let number = read_number(s, c, 2);
-    let NumberRead::Value(u, _) = number else {
-        if bit == 1 {
-            return TagRead::Refused(number.refusal());
-        }
-        return TagRead::Value(Tag::Missing, c);
-    };
-    let after = at + 2 * (bit as usize);
-    TagRead::Value(tag_of(bit, u as u16), Cursor { at: after })
+    let width = 2 * (bit as usize);
+    if bytes_left(s.len(), at) < width {
+        return TagRead::Refused(2);
+    }
+    TagRead::Value(Cursor { at: at + width })
 }
 
 // The size, where bit 0 of the map stands: rule 9.
@@ -284,8 +268,8 @@ fn read_dimension(s: &[u8], c: Cursor, a: u8, b: u8, p: PairKind) -> ConstraintR
     let SizeRead::Value(z, c2) = sized else {
         return ConstraintRead::Refused(sized.refusal());
     };
-    let tagged = read_tag(s, c2, map / 2);
-    let TagRead::Value(t, c3) = tagged else {
+    let tagged = skip_tag(s, c2, map / 2);
+    let TagRead::Value(c3) = tagged else {
         return ConstraintRead::Refused(tagged.refusal());
     };
     ConstraintRead::Value(
@@ -293,7 +277,6 @@ fn read_dimension(s: &[u8], c: Cursor, a: u8, b: u8, p: PairKind) -> ConstraintR
             first: a,
             second: b,
             size: z,
-            tag: t,
         },
         c3,
     )
@@ -337,7 +320,6 @@ pub fn refuse(k: u8) -> Reading
         first: 0,
         second: 0,
         size: Size::Missing,
-        tag: Tag::Missing,
     };
     let elements = [point; 64];
     let constraints = [none; 200];
@@ -361,7 +343,6 @@ fn read_constraints(s: &[u8], start: Cursor, n: usize, lines: u64, e: usize) -> 
         first: 0,
         second: 0,
         size: Size::Missing,
-        tag: Tag::Missing,
     };
     let mut cs = [none; 200];
     let mut pairs = [0u64; 64];

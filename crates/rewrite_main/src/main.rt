@@ -1,11 +1,11 @@
-// Reads a sheet from standard input, at most 1,815 bytes, and writes the same sheet to standard output; of a refused one the line "refused" and the
-// rule's number.
+// Reads a sheet from standard input, at most 1,815 bytes, and writes it without its tags to standard output; of a refused one the line "refused" and
+// the rule's number.
 use libc::STDIN_FILENO;
 
 fn main() {
     let mut sheet = [0u8; 1815];
     let n = io::read_full(STDIN_FILENO, &mut sheet);
-    let mut out = [0u8; 1815];
+    let mut out = [0u8; 1414];
     let written = pattern::rewrite(&sheet[..n], &mut out);
     console::print(written, &out);
 }

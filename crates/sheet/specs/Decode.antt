@@ -1,5 +1,5 @@
 -- What the bytes of a sheet say, field by field in file order (document 01, "The sheet in bytes" and "Refused": rules 1 to 10).
-use Prim.Native.Nat.{ℕ, zero, suc, _+_, _*_, _-_, _/_, _%_, _^_}
+use Prim.Native.Nat.{ℕ, zero, suc, _/_, _%_}
 use mathlib.Core.Bool.{Bool, true, false, not}
 use mathlib.Core.List.{List, [], _∷_, _++_}
 use lib.Dec.{eqb}
@@ -8,11 +8,9 @@ use Rattle.sheet.specs.declared.Element.{Element}
 use Rattle.sheet.specs.declared.PairKind.{PairKind}
 use Rattle.sheet.specs.declared.Size.{Size}
 use Rattle.sheet.specs.declared.Size.the-variants.{Given, Missing}
-use Rattle.sheet.specs.declared.Tag.{Tag}
-use Rattle.sheet.specs.declared.Tag.the-variants.{Given as TagGiven, Missing as NoTag}
 use Rattle.sheet.specs.declared.Constraint.{Constraint}
 use Rattle.sheet.specs.Facts.{Facts, elementsOf, pick}
-use Rattle.sheet.specs.Field.{Field, value, refused, next, demand, field, byte, signed32, openingBytes, begins}
+use Rattle.sheet.specs.Field.{Field, value, refused, next, demand, field, byte, signed32, kindBytes, openingBytes, begins}
 use Rattle.sheet.specs.Rules.{elementCount, kindBits, constraintCount, ends, stands, pairAt, bitMap, sizeRange}
 pub mod Laws
 
@@ -20,26 +18,22 @@ pub mod Laws
 abbrev pub opening : List ℕ → Field (List ℕ)
 opening s = pick (begins openingBytes s) (value openingBytes (drop 4 s)) (refused 1)
 
--- n/8 bytes rounded up
-abbrev pub kindBytes : ℕ → ℕ
-kindBytes n = (n + 7) / 8
-
 -- the size, where bit 0 of the map stands: a signed 32-bit number
 unfoldable pub size : PairKind → Bool → List ℕ → Field Size
 size p false s = value Missing s
 size p true s = next (field 4 s) (λ u s1. demand (sizeRange p (signed32 u)) 9 (value (Given (signed32 u)) s1))
 
--- the tag, where bit 1 stands: 16 bits unsigned, any value
-unfoldable pub tag : Bool → List ℕ → Field Tag
-tag false s = value NoTag s
-tag true s = next (field 2 s) (λ u s1. value (TagGiven u) s1)
+-- the tag, where bit 1 stands: two bytes of any value, read and dropped (document 02, 2026-11)
+unfoldable pub tag : Bool → List ℕ → Field (Unit {0})
+tag false s = value tt s
+tag true s = next (field 2 s) (λ u s1. value tt s1)
 
 -- the bit map and the fields whose bit stands
 unfoldable pub dimension : ℕ → ℕ → PairKind → List ℕ → Field Constraint
 dimension a b p s =
     next (byte s) (λ map s1.
     demand (bitMap p map) 8 (next (size p (eqb (map % 2) 1) s1) (λ z s2.
-    next (tag (eqb (map / 2) 1) s2) (λ t s3. value (record { first = a; second = b; size = z; tag = t }) s3))))
+    next (tag (eqb (map / 2) 1) s2) (λ t s3. value (record { first = a; second = b; size = z }) s3))))
 
 -- one constraint after those in done
 unfoldable pub constraint : List Element → List Constraint → List ℕ → Field Constraint

@@ -8,10 +8,7 @@ use lib.ListN.{length, take, replicate}
 use Rattle.sheet.specs.declared.Kind.{Kind}
 use Rattle.sheet.specs.declared.Kind.the-variants.{Point, Line}
 use Rattle.sheet.specs.declared.Element.{Element}
-use Rattle.sheet.specs.declared.Size.{Size}
 use Rattle.sheet.specs.declared.Size.the-variants.{Missing}
-use Rattle.sheet.specs.declared.Tag.{Tag}
-use Rattle.sheet.specs.declared.Tag.the-variants.{Missing as NoTag}
 use Rattle.sheet.specs.declared.Constraint.{Constraint}
 use Rattle.sheet.specs.declared.Sheet.{Sheet}
 pub mod Laws
@@ -53,7 +50,7 @@ abbrev pub blankElement : Element
 blankElement = record { kind = Point }
 
 abbrev pub blankConstraint : Constraint
-blankConstraint = record { first = 0; second = 0; size = Missing; tag = NoTag }
+blankConstraint = record { first = 0; second = 0; size = Missing }
 
 -- a list in a block of so many places, blank beyond it
 abbrev pub block : {A : Type 0} → ℕ → A → List A → List A

@@ -53,6 +53,10 @@ abbrev pub unsigned32 : ℤ → ℕ
 unsigned32 (pos n) = n
 unsigned32 (negsuc n) = 2 ^ 32 - suc n
 
+-- n/8 bytes rounded up: the kinds of n elements
+abbrev pub kindBytes : ℕ → ℕ
+kindBytes n = (n + 7) / 8
+
 -- ---- the opening: PF01 in ASCII
 
 abbrev pub openingBytes : List ℕ

@@ -5,6 +5,7 @@ pub mod Rules
 pub mod Range
 pub mod Decode
 pub mod Encode
+pub mod WithoutTags
 pub mod Noted
 pub mod Accepted
 pub mod RoundTrip

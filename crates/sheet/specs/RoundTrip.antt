@@ -1,16 +1,22 @@
--- Reading and writing a sheet are each other's inverse (document 01, "The sheet in bytes" and "Refused"). The definitions are `readSheet` (Decode),
--- `sheetBytes` (Encode) and `Accepted`; what the reader and the writer answer is said by these, so that the theorems hold of them. Assumes nothing.
+-- Reading and writing a sheet (document 01, "The sheet in bytes" and "Refused"; document 02, 2026-11). The definitions are `readSheet` (Decode),
+-- `sheetBytes` (Encode), `withoutTags`, `untagged` (WithoutTags) and `Accepted`; what the reader and the writer answer is said by these, so that the
+-- theorems hold of them. Assumes nothing.
 use Prim.Native.Nat.{ℕ, _≤_}
-use mathlib.Core.Path.{_≡_, subst}
+use mathlib.Core.Path.{_≡_, _∙_}
+use mathlib.Core.Bool.{true}
 use mathlib.Core.List.{List, []}
 use lib.ListN.{length}
+use Rattle.sheet.specs.declared.Element.{Element}
+use Rattle.sheet.specs.declared.Constraint.{Constraint}
 use Rattle.sheet.specs.Facts.{Facts}
 use Rattle.sheet.specs.Field.{value, Bytes}
-use Rattle.sheet.specs.Decode.{readSheet}
+use Rattle.sheet.specs.Decode.{constraint, readSheet}
 use Rattle.sheet.specs.Encode.{sheetBytes}
+use Rattle.sheet.specs.WithoutTags.{dropTags, withoutTags, untagged}
+use Rattle.sheet.specs.WithoutTags.Laws.{untagged-same}
 use Rattle.sheet.specs.Accepted.{Accepted}
-use Rattle.sheet.specs.RoundTrip.Written.{sheet-back}
-use Rattle.sheet.specs.RoundTrip.Read.{sheet-read}
+use Rattle.sheet.specs.RoundTrip.Written.{constraint-back, sheet-back, sheet-untagged}
+use Rattle.sheet.specs.RoundTrip.Read.{constraint-front, sheet-read}
 use Rattle.sheet.specs.RoundTrip.Blocks.{accepted-length}
 pub mod Written
 pub mod Read
@@ -20,14 +26,35 @@ pub mod Blocks
 pub read-written : (f : Facts) → Accepted f → readSheet (sheetBytes f) ≡ value f []
 read-written f h = sheet-back f h
 
--- writing the facts of a sheet that was read gives its bytes, byte for byte; reading leaves none, and no rule refuses the facts
-pub written-read : (s : List ℕ) (f : Facts) (t : List ℕ) → Bytes s → readSheet s ≡ value f t → (t ≡ []) × (sheetBytes f ≡ s) × Accepted f
+-- a sheet read and written is the same sheet with bit 1 clear and the tag bytes gone; reading leaves no byte, and no rule refuses the facts
+pub written-read : (s : List ℕ) (f : Facts) (t : List ℕ) → Bytes s → readSheet s ≡ value f t → (t ≡ []) × (sheetBytes f ≡ withoutTags s) × Accepted f
 written-read s f t h e = let r = sheet-read s h e in (r .spent, r .same, r .accepted)
 
--- a sheet has at most 1,814 bytes, written or read
-pub written-most : (f : Facts) → Accepted f → length (sheetBytes f) ≤ 1814
-written-most f h = accepted-length f h
+-- for a sheet without tags, every byte returns
+pub untagged-returns : (s : List ℕ) (f : Facts) (t : List ℕ) → Bytes s → readSheet s ≡ value f t → untagged s ≡ true → sheetBytes f ≡ s
+untagged-returns s f t h e u = written-read s f t h e .1 ∙ untagged-same s u
 
+-- a written sheet carries no tag
+pub written-untagged : (f : Facts) → untagged (sheetBytes f) ≡ true
+written-untagged f = sheet-untagged f
+
+-- a sheet says the same without its tags
+pub read-without-tags : (s : List ℕ) (f : Facts) (t : List ℕ) → Bytes s → readSheet s ≡ value f t → readSheet (withoutTags s) ≡ readSheet s
+read-without-tags s f t h e = let r = sheet-read s h e in rw (← r .same, e, r .spent) (read-written f (r .accepted))
+
+pub without-tags-again : (s : List ℕ) (f : Facts) (t : List ℕ) → Bytes s → readSheet s ≡ value f t → withoutTags (withoutTags s) ≡ withoutTags s
+without-tags-again s f t h e = rw (← written-read s f t h e .1) (untagged-same (sheetBytes f) (written-untagged f))
+
+-- and so does one constraint after those in done
+pub constraint-without-tag : (elements : List Element) (done : List Constraint) (s : List ℕ) (c : Constraint) (t : List ℕ) → Bytes s
+    → constraint elements done s ≡ value c t → constraint elements done (dropTags 1 s) ≡ value c t
+unfolding dropTags
+constraint-without-tag elements done s c t h e =
+    let r = constraint-front elements done s h e in rw (r .walk 0) (constraint-back elements done c t (r .taken))
+
+-- a sheet that is read has at most 1,814 bytes, a written one at most 1,414
 pub read-most : (s : List ℕ) (f : Facts) (t : List ℕ) → Bytes s → readSheet s ≡ value f t → length s ≤ 1814
-read-most s f t h e =
-    let r = sheet-read s h e in subst (λ (l : List ℕ). length l ≤ 1814) (r .same) (accepted-length f (r .accepted))
+read-most s f t h e = sheet-read s h e .most
+
+pub written-most : (f : Facts) → Accepted f → length (sheetBytes f) ≤ 1414
+written-most f h = accepted-length f h

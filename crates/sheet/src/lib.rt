@@ -27,16 +27,10 @@ pub enum Size {
     Missing,
 }
 
-pub enum Tag {
-    Given(u16),
-    Missing,
-}
-
 pub struct Constraint {
     pub first: u8,
     pub second: u8,
     pub size: Size,
-    pub tag: Tag,
 }
 
 // Places beyond the counts n and e have no influence.

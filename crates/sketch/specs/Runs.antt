@@ -1,17 +1,17 @@
 -- Constraints offered to a held sketch one after another. Document 01, "A held sketch": each is taken by 6, 7, 8, 9 and 11, the sketch is then the
 -- sheet with that constraint last, and the answer is its verdict; "Refused": a refusal leaves the sketch. `Laws` shows `Run` of every sketch that
 -- may be held and of every list offered, so also of each front part of a list. Assumes nothing.
-use Prim.Native.Nat.{ℕ, _^_, _<_}
+use Prim.Native.Nat.{ℕ}
 use mathlib.Core.Path.{_≡_}
 use mathlib.Core.Logic.{_≢_}
 use mathlib.Core.List.{List, [], _∷_, _++_}
-use lib.ListN.{length, getD}
+use lib.ListN.{length}
 use Rattle.theory.specs.Constraints.{Among}
 use Rattle.theory.specs.Verdict.{over}
 use Rattle.sheet.specs.declared.Constraint.{Constraint}
 use Rattle.sheet.specs.declared.Sheet.{Sheet}
-use Rattle.sheet.specs.Facts.{factsOf, blankConstraint}
-use Rattle.sheet.specs.Accepted.{tagNumber, Accepted}
+use Rattle.sheet.specs.Facts.{factsOf}
+use Rattle.sheet.specs.Accepted.{Accepted}
 use Rattle.sheet.specs.Graph.{verdictOf}
 use Rattle.answer.specs.Answer.{asVerdict}
 use Rattle.sketch.specs.declared.Taken.{Taken}
@@ -19,15 +19,10 @@ use Rattle.sketch.specs.declared.Taken.the-variants.{Is, Refused}
 use Rattle.sketch.specs.Sketch.{holdFault, extended, nextFault, addAnswer, addAfter}
 pub mod Laws
 
--- tags have 16 bits
-pub record Tagged (cs : List Constraint) : Type 0 where
-  pub each : (i : ℕ) → tagNumber (getD cs i blankConstraint .tag) < 2 ^ 16
-
 -- a value of the code that a sketch may hold
 pub record Held (s : Sheet) : Type 0 where
   pub elements-long : length (s .elements) ≡ 64
   pub constraints-long : length (s .constraints) ≡ 200
-  pub tags : Tagged (s .constraints)
   pub no-fault : holdFault s ≡ 0
 
 -- the sketch after all that is offered

@@ -4,8 +4,7 @@ use mathlib.Core.Path.{_≡_}
 use mathlib.Core.List.{[], _∷_, _++_, append-assoc}
 use lib.ListN.{length}
 use Rattle.sheet.specs.Facts.{Facts, linesOf}
-use Rattle.sheet.specs.Field.{digits, openingBytes}
-use Rattle.sheet.specs.Decode.{kindBytes}
+use Rattle.sheet.specs.Field.{digits, kindBytes, openingBytes}
 use Rattle.sheet.specs.Encode.{constraintsBytes, sheetBytes}
 
 pub sheet-pieces : (f : Facts) {n e m : ℕ} → length (f .elements) ≡ n → length (f .constraints) ≡ e → m ≡ linesOf (f .elements)

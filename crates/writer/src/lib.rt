@@ -5,7 +5,7 @@ ghost use mathlib.Core.List.{[], _∷_};
 ghost use Prim.Native.Nat.{_+_, _≤_, _<_, _^_};
 ghost use Rattle.sheet.specs.Facts.{linesOf, factsOf};
 ghost use Rattle.sheet.specs.Field.{digits, unsigned32};
-ghost use Rattle.sheet.specs.Encode.{sizeBit, tagBit, sizeBytes, tagBytes, constraintBytes, sheetBytes};
+ghost use Rattle.sheet.specs.Encode.{sizeBit, sizeBytes, constraintBytes, sheetBytes};
 ghost use Rattle.sheet.specs.Rules.{sheetFault};
 ghost use Rattle.space.specs.Space.{Put, answer, after};
 ghost use Rattle.writer.specs.Write.{writeAnswer, writeAfter};
@@ -13,11 +13,10 @@ use sheet::Constraint;
 use sheet::Element;
 use sheet::Sheet;
 use sheet::Size;
-use sheet::Tag;
 use space::Written;
 
-// No sheet has more bytes.
-pub const MOST_BYTES: usize = 1814;
+// No written sheet has more bytes.
+pub const MOST_BYTES: usize = 1414;
 
 // A number of k bytes, lowest first.
 fn put_number(out: &mut [u8], at: usize, k: usize, u: u64) -> usize
@@ -58,15 +57,6 @@ fn size_bit(size: Size) -> u8
     }
 }
 
-fn tag_bit(tag: Tag) -> u8
-    ensures { λ r. ⌜ r ≡ tagBit tag ⌝ }
-{
-    match tag {
-        Tag::Given(_) => 1,
-        Tag::Missing => 0,
-    }
-}
-
 // First end, second end, bit map.
 fn put_head(out: &mut [u8], at: usize, a: u8, b: u8, map: u8) -> usize
     requires { ⌜ at + 3 < 2 ^ 64 ⌝ }
@@ -92,31 +82,13 @@ fn put_size(out: &mut [u8], at: usize, size: Size) -> usize
     }
 }
 
-fn put_tag(out: &mut [u8], at: usize, tag: Tag) -> usize
-    requires { ⌜ at + 2 < 2 ^ 64 ⌝ }
-    ensures { λ r. ⌜ Put (now (out .entry)) at (tagBytes tag) r (now (out .exit)) ⌝ }
-{
-    match tag {
-        Tag::Given(t) => put_number(out, at, 2, t as u64),
-        Tag::Missing => at,
-    }
-}
-
 fn put_constraint(out: &mut [u8], at: usize, c: Constraint) -> usize
-    requires { ⌜ at + 9 < 2 ^ 64 ⌝ }
+    requires { ⌜ at + 7 < 2 ^ 64 ⌝ }
     ensures { λ r. ⌜ Put (now (out .entry)) at (constraintBytes c) r (now (out .exit)) ⌝ }
 {
     let size = c.size;
-    let tag = c.tag;
-    let a1 = put_head(
-        out,
-        at,
-        c.first,
-        c.second,
-        size_bit(size) + 2 * tag_bit(tag),
-    );
-    let a2 = put_size(out, a1, size);
-    put_tag(out, a2, tag)
+    let next = put_head(out, at, c.first, c.second, size_bit(size));
+    put_size(out, next, size)
 }
 
 // The sheet's bytes from the front, by the number of its kinds.

@@ -29,8 +29,10 @@ use std::fmt;
 pub const MOST_ELEMENTS: usize = 64;
 /// The most constraints of a sheet.
 pub const MOST_CONSTRAINTS: usize = 200;
-/// The most bytes of a sheet: with so much space no sheet is refused by rule 17.
-pub const MOST_BYTES: usize = 1814;
+/// The most bytes of a written sheet: with so much space no sheet is refused by rule 17.
+pub const MOST_BYTES: usize = 1414;
+/// The most bytes of a sheet that is read: it may carry tags.
+pub const MOST_READ: usize = 1814;
 /// The most bytes of a report: with so much space no report is refused by rule 17.
 pub const MOST_REPORT: usize = 3786;
 /// The most numbers of a plan, three a step.
@@ -54,8 +56,6 @@ mod c {
             maps_len: usize,
             sizes: *const i32,
             sizes_len: usize,
-            tags: *const u16,
-            tags_len: usize,
             out: *mut u8,
             room: usize,
         ) -> i32;
@@ -134,13 +134,12 @@ pub struct Constraint {
     pub second: u8,
     /// A distance in tenths of a millimetre, an angle in hundredths of a degree; a point lies on a line by a missing one.
     pub size: Option<i32>,
-    pub tag: Option<u16>,
 }
 
 impl Constraint {
-    /// A constraint with a size and no tag.
+    /// A constraint with a size.
     pub fn sized(first: u8, second: u8, size: i32) -> Constraint {
-        Constraint { first, second, size: Some(size), tag: None }
+        Constraint { first, second, size: Some(size) }
     }
 
     /// The constraint as its bytes in a sheet, at the front of the space.
@@ -148,21 +147,20 @@ impl Constraint {
     /// ```
     /// use pattern::Constraint;
     ///
-    /// let mut space = [0; 9];
+    /// let mut space = [0; 7];
     /// assert_eq!(Constraint::sized(0, 3, 300).bytes(&mut space), b"\0\x03\x01\x2c\x01\0\0");
     /// ```
-    pub fn bytes<'a>(&self, out: &'a mut [u8; 9]) -> &'a [u8] {
+    pub fn bytes<'a>(&self, out: &'a mut [u8; 7]) -> &'a [u8] {
         let size = self.size.map(i32::to_le_bytes);
-        let tag = self.tag.map(u16::to_le_bytes);
         let fields = [self.first, self.second, self.map()];
-        let all = fields.iter().chain(size.iter().flatten()).chain(tag.iter().flatten());
+        let all = fields.iter().chain(size.iter().flatten());
         let count = out.iter_mut().zip(all).map(|(place, &byte)| *place = byte).count();
         &out[..count]
     }
 
-    /// The bit map: bit 0 where the size is given, bit 1 where the tag is.
+    /// The bit map: bit 0 where the size is given.
     fn map(&self) -> u8 {
-        u8::from(self.size.is_some()) | u8::from(self.tag.is_some()) << 1
+        u8::from(self.size.is_some())
     }
 }
 
@@ -173,7 +171,7 @@ pub struct Facts<'a> {
     pub constraints: &'a [Constraint],
 }
 
-/// Reads a sheet and writes it again: the same bytes.
+/// Reads a sheet and writes it again: the same sheet without its tags.
 ///
 /// ```
 /// use pattern::Rule;
@@ -181,6 +179,11 @@ pub struct Facts<'a> {
 /// let mut space = [7; 8];
 /// assert_eq!(pattern::rewrite(b"PF01\x02\0\0", &mut space)?, b"PF01\x02\0\0");
 /// assert_eq!(space[7], 7); // beyond the answer nothing changes
+///
+/// // a point on a line, with a tag
+/// let mut space = [0; 10];
+/// let plain = pattern::rewrite(b"PF01\x02\x01\x01\0\x01\x02\x05\0", &mut space)?;
+/// assert_eq!(plain, b"PF01\x02\x01\x01\0\x01\0");
 ///
 /// assert_eq!(pattern::rewrite(b"PF01\x41", &mut space), Err(Rule(3)));
 /// assert_eq!(pattern::rewrite(b"PF01\x02\0\0", &mut space[..6]), Err(Rule(17)));
@@ -198,10 +201,10 @@ pub fn rewrite<'a>(sheet: &[u8], out: &'a mut [u8]) -> Result<&'a [u8], Rule> {
 /// use pattern::{Constraint, Facts, Kind, Rule};
 ///
 /// // a point on a line
-/// let on = Constraint { first: 0, second: 1, size: None, tag: Some(5) };
+/// let on = Constraint { first: 0, second: 1, size: None };
 /// let mut facts = Facts { kinds: &[Kind::Line, Kind::Point], constraints: &[on] };
 /// let mut space = [0; 16];
-/// assert_eq!(pattern::write(&facts, &mut space)?, b"PF01\x02\x01\x01\0\x01\x02\x05\0");
+/// assert_eq!(pattern::write(&facts, &mut space)?, b"PF01\x02\x01\x01\0\x01\0");
 ///
 /// // two points have no such constraint
 /// facts.kinds = &[Kind::Point; 2];
@@ -217,9 +220,8 @@ pub fn write<'a>(facts: &Facts, out: &'a mut [u8]) -> Result<&'a [u8], Rule> {
         columns.seconds[i] = constraint.second;
         columns.maps[i] = constraint.map();
         columns.sizes[i] = constraint.size.unwrap_or(0);
-        columns.tags[i] = constraint.tag.unwrap_or(0);
     }
-    let Columns { firsts, seconds, maps, sizes, tags } = &columns;
+    let Columns { firsts, seconds, maps, sizes } = &columns;
     // SAFETY: each list is a live slice of its length, and `out` is borrowed alone.
     let answer = unsafe {
         c::pattern_write(
@@ -234,8 +236,6 @@ pub fn write<'a>(facts: &Facts, out: &'a mut [u8]) -> Result<&'a [u8], Rule> {
             maps.len(),
             sizes.as_ptr(),
             sizes.len(),
-            tags.as_ptr(),
-            tags.len(),
             out.as_mut_ptr(),
             out.len(),
         )
@@ -381,7 +381,7 @@ pub fn check_plan<'a>(sheet: &[u8], plan: &[u16], out: &'a mut [u8]) -> Result<&
 /// ```
 /// use pattern::{Constraint, Rule, Verdict};
 ///
-/// let (mut bytes, mut space) = ([0; 9], [0; pattern::MOST_BYTES]);
+/// let (mut bytes, mut space) = ([0; 7], [0; pattern::MOST_BYTES]);
 /// let more = Constraint::sized(0, 1, 300);
 /// let sheet = pattern::add(b"PF01\x02\0\0", more.bytes(&mut bytes), &mut space)?;
 /// assert_eq!(pattern::verdict(sheet)?, Verdict::Well);
@@ -393,14 +393,7 @@ pub fn check_plan<'a>(sheet: &[u8], plan: &[u16], out: &'a mut [u8]) -> Result<&
 pub fn add<'a>(sheet: &[u8], constraint: &[u8], out: &'a mut [u8]) -> Result<&'a [u8], Rule> {
     // SAFETY: each list is a live slice of its length, and `out` is borrowed alone.
     let answer = unsafe {
-        c::pattern_add(
-            sheet.as_ptr(),
-            sheet.len(),
-            constraint.as_ptr(),
-            constraint.len(),
-            out.as_mut_ptr(),
-            out.len(),
-        )
+        c::pattern_add(sheet.as_ptr(), sheet.len(), constraint.as_ptr(), constraint.len(), out.as_mut_ptr(), out.len())
     };
     written(answer, out)
 }
@@ -416,7 +409,6 @@ struct Columns {
     seconds: [u8; MOST_CONSTRAINTS],
     maps: [u8; MOST_CONSTRAINTS],
     sizes: [i32; MOST_CONSTRAINTS],
-    tags: [u16; MOST_CONSTRAINTS],
 }
 
 impl Default for Columns {
@@ -426,7 +418,6 @@ impl Default for Columns {
             seconds: [0; MOST_CONSTRAINTS],
             maps: [0; MOST_CONSTRAINTS],
             sizes: [0; MOST_CONSTRAINTS],
-            tags: [0; MOST_CONSTRAINTS],
         }
     }
 }

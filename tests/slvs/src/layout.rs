@@ -25,7 +25,6 @@ impl Layout {
             first: a as u8,
             second: b as u8,
             size: Some(self.distance(a, b).round().max(1.0) as i32),
-            tag: None,
         };
         Sheet { kinds: vec![Kind::Point; graph.n], constraints: graph.pairs.iter().map(constraint).collect() }
     }

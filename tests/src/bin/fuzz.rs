@@ -6,7 +6,7 @@ use pattern_tests::facts::{Columns, MOST_ELEMENTS};
 use pattern_tests::interface::Found;
 use pattern_tests::random::Random;
 use pattern_tests::run::Run;
-use pattern_tests::{calls, damage, dress, reader, writer};
+use pattern_tests::{calls, damage, dress, reader, tags, writer};
 
 const CALLS: u64 = 1_000_000;
 
@@ -34,7 +34,7 @@ fn main() -> ExitCode {
 fn sheet(random: &mut Random) -> Vec<u8> {
     let most = random.pick(&[4, 8, 8, 16, 16, 24, MOST_ELEMENTS]);
     let sheet = dress::any(most, random);
-    let mut bytes = writer::bytes(&sheet);
+    let mut bytes = tags::any(&sheet, random);
     match random.below(10) {
         0 => damage::noise(random),
         1 => damage::appended(&bytes, random),
@@ -42,9 +42,12 @@ fn sheet(random: &mut Random) -> Vec<u8> {
             bytes.truncate(random.below(bytes.len() + 1));
             bytes
         }
-        3 => damage::aimed(&sheet, random),
+        3 => damage::aimed(&bytes, random),
         4 => (0..random.between(1, 5)).fold(bytes, |bytes, _| damage::changed(&bytes, random)),
-        5 => spliced(bytes, &writer::bytes(&dress::any(most, random)), random),
+        5 => {
+            let other = dress::any(most, random);
+            spliced(bytes, &tags::any(&other, random), random)
+        }
         _ => bytes,
     }
 }
@@ -72,7 +75,8 @@ fn constraint(sheet: &[u8], random: &mut Random) -> Vec<u8> {
     let Ok(sheet) = reader::read(sheet) else {
         return random_bytes(random);
     };
-    let sound = writer::constraint_bytes(&dress::next(&sheet.kinds, random));
+    let plain = writer::constraint_bytes(&dress::next(&sheet.kinds, random));
+    let sound = tags::on_constraint(&plain, 30, random);
     match random.below(4) {
         0 => random_bytes(random),
         1 => damage::changed(&sound, random),
@@ -87,7 +91,7 @@ fn facts(sheet: &[u8], random: &mut Random) -> Columns {
         return damage::facts(&sheet, random);
     }
     let mut length = || random.below(8);
-    let lengths = [length(), length(), length(), length(), length()];
+    let lengths = [length(), length(), length(), length()];
     Columns {
         n: random.below(80),
         e: random.below(6),
@@ -96,6 +100,5 @@ fn facts(sheet: &[u8], random: &mut Random) -> Columns {
         seconds: (0..lengths[1]).map(|_| random.byte() % 8).collect(),
         maps: (0..lengths[2]).map(|_| random.byte() % 4).collect(),
         sizes: (0..lengths[3]).map(|_| random.bits() as i32 >> random.below(32)).collect(),
-        tags: (0..lengths[4]).map(|_| random.bits() as u16).collect(),
     }
 }

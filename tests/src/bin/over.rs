@@ -9,7 +9,7 @@ use pattern_tests::matching::by_matching;
 use pattern_tests::over::by_subsets;
 use pattern_tests::run::{Hex, Run, rules};
 use pattern_tests::set::size;
-use pattern_tests::{damage, dress, writer};
+use pattern_tests::{damage, dress, tags};
 
 const ROUNDS: usize = 30_000;
 /// The most elements for which every set is looked at.
@@ -29,7 +29,8 @@ fn main() -> ExitCode {
         found(&mut run, &few);
         let many = dress::any(MOST_ELEMENTS, &mut run.random);
         found(&mut run, &many);
-        let damaged = damage::aimed(&many, &mut run.random);
+        let bytes = tags::any(&many, &mut run.random);
+        let damaged = damage::aimed(&bytes, &mut run.random);
         over(&mut run, &damaged);
     }
     rules((1..=10).chain([17])).for_each(|rule| run.must("pattern_over", &rule, 500));
@@ -56,7 +57,7 @@ fn sheet(run: &mut Run, graph: &Graph) {
 
 /// Compares an accepted sheet; where it has few elements, the reference's two methods too.
 fn found(run: &mut Run, sheet: &Sheet) {
-    let bytes = writer::bytes(sheet);
+    let bytes = tags::any(sheet, &mut run.random);
     let answer = by_matching(sheet);
     let name = answer.map_or(NOT_OVER, |over| match size(over.set) {
         ..=4 => "set of 4",

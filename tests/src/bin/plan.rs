@@ -8,7 +8,7 @@ use pattern_tests::merging::Merges;
 use pattern_tests::run::{Hex, Run, rules};
 use pattern_tests::set::Set;
 use pattern_tests::verdict::{Judged, verdict};
-use pattern_tests::{calls, damage, dress, writer};
+use pattern_tests::{calls, damage, dress, tags, writer};
 
 const ROUNDS: usize = 20_000;
 
@@ -17,14 +17,14 @@ fn main() -> ExitCode {
     for round in 0..ROUNDS {
         let most = if round % 4 == 0 { MOST_ELEMENTS } else { 20 };
         let sheet = dress::any(most, &mut run.random);
-        let bytes = writer::bytes(&sheet);
+        let bytes = tags::any(&sheet, &mut run.random);
         let found = Found::of(&bytes);
         calls::plan(&mut run, &bytes, &found);
         if let Ok((sheet, judged)) = found.accepted() {
             run.count("sheets", verdict(sheet, judged).name());
             orders(&mut run, sheet, judged);
         }
-        let damaged = damage::aimed(&sheet, &mut run.random);
+        let damaged = damage::aimed(&bytes, &mut run.random);
         calls::plan(&mut run, &damaged, &Found::of(&damaged));
     }
     for verdict in ["over", "angle", "well", "stuck", "under"] {

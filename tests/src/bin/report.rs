@@ -8,7 +8,7 @@ use pattern_tests::merging::Merges;
 use pattern_tests::placements::{kind, ways};
 use pattern_tests::run::{Run, rules};
 use pattern_tests::verdict::{Judged, verdict};
-use pattern_tests::{calls, damage, dress, writer};
+use pattern_tests::{calls, damage, dress, tags};
 
 const ROUNDS: usize = 10_000;
 
@@ -17,14 +17,14 @@ fn main() -> ExitCode {
     for round in 0..ROUNDS {
         let most = if round % 4 == 0 { MOST_ELEMENTS } else { 20 };
         let sheet = dress::any(most, &mut run.random);
-        let bytes = writer::bytes(&sheet);
+        let bytes = tags::any(&sheet, &mut run.random);
         let found = Found::of(&bytes);
         calls::report(&mut run, &bytes, &found);
         if let Ok((_, judged)) = found.accepted() {
             count(&mut run, &sheet, judged);
             plans(&mut run, &sheet, judged);
         }
-        let damaged = damage::aimed(&sheet, &mut run.random);
+        let damaged = damage::aimed(&bytes, &mut run.random);
         calls::report(&mut run, &damaged, &Found::of(&damaged));
         calls::check_plan(&mut run, &damaged, &[0, 1, 2]);
     }
@@ -52,7 +52,7 @@ fn count(run: &mut Run, sheet: &Sheet, judged: &Judged) {
 
 /// Compares the check of saved plans: the engine's own, one in a random order, and damaged ones.
 fn plans(run: &mut Run, sheet: &Sheet, judged: &Judged) {
-    let bytes = writer::bytes(sheet);
+    let bytes = tags::any(sheet, &mut run.random);
     let Judged::Merged(engine) = judged else {
         calls::check_plan(run, &bytes, &[]);
         return;

@@ -5,7 +5,7 @@ use std::process::ExitCode;
 use pattern_tests::calls::{rewrite, write};
 use pattern_tests::facts::{Columns, MOST_ELEMENTS};
 use pattern_tests::run::{INPUTS, Run, rules};
-use pattern_tests::{damage, dress, writer};
+use pattern_tests::{damage, dress, tags};
 
 const ROUNDS: usize = 30_000;
 /// Every so many rounds a sheet is cut at every byte.
@@ -15,10 +15,10 @@ fn main() -> ExitCode {
     let mut run = Run::start("sheet", 50_463_031);
     for round in 0..ROUNDS {
         let sheet = dress::any(MOST_ELEMENTS, &mut run.random);
-        let bytes = writer::bytes(&sheet);
+        let bytes = tags::any(&sheet, &mut run.random);
         rewrite(&mut run, &bytes);
         for _ in 0..2 {
-            let aimed = damage::aimed(&sheet, &mut run.random);
+            let aimed = damage::aimed(&bytes, &mut run.random);
             rewrite(&mut run, &aimed);
             let changed = damage::changed(&bytes, &mut run.random);
             rewrite(&mut run, &changed);

@@ -5,7 +5,7 @@ use std::process::ExitCode;
 use pattern_tests::facts::{MOST_ELEMENTS, Sheet};
 use pattern_tests::interface::Found;
 use pattern_tests::run::{Run, rules};
-use pattern_tests::{calls, damage, dress, sketch, writer};
+use pattern_tests::{calls, damage, dress, sketch, tags, writer};
 
 const ROUNDS: usize = 10_000;
 
@@ -26,8 +26,8 @@ fn main() -> ExitCode {
 
 /// Compares a held sketch's next constraint: sound, changed, followed by more, cut, and to a damaged sheet.
 fn additions(run: &mut Run, sheet: &Sheet) {
-    let bytes = writer::bytes(sheet);
-    let sound = writer::constraint_bytes(&dress::next(&sheet.kinds, &mut run.random));
+    let bytes = tags::any(sheet, &mut run.random);
+    let sound = next(run, sheet);
     calls::add(run, &bytes, &sound);
     let changed = damage::changed(&sound, &mut run.random);
     calls::add(run, &bytes, &changed);
@@ -35,7 +35,7 @@ fn additions(run: &mut Run, sheet: &Sheet) {
     calls::add(run, &bytes, &appended);
     let cut = run.random.below(sound.len());
     calls::add(run, &bytes, &sound[..cut]);
-    let damaged = damage::aimed(sheet, &mut run.random);
+    let damaged = damage::aimed(&bytes, &mut run.random);
     calls::add(run, &damaged, &sound);
 }
 
@@ -44,10 +44,16 @@ fn grow(run: &mut Run, sheet: Sheet) {
     let mut held = Sheet { constraints: Vec::new(), ..sheet };
     for _ in 0..4 * held.n() {
         let bytes = writer::bytes(&held);
-        let next = writer::constraint_bytes(&dress::next(&held.kinds, &mut run.random));
+        let next = next(run, &held);
         calls::add(run, &bytes, &next);
         held = sketch::add(&held, &next).unwrap_or(held);
     }
     let bytes = writer::bytes(&held);
     calls::plan(run, &bytes, &Found::of(&bytes));
+}
+
+/// The bytes of a constraint that a sketch may take, some with a tag.
+fn next(run: &mut Run, sheet: &Sheet) -> Vec<u8> {
+    let plain = writer::constraint_bytes(&dress::next(&sheet.kinds, &mut run.random));
+    tags::on_constraint(&plain, 30, &mut run.random)
 }

@@ -19,6 +19,7 @@ use Rattle.sheet.specs.Rules.{or-else, constraintFault, sheetFault}
 use Rattle.sheet.specs.Field.{Field, value, refused, next, demand, Bytes}
 use Rattle.sheet.specs.Decode.{constraint, readSheet}
 use Rattle.sheet.specs.Encode.{sheetBytes}
+use Rattle.sheet.specs.WithoutTags.{withoutTags}
 use Rattle.sheet.specs.Graph.{clustersOf, verdictOf}
 use Rattle.sheet.specs.RoundTrip.{written-read}
 use Rattle.sheet.specs.Refusals.{Rule, By, given, ruled, Fault}
@@ -77,10 +78,11 @@ judged bytes k e = go (readSheet bytes) (by-sheet bytes) e
     go (value x rest) h q = absurd (let z : _≡_ {A = ℕ} 0 1 = cc in omega arith)
     go (refused r) h q = let n : r ≡ k = cc in subst (Rule 1 10) n (which h)
 
-rewritten : (bytes space : List ℕ) (k : ℕ) → rewriteAnswer bytes space ≡ Refused k → Refusal 10 (readSheet bytes) (λ f. bytes) space k
+rewritten : (bytes space : List ℕ) (k : ℕ) → rewriteAnswer bytes space ≡ Refused k → Refusal 10 (readSheet bytes) (λ f. withoutTags bytes) space k
 unfolding rewriteAnswer
 rewritten bytes space k e =
-    on 10 (readSheet bytes) k (λ f. answer bytes space) (by-sheet bytes) inl (seventeen 10 (readSheet bytes) (λ f. bytes) space k) e
+    on 10 (readSheet bytes) k (λ f. answer (withoutTags bytes) space) (by-sheet bytes) inl
+    (seventeen 10 (readSheet bytes) (λ f. withoutTags bytes) space k) e
 
 written : (s : Sheet) (space : List ℕ) (k : ℕ) → writeAnswer s space ≡ Refused k → Rule 3 9 k ⊎ ((k ≡ 17) × (length space < length (sheetBytes (factsOf s))))
 unfolding writeAnswer

@@ -14,6 +14,7 @@ use Rattle.sheet.specs.Accepted.{Accepted}
 use Rattle.sheet.specs.Field.{Field, value, refused, Bytes}
 use Rattle.sheet.specs.Decode.{readSheet}
 use Rattle.sheet.specs.Encode.{sheetBytes}
+use Rattle.sheet.specs.WithoutTags.{withoutTags}
 use Rattle.sheet.specs.RoundTrip.{written-read}
 use Rattle.sheet.specs.RoundTrip.Blocks.{factsOf-sheetOf, sheetOf-fault}
 use Rattle.reader.specs.declared.Outcome.the-variants.{Accepted as Took, Refused as Stopped}
@@ -76,14 +77,14 @@ facts-read bytes r all e o =
 pub refusal-read : (bytes : List ℕ) (r : Reading) (k : ℕ) → r ≡ asReading (readSheet bytes) → r .outcome ≡ Stopped k → readSheet bytes ≡ refused k
 refusal-read bytes r k e o = reading-refused (readSheet bytes) r e k o
 
--- an accepted sheet's own bytes are written again
+-- an accepted sheet is written again without its tags
 module _ (bytes space : List ℕ) (r : Reading) (all : Bytes bytes) (h : FactsRead bytes r) where
-  same-bytes : sheetBytes (factsOf (r .sheet)) ≡ bytes
-  same-bytes = ap sheetBytes (h .facts-are) ∙ written-read bytes (h .facts) (h .rest) all (h .reads) .1
+  same-sheet : sheetBytes (factsOf (r .sheet)) ≡ withoutTags bytes
+  same-sheet = ap sheetBytes (h .facts-are) ∙ written-read bytes (h .facts) (h .rest) all (h .reads) .1
 
   pub rewrite-given : (answer (sheetBytes (factsOf (r .sheet))) space ≡ rewriteAnswer bytes space) × (after (sheetBytes (factsOf (r .sheet))) space ≡ rewriteAfter bytes space)
   unfolding rewriteAnswer rewriteAfter
-  rewrite-given = rw (same-bytes, h .reads) (refl, refl)
+  rewrite-given = rw (same-sheet, h .reads) (refl, refl)
 
 -- ---- items into lent space
 

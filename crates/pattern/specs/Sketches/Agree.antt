@@ -1,15 +1,15 @@
 -- A sketch held from bytes is one that every run of additions is shown of (sketch, `Runs`), and bytes and values agree: the extended sheet is the
 -- sketch after the addition of the constraint that its bytes stand for. Assumes nothing.
-use Prim.Native.Nat.{ℕ, zero, suc, _-_, _^_, _<_}
+use Prim.Native.Nat.{ℕ, zero, suc}
 use native.Mathlib.Omega.{arith}
 use mathlib.Core.Path.{_≡_, refl, ap, _∙_}
-use mathlib.Core.List.{List, [], _∷_, _++_}
-use lib.ListN.{length, getD, replicate, length-append, length-replicate}
+use mathlib.Core.List.{List}
+use lib.ListN.{length, length-append, length-replicate}
 use Rattle.sheet.specs.declared.Constraint.{Constraint}
-use Rattle.sheet.specs.Facts.{Facts, sheetOf, factsOf, blankConstraint}
+use Rattle.sheet.specs.Facts.{Facts, sheetOf, factsOf}
 use Rattle.sheet.specs.Field.{Field, value, refused, Bytes}
 use Rattle.sheet.specs.Rules.{constraintFault}
-use Rattle.sheet.specs.Accepted.{tagNumber, Accepted}
+use Rattle.sheet.specs.Accepted.{Accepted}
 use Rattle.sheet.specs.Graph.Laws.{accepted-most}
 use Rattle.sheet.specs.RoundTrip.Blocks.{constraints-most, factsOf-sheetOf, sheetOf-fault}
 use Rattle.sketch.specs.Sketch.{overFault, holdFault, extended, addFault, addAfter}
@@ -17,17 +17,6 @@ use Rattle.sketch.specs.Sketch.Laws.{add-last, taken-added}
 use Rattle.sketch.specs.Runs.{Held}
 use Rattle.pattern.specs.Sketches.{held, heldSheet, lastConstraint, extendedSheet}
 use Rattle.pattern.specs.Sketches.Laws.{held-none, held-over, held-accepted, last-taken, more-facts, extended-read}
-
-blank-tags : (k i : ℕ) → tagNumber (getD (replicate k blankConstraint) i blankConstraint .tag) < 2 ^ 16
-blank-tags zero i = omega arith
-blank-tags (suc k) zero = omega arith
-blank-tags (suc k) (suc i) = blank-tags k i
-
-block-tags : (k : ℕ) (cs : List Constraint) → ((i : ℕ) → tagNumber (getD cs i blankConstraint .tag) < 2 ^ 16)
-    → (i : ℕ) → tagNumber (getD (cs ++ replicate k blankConstraint) i blankConstraint .tag) < 2 ^ 16
-block-tags k [] h i = blank-tags k i
-block-tags k (c ∷ cs) h zero = h 0
-block-tags k (c ∷ cs) h (suc i) = block-tags k cs (λ j. h (suc j)) i
 
 module _ (f : Facts) (h : Accepted f) (o : overFault f ≡ 0) where
   no-fault : holdFault (sheetOf f) ≡ 0
@@ -39,7 +28,6 @@ module _ (f : Facts) (h : Accepted f) (o : overFault f ≡ 0) where
   sheet-held = record {
     elements-long = rw (length-append, length-replicate) (omega (arith, accepted-most f h));
     constraints-long = rw (length-append, length-replicate) (omega (arith, constraints-most (length (f .constraints)) (h .constraint-count)));
-    tags = record { each = block-tags (200 - length (f .constraints)) (f .constraints) (h .tags) };
     no-fault = no-fault;
   }
 

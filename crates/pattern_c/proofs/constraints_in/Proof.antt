@@ -7,13 +7,13 @@ use Rattle.pattern_c.proofs.constraints_in.Statement.{statement}
 use Rattle.pattern_c.proofs.constraints_in.Tie as tie
 
 abbrev Inv-loop : tie.InvT-loop
-Inv-loop firsts seconds maps sizes tags cs₀ i₀ cs i = Filling firsts seconds maps sizes tags i cs
+Inv-loop firsts seconds maps sizes cs₀ i₀ cs i = Filling firsts seconds maps sizes i cs
 
 abbrev μ-loop : tie.MeasureT-loop
-μ-loop firsts seconds maps sizes tags cs₀ i₀ cs i = 200 - i
+μ-loop firsts seconds maps sizes cs₀ i₀ cs i = 200 - i
 
 loop-holds : tie.Need-loop-holds Inv-loop μ-loop
-loop-holds c = filling-none _ _ _ _ _ _ refl
+loop-holds c = filling-none _ _ _ _ _ refl
 
 constraint-at-requires : tie.Need-constraint-at-requires Inv-loop μ-loop
 constraint-at-requires c κs = search needs
@@ -32,15 +32,15 @@ loop-less c = omega (arith, c .before .before .loop .inv .within)
 
 loop-again : tie.Need-loop-again Inv-loop μ-loop
 loop-again c =
-    let a = c .before .before .before .before .before .before .before .args in
+    let a = c .before .before .before .before .before .before .args in
     let l = c .before .before .loop in
     rw (c .constraint-at .ensures)
-    (filling-more (a .firsts .now) (a .seconds .now) (a .maps .now) (a .sizes .now) (a .tags .now) (l .i) (l .cs) (omega (arith, c .before .loop-test .taken)) (l .inv))
+    (filling-more (a .firsts .now) (a .seconds .now) (a .maps .now) (a .sizes .now) (l .i) (l .cs) (omega (arith, c .before .loop-test .taken)) (l .inv))
 
 returns : tie.Need-returns Inv-loop μ-loop
 returns c =
-    let a = c .before .before .before .before .before .before .args in
-    filling-all (a .firsts .now) (a .seconds .now) (a .maps .now) (a .sizes .now) (a .tags .now) (c .before .loop .i) (c .before .loop .cs) (c .loop-test .left) (c .before .loop .inv)
+    let a = c .before .before .before .before .before .args in
+    filling-all (a .firsts .now) (a .seconds .now) (a .maps .now) (a .sizes .now) (c .before .loop .i) (c .before .loop .cs) (c .loop-test .left) (c .before .loop .inv)
 
 pub constraints-in-spec : {M : Type 1} → statement M
 constraints-in-spec =

@@ -24,9 +24,9 @@ same-length c = search needs
 
 returns : tie.Need-returns
 returns c =
-    let a = c .before .before .before .before .before .before .before .before .before .before .before .before .args in
+    let a = c .before .before .before .before .before .before .before .before .before .before .before .args in
     let w = c .before .before .before .write in
-    let e = sheet-in (a .firsts .now) (a .seconds .now) (a .maps .now) (a .sizes .now) (a .tags .now) (a .n) (a .e) (a .lines) _ _ (c .before .before .before .before .before .before .elements-of .ensures) (c .before .before .before .before .before .constraints-in .ensures) in (
+    let e = sheet-in (a .firsts .now) (a .seconds .now) (a .maps .now) (a .sizes .now) (a .n) (a .e) (a .lines) _ _ (c .before .before .before .before .before .before .elements-of .ensures) (c .before .before .before .before .before .constraints-in .ensures) in (
       counted (c .count .result) (w .result) _ (record { sfits = c .count .ok }) (c .count .ensures) (w .ensures .0 ∙ ap (λ (s : Sheet). writeAnswer s (a .out .now)) e),
       w .ensures .1 ∙ ap (λ (s : Sheet). writeAfter s (a .out .now)) e,
     )

@@ -52,8 +52,8 @@ unfolding dimension
 returns-3 c =
     rw (← c .before .before .before .before .before .before .before .before .before .read-byte .ensures, c .before .before .before .before .before .before .before .third .given .1, ← c .before .before .before .before .before .bit-map .ensures, not-false (c .before .before .before .before .before .bit-map .result) (c .before .before .before .before .if1 .left), ← c .before .before .before .read-size .ensures, c .refusal2 .ensures, c .before .enum-told2 .given .1)
 
-read-tag-requires : tie.Need-read-tag-requires
-read-tag-requires c κs =
+skip-tag-requires : tie.Need-skip-tag-requires
+skip-tag-requires c κs =
     let h = and-true (ltb (c .before .before .before .before .before .before .before .third .given .0 .0) 4) _ (sym (c .before .before .before .before .before .bit-map .ensures) ∙ not-false (c .before .before .before .before .before .bit-map .result) (c .before .before .before .before .if1 .left)) in
     let l : c .before .before .before .before .before .before .before .third .given .0 .0 < 4 = ltb-true _ _ (h .0) in
     omega arith
@@ -70,12 +70,12 @@ refusal-requires-3 c κs = search needs
 returns-4 : tie.Need-returns-4
 unfolding dimension
 returns-4 c =
-    rw (← c .before .before .before .before .before .before .before .before .before .before .before .before .before .read-byte .ensures, c .before .before .before .before .before .before .before .before .before .before .before .third .given .1, ← c .before .before .before .before .before .before .before .before .before .bit-map .ensures, not-false (c .before .before .before .before .before .before .before .before .before .bit-map .result) (c .before .before .before .before .before .before .before .before .if1 .left), ← c .before .before .before .before .before .before .before .read-size .ensures, c .before .before .before .before .before .sized .given .1, ← c .before .before .before .read-tag .ensures, c .refusal3 .ensures, c .before .enum-told3 .given .1)
+    rw (← c .before .before .before .before .before .before .before .before .before .before .before .before .before .read-byte .ensures, c .before .before .before .before .before .before .before .before .before .before .before .third .given .1, ← c .before .before .before .before .before .before .before .before .before .bit-map .ensures, not-false (c .before .before .before .before .before .before .before .before .before .bit-map .result) (c .before .before .before .before .before .before .before .before .if1 .left), ← c .before .before .before .before .before .before .before .read-size .ensures, c .before .before .before .before .before .sized .given .1, ← c .before .before .before .skip-tag .ensures, c .refusal3 .ensures, c .before .enum-told3 .given .1)
 
 returns-5 : tie.Need-returns-5
 unfolding dimension
 returns-5 c =
-    rw (← c .before .before .before .before .before .before .before .before .before .before .before .before .before .read-byte .ensures, c .before .before .before .before .before .before .before .before .before .before .before .third .given .1, ← c .before .before .before .before .before .before .before .before .before .bit-map .ensures, not-false (c .before .before .before .before .before .before .before .before .before .bit-map .result) (c .before .before .before .before .before .before .before .before .if1 .left), ← c .before .before .before .before .before .before .before .read-size .ensures, c .before .before .before .before .before .sized .given .1, ← c .before .before .before .read-tag .ensures, c .before .tagged .given .1)
+    rw (← c .before .before .before .before .before .before .before .before .before .before .before .before .before .read-byte .ensures, c .before .before .before .before .before .before .before .before .before .before .before .third .given .1, ← c .before .before .before .before .before .before .before .before .before .bit-map .ensures, not-false (c .before .before .before .before .before .before .before .before .before .bit-map .result) (c .before .before .before .before .before .before .before .before .if1 .left), ← c .before .before .before .before .before .before .before .read-size .ensures, c .before .before .before .before .before .sized .given .1, ← c .before .before .before .skip-tag .ensures, c .before .tagged .given .1)
 
 pub read-dimension-spec : {M : Type 1} → statement M
 read-dimension-spec =
@@ -93,7 +93,7 @@ read-dimension-spec =
     enum-told-2
     refusal-requires-2
     returns-3
-    read-tag-requires
+    skip-tag-requires
     enum-known-tagged
     enum-told-3
     refusal-requires-3

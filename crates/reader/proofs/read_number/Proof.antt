@@ -24,11 +24,7 @@ returns : tie.Need-returns Inv-loop μ-loop
 returns c =
     let b = c .before .before .before in (
       sym (field-short (b .args .s .now) (b .args .c .at) (b .args .k) (omega arith)),
-      record {
-        below = λ v d e. let z : _≡_ {A = ℕ} 0 1 = cc in omega arith;
-        moves = λ v d e. let z : _≡_ {A = ℕ} 0 1 = cc in absurd (omega arith);
-        within = λ v d e. let z : _≡_ {A = ℕ} 0 1 = cc in omega arith;
-      },
+      record { below = λ v d e. let z : _≡_ {A = ℕ} 0 1 = cc in omega arith },
     )
 
 room : (c : tie.Else1 Inv-loop μ-loop) → c .before .before .before .args .k ≤ length (c .before .before .before .args .s .now) - c .before .before .before .args .c .at
@@ -86,11 +82,7 @@ returns-2 c =
     let w : g .k - a .i ≡ g .k = omega arith in (
       ap (λ (m : ℕ). value m (drop (g .c .at + g .k) (g .s .now))) (a .inv .1 ∙ ap (λ (m : ℕ). number (drop m (take (g .k) (drop (g .c .at) (g .s .now))))) z)
           ∙ sym (field-whole (g .s .now) (g .c .at) (g .k) (room b)),
-      record {
-        below = λ v d e. let q : a .u ≡ v = cc in omega (arith, ap (λ (m : ℕ). 256 ^ m) w);
-        moves = λ v d e. cc;
-        within = λ v d e. omega (arith, add-t7 c);
-      },
+      record { below = λ v d e. let q : a .u ≡ v = cc in omega (arith, ap (λ (m : ℕ). 256 ^ m) w) },
     )
 
 pub read-number-spec : {M : Type 1} → statement M

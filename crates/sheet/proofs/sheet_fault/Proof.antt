@@ -2,7 +2,7 @@ use Prim.Native.Nat.{ℕ, _+_, _-_, _<_, _≤_}
 use native.Mathlib.Omega.{arith}
 use mathlib.Core.Path.{_≡_, refl, sym, ap, _∙_}
 use mathlib.Core.Bool.{true}
-use mathlib.Core.List.{List, [], _∷_, _++_}
+use mathlib.Core.List.{List, []}
 use borrow.Author.Needs.{needs}
 use borrow.Author.Tests.{not-true, not-false, leb-true}
 use lib.Dec.{leb}
@@ -13,7 +13,6 @@ use native.Mathlib.Numerals.{add-one}
 use Rattle.sheet.proofs.Passed.{elements-long, constraints-long}
 use Rattle.sheet.specs.declared.Element.{Element}
 use Rattle.sheet.specs.declared.Size.the-variants.{Given}
-use Rattle.sheet.specs.declared.Tag.the-variants.{Given as TagGiven}
 use Rattle.sheet.specs.declared.Constraint.{Constraint}
 use Rattle.sheet.specs.declared.Sheet.{Sheet}
 use Rattle.sheet.specs.Facts.{linesOf, factsOf}
@@ -26,7 +25,7 @@ use Rattle.sheet.proofs.sheet_fault.Tie as tie
 
 -- what the code reads past the end of a block
 abbrev zeros : Constraint
-zeros = record { first = 0; second = 0; size = Given (pos 0); tag = TagGiven 0 }
+zeros = record { first = 0; second = 0; size = Given (pos 0) }
 
 abbrev Inv-loop : tie.InvT-loop
 Inv-loop n e cs lines pairs₀ i₀ pairs i =

@@ -1,5 +1,5 @@
 -- In whichever order an accepted sheet lists its constraints, it is accepted (document 01, "Every order of merging"). Assumes nothing.
-use Prim.Native.Nat.{ℕ, zero, suc, _<_, _^_}
+use Prim.Native.Nat.{ℕ, zero, suc}
 use native.Mathlib.Decide.{ℕ-discrete}
 use native.Mathlib.Omega.{arith}
 use borrow.Author.Tests.{eq-eqb, ne-eqb}
@@ -7,27 +7,16 @@ use mathlib.Core.Path.{_≡_, refl, sym, ap, ap₂, _∙_, subst}
 use mathlib.Core.Bool.{Bool, true, false, _&&_, _||_}
 use mathlib.Core.List.{List, [], _∷_, _++_}
 use lib.Dec.{T, eqb}
-use lib.ListN.{length, getD}
+use lib.ListN.{length}
 use Rattle.theory.specs.Constraints.{Perm, same, skip, swap, then}
 use Rattle.theory.specs.Constraints.Laws.{length-perm}
 use Rattle.sheet.specs.declared.Element.{Element}
 use Rattle.sheet.specs.declared.Constraint.{Constraint}
-use Rattle.sheet.specs.Facts.{Facts, blankConstraint, pick}
+use Rattle.sheet.specs.Facts.{pick}
 use Rattle.sheet.specs.Rules.{ends, stands, pairAt, sizeFault, or-else, constraintCount, constraintFault, constraintsFault}
 use Rattle.sheet.specs.Rules.Laws.{fault-none, fault-size}
 use Rattle.sheet.specs.Noted.Laws.{stands-more}
-use Rattle.sheet.specs.Accepted.{Accepted, tagNumber}
-
--- ---- a property of every item, in whichever order they stand
-
-pub each-perm : {A : Type 0} (P : A → Type 0) (d : A) {l k : List A} → Perm l k → ((i : ℕ) → P (getD l i d)) → (i : ℕ) → P (getD k i d)
-each-perm P d same h i = h i
-each-perm P d (skip x p) h zero = h zero
-each-perm P d (skip x p) h (suc i) = each-perm P d p (λ j. h (suc j)) i
-each-perm P d (swap x y) h zero = h (suc zero)
-each-perm P d (swap x y) h (suc zero) = h zero
-each-perm P d (swap x y) h (suc (suc i)) = h (suc (suc i))
-each-perm P d (then p q) h i = each-perm P d q (each-perm P d p h) i
+use Rattle.sheet.specs.Accepted.{Accepted}
 
 -- ---- a constraint that no rule refuses
 
@@ -116,5 +105,4 @@ accepted-perm es cs ds p h = record {
   element-count = h .element-count;
   constraint-count = subst (λ (k : ℕ). constraintCount k ≡ true) (length-perm p) (h .constraint-count);
   no-fault = faults-perm es p [] (h .no-fault);
-  tags = each-perm (λ (c : Constraint). tagNumber (c .tag) < 2 ^ 16) blankConstraint p (h .tags);
 }

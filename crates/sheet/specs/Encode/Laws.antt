@@ -8,37 +8,26 @@ use lib.ListN.{length, take, getD, length-append}
 use lib.Seq.{take-suc}
 use Rattle.sheet.specs.declared.Size.{Size}
 use Rattle.sheet.specs.declared.Size.the-variants.{Given, Missing}
-use Rattle.sheet.specs.declared.Tag.{Tag}
-use Rattle.sheet.specs.declared.Tag.the-variants.{Given as TagGiven, Missing as NoTag}
 use Rattle.sheet.specs.declared.Constraint.{Constraint}
 use Rattle.sheet.specs.Field.{unsigned32}
 use Rattle.sheet.specs.Field.Laws.{length-digits}
-use Rattle.sheet.specs.Encode.{sizeBit, tagBit, sizeBytes, tagBytes, constraintBytes, constraintsBytes}
+use Rattle.sheet.specs.Encode.{sizeBit, sizeBytes, constraintBytes, constraintsBytes}
 
 pub sizeBit-le : (z : Size) → sizeBit z ≤ 1
 sizeBit-le (Given z) = omega arith
 sizeBit-le Missing = omega arith
 
-pub tagBit-le : (t : Tag) → tagBit t ≤ 1
-tagBit-le (TagGiven t) = omega arith
-tagBit-le NoTag = omega arith
-
-pub size-length : (z : Size) → length (sizeBytes z) ≤ 4
+-- four bytes where its bit stands
+pub size-length : (z : Size) → length (sizeBytes z) ≡ 4 * sizeBit z
 unfolding sizeBytes
-size-length (Given z) = omega (arith, length-digits 4 (unsigned32 z))
-size-length Missing = omega arith
+size-length (Given z) = length-digits 4 (unsigned32 z)
+size-length Missing = refl
 
-pub tag-length : (t : Tag) → length (tagBytes t) ≤ 2
-unfolding tagBytes
-tag-length (TagGiven t) = omega (arith, length-digits 2 t)
-tag-length NoTag = omega arith
-
-pub constraint-length : (c : Constraint) → length (constraintBytes c) ≤ 9
+pub constraint-length : (c : Constraint) → length (constraintBytes c) ≤ 7
 unfolding constraintBytes
-constraint-length c =
-    omega (arith, size-length (c .size), tag-length (c .tag), length-append (sizeBytes (c .size)) (tagBytes (c .tag)))
+constraint-length c = omega (arith, size-length (c .size), sizeBit-le (c .size))
 
-pub constraints-length : (cs : List Constraint) → length (constraintsBytes cs) ≤ 9 * length cs
+pub constraints-length : (cs : List Constraint) → length (constraintsBytes cs) ≤ 7 * length cs
 unfolding constraintsBytes
 constraints-length [] = omega arith
 constraints-length (c ∷ cs) = rw length-append (omega (arith, constraint-length c, constraints-length cs))

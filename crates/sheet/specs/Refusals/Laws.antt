@@ -6,7 +6,7 @@ use mathlib.Core.Path.{_≡_, refl, subst}
 use mathlib.Core.Bool.{Bool, true, false, not, _&&_}
 use mathlib.Core.List.{List, [], _∷_, _++_}
 use lib.Dec.{T, ltb, leb, eqb}
-use lib.ListN.{length, take, drop}
+use lib.ListN.{length}
 use Rattle.sheet.specs.declared.Element.{Element}
 use Rattle.sheet.specs.declared.PairKind.{PairKind}
 use Rattle.sheet.specs.declared.Constraint.{Constraint}
@@ -14,8 +14,8 @@ use Rattle.sheet.specs.declared.Size.{Size}
 use Rattle.sheet.specs.declared.Size.the-variants.{Given, Missing}
 use Rattle.sheet.specs.declared.Sheet.{Sheet}
 use Rattle.sheet.specs.Facts.{factsOf, pick}
-use Rattle.sheet.specs.Field.{Field, value, refused, next, demand, field, byte, signed32, openingBytes, begins}
-use Rattle.sheet.specs.Decode.{opening, kindBytes, size, tag, dimension, constraint, constraints, readConstraints, readKinds, readSheet}
+use Rattle.sheet.specs.Field.{Field, refused, next, demand, field, byte, signed32, kindBytes, openingBytes, begins}
+use Rattle.sheet.specs.Decode.{size, tag, dimension, constraint, constraints, readConstraints, readKinds, readSheet}
 use Rattle.sheet.specs.Rules.{elementCount, kindBits, constraintCount, ends, stands, pairAt, optional, bitMap, sizeRange, sizeFault, or-else, constraintFault, constraintsFault, sheetFault}
 use Rattle.sheet.specs.Refusals.{Rule, By, given, ruled, Fault}
 

@@ -1,22 +1,22 @@
 -- Accepted facts in the blocks of a sheet and out again, and the length of their bytes. Assumes nothing.
-use Prim.Native.Nat.{ℕ, _^_, _<_, _≤_}
+use Prim.Native.Nat.{ℕ, _≤_}
 use native.Mathlib.Omega.{arith}
 use borrow.Author.Tests.{leb-true}
 use mathlib.Core.Path.{_≡_, refl}
 use mathlib.Core.Bool.{Bool, true, false}
 use mathlib.Core.List.{[]}
 use lib.Dec.{leb}
-use lib.ListN.{length, take, getD, length-append, length-take}
+use lib.ListN.{length, take, length-append, length-take}
 use lib.Seq.{take-append-seam, length-take-le}
 use Rattle.sheet.specs.declared.Sheet.{Sheet}
-use Rattle.sheet.specs.Facts.{Facts, pick, sheetOf, factsOf, blankConstraint}
+use Rattle.sheet.specs.Facts.{Facts, pick, sheetOf, factsOf}
+use Rattle.sheet.specs.Field.{kindBytes}
 use Rattle.sheet.specs.Field.Laws.{length-digits}
 use Rattle.sheet.specs.Rules.Laws.{and-true}
 use Rattle.sheet.specs.Rules.{elementCount, constraintCount, constraintsFault, sheetFault}
-use Rattle.sheet.specs.Decode.{kindBytes}
 use Rattle.sheet.specs.Encode.{sheetBytes}
 use Rattle.sheet.specs.Encode.Laws.{constraints-length}
-use Rattle.sheet.specs.Accepted.{tagNumber, Accepted}
+use Rattle.sheet.specs.Accepted.{Accepted}
 
 -- ---- counts in range
 
@@ -50,26 +50,26 @@ sheetFault-none s h = go (elementCount (s .n)) (constraintCount (s .e)) (constra
 
 -- and that have the right lengths
 module _ (s : Sheet) (elements : length (s .elements) ≡ 64) (constraints : length (s .constraints) ≡ 200) where
-  pub factsOf-accepted : sheetFault s ≡ 0 → ((i : ℕ) → tagNumber (getD (factsOf s .constraints) i blankConstraint .tag) < 2 ^ 16) → Accepted (factsOf s)
-  factsOf-accepted h tags =
+  pub factsOf-accepted : sheetFault s ≡ 0 → Accepted (factsOf s)
+  factsOf-accepted h =
       let f = sheetFault-none s h in
       let n-is : length (take (s .n) (s .elements)) ≡ s .n = length-take-le (s .n) (s .elements) (omega (arith, elements-most (s .n) (f .0))) in
       let e-is : length (take (s .e) (s .constraints)) ≡ s .e = length-take-le (s .e) (s .constraints) (omega (arith, constraints-most (s .e) (f .1))) in
-      record { element-count = rw n-is (f .0); constraint-count = rw e-is (f .1); no-fault = f .2; tags = tags }
+      record { element-count = rw n-is (f .0); constraint-count = rw e-is (f .1); no-fault = f .2 }
 
 -- ---- length
 
-pub sheet-length : (f : Facts) → length (f .elements) ≤ 64 → length (f .constraints) ≤ 200 → length (sheetBytes f) ≤ 1814
+pub sheet-length : (f : Facts) → length (f .elements) ≤ 64 → length (f .constraints) ≤ 200 → length (sheetBytes f) ≤ 1414
 unfolding sheetBytes
 sheet-length f n-most e-most =
     let bytes : kindBytes (length (f .elements)) ≤ 8 = omega arith in
     rw (length-append, length-digits) (omega (arith, constraints-length (f .constraints)))
 
-pub accepted-length : (f : Facts) → Accepted f → length (sheetBytes f) ≤ 1814
+pub accepted-length : (f : Facts) → Accepted f → length (sheetBytes f) ≤ 1414
 accepted-length f h = sheet-length f (elements-most _ (h .element-count)) (constraints-most _ (h .constraint-count))
 
 -- blocks that no rule refuses, whatever their lengths
-pub sheetFault-length : (s : Sheet) → sheetFault s ≡ 0 → length (sheetBytes (factsOf s)) ≤ 1814
+pub sheetFault-length : (s : Sheet) → sheetFault s ≡ 0 → length (sheetBytes (factsOf s)) ≤ 1414
 sheetFault-length s h =
     let f = sheetFault-none s h in
     sheet-length (factsOf s) (omega (arith, length-take (s .n) (s .elements), elements-most (s .n) (f .0)))

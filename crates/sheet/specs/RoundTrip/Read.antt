@@ -1,26 +1,29 @@
--- Bytes that the reader takes are those of the facts it reads, and no rule refuses these. Assumes nothing.
-use Prim.Native.Nat.{ℕ, zero, suc, _+_, _*_, _/_, _%_, _^_, _<_}
+-- Bytes that the reader takes are, without their tags, those of the facts it reads, and no rule refuses these. Assumes nothing.
+use Prim.Native.Nat.{ℕ, zero, suc, _+_, _*_, _/_, _%_, _^_, _<_, _≤_}
 use native.Mathlib.Omega.{arith}
 use borrow.Author.Tests.{ltb-true, not-true}
 use mathlib.Core.Path.{_≡_, refl, sym, ap, _∙_}
 use mathlib.Core.Bool.{Bool, true, false, not, _||_}
 use mathlib.Core.List.{List, [], _∷_, _++_, append-nil, append-assoc}
 use lib.Dec.{eqb, ltb}
-use lib.ListN.{length, drop, getD}
+use lib.ListN.{length, drop, length-append}
 use Rattle.sheet.specs.declared.Element.{Element}
 use Rattle.sheet.specs.declared.PairKind.{PairKind}
 use Rattle.sheet.specs.declared.Size.{Size}
-use Rattle.sheet.specs.declared.Tag.{Tag}
 use Rattle.sheet.specs.declared.Constraint.{Constraint}
-use Rattle.sheet.specs.Facts.{Facts, pick, linesOf, blankConstraint}
+use Rattle.sheet.specs.Facts.{Facts, pick, linesOf}
 use Rattle.sheet.specs.Facts.Laws.{elementsOf-length, linesOf-elementsOf}
-use Rattle.sheet.specs.Field.{value, refused, digits, field, byte, signed32, openingBytes, begins, Bytes}
-use Rattle.sheet.specs.Field.Laws.{next-value, demand-value, value-with, refused-value, field-front, byte-front, begins-front, bytes-drop, unsigned32-signed32}
+use Rattle.sheet.specs.Field.{value, refused, digits, field, byte, signed32, kindBytes, openingBytes, begins, Bytes}
+use Rattle.sheet.specs.Field.Laws.{length-digits, next-value, demand-value, value-with, refused-value, field-front, byte-front, begins-front, bytes-drop, unsigned32-signed32}
 use Rattle.sheet.specs.Rules.Laws.{and-true}
 use Rattle.sheet.specs.Rules.{elementCount, kindBits, constraintCount, ends, stands, pairAt, optional, bitMap, sizeRange, sizeFault, constraintFault, constraintsFault}
-use Rattle.sheet.specs.Decode.{kindBytes, opening, size, tag, dimension, constraint, constraints, readConstraints, readKinds, readSheet}
-use Rattle.sheet.specs.Encode.{sizeBit, tagBit, sizeBytes, tagBytes, constraintBytes, constraintsBytes, sheetBytes}
-use Rattle.sheet.specs.Accepted.{tagNumber, Accepted}
+use Rattle.sheet.specs.Decode.{opening, size, tag, dimension, constraint, constraints, readConstraints, readKinds, readSheet}
+use Rattle.sheet.specs.Encode.{sizeBit, sizeBytes, constraintBytes, constraintsBytes, sheetBytes}
+use Rattle.sheet.specs.Encode.Laws.{size-length}
+use Rattle.sheet.specs.WithoutTags.{sizeLength, tagLength, withoutBit1, dropTags, withoutTags}
+use Rattle.sheet.specs.WithoutTags.Laws.{dropTags-front, withoutTags-front}
+use Rattle.sheet.specs.Accepted.{Accepted}
+use Rattle.sheet.specs.RoundTrip.Blocks.{elements-most, constraints-most}
 
 abbrev bit : Bool → ℕ
 bit true = 1
@@ -45,35 +48,40 @@ size-front p true s h o e =
     value-with (SizeFront p true s) e2
     (record { front = rw (unsigned32-signed32 u (f .below)) (f .front); given = refl; taken = rw range; rest = f .rest })))
 
-record TagFront (q : Bool) (s : List ℕ) (v : Tag) (t : List ℕ) : Type 0 where
-  front : s ≡ tagBytes v ++ t
-  given : tagBit v ≡ bit q
-  below : tagNumber v < 2 ^ 16
+record TagFront (q : Bool) (s t : List ℕ) : Type 0 where
+  tag-bytes : List ℕ
+  front : s ≡ tag-bytes ++ t
+  long : length tag-bytes ≡ 2 * bit q
   rest : Bytes t
 
-tag-front : (q : Bool) (s : List ℕ) {v : Tag} {t : List ℕ} → Bytes s → tag q s ≡ value v t → TagFront q s v t
-unfolding tag tagBytes
-tag-front false s {v} {t} h e =
-    value-with (TagFront false s) e (record { front = refl; given = refl; below = omega arith; rest = h })
+tag-front : (q : Bool) (s : List ℕ) {v : Unit {0}} {t : List ℕ} → Bytes s → tag q s ≡ value v t → TagFront q s t
+unfolding tag
+tag-front false s h e =
+    value-with (λ v. TagFront false s) e (record { tag-bytes = []; front = refl; long = refl; rest = h })
 tag-front true s h e =
     next-value (field 2 s) _ e (λ u s1 was e1.
     let f = field-front 2 s h was in
-    value-with (TagFront true s) e1 (record { front = f .front; given = refl; below = f .below; rest = f .rest }))
+    value-with (λ v. TagFront true s) e1 (record { tag-bytes = digits 2 u; front = f .front; long = length-digits 2 u; rest = f .rest }))
 
-map-bits : (m : ℕ) → m < 4 → m ≡ bit (eqb (m % 2) 1) + 2 * bit (eqb (m / 2) 1)
-map-bits zero h = refl
-map-bits (suc zero) h = refl
-map-bits (suc (suc zero)) h = refl
-map-bits (suc (suc (suc zero))) h = refl
+-- the bits of a map that rule 8 takes
+map-bits : (m : ℕ) → m < 4 → (bit (eqb (m % 2) 1) ≡ m % 2) × (bit (eqb (m / 2) 1) ≡ m / 2 % 2) × (withoutBit1 m ≡ m % 2)
+map-bits zero h = (refl, refl, refl)
+map-bits (suc zero) h = (refl, refl, refl)
+map-bits (suc (suc zero)) h = (refl, refl, refl)
+map-bits (suc (suc (suc zero))) h = (refl, refl, refl)
 map-bits (suc (suc (suc (suc m)))) h = absurd (omega arith)
 
 -- ---- one constraint
 
 record DimensionFront (a b : ℕ) (p : PairKind) (s : List ℕ) (c : Constraint) (t : List ℕ) : Type 0 where
   ends-are : (c .first ≡ a) × (c .second ≡ b)
-  front : s ≡ (sizeBit (c .size) + 2 * tagBit (c .tag)) ∷ (sizeBytes (c .size) ++ tagBytes (c .tag)) ++ t
+  map : ℕ
+  tag-bytes : List ℕ
+  front : s ≡ map ∷ sizeBytes (c .size) ++ tag-bytes ++ t
+  size-bit : withoutBit1 map ≡ sizeBit (c .size)
+  size-long : length (sizeBytes (c .size)) ≡ sizeLength map
+  tag-long : length tag-bytes ≡ tagLength map
   taken : sizeFault p (c .size) ≡ 0
-  below : tagNumber (c .tag) < 2 ^ 16
   rest : Bytes t
 
 dimension-front : (a b : ℕ) (p : PairKind) (s : List ℕ) {c : Constraint} {t : List ℕ} → Bytes s → dimension a b p s ≡ value c t → DimensionFront a b p s c t
@@ -83,30 +91,36 @@ dimension-front a b p s h e =
     let m = byte-front s h was in
     demand-value (bitMap p map) 8 _ e1 (λ ok e2.
     let both = and-true (ltb map 4) (eqb (map % 2) 1 || optional p) ok in
+    let bits = map-bits map (ltb-true map 4 (both .0)) in
     next-value (size p (eqb (map % 2) 1) s1) _ e2 (λ z s2 was2 e3.
     let f = size-front p (eqb (map % 2) 1) s1 (m .rest) (both .1) was2 in
+    let size-is : map % 2 ≡ sizeBit z = sym (f .given ∙ bits .0) in
     next-value (tag (eqb (map / 2) 1) s2) _ e3 (λ v s3 was3 e4.
     let g = tag-front (eqb (map / 2) 1) s2 (f .rest) was3 in
-    let bits : map ≡ sizeBit z + 2 * tagBit v = map-bits map (ltb-true map 4 (both .0)) ∙ rw (f .given, g .given) in
     value-with (DimensionFront a b p s) e4
     (record {
       ends-are = (refl, refl);
-      front = m .front ∙ rw (← bits, append-assoc, ← g .front, ← f .front);
+      map = map;
+      tag-bytes = g .tag-bytes;
+      front = m .front ∙ rw (append-assoc, ← g .front, ← f .front);
+      size-bit = bits .2 ∙ size-is;
+      size-long = size-length z ∙ ap (λ (k : ℕ). 4 * k) (sym size-is);
+      tag-long = g .long ∙ ap (λ (k : ℕ). 2 * k) (bits .1);
       taken = f .taken;
-      below = g .below;
       rest = g .rest;
     })))))
 
+-- without its tag a constraint is its facts' bytes; with it, nine bytes at most
 pub record ConstraintFront (elements : List Element) (done : List Constraint) (s : List ℕ) (c : Constraint) (t : List ℕ) : Type 0 where
-  pub front : s ≡ constraintBytes c ++ t
+  pub walk : (k : ℕ) → dropTags (suc k) s ≡ constraintBytes c ++ dropTags k t
+  pub most : length s ≤ 9 + length t
   pub taken : constraintFault elements done c ≡ 0
-  pub below : tagNumber (c .tag) < 2 ^ 16
   pub rest : Bytes t
 
 pub constraint-front : (elements : List Element) (done : List Constraint) (s : List ℕ) {c : Constraint} {t : List ℕ} → Bytes s
     → constraint elements done s ≡ value c t → ConstraintFront elements done s c t
 unfolding constraint constraintBytes constraintFault
-constraint-front elements done s {c} h e =
+constraint-front elements done s {c} {t} h e =
     next-value (byte s) _ e (λ a s1 was e1.
     let fa = byte-front s h was in
     next-value (byte s1) _ e1 (λ b s2 was2 e2.
@@ -114,10 +128,12 @@ constraint-front elements done s {c} h e =
     demand-value (ends (length elements) a b) 6 _ e2 (λ ascend e3.
     demand-value (not (stands done a b)) 7 _ e3 (λ new e4.
     let f = dimension-front a b (pairAt elements a b) s2 (fb .rest) e4 in
+    let front : s ≡ c .first ∷ c .second ∷ f .map ∷ sizeBytes (c .size) ++ f .tag-bytes ++ t = cc in
+    let step = dropTags-front (c .first) (c .second) (f .map) (sizeBytes (c .size)) (f .tag-bytes) t (f .size-long) (f .tag-long) in
     record {
-      front = fa .front ∙ rw (fb .front, f .front, ← f .ends-are .0, ← f .ends-are .1);
+      walk = λ k. rw (front, step k, f .size-bit);
+      most = rw front (simp length-append (omega (arith, f .size-long, f .tag-long)));
       taken = rw (f .ends-are .0, f .ends-are .1, ascend, not-true (stands done a b) new, f .taken);
-      below = f .below;
       rest = f .rest;
     }))))
 
@@ -127,22 +143,17 @@ record ConstraintsFront (elements : List Element) (k : ℕ) (done : List Constra
   new : List Constraint
   all-are : all ≡ done ++ new
   count : length new ≡ k
-  front : s ≡ constraintsBytes new
+  walk : dropTags k s ≡ constraintsBytes new
+  most : length s ≤ 9 * k
   spent : t ≡ []
   taken : constraintsFault elements done new ≡ 0
-  below : (i : ℕ) → tagNumber (getD new i blankConstraint .tag) < 2 ^ 16
-
-tags-cons : (c : Constraint) (cs : List Constraint) → tagNumber (c .tag) < 2 ^ 16 → ((i : ℕ) → tagNumber (getD cs i blankConstraint .tag) < 2 ^ 16)
-    → (i : ℕ) → tagNumber (getD (c ∷ cs) i blankConstraint .tag) < 2 ^ 16
-tags-cons c cs h hs zero = h
-tags-cons c cs h hs (suc i) = hs i
 
 constraints-front : (elements : List Element) (k : ℕ) (done : List Constraint) (s : List ℕ) {all : List Constraint} {t : List ℕ} → Bytes s
     → constraints elements k done s ≡ value all t → ConstraintsFront elements k done s all t
-unfolding constraints constraintsBytes constraintsFault
+unfolding constraints constraintsBytes constraintsFault dropTags
 constraints-front elements zero done [] h e =
     value-with (ConstraintsFront elements zero done []) e
-    (record { new = []; all-are = rw append-nil; count = refl; front = refl; spent = refl; taken = refl; below = λ i. omega arith })
+    (record { new = []; all-are = rw append-nil; count = refl; walk = refl; most = omega arith; spent = refl; taken = refl })
 constraints-front elements zero done (b ∷ s) h e = refused-value e
 constraints-front elements (suc k) done s h e =
     next-value (constraint elements done s) _ e (λ c s1 was e1.
@@ -152,10 +163,10 @@ constraints-front elements (suc k) done s h e =
       new = c ∷ r .new;
       all-are = r .all-are ∙ rw append-assoc;
       count = ap suc (r .count);
-      front = f .front ∙ ap (λ (l : List ℕ). constraintBytes c ++ l) (r .front);
+      walk = f .walk k ∙ ap (λ (l : List ℕ). constraintBytes c ++ l) (r .walk);
+      most = omega (arith, f .most, r .most);
       spent = r .spent;
       taken = rw (f .taken, r .taken);
-      below = tags-cons c (r .new) (f .below) (r .below);
     })
 
 -- ---- the sheet
@@ -181,25 +192,32 @@ opening-front s e = go (begins openingBytes s) refl e
     go true b e = value-with (λ o t. s ≡ openingBytes ++ t) e (begins-front openingBytes s b)
     go false b e = refused-value e
 
--- what is shown of bytes that were read as facts: they are spent, they are the facts' own bytes, and no rule refuses the facts
+-- what is shown of bytes that were read as facts: they are spent, without their tags they are the facts' own bytes, no rule refuses the facts, and
+-- there are at most 1,814
 pub record Read (s : List ℕ) (f : Facts) (t : List ℕ) : Type 0 where
   pub spent : t ≡ []
-  pub same : sheetBytes f ≡ s
+  pub same : sheetBytes f ≡ withoutTags s
   pub accepted : Accepted f
+  pub most : length s ≤ 1814
 
 -- the fields of a sheet, one after the other
 module _ {s s1 s2 s3 s4 t : List ℕ} {n k : ℕ} {elements : List Element} {cs new : List Constraint} where
-  assembled : s ≡ openingBytes ++ s1 → s1 ≡ n ∷ s2 → s2 ≡ digits (kindBytes n) (linesOf elements) ++ s3 → s3 ≡ k ∷ s4 → s4 ≡ constraintsBytes new
-      → cs ≡ new → length elements ≡ n → length new ≡ k → elementCount n ≡ true → constraintCount k ≡ true → constraintsFault elements [] new ≡ 0
-      → ((i : ℕ) → tagNumber (getD new i blankConstraint .tag) < 2 ^ 16) → t ≡ []
+  assembled : s ≡ openingBytes ++ s1 → s1 ≡ n ∷ s2 → s2 ≡ digits (kindBytes n) (linesOf elements) ++ s3 → s3 ≡ k ∷ s4
+      → dropTags k s4 ≡ constraintsBytes new → length s4 ≤ 9 * k
+      → cs ≡ new → length elements ≡ n → length new ≡ k → elementCount n ≡ true → constraintCount k ≡ true
+      → constraintsFault elements [] new ≡ 0 → t ≡ []
       → Read s (record { elements = elements; constraints = cs }) t
   unfolding sheetBytes
-  assembled a b c d e is n-is k-is n-ok k-ok taken tags spent =
+  assembled a b c d walk most is n-is k-is n-ok k-ok taken spent =
+      let kinds = digits (kindBytes n) (linesOf elements) in
+      let kinds-long : length kinds ≡ kindBytes n = length-digits (kindBytes n) (linesOf elements) in
+      let whole : s ≡ openingBytes ++ (n ∷ []) ++ kinds ++ (k ∷ s4) = a ∙ rw (b, c, d) in
       rw is
       (record {
         spent = spent;
-        same = sym (a ∙ rw (b, c, d, e, n-is, k-is));
-        accepted = record { element-count = rw n-is n-ok; constraint-count = rw k-is k-ok; no-fault = taken; tags = tags };
+        same = rw (whole, withoutTags-front n k kinds s4 kinds-long, walk, n-is, k-is);
+        accepted = record { element-count = rw n-is n-ok; constraint-count = rw k-is k-ok; no-fault = taken };
+        most = rw whole (simp length-append (omega (arith, kinds-long, elements-most n n-ok, constraints-most k k-ok)));
       })
 
 pub sheet-read : (s : List ℕ) {f : Facts} {t : List ℕ} → Bytes s → readSheet s ≡ value f t → Read s f t
@@ -219,4 +237,4 @@ sheet-read s h e =
     next-value (constraints elements k [] s4) _ e6 (λ cs s5 was7 e7.
     let r = constraints-front elements k [] s4 (d .rest) was7 in
     value-with (Read s) e7
-    (assembled a (b .front) (c .front) (d .front) (r .front) (r .all-are) (c .count) (r .count) n-ok k-ok (r .taken) (r .below) (r .spent)))))))))
+    (assembled a (b .front) (c .front) (d .front) (r .walk) (r .most) (r .all-are) (c .count) (r .count) n-ok k-ok (r .taken) (r .spent)))))))))

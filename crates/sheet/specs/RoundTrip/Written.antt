@@ -8,7 +8,7 @@ use mathlib.Core.Bool.{Bool, true, false, _||_}
 use mathlib.Core.List.{List, [], _∷_, _++_, append-nil, append-assoc}
 use lib.Dec.{eqb}
 use lib.IntN.{ℤ, pos, negsuc}
-use lib.ListN.{length, getD}
+use lib.ListN.{length}
 use lib.Pow.{pow-add}
 use lib.Signed.{mag, leZ}
 use Rattle.sheet.specs.declared.Element.{Element}
@@ -16,18 +16,18 @@ use Rattle.sheet.specs.declared.PairKind.{PairKind}
 use Rattle.sheet.specs.declared.PairKind.the-variants.{Points, PointLine, Lines}
 use Rattle.sheet.specs.declared.Size.{Size}
 use Rattle.sheet.specs.declared.Size.the-variants.{Given, Missing}
-use Rattle.sheet.specs.declared.Tag.{Tag}
-use Rattle.sheet.specs.declared.Tag.the-variants.{Given as TagGiven, Missing as NoTag}
 use Rattle.sheet.specs.declared.Constraint.{Constraint}
-use Rattle.sheet.specs.Facts.{Facts, pick, linesOf, blankConstraint}
+use Rattle.sheet.specs.Facts.{Facts, pick, linesOf}
 use Rattle.sheet.specs.Facts.Laws.{linesOf-below, elementsOf-linesOf}
-use Rattle.sheet.specs.Field.{value, unsigned32}
-use Rattle.sheet.specs.Field.Laws.{field-digits, unsigned32-below, signed32-unsigned32}
+use Rattle.sheet.specs.Field.{value, digits, unsigned32, kindBytes}
+use Rattle.sheet.specs.Field.Laws.{length-digits, field-digits, unsigned32-below, signed32-unsigned32}
 use Rattle.sheet.specs.Rules.Laws.{and-true}
 use Rattle.sheet.specs.Rules.{ends, stands, pairAt, optional, bitMap, within, sizeRange, sizeFault, constraintFault, or-else, constraintsFault}
-use Rattle.sheet.specs.Decode.{kindBytes, size, tag, dimension, constraint, constraints, readConstraints, readKinds, readSheet}
-use Rattle.sheet.specs.Encode.{sizeBit, tagBit, sizeBytes, tagBytes, constraintBytes, constraintsBytes, sheetBytes}
-use Rattle.sheet.specs.Accepted.{tagNumber, Accepted}
+use Rattle.sheet.specs.Decode.{size, tag, dimension, constraint, constraints, readConstraints, readKinds, readSheet}
+use Rattle.sheet.specs.Encode.{sizeBit, sizeBytes, constraintBytes, constraintsBytes, sheetBytes}
+use Rattle.sheet.specs.WithoutTags.{noTags, untagged}
+use Rattle.sheet.specs.WithoutTags.Laws.{untagged-front}
+use Rattle.sheet.specs.Accepted.{Accepted}
 
 -- ---- what a rule that takes a fact says of it
 
@@ -76,22 +76,14 @@ module _ (p : PairKind) where
       let m : mag z < 2 ^ 31 = size-mag p z range in
       rw (field-digits 4 (unsigned32 z) s (unsigned32-below z m), signed32-unsigned32 z m, range)
 
-  map-back : (z : Size) (t : Tag) → sizeFault p z ≡ 0 → bitMap p (sizeBit z + 2 * tagBit t) ≡ true
-  map-back Missing (TagGiven t) h = pick-none (optional p) 7 h
-  map-back Missing NoTag h = pick-none (optional p) 7 h
-  map-back (Given z) (TagGiven t) h = refl
-  map-back (Given z) NoTag h = refl
+  map-back : (z : Size) → sizeFault p z ≡ 0 → bitMap p (sizeBit z) ≡ true
+  map-back Missing h = pick-none (optional p) 7 h
+  map-back (Given z) h = refl
 
-tag-back : (t : Tag) (s : List ℕ) → tagNumber t < 2 ^ 16 → tag (eqb (tagBit t) 1) (tagBytes t ++ s) ≡ value t s
-unfolding tag tagBytes
-tag-back NoTag s h = refl
-tag-back (TagGiven t) s h = rw (field-digits 2 t s h)
-
-bits : (z : Size) (t : Tag) → ((sizeBit z + 2 * tagBit t) % 2 ≡ sizeBit z) × ((sizeBit z + 2 * tagBit t) / 2 ≡ tagBit t)
-bits Missing (TagGiven t) = (refl, refl)
-bits Missing NoTag = (refl, refl)
-bits (Given z) (TagGiven t) = (refl, refl)
-bits (Given z) NoTag = (refl, refl)
+-- bit 0 is the size's, and bit 1 is clear
+bits : (z : Size) → (sizeBit z % 2 ≡ sizeBit z) × (sizeBit z / 2 ≡ 0)
+bits Missing = (refl, refl)
+bits (Given z) = (refl, refl)
 
 module _ (elements : List Element) (done : List Constraint) (c : Constraint) where
   fault : constraintFault elements done c ≡ 0
@@ -99,34 +91,30 @@ module _ (elements : List Element) (done : List Constraint) (c : Constraint) whe
   unfolding constraintFault
   fault e = fault-none _ _ _ e
 
-  pub constraint-back : (s : List ℕ) → constraintFault elements done c ≡ 0 → tagNumber (c .tag) < 2 ^ 16
-      → constraint elements done (constraintBytes c ++ s) ≡ value c s
-  unfolding constraint dimension constraintBytes
-  constraint-back s h t =
+  pub constraint-back : (s : List ℕ) → constraintFault elements done c ≡ 0 → constraint elements done (constraintBytes c ++ s) ≡ value c s
+  unfolding constraint dimension tag constraintBytes
+  constraint-back s h =
       let f = fault h in
       let p = pairAt elements (c .first) (c .second) in
       rw (
         f .0,
         f .1,
-        map-back p (c .size) (c .tag) (f .2),
-        bits (c .size) (c .tag) .0,
-        bits (c .size) (c .tag) .1,
-        append-assoc,
-        size-back p (c .size) (tagBytes (c .tag) ++ s) (f .2),
-        tag-back (c .tag) s t,
+        map-back p (c .size) (f .2),
+        bits (c .size) .0,
+        bits (c .size) .1,
+        size-back p (c .size) s (f .2),
       )
 
 -- ---- all constraints
 
 pub constraints-back : (elements : List Element) (cs done : List Constraint) → constraintsFault elements done cs ≡ 0
-    → ((i : ℕ) → tagNumber (getD cs i blankConstraint .tag) < 2 ^ 16)
     → constraints elements (length cs) done (constraintsBytes cs) ≡ value (done ++ cs) []
 unfolding constraintsFault constraints constraintsBytes
-constraints-back elements [] done h t = rw append-nil
-constraints-back elements (c ∷ cs) done h t =
+constraints-back elements [] done h = rw append-nil
+constraints-back elements (c ∷ cs) done h =
     let f = or-else-none (constraintFault elements done c) (constraintsFault elements (done ++ c ∷ []) cs) h in
-    rw (constraint-back elements done c (constraintsBytes cs) (f .0) (t 0))
-    (constraints-back elements cs (done ++ c ∷ []) (f .1) (λ i. t (suc i)) ∙ rw append-assoc)
+    rw (constraint-back elements done c (constraintsBytes cs) (f .0))
+    (constraints-back elements cs (done ++ c ∷ []) (f .1) ∙ rw append-assoc)
 
 -- ---- kinds
 
@@ -155,5 +143,25 @@ sheet-back f h =
       lt-ltb _ _ (linesOf-below es),
       elementsOf-linesOf es,
       h .constraint-count,
-      constraints-back es (f .constraints) [] (h .no-fault) (h .tags),
+      constraints-back es (f .constraints) [] (h .no-fault),
     )
+
+-- ---- no map has bit 1
+
+size-untagged : (k a b : ℕ) (z : Size) (s : List ℕ) → noTags (suc k) (a ∷ b ∷ sizeBit z ∷ sizeBytes z ++ s) ≡ noTags k s
+unfolding noTags sizeBytes digits
+size-untagged k a b (Given z) s = refl
+size-untagged k a b Missing s = refl
+
+constraints-untagged : (cs : List Constraint) → noTags (length cs) (constraintsBytes cs) ≡ true
+unfolding noTags constraintBytes constraintsBytes
+constraints-untagged [] = refl
+constraints-untagged (c ∷ cs) = size-untagged (length cs) (c .first) (c .second) (c .size) (constraintsBytes cs) ∙ constraints-untagged cs
+
+pub sheet-untagged : (f : Facts) → untagged (sheetBytes f) ≡ true
+unfolding sheetBytes
+sheet-untagged f =
+    let n = length (f .elements) in
+    let m = linesOf (f .elements) in
+    let cs = f .constraints in
+    untagged-front n (length cs) (digits (kindBytes n) m) (constraintsBytes cs) (length-digits (kindBytes n) m) ∙ constraints-untagged cs

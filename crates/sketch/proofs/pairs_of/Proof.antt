@@ -9,7 +9,6 @@ use lib.Seq.{take-suc, getD-take}
 use Rattle.sheet.proofs.Passed.{constraints-long}
 use Rattle.sheet.specs.declared.Constraint.{Constraint}
 use Rattle.sheet.specs.declared.Size.the-variants.{Given}
-use Rattle.sheet.specs.declared.Tag.the-variants.{Given as TagGiven}
 use Rattle.sheet.specs.Facts.{factsOf}
 use Rattle.sheet.specs.Noted.{Noted}
 use Rattle.sheet.specs.Noted.Laws.{noted-none}
@@ -20,7 +19,7 @@ use Rattle.sketch.proofs.pairs_of.Tie as tie
 
 -- what the code reads past the end of a block
 abbrev zeros : Constraint
-zeros = record { first = 0; second = 0; size = Given (pos 0); tag = TagGiven 0 }
+zeros = record { first = 0; second = 0; size = Given (pos 0) }
 
 abbrev Inv-loop : tie.InvT-loop
 Inv-loop s e pairs₀ i₀ pairs i = (i ≤ s .e) × Noted pairs (take i (s .constraints))

@@ -1,29 +1,27 @@
 -- Every run of additions to a sketch that may be held. Assumes nothing.
-use Prim.Native.Nat.{ℕ, zero, suc, _^_, _≤_, _<_}
-use native.Mathlib.Decide.{ℕ-discrete, decLt}
+use Prim.Native.Nat.{ℕ, zero, suc, _<_}
 use native.Mathlib.Omega.{arith}
 use mathlib.Core.Path.{_≡_, refl, sym, ap, _∙_, subst}
 use mathlib.Core.Logic.{_⊎_, inl, inr}
 use mathlib.Core.Bool.{Bool, true, false}
 use mathlib.Core.List.{List, [], _∷_, _++_, append-nil, append-assoc}
-use lib.ListN.{length, take, getD, set, length-set, List·getD-eq-default}
-use lib.Seq.{getD-take, getD-set-same, getD-set-other}
+use lib.ListN.{length, length-set}
 use Rattle.theory.specs.Constraints.{Among}
 use Rattle.sheet.specs.declared.PairKind.{PairKind}
 use Rattle.sheet.specs.declared.Size.{Size}
 use Rattle.sheet.specs.declared.Size.the-variants.{Given, Missing}
 use Rattle.sheet.specs.declared.Constraint.{Constraint}
 use Rattle.sheet.specs.declared.Sheet.{Sheet}
-use Rattle.sheet.specs.Facts.{Facts, factsOf, blankConstraint, pick}
+use Rattle.sheet.specs.Facts.{Facts, factsOf, pick}
 use Rattle.sheet.specs.Rules.{ends, stands, pairAt, optional, sizeRange, sizeFault, or-else, constraintFault}
-use Rattle.sheet.specs.Accepted.{tagNumber, Accepted}
+use Rattle.sheet.specs.Accepted.{Accepted}
 use Rattle.sheet.specs.Accepted.Laws.{none-else}
 use Rattle.sheet.specs.RoundTrip.Blocks.{factsOf-accepted}
 use Rattle.sheet.specs.Graph.{verdictOf}
 use Rattle.judge.specs.Listing.Blocks.{Blocks, blocks}
 use Rattle.sketch.specs.Sketch.{notOver, overFault, holdFault, extended, nextFault, addFault, addAnswer, stored, addAfter}
 use Rattle.sketch.specs.Sketch.Laws.{blocks-sound, few-held, hold-none, stored-facts, stored-fault, fault-not-over, refused-added, taken-added}
-use Rattle.sketch.specs.Runs.{Tagged, Held, afterAll, takenBy, takenOf, Next, takes, refuses, Run}
+use Rattle.sketch.specs.Runs.{Held, afterAll, takenBy, takenOf, Next, takes, refuses, Run}
 
 -- ---- no other rule refuses
 
@@ -77,46 +75,27 @@ module _ (s : Sheet) (h : Held s) where
           let t = refused-added s c (suc k) (λ z. omega arith) (held-fault c ∙ e) in
           refuses (suc k) (named k (subst Rule e (next-rule (factsOf s) c))) e (sym (t .0)) (sym (t .1))
 
-  stored-tags : (c : Constraint) → tagNumber (c .tag) < 2 ^ 16 → Tagged (set (s .constraints) (s .e) c)
-  stored-tags c t = record { each = λ i. go i (ℕ-discrete i (s .e)) }
-    where
-      go : (i : ℕ) → Dec (i ≡ s .e) → tagNumber (getD (set (s .constraints) (s .e) c) i blankConstraint .tag) < 2 ^ 16
-      go i (yes e) =
-          let l : s .e < length (s .constraints) = rw (h .constraints-long) room in
-          rw (e, getD-set-same (s .constraints) (s .e) c blankConstraint l) t
-      go i (no n) = rw (getD-set-other (s .constraints) (s .e) i c blankConstraint n) (h .tags .each i)
-
-  stored-held : (c : Constraint) → tagNumber (c .tag) < 2 ^ 16 → nextFault (factsOf s) c ≡ 0 → Held (stored s c)
+  stored-held : (c : Constraint) → nextFault (factsOf s) c ≡ 0 → Held (stored s c)
   unfolding stored holdFault nextFault
-  stored-held c t e =
+  stored-held c e =
       let k = none-else (factsOf s .elements) (constraintFault (factsOf s .elements) (factsOf s .constraints) c) (overFault (extended (factsOf s) c)) e in
       record {
         elements-long = h .elements-long;
         constraints-long = rw length-set (h .constraints-long);
-        tags = stored-tags c t;
         no-fault = rw (stored-fault s c (h .constraints-long) room (hold-none s (h .no-fault) .0) (k .0), stored-facts s c (h .constraints-long) room) (k .1);
       }
 
   -- a sketch that may be held stays one
-  held-after : (c : Constraint) → tagNumber (c .tag) < 2 ^ 16 → Held (addAfter s c)
-  held-after c t = go (held-next c)
+  held-after : (c : Constraint) → Held (addAfter s c)
+  held-after c = go (held-next c)
     where
       go : Next s c → Held (addAfter s c)
-      go (takes e a f) = subst Held (taken-added s c (held-fault c ∙ e) .1) (stored-held c t e)
+      go (takes e a f) = subst Held (taken-added s c (held-fault c ∙ e) .1) (stored-held c e)
       go (refuses k r e a f) = subst Held (sym f) h
 
   -- and its facts are a sheet's
-  facts-tags : (i : ℕ) → tagNumber (getD (factsOf s .constraints) i blankConstraint .tag) < 2 ^ 16
-  facts-tags i = go (decLt i (s .e))
-    where
-      go : Dec (i < s .e) → tagNumber (getD (take (s .e) (s .constraints)) i blankConstraint .tag) < 2 ^ 16
-      go (yes l) = rw (getD-take (s .e) (s .constraints) i blankConstraint l) (h .tags .each i)
-      go (no n) =
-          let m : length (take (s .e) (s .constraints)) ≤ i = omega (arith, held-blocks .count) in
-          rw (List·getD-eq-default (take (s .e) (s .constraints)) blankConstraint m) (omega arith)
-
   held-accepted : Accepted (factsOf s)
-  held-accepted = factsOf-accepted s (h .elements-long) (h .constraints-long) (hold-none s (h .no-fault) .0) facts-tags
+  held-accepted = factsOf-accepted s (h .elements-long) (h .constraints-long) (hold-none s (h .no-fault) .0)
 
 -- ---- every list offered
 
@@ -130,18 +109,18 @@ module _ (s : Sheet) (c : Constraint) where
       ap (λ (x : Facts). x .constraints ++ later) f ∙ rw (a, append-assoc)
   next-constraints later (refuses k r e a f) = ap (λ (x : Sheet). factsOf x .constraints ++ later) f ∙ rw a
 
-pub runs : (s : Sheet) → Held s → (offered : List Constraint) → Tagged offered → Run s offered
+pub runs : (s : Sheet) → Held s → (offered : List Constraint) → Run s offered
 unfolding afterAll takenOf
-runs s h [] t = record {
+runs s h [] = record {
   elements = refl;
   constraints = rw append-nil;
   sheet = held-accepted s h;
   not-over = fault-not-over (factsOf s) (hold-none s (h .no-fault) .1);
   next = held-next s h;
 }
-runs s h (c ∷ cs) t =
+runs s h (c ∷ cs) =
     let n = held-next s h c in
-    let r = runs (addAfter s c) (held-after s h c (t .each 0)) cs (record { each = λ i. t .each (suc i) }) in
+    let r = runs (addAfter s c) (held-after s h c) cs in
     record {
       elements = r .elements ∙ next-elements s c n;
       constraints = r .constraints ∙ next-constraints s c (takenOf (addAfter s c) cs) n;

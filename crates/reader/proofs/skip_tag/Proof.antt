@@ -1,0 +1,49 @@
+-- `reader::skip_tag` meets its contract: a tag is twice the bit's bytes, all there or cut. Assumes nothing.
+use Prim.Native.Nat.{ℕ, zero, suc, _+_, _*_, _-_, _<_, _≤_}
+use native.Mathlib.Nat.{add-zero}
+use native.Mathlib.Omega.{arith}
+use mathlib.Core.Path.{_≡_, sym}
+use mathlib.Core.List.{List}
+use borrow.Author.Needs.{needs}
+use lib.Dec.{eqb}
+use lib.ListN.{length, drop}
+use Rattle.sheet.specs.Field.{value, refused}
+use Rattle.sheet.specs.Decode.{tag}
+use Rattle.reader.proofs.Numbers.{field-short, field-whole}
+use Rattle.reader.proofs.skip_tag.Statement.{statement}
+use Rattle.reader.proofs.skip_tag.Tie as tie
+
+module _ (s : List ℕ) (at : ℕ) where
+  cut : (bit : ℕ) → bit < 2 → length s - at < 2 * bit → tag (eqb bit 1) (drop at s) ≡ refused 2
+  unfolding tag
+  cut zero b h = absurd (omega arith)
+  cut (suc zero) b h = rw (field-short s at 2 h)
+  cut (suc (suc bit)) b h = absurd (omega arith)
+
+  whole : (bit : ℕ) → bit < 2 → 2 * bit ≤ length s - at → tag (eqb bit 1) (drop at s) ≡ value tt (drop (at + 2 * bit) s)
+  unfolding tag
+  whole zero b h = rw (add-zero at)
+  whole (suc zero) b h = rw (field-whole s at 2 h)
+  whole (suc (suc bit)) b h = absurd (omega arith)
+
+mul-width : tie.Need-mul-width
+mul-width c = search needs
+
+bytes-left-requires : tie.Need-bytes-left-requires
+bytes-left-requires c κs = search needs
+
+returns : tie.Need-returns
+returns c =
+    let g = c .before .before .before in
+    sym (cut (g .args .s .now) (g .args .c .at) (g .args .bit) (g .pre) (omega arith))
+
+add-t6 : tie.Need-add-t6
+add-t6 c = search needs
+
+returns-2 : tie.Need-returns-2
+returns-2 c =
+    let g = c .before .before .before in
+    sym (whole (g .args .s .now) (g .args .c .at) (g .args .bit) (g .pre) (omega arith))
+
+pub skip-tag-spec : {M : Type 1} → statement M
+skip-tag-spec = tie.close (tie.spec mul-width bytes-left-requires returns add-t6 returns-2)
