@@ -1,2 +1,2 @@
--- Peeling: sets with an element taken out, and the core that an over set lies in.
+-- Peeling: the core that an over set lies in.
 pub mod Core

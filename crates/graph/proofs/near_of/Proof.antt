@@ -4,11 +4,8 @@ use Prim.Native.Nat.{ℕ, _-_, _<_, _≤_}
 use native.Mathlib.Omega.{arith}
 use mathlib.Core.Path.{_≡_, subst}
 use mathlib.Core.List.{map}
-use lib.IntN.{pos}
 use lib.ListN.{length, take, getD}
 use Rattle.sheet.specs.declared.Constraint.{Constraint}
-use Rattle.sheet.specs.declared.Size.the-variants.{Given}
-use Rattle.sheet.specs.declared.Tag.the-variants.{Given as TagGiven}
 use Rattle.theory.specs.Near.{Near}
 use Rattle.theory.specs.Near.Laws.{near-none}
 use Rattle.graph.specs.Arrays.{endPair}
@@ -22,19 +19,15 @@ Inv-loop e cs near₀ i₀ near i = (i ≤ e) × Near (map endPair (take i cs)) 
 abbrev μ-loop : tie.MeasureT-loop
 μ-loop e cs near₀ i₀ near i = e - i
 
--- what a place past the end reads as
-abbrev unread : Constraint
-unread = record { first = 0; second = 0; size = Given (pos 0); tag = TagGiven 0 }
-
 room : (s : tie.Start Inv-loop μ-loop) → s .args .e ≤ length (s .args .t1)
 room s =
     let long : length (s .args .t1) ≡ 200 = search needs in
     rw long (s .pre .0)
 
 -- both ends of constraint i are below 64
-low : (s : tie.Start Inv-loop μ-loop) {i : ℕ} → i < s .args .e
-    → (getD (s .args .t1) i unread .first < 64) × (getD (s .args .t1) i unread .second < 64)
-low s {i} h = ends-below (s .args .t1) (s .args .e) i unread (s .pre .1) h (room s)
+low : (s : tie.Start Inv-loop μ-loop) {i : ℕ} (d : Constraint) → i < s .args .e
+    → (getD (s .args .t1) i d .first < 64) × (getD (s .args .t1) i d .second < 64)
+low s {i} d h = ends-below (s .args .t1) (s .args .e) i d (s .pre .1) h (room s)
 
 loop-holds : tie.Need-loop-holds Inv-loop μ-loop
 loop-holds c = (omega arith, near-none)
@@ -51,51 +44,43 @@ wide-requires c κs = search needs
 wide-requires-2 : tie.Need-wide-requires-2 Inv-loop μ-loop
 wide-requires-2 c κs = search needs
 
-mul-with-a : tie.Need-mul-with-a Inv-loop μ-loop
-mul-with-a c =
-    let l = low (c .before .before .before .before .before) (c .before .before .before .loop-test .taken) in
-    omega (arith, c .before .wide .ensures, l)
-
 array-read-with-a : tie.Need-array-read-with-a Inv-loop μ-loop
 array-read-with-a c =
-    let l = low (c .before .before .before .before .before) (c .before .before .before .loop-test .taken) in
-    omega (arith, c .before .wide .ensures, l)
+    rw (c .before .wide .ensures)
+    (low (c .before .before .before .before .before) _ (c .before .before .before .loop-test .taken) .0)
+
+mul-with-a : tie.Need-mul-with-a Inv-loop μ-loop
+mul-with-a c = omega (arith, array-read-with-a c)
 
 single-requires : tie.Need-single-requires Inv-loop μ-loop
-single-requires c κs = low (c .before .before .before .before .before) (c .before .before .before .loop-test .taken) .1
-
-mul-with-b : tie.Need-mul-with-b Inv-loop μ-loop
-mul-with-b c =
-    let l = low (c .before .before .before .before .before .before) (c .before .before .before .before .loop-test .taken) in
-    omega (arith, c .before .wide2 .ensures, l)
+single-requires c κs = low (c .before .before .before .before .before) _ (c .before .before .before .loop-test .taken) .1
 
 array-read-with-b : tie.Need-array-read-with-b Inv-loop μ-loop
 array-read-with-b c =
-    let l = low (c .before .before .before .before .before .before) (c .before .before .before .before .loop-test .taken) in
-    omega (arith, c .before .wide2 .ensures, l)
+    rw (c .before .wide2 .ensures)
+    (low (c .before .before .before .before .before .before) _ (c .before .before .before .before .loop-test .taken) .1)
+
+mul-with-b : tie.Need-mul-with-b Inv-loop μ-loop
+mul-with-b c = omega (arith, array-read-with-b c)
 
 single-requires-2 : tie.Need-single-requires-2 Inv-loop μ-loop
-single-requires-2 c κs = low (c .before .before .before .before .before .before) (c .before .before .before .before .loop-test .taken) .0
-
-mul-near : tie.Need-mul-near Inv-loop μ-loop
-mul-near c =
-    let l = low (c .before .before .before .before .before .before .before) (c .before .before .before .before .before .loop-test .taken) in
-    omega (arith, c .before .before .before .wide .ensures, l)
+single-requires-2 c κs = low (c .before .before .before .before .before .before) _ (c .before .before .before .before .loop-test .taken) .0
 
 array-write-near : tie.Need-array-write-near Inv-loop μ-loop
 array-write-near c =
-    let l = low (c .before .before .before .before .before .before .before) (c .before .before .before .before .before .loop-test .taken) in
-    omega (arith, c .before .before .before .wide .ensures, l)
+    rw (c .before .before .before .wide .ensures)
+    (low (c .before .before .before .before .before .before .before) _ (c .before .before .before .before .before .loop-test .taken) .0)
 
-mul-near-2 : tie.Need-mul-near-2 Inv-loop μ-loop
-mul-near-2 c =
-    let l = low (c .before .before .before .before .before .before .before) (c .before .before .before .before .before .loop-test .taken) in
-    omega (arith, c .before .before .wide2 .ensures, l)
+mul-near : tie.Need-mul-near Inv-loop μ-loop
+mul-near c = omega (arith, array-write-near c)
 
 array-write-near-2 : tie.Need-array-write-near-2 Inv-loop μ-loop
 array-write-near-2 c =
-    let l = low (c .before .before .before .before .before .before .before) (c .before .before .before .before .before .loop-test .taken) in
-    omega (arith, c .before .before .wide2 .ensures, l)
+    rw (c .before .before .wide2 .ensures)
+    (low (c .before .before .before .before .before .before .before) _ (c .before .before .before .before .before .loop-test .taken) .1)
+
+mul-near-2 : tie.Need-mul-near-2 Inv-loop μ-loop
+mul-near-2 c = omega (arith, array-write-near-2 c)
 
 add-i : tie.Need-add-i Inv-loop μ-loop
 add-i c =
@@ -110,7 +95,7 @@ loop-again c =
     let l = c .before .before .before .before .before .before .loop in
     let h = c .before .before .before .before .before .loop-test .taken in (
       omega arith,
-      near-next (s .args .t1) (s .args .e) (l .i) unread (l .near) (room s) h (s .pre .1) (s .pre .2) (l .inv .1)
+      near-next (s .args .t1) (s .args .e) (l .i) _ (l .near) (room s) h (s .pre .1) (s .pre .2) (l .inv .1)
           (c .before .before .before .wide .ensures) (c .before .before .wide2 .ensures) (c .single2 .ensures) (c .before .single .ensures),
     )
 
