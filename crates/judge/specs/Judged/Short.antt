@@ -99,7 +99,7 @@ module _ (s : Sheet) (w : Whole s) where
     angle-is =
         t .angle-is none (s .n) (w .in-blocks .elements-two) (w .in-blocks .elements-most) (rw (← w .in-blocks .elements-count) (w .in-blocks .below))
         (omega (arith, w .count, count))
-        ∙ ap (λ (z : ℕ). angled z (joints (clustersOf (factsOf s)) (planOf (clustersOf (factsOf s))))) are
+        ∙ ap (λ (z : ℕ). angled z (joints (graphOf (factsOf s) .clusters) (planOf (graphOf (factsOf s) .clusters)))) are
 
     pub angle-peeled : angle ≡ true → verdictOf (graphOf (factsOf s)) ≡ Angle
     angle-peeled e = verdict-angle (graphOf (factsOf s)) (none-found fine) (sym angle-is ∙ e)
