@@ -27,11 +27,9 @@ start-of-requires c κs =
 
 check-plan-requires : tie.Need-check-plan-requires
 check-plan-requires c κs =
-    let o = c .before .before .before .before in
-    let h = sheet-fits o in (
-      h .begins (c .start-of .result) (c .start-of .ensures),
-      subst NotOver (sym (h .begins-list (c .start-of .result) (c .start-of .ensures))) (h .notOver),
-    )
+    let g = c .before .start-of in
+    let h = sheet-fits (c .before .before .before .before .before) in
+    (h .begins (g .result) (g .ensures), subst NotOver (sym (h .begins-list (g .result) (g .ensures))) (h .notOver))
 
 enum-known-outcome : tie.Need-enum-known-outcome
 enum-known-outcome c = search needs
@@ -40,15 +38,18 @@ enum-told : tie.Need-enum-told
 enum-told c = search needs
 
 -- what the check answers is the definition's, of the sheet's constraints
-checked : (c : tie.After-check-plan) → c .check-plan .result ≡ checkOf (graphOf (factsOf (c .before .before .before .before .before .args .s)) .clusters) (c .before .before .before .before .before .args .plan .now)
-checked c =
-    let o = c .before .before .before .before .before in
-    c .check-plan .ensures
-    ∙ ap (λ (cs : List ℕ). checkOf cs (o .args .plan .now)) (sheet-fits o .begins-list (c .before .start-of .result) (c .before .start-of .ensures))
+module _ (c : tie.After-check-plan) where
+  abbrev asked : tie.Start
+  asked = c .before .before .before .before .before .before
+
+  checked : c .check-plan .result ≡ checkOf (graphOf (factsOf (asked .args .s)) .clusters) (asked .args .plan .now)
+  checked =
+      c .check-plan .ensures
+      ∙ ap (λ (cs : List ℕ). checkOf cs (asked .args .plan .now)) (sheet-fits asked .begins-list (c .before .before .start-of .result) (c .before .before .start-of .ensures))
 
 module _ (c : tie.After-put-list-arg) where
   abbrev start : tie.Start
-  start = c .before .before .before .before .before .before .before .before .before
+  start = c .before .before .before .before .before .before .before .before .before .before
 
   took : Took (graphOf (factsOf (start .args .s))) (start .args .plan .now) (start .args .out .now) (start .pre .1) (c .before .before .before .before .check-plan .result) (checked (c .before .before .before .before))
   took =
@@ -60,8 +61,8 @@ put-list-requires c κs = (start c .pre .0, sheet-fits (start c) .notOver, recor
 
 returns : tie.Need-returns
 returns c =
-    let o = c .before .before .before .before .before .before .before .before .before in
     let k = c .before .before .before .before in
+    let o = asked k in
     let g = c .before .outcome .given in
     saved-refused (graphOf (factsOf (o .args .s))) (o .args .plan .now) (o .args .out .now) (o .pre .1) (k .check-plan .result) (checked k) (g .0 .0) (g .1)
 

@@ -1,7 +1,7 @@
 use borrow.Author.Needs.{needs}
 use Prim.Native.Nat.{ℕ}
 use native.Mathlib.Omega.{arith}
-use mathlib.Core.Path.{_≡_, sym, ap, _∙_}
+use mathlib.Core.Path.{_≡_, sym, ap, ap₂, _∙_}
 use mathlib.Core.List.{List}
 use lib.ListN.{length}
 use Rattle.theory.specs.Graph.{Graph}
@@ -47,7 +47,7 @@ same-length c = search needs
 
 same : {A : Type 0} (h : List ℕ → A) (g : Graph) (n e c x : ℕ) → g .n ≡ n → length (g .clusters) ≡ e
     → overReport (g .n) (length (g .clusters)) c x ≡ reportOf g → h (overReport n e c x) ≡ h (reportOf g)
-same h g n e c x p q r = ap h (rw (p, q) at r)
+same h g n e c x p q r = ap h (ap₂ (λ (a b : ℕ). overReport a b c x) (sym p) (sym q) ∙ r)
 
 returns : tie.Need-returns
 returns c =

@@ -22,7 +22,7 @@ use Rattle.pattern.specs.Sketches.Laws.{held-none, held-over, held-accep
 module _ (f : Facts) (h : Accepted f) (o : overFault (graphOf f) ≡ 0) where
   no-fault : holdFault (sheetOf f) ≡ 0
   unfolding holdFault
-  no-fault = rw (sheetOf-fault f h, factsOf-sheetOf f) o
+  no-fault = rw (sheetOf-fault f h) (ap (λ (x : Facts). overFault (graphOf x)) (factsOf-sheetOf f) ∙ o)
 
   sheet-held : Held (sheetOf f)
   unfolding sheetOf

@@ -91,7 +91,9 @@ module _ (s : Sheet) (h : Held s) where
       record {
         elements-long = h .elements-long;
         constraints-long = rw length-set (h .constraints-long);
-        no-fault = rw (stored-fault s c (h .constraints-long) room (hold-none s (h .no-fault) .0) (k .0), stored-facts s c (h .constraints-long) room) (k .1);
+        no-fault =
+            rw (stored-fault s c (h .constraints-long) room (hold-none s (h .no-fault) .0) (k .0))
+            (ap (λ (f : Facts). overFault (graphOf f)) (stored-facts s c (h .constraints-long) room) ∙ k .1);
       }
 
   -- a sketch that may be held stays one
