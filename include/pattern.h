@@ -44,8 +44,8 @@ enum pattern_rule {
     PATTERN_IS_OVER     = 11, /* the sheet is over, or an added constraint would make it so */
     PATTERN_PLAN_COUNT  = 12, /* the count of numbers in a plan is not a multiple of three */
     PATTERN_NO_CLUSTER  = 13, /* a step names a number that is no living cluster, or one twice */
-    PATTERN_SHARED      = 14, /* two clusters of a step share two or more elements */
-    PATTERN_NOT_OPEN    = 15, /* the clusters of a step do not otherwise make an open merge */
+    /* 14 is not used: two living clusters of a sheet that is not over never share two elements */
+    PATTERN_NOT_OPEN    = 15, /* the clusters of a step do not make an open merge */
     PATTERN_UNFINISHED  = 16, /* after the last step a merge is still open */
     PATTERN_ROOM        = 17  /* `out` is shorter than the answer */
 };
@@ -119,8 +119,8 @@ int32_t pattern_report(const uint8_t *sheet, size_t len, uint8_t *out, size_t ro
 /*
  * Checks a plan that another program saved: three cluster numbers a step, in any order within it.
  * Accepted if every step is an open merge and none is open at the end; then the report is that
- * plan's, its steps in the saved order. Tries rules 1 to 10, 11, 12, each step by 13, 14 and 15,
- * then 16, then 17. Answers the count of bytes.
+ * plan's, its steps in the saved order. Tries rules 1 to 10, 11, 12, each step by 13 and 15, then
+ * 16, then 17. Answers the count of bytes.
  */
 int32_t pattern_check_plan(const uint8_t *sheet, size_t len, const uint16_t *plan, size_t count, uint8_t *out, size_t room);
 

@@ -1,4 +1,4 @@
-//! The check of a saved plan (document 01, rules 11 to 16).
+//! The check of a saved plan (document 01, rules 11 to 13, 15 and 16).
 
 use crate::facts::{Rule, Sheet};
 use crate::matching::by_matching;
@@ -21,12 +21,12 @@ pub fn check(sheet: &Sheet, plan: &[u16]) -> Result<Merges, Rule> {
     Ok(Merges { steps, finals: clusters.all_living() })
 }
 
-/// Rules 13 to 15 of one step.
+/// Rules 13 and 15 of one step. Of a sheet that is not over, two living clusters share at most one element (request 2026-06).
 fn check_step(clusters: &Clusters, three: Three) -> Result<(), Rule> {
     let [p, q, r] = three;
     let living = |number| clusters.living(number).ok_or(13);
     let (a, b, c) = (living(p)?, living(q)?, living(r)?);
     refuse(p == q || p == r || q == r, 13)?;
-    refuse(size(a & b) > 1 || size(a & c) > 1 || size(b & c) > 1, 14)?;
+    assert!([a & b, a & c, b & c].into_iter().all(|shared| size(shared) <= 1), "two living clusters share two elements");
     refuse(joint(a, b, c).is_none(), 15)
 }

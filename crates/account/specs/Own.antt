@@ -18,6 +18,7 @@ use Rattle.merges.specs.Held.{flat}
 use Rattle.engine.specs.Lists.{livingOf}
 use Rattle.judge.specs.Judged.{planNumbers, finalClusters}
 use Rattle.plans.specs.Check.{savedSteps}
+use Rattle.plans.specs.Rule14.{Never14}
 use Rattle.account.specs.Account.{listReport, reportOf, savedFault}
 pub mod Proof
 
@@ -49,3 +50,5 @@ pub record SavedList (f : Facts) (l : List ℕ) : Type 0 where
 pub record OwnLists (f : Facts) : Type 0 where
   pub engine : verdictOf f ≢ over → EngineList f
   pub saved : (l : List ℕ) → SavedList f l
+  -- request 2026-06: two living clusters never share two elements, and the plan check answers every list of numbers as it did with rule 14
+  pub rule-14 : verdictOf f ≢ over → Never14 (clustersOf f)

@@ -2,7 +2,7 @@
 -- only where the lent space is shorter than the answer.
 use Prim.Native.Nat.{ℕ, _≤_, _<_}
 use mathlib.Core.Path.{_≡_}
-use mathlib.Core.Logic.{_⊎_}
+use mathlib.Core.Logic.{_≢_, _⊎_}
 use mathlib.Core.List.{List}
 use lib.ListN.{length}
 use Rattle.space.specs.declared.Written.the-variants.{Refused}
@@ -46,8 +46,9 @@ pub record Refusals : Type 0 where
   pub add : (s : Sheet) (c : Constraint) (k : ℕ) → addAnswer s c ≡ Not k → Rule 3 11 k
   -- over, plan, clusters and report
   pub items : (what : Facts → List ℕ) (bytes space : List ℕ) (k : ℕ) → itemsAnswer what bytes space ≡ Refused k → Refusal 10 (readSheet bytes) what space k
+  -- the plan check; 14 is not used (request 2026-06)
   pub check : (bytes plan space : List ℕ) (k : ℕ) → checkAnswer bytes plan space ≡ Refused k
-      → Refusal 16 (readSheet bytes) (λ f. listReport f (savedSteps plan)) space k
+      → Refusal 16 (readSheet bytes) (λ f. listReport f (savedSteps plan)) space k × (k ≢ 14)
   pub hold : (bytes : List ℕ) (k : ℕ) → heldSheet bytes ≡ refused k → Rule 1 11 k
   pub extend : (bytes more space : List ℕ) (k : ℕ) → extendAnswer bytes more space ≡ Refused k
       → Refusal 11 (extendedSheet bytes more) sheetBytes space k

@@ -1,13 +1,12 @@
 -- The check of a saved plan, a list of numbers, three a step. Document 01, "Refused", rules 12 to 16: the count of numbers is tried first, then the
--- steps one after another, each by 13 to 15, and then 16. Everything here computes. Assumes nothing.
+-- steps one after another, each by 13 and 15, and then 16. Request 2026-06 took rule 14 out of the list (Rule14.antt). Everything here computes.
+-- Assumes nothing.
 use mathlib.Core.Bool.{Bool, true, false, _||_}
 use mathlib.Core.List.{List, [], _∷_}
 use mathlib.Core.Option.{Option, none, some}
 use Prim.Native.Nat.{ℕ, zero, suc, _%_}
-use lib.Dec.{leb, eqb}
-use lib.Count.{ones}
+use lib.Dec.{eqb}
 use lib.ListN.{length}
-use Rattle.theory.specs.Set.{_∩_}
 use Rattle.theory.specs.Merge.{slot, Merge, merge, put}
 use Rattle.theory.specs.Plan.{openTest, firstOf}
 use Rattle.merges.specs.Run.{runOf}
@@ -23,14 +22,9 @@ pub mod Laws
 unfoldable pub misnamed : ℕ → ℕ → ℕ → Merge → Bool
 misnamed a b c m = eqb a 0 || (eqb b 0 || (eqb c 0 || (eqb (m .i) (m .j) || (eqb (m .j) (m .k) || eqb (m .i) (m .k)))))
 
--- 14: two of the step's clusters share two or more elements
-unfoldable pub overlapping : ℕ → ℕ → ℕ → Bool
-overlapping a b c = leb 2 (ones (a ∩ b)) || (leb 2 (ones (b ∩ c)) || leb 2 (ones (a ∩ c)))
-
 -- the rule that refuses the step, 0 if none; 15: the step's clusters do not otherwise make an open merge
 unfoldable pub faultOf : ℕ → ℕ → ℕ → Merge → ℕ
-faultOf a b c m =
-    elim (misnamed a b c m) [ true ↦ 13 | false ↦ elim (overlapping a b c) [ true ↦ 14 | false ↦ elim (openTest a b c) [ true ↦ 0 | false ↦ 15 ] ] ]
+faultOf a b c m = elim (misnamed a b c m) [ true ↦ 13 | false ↦ elim (openTest a b c) [ true ↦ 0 | false ↦ 15 ] ]
 
 unfoldable pub stepFault : List ℕ → Merge → ℕ
 stepFault s m = faultOf (slot s (m .i)) (slot s (m .j)) (slot s (m .k)) m

@@ -1,4 +1,4 @@
-// The check of a saved plan. Document 01, "Refused", rules 12 to 16. Contracts cite specs/Check.antt.
+// The check of a saved plan. Document 01, "Refused", rules 12, 13, 15 and 16. Contracts cite specs/Check.antt.
 ghost use mathlib.Core.Path.{_≡_};
 ghost use Prim.Native.Nat.{_+_, _≤_, _<_, min, max};
 ghost use lib.ListN.{length, take};
@@ -8,7 +8,7 @@ ghost use Rattle.theory.specs.Plan.{ascending, firstOf};
 ghost use Rattle.merges.specs.Links.{Ready};
 ghost use Rattle.merges.specs.Search.{Merging};
 ghost use Rattle.merges.specs.Run.{Begun, Noted};
-ghost use Rattle.plans.specs.Check.{misnamed as isMisnamed, overlapping as isOverlapping, faultOf, stepFault, isSome, asMerge, answerOf, checkOf};
+ghost use Rattle.plans.specs.Check.{misnamed as isMisnamed, faultOf, stepFault, isSome, asMerge, answerOf, checkOf};
 use merges::Found;
 use merges::Run;
 
@@ -49,28 +49,12 @@ fn misnamed(a: u64, b: u64, c: u64, i: usize, j: usize, k: usize) -> bool
     i == k
 }
 
-// Rule 14: two of the three share two or more elements.
-fn overlapping(a: u64, b: u64, c: u64) -> bool
-    ensures { λ r. ⌜ r ≡ isOverlapping a b c ⌝ }
-{
-    if u64::count_ones(a & b) >= 2 {
-        return true;
-    }
-    if u64::count_ones(b & c) >= 2 {
-        return true;
-    }
-    u64::count_ones(a & c) >= 2
-}
-
-// The rule that refuses a step, 13, 14 or 15, or 0.
+// The rule that refuses a step, 13 or 15, or 0.
 fn step_fault(a: u64, b: u64, c: u64, i: usize, j: usize, k: usize) -> u8
     ensures { λ r. ⌜ r ≡ faultOf a b c (numbers i j k) ⌝ }
 {
     if misnamed(a, b, c, i, j, k) {
         return 13;
-    }
-    if overlapping(a, b, c) {
-        return 14;
     }
     if merges::open3(a, b, c) { 0 } else { 15 }
 }

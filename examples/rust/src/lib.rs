@@ -104,7 +104,6 @@ impl Rule {
             11 => "the sheet is over, or the added constraint would make it so",
             12 => "the count of numbers in the plan is not a multiple of three",
             13 => "a step names a number that is no living cluster, or one cluster twice",
-            14 => "two clusters of a step share two or more elements",
             15 => "the clusters of a step do not make an open merge",
             16 => "after the last step a merge is still open",
             17 => "the lent space is shorter than the answer",

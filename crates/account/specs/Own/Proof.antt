@@ -30,6 +30,8 @@ use Rattle.judge.specs.Listing.Laws.{clusters-pairs, clusters-below}
 use Rattle.judge.specs.Judged.{planBy, planOfFacts, planNumbers, finalsBy, finalClusters}
 use Rattle.plans.specs.Check.{savedSteps, planFault}
 use Rattle.plans.specs.Check.Laws.{accepted-maximal}
+use Rattle.plans.specs.Rule14.{Never14}
+use Rattle.plans.specs.Rule14.Proof.{never-14}
 use Rattle.account.specs.Account.{listReport, reportBy, reportOf, faultBy, savedFault}
 use Rattle.account.specs.Account.Answers.{later-name}
 use Rattle.account.specs.Own.{stepsIn, ReportsOwn, EngineList, SavedList, OwnLists}
@@ -125,5 +127,8 @@ module _ (f : Facts) (a : Accepted f) where
     own = λ h. reports-own f (savedSteps l);
   }
 
+  rule-14 : verdictOf f ≢ over → Never14 (clustersOf f)
+  rule-14 v = never-14 (clustersOf f) (λ p h. record { share = sheet-demand3 f a v .whole .counts p h .share })
+
   pub own-lists : OwnLists f
-  own-lists = record { engine = engine-list; saved = saved-list }
+  own-lists = record { engine = engine-list; saved = saved-list; rule-14 = rule-14 }

@@ -3,7 +3,7 @@ use Prim.Native.Nat.{ℕ, zero, suc, _≤_, _<_, _%_}
 use native.Mathlib.Omega.{arith}
 use borrow.Author.Tests.{ltb-true, ne-eqb}
 use mathlib.Core.Path.{_≡_, refl, sym, ap, _∙_, subst}
-use mathlib.Core.Logic.{_⊎_, inl, inr}
+use mathlib.Core.Logic.{_≢_, _⊎_, inl, inr}
 use mathlib.Core.Bool.{Bool, true, false, cond}
 use mathlib.Core.List.{List, [], _∷_}
 use lib.Dec.{ltb, eqb}
@@ -59,13 +59,14 @@ module _ (high : ℕ) (read : Field Facts) (items : Facts → List ℕ) (space :
       let h = short (items x) space k q in
       inr (h .0, record { facts = x; rest = rest; reads = p; longer = h .1 })
 
-  on : (g : Facts → Written) → By 1 high read → ((x : Facts) (rest : List ℕ) → read ≡ value x rest → g x ≡ Refused k → Refusal high read items space k)
-      → onFacts read g (λ r. Refused r) ≡ Refused k → Refusal high read items space k
-  on g h l e = go read refl h e
-    where
-      go : (f : Field Facts) → read ≡ f → By 1 high f → onFacts f g (λ r. Refused r) ≡ Refused k → Refusal high read items space k
-      go (value x rest) p h q = l x rest p q
-      go (refused r) p h q = inl (subst (Rule 1 high) (number r k q) (which h))
+-- a call is refused by a rule of the reading, or for what its facts give
+on : {P : Type 0} (high : ℕ) (read : Field Facts) (k : ℕ) (g : Facts → Written) → By 1 high read → (Rule 1 high k → P)
+    → ((x : Facts) (rest : List ℕ) → read ≡ value x rest → g x ≡ Refused k → P) → onFacts read g (λ r. Refused r) ≡ Refused k → P
+on {P} high read k g h by-reading by-facts e = by read refl h e
+  where
+    by : (f : Field Facts) → read ≡ f → By 1 high f → onFacts f g (λ r. Refused r) ≡ Refused k → P
+    by (value x rest) p h q = by-facts x rest p q
+    by (refused r) p h q = by-reading (subst (Rule 1 high) (number r k q) (which h))
 
 -- ---- the entry points
 
@@ -80,7 +81,8 @@ judged bytes k e = go (readSheet bytes) (by-sheet bytes) e
 rewritten : (bytes space : List ℕ) (k : ℕ) → rewriteAnswer bytes space ≡ Refused k → Refusal 10 (readSheet bytes) (λ f. withoutTags bytes) space k
 unfolding rewriteAnswer
 rewritten bytes space k e =
-    on 10 (readSheet bytes) (λ f. withoutTags bytes) space k (λ f. answer (withoutTags bytes) space) (by-sheet bytes) (seventeen 10 (readSheet bytes) (λ f. withoutTags bytes) space k) e
+    on 10 (readSheet bytes) k (λ f. answer (withoutTags bytes) space) (by-sheet bytes) inl
+    (seventeen 10 (readSheet bytes) (λ f. withoutTags bytes) space k) e
 
 written : (s : Sheet) (space : List ℕ) (k : ℕ) → writeAnswer s space ≡ Refused k → Rule 3 9 k ⊎ ((k ≡ 17) × (length space < length (sheetBytes (factsOf s))))
 unfolding writeAnswer
@@ -120,7 +122,7 @@ added s c k e = go (addFault s c) (fault-add s c) e
 listed : (what : Facts → List ℕ) (bytes space : List ℕ) (k : ℕ) → itemsAnswer what bytes space ≡ Refused k → Refusal 10 (readSheet bytes) what space k
 unfolding itemsAnswer
 listed what bytes space k e =
-    on 10 (readSheet bytes) what space k (λ f. answer (what f) space) (by-sheet bytes) (seventeen 10 (readSheet bytes) what space k) e
+    on 10 (readSheet bytes) k (λ f. answer (what f) space) (by-sheet bytes) inl (seventeen 10 (readSheet bytes) what space k) e
 
 -- 3,786 bytes take every report
 printed : (bytes space : List ℕ) (k : ℕ) → Bytes bytes → 3786 ≤ length space → itemsAnswer reportOf bytes space ≡ Refused k → Rule 1 10 k
@@ -136,27 +138,31 @@ printed bytes space k all room e = go (listed reportOf bytes space k e)
 -- the check of a saved plan
 module _ (bytes plan space : List ℕ) (k : ℕ) where
   abbrev Wrong : Type 0
-  Wrong = Refusal 16 (readSheet bytes) (λ f. listReport f (savedSteps plan)) space k
+  Wrong = Refusal 16 (readSheet bytes) (λ f. listReport f (savedSteps plan)) space k × (k ≢ 14)
 
-  by-rule : (r : ℕ) → 11 ≤ r → r ≤ 16 → Refused r ≡ Refused k → Wrong
-  by-rule r l h q = inl (record { from = omega (arith, number r k q); to = omega (arith, number r k q) })
+  by-rule : (r : ℕ) → r ≡ k → 1 ≤ r → r ≤ 16 → r ≢ 14 → Wrong
+  by-rule r q l h n = (inl (record { from = omega arith; to = omega arith }), λ z. n (q ∙ z))
 
   saved : (f : Facts) (rest : List ℕ) → readSheet bytes ≡ value f rest → savedAnswer f plan space ≡ Refused k → Wrong
   unfolding savedAnswer savedFault
-  saved f rest reads e = go (overOf (length (f .elements)) (clustersOf f)) e
+  saved f rest reads e = by-finding (overOf (length (f .elements)) (clustersOf f)) e
     where
-      by : (r : ℕ) → planFault (clustersOf f) plan ≡ r → answerBy f plan space r ≡ Refused k → Wrong
-      by zero p q = seventeen 16 (readSheet bytes) (λ f. listReport f (savedSteps plan)) space k f rest reads q
-      by (suc r) p q = let h = fault-range (clustersOf f) plan r p in by-rule (suc r) (omega (arith, h .0)) (h .1) q
+      by-plan : (r : ℕ) → planFault (clustersOf f) plan ≡ r → answerBy f plan space r ≡ Refused k → Wrong
+      by-plan zero p q = (
+        seventeen 16 (readSheet bytes) (λ f. listReport f (savedSteps plan)) space k f rest reads q,
+        λ z. omega (arith, short (listReport f (savedSteps plan)) space k q .0),
+      )
+      by-plan (suc r) p q = let h = fault-range (clustersOf f) plan r p in by-rule (suc r) (number (suc r) k q) (omega arith) (h .1) (h .2)
 
-      go : (o : Finding) → answerBy f plan space (faultBy f plan o) ≡ Refused k → Wrong
-      go fine q = by (planFault (clustersOf f) plan) refl q
-      go (first c x) q = by-rule 11 (omega arith) (omega arith) q
+      by-finding : (o : Finding) → answerBy f plan space (faultBy f plan o) ≡ Refused k → Wrong
+      by-finding fine q = by-plan (planFault (clustersOf f) plan) refl q
+      by-finding (first c x) q = by-rule 11 (number 11 k q) (omega arith) (omega arith) (λ z. omega arith)
 
   checked : checkAnswer bytes plan space ≡ Refused k → Wrong
   unfolding checkAnswer
   checked e =
-      on 16 (readSheet bytes) (λ f. listReport f (savedSteps plan)) space k (λ f. savedAnswer f plan space) (by-wider (omega arith) (by-sheet bytes)) saved e
+      on 10 (readSheet bytes) k (λ f. savedAnswer f plan space) (by-sheet bytes)
+      (λ h. by-rule k refl (h .from) (omega (arith, h .to)) (λ z. omega (arith, h .to))) saved e
 
 -- a held sketch
 eleven : Rule 1 11 11
@@ -183,7 +189,8 @@ by-extended bytes more =
 grown : (bytes more space : List ℕ) (k : ℕ) → extendAnswer bytes more space ≡ Refused k → Refusal 11 (extendedSheet bytes more) sheetBytes space k
 unfolding extendAnswer
 grown bytes more space k e =
-    on 11 (extendedSheet bytes more) sheetBytes space k (λ f. answer (sheetBytes f) space) (by-extended bytes more) (seventeen 11 (extendedSheet bytes more) sheetBytes space k) e
+    on 11 (extendedSheet bytes more) k (λ f. answer (sheetBytes f) space) (by-extended bytes more) inl
+    (seventeen 11 (extendedSheet bytes more) sheetBytes space k) e
 
 pub refusals : Refusals
 refusals = record {

@@ -4,32 +4,56 @@ use mathlib.Core.Logic.{_≢_, _↔_}
 use mathlib.Core.Bool.{Bool, true, false, _||_}
 use mathlib.Core.List.{List, [], _∷_, _++_}
 use mathlib.Core.Option.{Option}
-use Prim.Native.Nat.{ℕ, zero, suc, _%_, _≤_, _<_}
+use Prim.Native.Nat.{ℕ, zero, suc, _%_, _≤_}
 use native.Mathlib.Omega.{arith}
-use lib.Dec.{T, leb, eqb}
-use lib.Count.{ones}
+use lib.Dec.{T, eqb}
 use lib.ListN.{length}
-use borrow.Author.Tests.{eqb-true, eqb-false, ne-eqb, eq-eqb, lt-leb}
-use Rattle.theory.specs.Set.{_∩_}
-use Rattle.theory.specs.Merge.{slot, Merge, merge, Open, OpenAt, put, Valid, final, Ended, Maximal}
+use borrow.Author.Tests.{eqb-true, eqb-false, ne-eqb, eq-eqb}
+use Rattle.theory.specs.Merge.{slot, Merge, OpenAt, put, Valid, final, Maximal}
 use Rattle.theory.specs.Plan.{openTest, firstOf}
 use Rattle.theory.specs.Plan.Search.{Found, found, nothing, first-found, open-test, test-open}
 use Rattle.theory.specs.Plan.Laws.{none-is}
 use Rattle.merges.specs.Held.{flat}
-use Rattle.plans.specs.Check.{misnamed, overlapping, faultOf, stepFault, savedSteps, isSome, stepsFault, planFault}
+use Rattle.plans.specs.Check.{misnamed, faultOf, stepFault, savedSteps, isSome, stepsFault, planFault}
 
 is-true : (b : Bool) → T b → b ≡ true
 is-true true t = refl
 is-true false t = absurd t
 
--- a step that no rule refuses is an open merge
 none-or : (a b : Bool) → (a || b) ≡ false → (a ≡ false) × (b ≡ false)
 none-or true b e = absurd (let z : _≡_ {A = ℕ} 0 1 = cc in omega arith)
 none-or false b e = (refl, e)
 
+-- the step names three different living clusters
+pub record Named (s : List ℕ) (m : Merge) : Type 0 where
+  pub i≢j : m .i ≢ m .j
+  pub j≢k : m .j ≢ m .k
+  pub i≢k : m .i ≢ m .k
+  pub livei : slot s (m .i) ≢ 0
+  pub livej : slot s (m .j) ≢ 0
+  pub livek : slot s (m .k) ≢ 0
+
+pub named-well : (s : List ℕ) (m : Merge) → misnamed (slot s (m .i)) (slot s (m .j)) (slot s (m .k)) m ≡ false → Named s m
+unfolding misnamed
+named-well s m n =
+    let h1 = none-or (eqb (slot s (m .i)) 0) _ n in
+    let h2 = none-or (eqb (slot s (m .j)) 0) _ (h1 .1) in
+    let h3 = none-or (eqb (slot s (m .k)) 0) _ (h2 .1) in
+    let h4 = none-or (eqb (m .i) (m .j)) _ (h3 .1) in
+    let h5 = none-or (eqb (m .j) (m .k)) _ (h4 .1) in
+    record {
+      i≢j = eqb-false (m .i) (m .j) (h4 .0);
+      j≢k = eqb-false (m .j) (m .k) (h5 .0);
+      i≢k = eqb-false (m .i) (m .k) (h5 .1);
+      livei = eqb-false (slot s (m .i)) 0 (h1 .0);
+      livej = eqb-false (slot s (m .j)) 0 (h2 .0);
+      livek = eqb-false (slot s (m .k)) 0 (h3 .0);
+    }
+
+-- a step that no rule refuses is an open merge
 pub fault-open : (s : List ℕ) (m : Merge) → stepFault s m ≡ 0 → OpenAt s m
-unfolding stepFault faultOf misnamed
-fault-open s m e = go (misnamed a b c m) refl (overlapping a b c) (openTest a b c) refl e
+unfolding stepFault faultOf
+fault-open s m e = by (misnamed a b c m) refl (openTest a b c) refl e
   where
     a : ℕ
     a = slot s (m .i)
@@ -40,34 +64,27 @@ fault-open s m e = go (misnamed a b c m) refl (overlapping a b c) (openTest a b 
     c : ℕ
     c = slot s (m .k)
 
-    by : misnamed a b c m ≡ false → openTest a b c ≡ true → OpenAt s m
-    by n t =
-        let h1 = none-or (eqb a 0) _ n in
-        let h2 = none-or (eqb b 0) _ (h1 .1) in
-        let h3 = none-or (eqb c 0) _ (h2 .1) in
-        let h4 = none-or (eqb (m .i) (m .j)) _ (h3 .1) in
-        let h5 = none-or (eqb (m .j) (m .k)) _ (h4 .1) in
-        record {
-          i≢j = eqb-false (m .i) (m .j) (h4 .0);
-          j≢k = eqb-false (m .j) (m .k) (h5 .0);
-          i≢k = eqb-false (m .i) (m .k) (h5 .1);
-          livei = eqb-false a 0 (h1 .0);
-          livej = eqb-false b 0 (h2 .0);
-          livek = eqb-false c 0 (h3 .0);
-          open3 = test-open a b c (subst T (sym t) tt);
-        }
+    opened : Named s m → openTest a b c ≡ true → OpenAt s m
+    opened w t = record {
+      i≢j = w .i≢j;
+      j≢k = w .j≢k;
+      i≢k = w .i≢k;
+      livei = w .livei;
+      livej = w .livej;
+      livek = w .livek;
+      open3 = test-open a b c (subst T (sym t) tt);
+    }
 
-    go : (x : Bool) → misnamed a b c m ≡ x → (y z : Bool) → openTest a b c ≡ z
-        → _≡_ {A = ℕ} (elim x [ true ↦ 13 | false ↦ elim y [ true ↦ 14 | false ↦ elim z [ true ↦ 0 | false ↦ 15 ] ] ]) 0 → OpenAt s m
-    go true p y z q e = absurd (omega arith)
-    go false p true z q e = absurd (omega arith)
-    go false p false true q e = by p q
-    go false p false false q e = absurd (omega arith)
+    by : (x : Bool) → misnamed a b c m ≡ x → (z : Bool) → openTest a b c ≡ z
+        → _≡_ {A = ℕ} (elim x [ true ↦ 13 | false ↦ elim z [ true ↦ 0 | false ↦ 15 ] ]) 0 → OpenAt s m
+    by true p z q e = absurd (omega arith)
+    by false p true q e = opened (named-well s m p) q
+    by false p false q e = absurd (omega arith)
 
 -- and an open merge is refused by none
 pub open-fault : (s : List ℕ) (m : Merge) → OpenAt s m → stepFault s m ≡ 0
-unfolding stepFault faultOf misnamed overlapping
-open-fault s m o = λ t. elim (named t) [ true ↦ 13 | false ↦ elim (apart t) [ true ↦ 14 | false ↦ elim (tested t) [ true ↦ 0 | false ↦ 15 ] ] ]
+unfolding stepFault faultOf misnamed
+open-fault s m o = λ t. elim (named t) [ true ↦ 13 | false ↦ elim (tested t) [ true ↦ 0 | false ↦ 15 ] ]
   where
     a : ℕ
     a = slot s (m .i)
@@ -83,11 +100,6 @@ open-fault s m o = λ t. elim (named t) [ true ↦ 13 | false ↦ elim (apart t)
         ne-eqb a 0 (o .livei) t
         || (ne-eqb b 0 (o .livej) t
         || (ne-eqb c 0 (o .livek) t || (ne-eqb (m .i) (m .j) (o .i≢j) t || (ne-eqb (m .j) (m .k) (o .j≢k) t || ne-eqb (m .i) (m .k) (o .i≢k) t))))
-
-    apart : overlapping a b c ≡ false
-    apart t =
-        lt-leb 2 (ones (a ∩ b)) (omega (arith, o .open3 .ab)) t
-        || (lt-leb 2 (ones (b ∩ c)) (omega (arith, o .open3 .bc)) t || lt-leb 2 (ones (a ∩ c)) (omega (arith, o .open3 .ac)) t)
 
     tested : openTest a b c ≡ true
     tested = is-true (openTest a b c) (open-test a b c (o .open3))
@@ -208,11 +220,11 @@ why cs l = go (eqb (length l % 3) 0) refl (stepsFault cs (savedSteps l)) (why-st
     go true h r (unended x) = unended (eqb-true (length l % 3) 0 h) x
     go true h r (accepted x) = accepted (eqb-true (length l % 3) 0 h) x
 
--- ---- only rules 12 to 16 refuse a plan
+-- ---- only rules 12, 13, 15 and 16 refuse a plan
 
-step-range : (s : List ℕ) (m : Merge) (r : ℕ) → stepFault s m ≡ suc r → (13 ≤ suc r) × (suc r ≤ 15)
+step-range : (s : List ℕ) (m : Merge) (r : ℕ) → stepFault s m ≡ suc r → (12 ≤ suc r) × (suc r ≤ 16) × (suc r ≢ 14)
 unfolding stepFault faultOf
-step-range s m r e = go (misnamed a b c m) (overlapping a b c) (openTest a b c) e
+step-range s m r e = by (misnamed a b c m) (openTest a b c) e
   where
     a : ℕ
     a = slot s (m .i)
@@ -223,19 +235,18 @@ step-range s m r e = go (misnamed a b c m) (overlapping a b c) (openTest a b c) 
     c : ℕ
     c = slot s (m .k)
 
-    go : (x y z : Bool) → elim x [ true ↦ 13 | false ↦ elim y [ true ↦ 14 | false ↦ elim z [ true ↦ 0 | false ↦ 15 ] ] ] ≡ suc r → (13 ≤ suc r) × (suc r ≤ 15)
-    go true y z h = (omega arith, omega arith)
-    go false true z h = (omega arith, omega arith)
-    go false false true h = absurd (omega arith)
-    go false false false h = (omega arith, omega arith)
+    by : (x z : Bool) → elim x [ true ↦ 13 | false ↦ elim z [ true ↦ 0 | false ↦ 15 ] ] ≡ suc r → (12 ≤ suc r) × (suc r ≤ 16) × (suc r ≢ 14)
+    by true z h = (omega arith, omega arith, λ q. omega arith)
+    by false true h = absurd (omega arith)
+    by false false h = (omega arith, omega arith, λ q. omega arith)
 
-pub fault-range : (cs l : List ℕ) (r : ℕ) → planFault cs l ≡ suc r → (12 ≤ suc r) × (suc r ≤ 16)
-fault-range cs l r e = go (planFault cs l) (why cs l) e
+pub fault-range : (cs l : List ℕ) (r : ℕ) → planFault cs l ≡ suc r → (12 ≤ suc r) × (suc r ≤ 16) × (suc r ≢ 14)
+fault-range cs l r e = by (planFault cs l) (why cs l) e
   where
-    go : (k : ℕ) → Why cs l k → k ≡ suc r → (12 ≤ suc r) × (suc r ≤ 16)
-    go k (count h) q = (omega arith, omega arith)
-    go k (stopped rule h x) q =
+    by : (k : ℕ) → Why cs l k → k ≡ suc r → (12 ≤ suc r) × (suc r ≤ 16) × (suc r ≢ 14)
+    by k (count h) q = (omega arith, omega arith, λ z. omega arith)
+    by k (stopped rule h x) q =
         let s = step-range (final cs (x .before)) (x .step) rule (x .refuses) in
-        (omega (arith, s .0), omega (arith, s .1))
-    go k (unended h x) q = (omega arith, omega arith)
-    go k (accepted h x) q = absurd (omega arith)
+        (omega (arith, s .0), omega (arith, s .1), λ z. s .2 (omega arith))
+    by k (unended h x) q = (omega arith, omega arith, λ z. omega arith)
+    by k (accepted h x) q = absurd (omega arith)
