@@ -3,7 +3,7 @@ use mathlib.Core.Path.{ap}
 use native.Mathlib.Omega.{arith}
 use lib.Count.{ones}
 use Rattle.theory.specs.Set.Laws.{size-zero}
-use Rattle.peeling.specs.Less.{drop-low}
+use Rattle.theory.specs.Set.Less.{drop-low}
 use borrow.Author.Needs.{needs}
 use Rattle.peeling.proofs.drop_low.Statement.{statement}
 use Rattle.peeling.proofs.drop_low.Tie as tie

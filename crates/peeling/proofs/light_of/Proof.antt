@@ -8,7 +8,7 @@ use lib.ListN.{getD}
 use lib.Pow.{pow-pos}
 use Rattle.theory.specs.Set.{_⊑_}
 use Rattle.theory.specs.Set.Laws.{at-le, sub-trans}
-use Rattle.peeling.specs.Less.{at-room, less-sub}
+use Rattle.theory.specs.Set.Less.{at-room, less-sub}
 use Rattle.peeling.specs.Core.{Light}
 use Rattle.peeling.specs.Core.Neighbours.{light-none, light-code, light-same, two-most}
 use borrow.Author.Needs.{needs}

@@ -1,7 +1,7 @@
 -- `lowest` meets its contract. Assumes nothing.
 use native.Mathlib.Omega.{arith}
 use lib.Count.{trailingZeros, trailing-le}
-use Rattle.peeling.specs.Less.{trailing-at, at-below}
+use Rattle.theory.specs.Set.Less.{trailing-at, at-below}
 use Rattle.peeling.proofs.lowest.Statement.{statement}
 use Rattle.peeling.proofs.lowest.Tie as tie
 

@@ -15,7 +15,7 @@ use Rattle.theory.specs.Constraints.Laws.{carried-pos, carried-small, pairs-sha
 use Rattle.theory.specs.Merge.{Open, Three, union, joint}
 use Rattle.theory.specs.Merge.Threes.{meet-open, size-joint}
 use Rattle.theory.specs.Merge.Family.{Fam, In, Same, after}
-use Rattle.peeling.specs.Less.{less-same, less-other, less-sub, size-less, sub-less}
+use Rattle.theory.specs.Set.Less.{less-same, less-other, less-sub, size-less, sub-less}
 use Rattle.peeling.specs.Core.{corner}
 
 -- a set that has just these two elements

@@ -21,7 +21,7 @@ use Rattle.theory.specs.Merge.Threes.{size-joint}
 use Rattle.theory.specs.Merge.Family.{Fam, Same, after, ValidIn, finalIn, EndedIn, jointsIn, start, threes}
 use Rattle.theory.specs.Merge.Family.Outcome.{ended-same, every-order-in}
 use Rattle.theory.specs.Merge.Numbered.{joints-threes, as-start, ended-there}
-use Rattle.peeling.specs.Less.{at-below, less-same, less-other, size-less}
+use Rattle.theory.specs.Set.Less.{at-below, less-same, less-other, size-less}
 use Rattle.peeling.specs.Core.{Peeled, whole, less, corner, corners}
 use Rattle.peeling.specs.Core.Merging.{one-between, two-between}
 use Rattle.peeling.specs.Core.Corner.{Parted, end, t, isopen, knot-is, merged}

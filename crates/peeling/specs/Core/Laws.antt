@@ -6,7 +6,7 @@ use native.Mathlib.Omega.{arith}
 use Rattle.theory.specs.Set.{_⊑_, at}
 use Rattle.theory.specs.Constraints.{has, carried}
 use Rattle.theory.specs.Constraints.Laws.{Has, inside, outside, has-dec, has-in, has-le}
-use Rattle.peeling.specs.Less.{sub-less}
+use Rattle.theory.specs.Set.Less.{sub-less}
 use Rattle.peeling.specs.Core.{Few}
 
 -- ---- how many constraints an element has

@@ -21,7 +21,7 @@ use Rattle.theory.specs.Merge.Family.Invariant.{big, share}
 use Rattle.theory.specs.Merge.Family.Outcome.{kept}
 use Rattle.theory.specs.Merge.Numbered.{zero-at, start-good, start-distinct, good-final, as-ended, as-end}
 use Rattle.peeling.specs.Core.{Loose}
-use Rattle.peeling.specs.Less.{less-other, size-less, sub-less}
+use Rattle.theory.specs.Set.Less.{less-other, size-less, sub-less}
 
 -- ---- constraints that lie in one set and not in another
 

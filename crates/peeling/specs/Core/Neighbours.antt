@@ -15,10 +15,10 @@ use lib.Pow.{pow-lt}
 use Rattle.theory.specs.Set.{_∩_, _∪_, _⊑_, at, full}
 use Rattle.theory.specs.Set.Laws.{at-and, at-or, at-le, at-zero, at-same, at-other, bit, ext, size-zero, size-le, size-add, sub-refl, and-l, and-mono, below-full}
 use Rattle.theory.specs.Constraints.{pair, has, carried}
-use Rattle.theory.specs.Constraints.Laws.{Has, inside, outside, has-dec, has-in, has-le, at-pair}
-use Rattle.peeling.specs.Less.{less-same, less-other, less-sub, sub-less}
+use Rattle.theory.specs.Constraints.Laws.{Has, inside, outside, has-dec, has-in, has-le, at-pair, pair-ends, pair-comm}
+use Rattle.theory.specs.Set.Less.{less-same, less-other, less-sub, sub-less}
 use Rattle.theory.specs.Over.Listed.{ends, masks, Listed}
-use Rattle.theory.specs.Over.Listed.Laws.{carried-more, pair-ends, pair-comm}
+use Rattle.theory.specs.Over.Listed.Laws.{carried-more}
 use Rattle.peeling.specs.Core.{Near, Light}
 
 -- ---- neighbours

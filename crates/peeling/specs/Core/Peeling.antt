@@ -15,7 +15,7 @@ use Rattle.theory.specs.Set.{_∩_, _∪_, _⊑_, at, full}
 use Rattle.theory.specs.Set.Laws.{at-and, at-le, bit, ext, size-zero, size-le, sub-trans, and-l, and-r, below-full}
 use Rattle.theory.specs.Constraints.{carried, NotOver, NotOverIn}
 use Rattle.theory.specs.Constraints.Laws.{has-mono, carried-cut, not-over-in}
-use Rattle.peeling.specs.Less.{at-below, at-room, less-same, less-other, less-sub, size-less, sub-less}
+use Rattle.theory.specs.Set.Less.{at-below, at-room, less-same, less-other, less-sub, size-less, sub-less}
 use Rattle.theory.specs.Over.Listed.{ends, masks, Listed}
 use Rattle.theory.specs.Over.Listed.Laws.{carried-more, masks-pairs, masks-below, carried-one, listed-part}
 use Rattle.peeling.specs.Core.{Few, Loose, Core, Near, Light, Peeled, whole, less}

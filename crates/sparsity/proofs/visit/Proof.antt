@@ -6,7 +6,7 @@ use borrow.Author.Needs.{needs}
 use lib.Bits.{bitOr}
 use lib.ListN.{set}
 use Rattle.theory.specs.Set.{_∪_}
-use Rattle.peeling.specs.Less.{meets-at, misses-at}
+use Rattle.theory.specs.Set.Less.{meets-at, misses-at}
 use Rattle.sparsity.specs.Reach.{Visit, known, fresh}
 use Rattle.sparsity.specs.Reach.Visits.{visit-room}
 use Rattle.sparsity.proofs.visit.Statement.{statement}

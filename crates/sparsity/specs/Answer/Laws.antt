@@ -13,12 +13,12 @@ use lib.ListN.{getD}
 use Rattle.theory.specs.Set.{_∩_, _∪_, _⊑_, at}
 use Rattle.theory.specs.Set.Laws.{at-and, at-or, at-le, bit, sub-refl, sub-trans, and-l, and-r, and-sub, sub-and, two-in}
 use Rattle.theory.specs.Constraints.{pair, has, carried, NotOver, Below}
-use Rattle.theory.specs.Constraints.Laws.{Has, inside, outside, has-dec, at-end}
+use Rattle.theory.specs.Constraints.Laws.{Has, inside, outside, has-dec, at-end, pair-in, pair-ends, has-not, has-other, pair-comm}
 use Rattle.theory.specs.Over.{IsOver, Tight, Smallest, FirstOver, Finding, fine, first, overOf}
 use Rattle.theory.specs.Over.Laws.{tight-over, within-smallest, finds-overOf}
-use Rattle.peeling.specs.Less.{sub-below, less-sub, size-less}
+use Rattle.theory.specs.Set.Less.{sub-below, less-sub, size-less}
 use Rattle.theory.specs.Over.Listed.{ends, masks, Listed}
-use Rattle.theory.specs.Over.Listed.Laws.{carried-more, length-masks, take-masks, masks-at, masks-pairs, carried-none, pair-in, pair-ends, has-not, has-other, pair-comm}
+use Rattle.theory.specs.Over.Listed.Laws.{carried-more, length-masks, take-masks, masks-at, masks-pairs, carried-none}
 use Rattle.sparsity.specs.Freedoms.{free, frees, Table, Balanced, Closed, FreeBelow}
 use Rattle.sparsity.specs.Freedoms.Laws.{free-table, free-closed, free-balanced, kept-le, closed-kept, kept-closed, frees-two, frees-less, frees-only}
 use Rattle.sparsity.specs.Freedoms.Stores.{balanced-outside, balanced-placed, stored-table, stored-closed}

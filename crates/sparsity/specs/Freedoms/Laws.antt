@@ -12,7 +12,7 @@ use lib.Seq.{getD-set-same, getD-set-other}
 use Rattle.theory.specs.Set.{at}
 use Rattle.theory.specs.Set.Laws.{at-le, bit}
 use Rattle.theory.specs.Constraints.{carried}
-use Rattle.peeling.specs.Less.{at-below}
+use Rattle.theory.specs.Set.Less.{at-below}
 use Rattle.sparsity.specs.Freedoms.{entry, same, free, over, frees, kept, Table, Balanced, Closed, FreeBelow}
 use Rattle.sparsity.specs.Freedoms.Sums.{same-refl, over-le, over-same, over-tight, over-two, over-only, over-less, over-size}
 

@@ -10,7 +10,7 @@ use lib.Count.{ones}
 use Rattle.theory.specs.Set.{at}
 use Rattle.theory.specs.Set.Laws.{at-le, bit, size-sum}
 use Rattle.theory.specs.Sum.Laws.{sum-le, sum-eq, sum-zero, sum-mul, sum-two, sum-change, sum-change₂, sum-tight}
-use Rattle.peeling.specs.Less.{less-same, less-other}
+use Rattle.theory.specs.Set.Less.{less-same, less-other}
 use Rattle.sparsity.specs.Freedoms.{entry, same, free, over}
 
 -- ---- same

@@ -13,7 +13,7 @@ use lib.Count.{ones}
 use lib.ListN.{length}
 use lib.Pow.{pow-lt}
 use Rattle.theory.specs.Set.{_∩_, _∪_, at, _⊑_, full}
-use Rattle.theory.specs.Set.Laws.{at-or, at-le, bit, size-le, size-eq, sub-refl, sub-trans, or-l, or-r, and-l, and-r, and-most, sub-and, and-sub, singles-or, at-same, at-other, size-pow, pow-ne, below-full, cut-below}
+use Rattle.theory.specs.Set.Laws.{at-or, at-le, bit, size-le, size-eq, sub-refl, sub-trans, or-l, or-r, and-l, and-r, and-most, sub-and, and-sub, or-comm, singles-or, at-same, at-other, size-pow, pow-ne, below-full, cut-below}
 use Rattle.theory.specs.Constraints.{Ends, Sound, pair, clusters, Among, Pairs, Below, Perm, same, skip, swap, then, one-if, has, carried, NotOver, NotOverIn}
 
 -- ---- whether a constraint lies in a set
@@ -242,6 +242,38 @@ pair-one u v u′ v′ h h′ e =
     go (inl p) (inl q) = absurd (omega arith)
     go (inr p) (inl q) = absurd (omega arith)
     go (inr p) (inr q) = absurd (omega arith)
+
+-- ---- a pair in a set
+
+pub pair-in : (u v x : ℕ) → at u x ≡ 1 → at v x ≡ 1 → pair u v ⊑ x
+pair-in u v x p q = record { le = λ z. go z (bit (at z (pair u v)) (at-le z (pair u v))) }
+  where
+    go : (z : ℕ) → (at z (pair u v) ≡ 0) ⊎ (at z (pair u v) ≡ 1) → at z (pair u v) ≤ at z x
+    go z (inl e) = omega arith
+    go z (inr e) = ⊎-elim
+        (λ (w : z ≡ u). omega (arith, ap (λ (y : ℕ). at y x) w)) (λ (w : z ≡ v). omega (arith, ap (λ (y : ℕ). at y x) w)) (at-pair z u v e)
+
+pub pair-ends : (u v x : ℕ) → pair u v ⊑ x → (at u x ≡ 1) × (at v x ≡ 1)
+pair-ends u v x h = (omega (arith, h .le u, at-end u v .0, at-le u x), omega (arith, h .le v, at-end u v .1, at-le v x))
+
+-- whether both ends of a pair lie in a set
+pub has-not : (m x z : ℕ) → at z m ≡ 1 → at z x ≡ 0 → has m x ≡ 0
+has-not m x z e n = go (has-dec m x)
+  where
+    go : Has m x → has m x ≡ 0
+    go (outside k q) = q
+    go (inside i q) = absurd (omega (arith, i .le z))
+
+pub has-other : (u v x : ℕ) → at u x ≡ 1 → has (pair u v) x ≡ at v x
+has-other u v x e = ⊎-elim
+    (λ (z : at v x ≡ 0). has-not (pair u v) x v (at-end u v .1) z ∙ sym z)
+    (λ (z : at v x ≡ 1). has-in (pair u v) x (pair-in u v x e z) ∙ sym z) (bit (at v x) (at-le v x))
+
+pub pair-comm : (u v : ℕ) → pair u v ≡ pair v u
+unfolding pair
+pair-comm u v = or-comm (2 ^ u) (2 ^ v)
+
+-- ---- the constraints of a sheet
 
 pub sound-pairs : (n : ℕ) (l : List Ends) → Sound n l → Pairs (clusters l)
 unfolding Pairs

@@ -1,6 +1,6 @@
 -- Laws of constraints in two lists. Assumes nothing.
 use mathlib.Core.Path.{_≡_, refl, sym, ap, _∙_, subst}
-use mathlib.Core.Logic.{_⊎_, inl, inr, ⊎-elim}
+use mathlib.Core.Logic.{⊎-elim}
 use mathlib.Core.List.{List, [], _∷_, _++_}
 use Prim.Native.Nat.{ℕ, zero, suc, _+_, _^_, _≤_, _<_}
 use native.Mathlib.Nat.{lt-suc-self, lt-of-lt-of-le, le-step, le-refl, lt-trans}
@@ -10,11 +10,12 @@ use lib.Count.{ones}
 use lib.ListN.{length, take, getD, length-append}
 use lib.Seq.{take-append-le, take-all, getD-at, ext-getD}
 use lib.ListN as list
-use Rattle.theory.specs.Set.{_⊑_, at}
-use Rattle.theory.specs.Set.Laws.{at-le, bit, size-eq, or-comm}
-use Rattle.theory.specs.Constraints.{pair, has, carried, Among, Pairs, Below}
-use Rattle.theory.specs.Constraints.Laws.{size-pair, pair-below, at-pair, at-end, Has, inside, outside, has-dec, has-in}
+use Rattle.theory.specs.Set.{_⊑_}
+use Rattle.theory.specs.Set.Laws.{size-eq}
+use Rattle.theory.specs.Constraints.{has, carried, Among, Pairs, Below}
+use Rattle.theory.specs.Constraints.Laws.{size-pair, pair-below, Has, inside, outside, has-dec}
 use Rattle.theory.specs.Over.Laws.{carried-append}
+use Rattle.theory.specs.Near.Laws.{among-append}
 use Rattle.theory.specs.Over.Listed.{ends, masks, Listed}
 
 pub carried-more : (us vs : List ℕ) (c x : ℕ) → carried (masks us vs (suc c)) x ≡ carried (masks us vs c) x + has (ends us vs c) x
@@ -43,11 +44,6 @@ pub masks-are : (us vs cs : List ℕ) → ((c : ℕ) → c < length cs → getD 
 masks-are us vs cs h =
     ext-getD 0 (masks us vs (length cs)) cs (length-masks us vs (length cs))
     (λ c l. let k : c < length cs = subst (λ (n : ℕ). c < n) (length-masks us vs (length cs)) l in masks-at us vs c (length cs) k ∙ sym (h c k))
-
-among-append : (x : ℕ) (cs ds : List ℕ) → Among x (cs ++ ds) → Among x cs ⊎ Among x ds
-among-append x [] ds h = inr h
-among-append x (m ∷ cs) ds (inl e) = inl (inl e)
-among-append x (m ∷ cs) ds (inr h) = ⊎-elim (λ k. inl (inr k)) inr (among-append x cs ds h)
 
 -- one of the list is a constraint of the list
 pub among-masks : (us vs : List ℕ) (e x : ℕ) → Among x (masks us vs e) → (c : ℕ) × (c < e) × (x ≡ ends us vs c)
@@ -108,33 +104,3 @@ listed-part e c h l = record {
   below = λ d k. l .below d (lt-of-lt-of-le k h);
   differ = λ i j k m. l .differ i j k (lt-of-lt-of-le m h);
 }
-
--- ---- a pair in a set
-
-pub pair-in : (u v x : ℕ) → at u x ≡ 1 → at v x ≡ 1 → pair u v ⊑ x
-pair-in u v x p q = record { le = λ z. go z (bit (at z (pair u v)) (at-le z (pair u v))) }
-  where
-    go : (z : ℕ) → (at z (pair u v) ≡ 0) ⊎ (at z (pair u v) ≡ 1) → at z (pair u v) ≤ at z x
-    go z (inl e) = omega arith
-    go z (inr e) = ⊎-elim
-        (λ (w : z ≡ u). omega (arith, ap (λ (y : ℕ). at y x) w)) (λ (w : z ≡ v). omega (arith, ap (λ (y : ℕ). at y x) w)) (at-pair z u v e)
-
-pub pair-ends : (u v x : ℕ) → pair u v ⊑ x → (at u x ≡ 1) × (at v x ≡ 1)
-pair-ends u v x h = (omega (arith, h .le u, at-end u v .0, at-le u x), omega (arith, h .le v, at-end u v .1, at-le v x))
-
--- whether both ends of a pair lie in a set
-pub has-not : (m x z : ℕ) → at z m ≡ 1 → at z x ≡ 0 → has m x ≡ 0
-has-not m x z e n = go (has-dec m x)
-  where
-    go : Has m x → has m x ≡ 0
-    go (outside k q) = q
-    go (inside i q) = absurd (omega (arith, i .le z))
-
-pub has-other : (u v x : ℕ) → at u x ≡ 1 → has (pair u v) x ≡ at v x
-has-other u v x e = ⊎-elim
-    (λ (z : at v x ≡ 0). has-not (pair u v) x v (at-end u v .1) z ∙ sym z)
-    (λ (z : at v x ≡ 1). has-in (pair u v) x (pair-in u v x e z) ∙ sym z) (bit (at v x) (at-le v x))
-
-pub pair-comm : (u v : ℕ) → pair u v ≡ pair v u
-unfolding pair
-pair-comm u v = or-comm (2 ^ u) (2 ^ v)

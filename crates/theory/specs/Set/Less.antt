@@ -74,6 +74,19 @@ less-sub x a e = record { le = λ y. go y (ℕ-discrete y x) }
     go : (y : ℕ) → Dec (y ≡ x) → at y (a - 2 ^ x) ≤ at y a
     go y (yes q) = subst (λ (z : ℕ). at z (a - 2 ^ x) ≤ at z a) (sym q) (omega (arith, less-same x a e))
     go y (no n) = omega (arith, less-other x y a e n)
+
+-- what is left of a set, in another that holds the element too
+pub less-and : (x a b : ℕ) → at x a ≡ 1 → at x b ≡ 1 → (a - 2 ^ x) ∩ b ≡ (a ∩ b) - 2 ^ x
+less-and x a b e f = ext ((a - 2 ^ x) ∩ b) ((a ∩ b) - 2 ^ x) (λ y. go y (ℕ-discrete y x))
+  where
+    here : at x (a ∩ b) ≡ 1
+    here = omega (arith, at-and x a b)
+
+    go : (y : ℕ) → Dec (y ≡ x) → at y ((a - 2 ^ x) ∩ b) ≡ at y ((a ∩ b) - 2 ^ x)
+    go y (yes q) =
+        subst (λ (z : ℕ). at z ((a - 2 ^ x) ∩ b) ≡ at z ((a ∩ b) - 2 ^ x)) (sym q)
+        (omega (arith, at-and x (a - 2 ^ x) b, less-same x a e, less-same x (a ∩ b) here))
+    go y (no n) = omega (arith, at-and y (a - 2 ^ x) b, at-and y a b, less-other x y a e n, less-other x y (a ∩ b) here n)
 
 -- put back
 pub less-or : (x a : ℕ) → at x a ≡ 1 → 2 ^ x ∪ (a - 2 ^ x) ≡ a

@@ -1,0 +1,202 @@
+-- Laws of who is constrained with whom: lists that grow at their end, both ends noted, and what an element carries. Assumes nothing.
+use mathlib.Core.Path.{_≡_, refl, sym, ap, _∙_, subst}
+use mathlib.Core.Logic.{_≢_, _↔_, _⊎_, inl, inr, ⊎-elim, Ne·symm}
+use mathlib.Core.List.{List, [], _∷_, _++_}
+use Prim.Native.Nat.{ℕ, zero, suc, _+_, _-_, _^_, _≤_, _<_}
+use native.Mathlib.Decide.{ℕ-discrete}
+use native.Mathlib.Omega.{arith}
+use lib.Bits.{bitOr}
+use lib.Count.{ones}
+use lib.ListN.{length, take, getD, set, length-set, replicate, length-replicate}
+use lib.Seq.{getD-set-same, getD-set-other, length-take-le}
+use Rattle.theory.specs.Set.{_∩_, _∪_, _⊑_, at}
+use Rattle.theory.specs.Set.Laws.{at-or, at-le, at-zero, at-same, at-other, bit, size-eq, size-pow, size-add, sub-refl, sub-or, or-left, or-right, other, both}
+use Rattle.theory.specs.Set.Less.{at-below, less-other, less-and, size-less, sub-less}
+use Rattle.theory.specs.Constraints.{pair, has, carried, Among, Pairs, Below}
+use Rattle.theory.specs.Constraints.Laws.{Has, inside, outside, has-dec, has-in, size-pair, pair-below, at-pair, at-end, pair-in, pair-ends, pair-comm}
+use Rattle.theory.specs.Over.Laws.{among-take, pairs-take, below-take}
+use Rattle.theory.specs.Near.{Once, Simple, Standing, Near}
+
+-- ---- one more at the end of a list
+
+pub among-append : (x : ℕ) (cs ds : List ℕ) → Among x (cs ++ ds) → Among x cs ⊎ Among x ds
+among-append x [] ds h = inr h
+among-append x (m ∷ cs) ds (inl e) = inl (inl e)
+among-append x (m ∷ cs) ds (inr h) = ⊎-elim (λ k. inl (inr k)) inr (among-append x cs ds h)
+
+pub among-front : (x : ℕ) (cs ds : List ℕ) → Among x cs → Among x (cs ++ ds)
+among-front x (m ∷ cs) ds (inl e) = inl e
+among-front x (m ∷ cs) ds (inr h) = inr (among-front x cs ds h)
+
+pub among-back : (x : ℕ) (cs ds : List ℕ) → Among x ds → Among x (cs ++ ds)
+among-back x [] ds h = h
+among-back x (m ∷ cs) ds h = inr (among-back x cs ds h)
+
+-- it was there, or it is the new one
+pub among-more : (x m : ℕ) (cs : List ℕ) → Among x (cs ++ m ∷ []) → Among x cs ⊎ (x ≡ m)
+among-more x m cs h = ⊎-elim inl (⊎-elim inr (λ z. absurd z)) (among-append x cs (m ∷ []) h)
+
+once-more : (m : ℕ) (cs : List ℕ) → Once cs → (Among m cs → ⊥) → Once (cs ++ m ∷ [])
+once-more m [] o n = (λ z. z, tt)
+once-more m (x ∷ cs) o n = (λ h. ⊎-elim (o .0) (λ e. n (inl (sym e))) (among-more x m cs h), once-more m cs (o .1) (λ h. n (inr h)))
+
+once-take : (k : ℕ) (cs : List ℕ) → Once cs → Once (take k cs)
+once-take zero cs o = tt
+once-take (suc k) [] o = tt
+once-take (suc k) (m ∷ cs) o = (λ h. o .0 (among-take m k cs h), once-take k cs (o .1))
+
+pub simple-none : Simple []
+unfolding Pairs Below
+simple-none = record { pairs = λ x h. absurd h; below = λ x h. absurd h; once = tt }
+
+pub simple-more : (cs : List ℕ) (a b : ℕ) → Simple cs → a < b → b < 64 → (Among (pair a b) cs → ⊥) → Simple (cs ++ pair a b ∷ [])
+unfolding Pairs Below
+simple-more cs a b s h l n = record {
+  pairs = λ x i. ⊎-elim (s .pairs x) (λ e. ap ones e ∙ size-pair a b h) (among-more x (pair a b) cs i);
+  below = λ x i. ⊎-elim (s .below x) (λ e. subst (λ (z : ℕ). z < 2 ^ 64) (sym e) (pair-below 64 a b (omega arith) l)) (among-more x (pair a b) cs i);
+  once = once-more (pair a b) cs (s .once) n;
+}
+
+pub simple-take : (k : ℕ) (cs : List ℕ) → Simple cs → Simple (take k cs)
+simple-take k cs s = record {
+  pairs = pairs-take k cs (s .pairs);
+  below = below-take 64 k cs (s .below);
+  once = once-take k cs (s .once);
+}
+
+-- ---- constraints that stand in an array
+
+module _ {start : List ℕ} {e : ℕ} (s : Standing start e) where
+  pub standing-count : length (take e start) ≡ e
+  standing-count = length-take-le e start (omega (arith, s .places, s .few))
+
+-- ---- a set of two elements
+
+-- one of them is x, and the other
+pub pair-with : (m x : ℕ) → ones m ≡ 2 → at x m ≡ 1 → (y : ℕ) × (y ≢ x) × (m ≡ pair x y)
+unfolding pair
+pair-with m x two e =
+    let o = other m x (omega arith) in
+    let size = size-add (2 ^ o .0) x (at-other x (o .0) (Ne·symm (o .2))) in
+    (o .0, o .2, sym (size-eq m (pair x (o .0)) (pair-in x (o .0) m e (o .1)) (omega (arith, two, size, size-pow (o .0)))))
+
+pub pair-other : (x y z : ℕ) → x ≢ z → pair x y ≡ pair x z → y ≡ z
+pair-other x y z n e = ⊎-elim
+    (λ (p : z ≡ x). absurd (n (sym p)))
+    (λ (p : z ≡ y). sym p)
+    (at-pair z x y (ap (at z) e ∙ at-end x z .1))
+
+-- ---- both ends noted
+
+pub near-none : Near [] (replicate 64 0)
+near-none = record {
+  places = length-replicate {A = ℕ} 64 0;
+  says = λ x y l. (λ e. absurd (omega (arith, e, ap (at y) (blank 64 x), at-zero y)), λ z. absurd z);
+}
+  where
+    blank : (n x : ℕ) → _≡_ {A = ℕ} (getD (replicate n 0) x 0) 0
+    blank zero x = refl
+    blank (suc n) zero = refl
+    blank (suc n) (suc x) = blank n x
+
+module _ (cs near : List ℕ) (n : Near cs near) (a b : ℕ) (la : a < 64) (lb : b < 64) (a≢b : a ≢ b) where
+  abbrev mid : List ℕ
+  mid = set near a (getD near a 0 ∪ 2 ^ b)
+
+  abbrev new : List ℕ
+  new = set mid b (getD near b 0 ∪ 2 ^ a)
+
+  at-a : getD new a 0 ≡ getD near a 0 ∪ 2 ^ b
+  at-a = getD-set-other mid b a (getD near b 0 ∪ 2 ^ a) 0 a≢b ∙ getD-set-same near a (getD near a 0 ∪ 2 ^ b) 0 (omega (arith, n .places, la))
+
+  at-b : getD new b 0 ≡ getD near b 0 ∪ 2 ^ a
+  at-b = getD-set-same mid b (getD near b 0 ∪ 2 ^ a) 0 (omega (arith, length-set near a (getD near a 0 ∪ 2 ^ b), n .places, lb))
+
+  at-neither : (x : ℕ) → x ≢ a → x ≢ b → getD new x 0 ≡ getD near x 0
+  at-neither x p q = getD-set-other mid b x (getD near b 0 ∪ 2 ^ a) 0 q ∙ getD-set-other near a x (getD near a 0 ∪ 2 ^ b) 0 p
+
+  -- an end of the new constraint: its other end belongs to the set now
+  says-end : (x z y : ℕ) → x < 64 → x ≢ z → pair a b ≡ pair x z → getD new x 0 ≡ getD near x 0 ∪ 2 ^ z
+      → (at y (getD new x 0) ≡ 1) ↔ Among (pair x y) (cs ++ pair a b ∷ [])
+  says-end x z y l ne e g = (to, back)
+    where
+      to : at y (getD new x 0) ≡ 1 → Among (pair x y) (cs ++ pair a b ∷ [])
+      to i = go (ℕ-discrete y z)
+        where
+          go : Dec (y ≡ z) → Among (pair x y) (cs ++ pair a b ∷ [])
+          go (yes p) = among-back (pair x y) cs (pair a b ∷ []) (inl (ap (pair x) p ∙ sym e))
+          go (no p) =
+              among-front (pair x y) cs (pair a b ∷ []) (n .says x y l .0 (omega (arith, i, ap (at y) g, at-or y (getD near x 0) (2 ^ z), at-other y z p)))
+
+      back : Among (pair x y) (cs ++ pair a b ∷ []) → at y (getD new x 0) ≡ 1
+      back h = ap (at y) g ∙ ⊎-elim
+          (λ i. or-left y (getD near x 0) (2 ^ z) (n .says x y l .1 i))
+          (λ q. or-right y (getD near x 0) (2 ^ z) (ap (λ (w : ℕ). at w (2 ^ z)) (pair-other x y z ne (q ∙ e)) ∙ at-same z))
+          (among-more (pair x y) (pair a b) cs h)
+
+  -- another element
+  says-neither : (x y : ℕ) → x < 64 → x ≢ a → x ≢ b → (at y (getD new x 0) ≡ 1) ↔ Among (pair x y) (cs ++ pair a b ∷ [])
+  says-neither x y l p q = (
+    λ i. among-front (pair x y) cs (pair a b ∷ []) (n .says x y l .0 (ap (at y) (sym (at-neither x p q)) ∙ i)),
+    λ h. ap (at y) (at-neither x p q) ∙ ⊎-elim
+        (n .says x y l .1)
+        (λ e. absurd (⊎-elim p q (at-pair x a b (ap (at x) (sym e) ∙ at-end x y .0))))
+        (among-more (pair x y) (pair a b) cs h),
+  )
+
+  pub near-more : Near (cs ++ pair a b ∷ []) new
+  near-more = record {
+    places = length-set mid b (getD near b 0 ∪ 2 ^ a) ∙ length-set near a (getD near a 0 ∪ 2 ^ b) ∙ n .places;
+    says = λ x y l. go x y l (ℕ-discrete x a) (ℕ-discrete x b);
+  }
+    where
+      go : (x y : ℕ) → x < 64 → Dec (x ≡ a) → Dec (x ≡ b) → (at y (getD new x 0) ≡ 1) ↔ Among (pair x y) (cs ++ pair a b ∷ [])
+      go x y l (yes p) d =
+          subst (λ (z : ℕ). (at y (getD new z 0) ≡ 1) ↔ Among (pair z y) (cs ++ pair a b ∷ [])) (sym p) (says-end a b y la a≢b refl at-a)
+      go x y l (no p) (yes q) =
+          subst (λ (z : ℕ). (at y (getD new z 0) ≡ 1) ↔ Among (pair z y) (cs ++ pair a b ∷ [])) (sym q)
+          (says-end b a y lb (Ne·symm a≢b) (pair-comm a b) at-b)
+      go x y l (no p) (no q) = says-neither x y l p q
+
+  -- the same of what the code has: both sets read, then both stored
+  pub near-stored : {i j sa sb : ℕ} → i ≡ a → j ≡ b → sa ≡ 2 ^ a → sb ≡ 2 ^ b
+      → Near (cs ++ pair a b ∷ []) (set (set near i (bitOr (getD near i 0) sb)) j (bitOr (getD near j 0) sa))
+  unfolding _∪_
+  near-stored ei ej ea eb = rw (ei, ej, ea, eb) near-more
+
+-- ---- what an element has in a set
+
+module _ (x a : ℕ) (e : at x a ≡ 1) where
+  -- a constraint between x and an element of ys
+  counts-in : (cs : List ℕ) → Pairs cs → Once cs → (ys : ℕ) → ((y : ℕ) → Among (pair x y) cs → at y ys ≡ 1)
+      → carried cs a ≤ carried cs (a - 2 ^ x) + ones (ys ∩ a)
+  unfolding carried Pairs
+  counts-in [] pairs once ys h = omega arith
+  counts-in (m ∷ cs) pairs once ys h = go (has-dec m a) (bit (at x m) (at-le x m)) (counts-in cs (λ y i. pairs y (inr i)) (once .1))
+    where
+      go : Has m a → (at x m ≡ 0) ⊎ (at x m ≡ 1)
+          → ((zs : ℕ) → ((y : ℕ) → Among (pair x y) cs → at y zs ≡ 1) → carried cs a ≤ carried cs (a - 2 ^ x) + ones (zs ∩ a))
+          → has m a + carried cs a ≤ has m (a - 2 ^ x) + carried cs (a - 2 ^ x) + ones (ys ∩ a)
+      go (outside k q) d ih = omega (arith, ih ys (λ y i. h y (inr i)))
+      go (inside i q) (inl z) ih = omega (arith, has-in m (a - 2 ^ x) (sub-less x a m e i z), ih ys (λ y k. h y (inr k)))
+      go (inside i q) (inr z) ih =
+          let o = pair-with m x (pairs m (inl refl)) z in
+          let y = o .0 in
+          let in-ys : at y ys ≡ 1 = h y (inl (sym (o .2))) in
+          let in-a : at y a ≡ 1 = pair-ends x y a (subst (λ (w : ℕ). w ⊑ a) (o .2) i) .1 in
+          let rest = ih (ys - 2 ^ y)
+          (λ w k. less-other y w ys in-ys (λ r. once .0 (subst (λ (v : ℕ). Among v cs) (ap (pair x) r ∙ sym (o .2)) k)) ∙ h w (inr k)) in
+          omega (arith, rest, size-less y (ys ∩ a) (both y ys a in-ys in-a), ap ones (less-and y ys a in-ys in-a))
+
+  -- with the elements that are constrained with x
+  pub near-counts : (cs near : List ℕ) → Simple cs → Near cs near → x < 64 → carried cs a ≤ carried cs (a - 2 ^ x) + ones (getD near x 0 ∩ a)
+  near-counts cs near s n l = counts-in cs (s .pairs) (s .once) (getD near x 0) (λ y i. n .says x y l .1 i)
+
+-- an element that is constrained with x is another one, below 64
+pub near-other : (cs near : List ℕ) → Simple cs → Near cs near → (x y : ℕ) → x < 64 → at y (getD near x 0) ≡ 1 → (y ≢ x) × (y < 64)
+unfolding Pairs Below pair
+near-other cs near s n x y l e =
+    let i = n .says x y l .0 e in (
+      λ p. omega (arith, s .pairs (pair x y) i, ap (λ (z : ℕ). ones (pair x z)) p, ap ones (sub-or (2 ^ x) (2 ^ x) (sub-refl (2 ^ x))), size-pow x),
+      at-below 64 y (pair x y) (s .below (pair x y) i) (at-end x y .1),
+    )
