@@ -28,7 +28,10 @@ pub record InArrays (cs : List Constraint) (near start : List ℕ) (sizes : List
 pub record Packed (c : Constraint) (a b : ℕ) (z : ℤ) : Type 0 where
   pub first-is : c .first ≡ a
   pub second-is : c .second ≡ b
-  pub ascend : a < b
-  pub below : b < 64
   pub size-is : sizeOf (c .size) ≡ z
+
+-- it comes out again: its ends ascend, below 64, and no 0 is written
+pub record Unpacks (c : Constraint) : Type 0 where
+  pub ascend : c .first < c .second
+  pub below : c .second < 64
   pub not-zero : c .size ≢ Given (pos 0)

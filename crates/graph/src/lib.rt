@@ -11,7 +11,7 @@ ghost use Rattle.sheet.specs.Facts.{Facts, block, factsOf, sheetOf};
 ghost use Rattle.sheet.specs.Rules.{sheetFault};
 ghost use Rattle.sheet.specs.Accepted.{Accepted};
 ghost use Rattle.sheet.specs.Graph.{sizeOf};
-ghost use Rattle.graph.specs.Lent.{headOf, InArrays, Packed};
+ghost use Rattle.graph.specs.Lent.{headOf, InArrays, Packed, Unpacks};
 ghost use Rattle.graph.specs.Arrays.{constraintSize, endPair, EndsBelow64};
 use sheet::Constraint;
 use sheet::Sheet;
@@ -125,7 +125,7 @@ fn highest(m: u64) -> u8
 
 // The constraint between the two elements of a set; a size of 0 is a missing one.
 fn constraint_in(m: u64, z: i32) -> Constraint
-    ensures { λ r. ⌜ ((a b : ℕ) (c : Constraint) → m ≡ pair a b → Packed c a b z → r ≡ c) ⌝ }
+    ensures { λ r. ⌜ ((c : Constraint) → Unpacks c → m ≡ pair (c .first) (c .second) → sizeOf (c .size) ≡ z → r ≡ c) ⌝ }
 {
     let size = if z == 0 { Size::Missing } else { Size::Given(z) };
     Constraint {

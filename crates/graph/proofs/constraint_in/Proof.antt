@@ -16,14 +16,14 @@ cast-t7 : tie.Need-cast-t7
 cast-t7 c = omega (arith, trailing-le 64 (c .before .args .m))
 
 returns : tie.Need-returns
-returns c = λ a b k e p.
+returns c = λ k u e is.
     let fits = toZ-ofZ (c .before .before .fits .z) in
     constraint-is
-    (ap (trailingZeros 64) e ∙ pair-lowest a b (p .ascend) (p .below) ∙ sym (p .first-is))
-    (c .highest .ensures a b (p .ascend) (p .below) e ∙ sym (p .second-is))
+    (ap (trailingZeros 64) e ∙ pair-lowest (k .first) (k .second) (u .ascend) (u .below))
+    (c .highest .ensures (k .first) (k .second) (u .ascend) (u .below) e)
     (⊎-elim
-    (λ w. w .1 ∙ sym (size-missing p (sym fits ∙ ap (toZ w32) (w .0 .taken))))
-    (λ w. w .1 ∙ ap Given fits ∙ sym (size-given p (λ z. w .0 .left (ap (ofZ w32) z))))
+    (λ w. w .1 ∙ sym (size-missing k is u (sym fits ∙ ap (toZ w32) (w .0 .taken))))
+    (λ w. w .1 ∙ ap Given fits ∙ sym (size-given k is (λ z. w .0 .left (ap (ofZ w32) z))))
     (c .before .if1 .came))
 
 pub constraint-in-spec : {M : Type 1} → statement M

@@ -17,8 +17,8 @@ use Rattle.sheet.specs.Accepted.{Accepted}
 use Rattle.sheet.specs.Graph.{sizeOf}
 use Rattle.sheet.specs.Graph.Laws.{accepted-most}
 use Rattle.sheet.specs.RoundTrip.Blocks.{constraints-most, elements-most, sheetFault-none, factsOf-accepted}
-use Rattle.graph.specs.Lent.{InArrays, Packed}
-use Rattle.graph.specs.Lent.Laws.{in-arrays-none, accepted-packed}
+use Rattle.graph.specs.Lent.{InArrays, Unpacks}
+use Rattle.graph.specs.Lent.Laws.{in-arrays-none, accepted-unpack}
 use Rattle.graph.proofs.fill.Statement.{statement}
 use Rattle.graph.proofs.fill.Tie as tie
 
@@ -42,13 +42,11 @@ module _ (c : tie.Start Inv-loop μ-loop) where
   counted : length (take (c .args .t1 .e) (c .args .t1 .constraints)) ≡ c .args .t1 .e
   counted = length-take-le (c .args .t1 .e) (c .args .t1 .constraints) (rw long (few .1))
 
-  packed : (i : ℕ) → i < c .args .t1 .e
-      → Packed (getD (c .args .t1 .constraints) i zeros) (getD (c .args .t1 .constraints) i zeros .first) (getD (c .args .t1 .constraints) i zeros .second)
-      (sizeOf (getD (c .args .t1 .constraints) i zeros .size))
-  packed i l =
+  unpacks : (i : ℕ) → i < c .args .t1 .e → Unpacks (getD (c .args .t1 .constraints) i zeros)
+  unpacks i l =
       let s = c .args .t1 in
       let ok = factsOf-accepted s (elements-long s (c .good .0)) long (c .pre .0) in
-      rw (getD-take (s .e) (s .constraints) i zeros l) at (accepted-packed (factsOf s) i zeros ok (rw counted l))
+      rw (getD-take (s .e) (s .constraints) i zeros l) at (accepted-unpack (factsOf s) i zeros ok (rw counted l))
 
 loop-holds : tie.Need-loop-holds Inv-loop μ-loop
 loop-holds c = (omega arith, rw (c .pre .1, c .pre .2, c .pre .3) in-arrays-none)
@@ -62,7 +60,7 @@ element-copy-out-c c = omega (arith, few (c .before .before))
 note-requires : tie.Need-note-requires Inv-loop μ-loop
 note-requires c κs =
     let s = c .before .before .before .before .before .before .before in
-    let p = packed s (c .before .before .before .before .before .before .loop .i) (c .before .before .before .before .before .loop-test .taken) in
+    let p = unpacks s (c .before .before .before .before .before .before .loop .i) (c .before .before .before .before .before .loop-test .taken) in
     (omega (arith, few s), p .ascend, p .below)
 
 add-i : tie.Need-add-i Inv-loop μ-loop
@@ -72,12 +70,15 @@ loop-again : tie.Need-loop-again Inv-loop μ-loop
 loop-again c =
     let s = c .before .before .before .before .before .before .before .before in
     let a = c .before .before .before .before .before .before .before .loop in
-    let l = c .before .before .before .before .before .before .loop-test .taken in
     let cs = s .args .t1 .constraints in
     let i : a .i < length cs = omega (arith, few s, long s) in
     (omega arith, rw (add-one, take-suc cs (a .i) zeros i)
     (c .note .ensures (take (a .i) cs) (getD cs (a .i) zeros) (length-take-le (a .i) cs (omega arith))
-    (rw (toZ-ofZ {w = w32} {z = c .before .size-of .result} (record { sfits = c .before .size-of .ok }), c .before .size-of .ensures) (packed s (a .i) l))
+    (record {
+      first-is = refl;
+      second-is = refl;
+      size-is = sym (toZ-ofZ {w = w32} {z = c .before .size-of .result} (record { sfits = c .before .size-of .ok }) ∙ c .before .size-of .ensures);
+    })
     (a .inv .1)))
 
 returns : tie.Need-returns Inv-loop μ-loop

@@ -14,9 +14,10 @@ use Rattle.sheet.specs.declared.Constraint.{Constraint}
 use Rattle.sheet.specs.Facts.{Facts, blankConstraint, sheetOf}
 use Rattle.sheet.specs.Facts.Laws.{elementsOf-linesOf, still-blank, filled}
 use Rattle.sheet.specs.Accepted.{Accepted}
+use Rattle.sheet.specs.Graph.{sizeOf}
 use Rattle.graph.specs.declared.Head.{Head}
 use Rattle.graph.specs.Lent.{headOf, InArrays}
-use Rattle.graph.specs.Lent.Laws.{pair-in-start, size-in-sizes, accepted-packed}
+use Rattle.graph.specs.Lent.Laws.{pair-in-start, size-in-sizes, accepted-unpack}
 use Rattle.graph.proofs.sheet_of.Statement.{statement}
 use Rattle.graph.proofs.sheet_of.Tie as tie
 
@@ -45,8 +46,9 @@ loop-again c =
           let m : a .i < length (f .constraints) = omega (arith, ap (λ (x : Head). x .e) is) in
           let d = blankConstraint in
           let k = getD (f .constraints) (a .i) d in
-          let got : c .constraint-in .result ≡ k = c .constraint-in .ensures (k .first) (k .second) k (pair-in-start h (a .i) d m)
-          (rw (toZ-ofZ {w = w32} {z = getD (s .args .sizes .now) (a .i) (pos 0)} (search needs), size-in-sizes h (a .i) d m) (accepted-packed f (a .i) d ok m)) in
+          let z : sizeOf (k .size) ≡ _ =
+          sym (toZ-ofZ {w = w32} {z = getD (s .args .sizes .now) (a .i) (pos 0)} (search needs) ∙ size-in-sizes h (a .i) d m) in
+          let got = c .constraint-in .ensures k (accepted-unpack f (a .i) d ok m) (pair-in-start h (a .i) d m) z in
           rw (add-one, take-suc-set (a .cs) (a .i) _ l, take-suc (f .constraints) (a .i) d m, a .inv .out f near ok is h, got);
     }
 

@@ -30,7 +30,7 @@ use Rattle.sheet.specs.Graph.{endsOf, sizeOf}
 use Rattle.sheet.specs.Graph.Laws.{accepted-most}
 use Rattle.sheet.specs.Noted.{Noted}
 use Rattle.sheet.specs.Noted.Laws.{noted-none, clusters-more}
-use Rattle.graph.specs.Lent.{InArrays, Packed}
+use Rattle.graph.specs.Lent.{InArrays, Unpacks}
 
 -- ---- a block with one item more
 
@@ -113,16 +113,16 @@ pub constraint-is : {c : Constraint} {a b : ℕ} {s : Size} → a ≡ c .first �
 constraint-is e f g = rw (e, f, g)
 
 -- the size, given or missing
-module _ {c : Constraint} {a b : ℕ} {z : ℤ} (p : Packed c a b z) where
-  pub size-missing : z ≡ pos 0 → c .size ≡ Missing
-  size-missing e = out (c .size) (p .size-is ∙ e) (p .not-zero)
+module _ (c : Constraint) {z : ℤ} (is : sizeOf (c .size) ≡ z) where
+  pub size-missing : Unpacks c → z ≡ pos 0 → c .size ≡ Missing
+  size-missing u e = out (c .size) (is ∙ e) (u .not-zero)
     where
       out : (s : Size) → sizeOf s ≡ pos 0 → s ≢ Given (pos 0) → s ≡ Missing
       out (Given y) e n = absurd (n (ap Given e))
       out Missing e n = refl
 
   pub size-given : z ≢ pos 0 → c .size ≡ Given z
-  size-given n = out (c .size) (p .size-is)
+  size-given n = out (c .size) is
     where
       out : (s : Size) → sizeOf s ≡ z → s ≡ Given z
       out (Given y) e = ap Given e
@@ -135,26 +135,22 @@ zero-refused Points z e q = let k : sizeFault Points (Given (pos 0)) ≡ 0 = rw 
 zero-refused PointLine z e q = let k : sizeFault PointLine (Given (pos 0)) ≡ 0 = rw q at e in omega arith
 zero-refused Lines z e q = let k : sizeFault Lines (Given (pos 0)) ≡ 0 = rw q at e in omega arith
 
-faults-packed : (es : List Element) (cs done : List Constraint) (i : ℕ) (d : Constraint) → length es ≤ 64 → constraintsFault es done cs ≡ 0 → i < length cs
-    → Packed (getD cs i d) (getD cs i d .first) (getD cs i d .second) (sizeOf (getD cs i d .size))
+faults-unpack : (es : List Element) (cs done : List Constraint) (i : ℕ) (d : Constraint) → length es ≤ 64 → constraintsFault es done cs ≡ 0 → i < length cs
+    → Unpacks (getD cs i d)
 unfolding constraintsFault
-faults-packed es [] done i d m e l = absurd (omega arith)
-faults-packed es (c ∷ cs) done zero d m e l =
+faults-unpack es [] done i d m e l = absurd (omega arith)
+faults-unpack es (c ∷ cs) done zero d m e l =
     let h = none-else es (constraintFault es done c) (constraintsFault es (done ++ c ∷ []) cs) e in
     let t = taken es done c (h .0) in
     let o = ends-true (length es) (c .first) (c .second) (t .ends-ascend) in
     record {
-      first-is = refl;
-      second-is = refl;
       ascend = o .0;
       below = omega (arith, o .1);
-      size-is = refl;
       not-zero = zero-refused (pairAt es (c .first) (c .second)) (c .size) (t .size-fits);
     }
-faults-packed es (c ∷ cs) done (suc i) d m e l =
+faults-unpack es (c ∷ cs) done (suc i) d m e l =
     let h = none-else es (constraintFault es done c) (constraintsFault es (done ++ c ∷ []) cs) e in
-    faults-packed es cs (done ++ c ∷ []) i d m (h .1) (le-of-suc-le-suc l)
+    faults-unpack es cs (done ++ c ∷ []) i d m (h .1) (le-of-suc-le-suc l)
 
-pub accepted-packed : (f : Facts) (i : ℕ) (d : Constraint) → Accepted f → i < length (f .constraints)
-    → Packed (getD (f .constraints) i d) (getD (f .constraints) i d .first) (getD (f .constraints) i d .second) (sizeOf (getD (f .constraints) i d .size))
-accepted-packed f i d h l = faults-packed (f .elements) (f .constraints) [] i d (accepted-most f h) (h .no-fault) l
+pub accepted-unpack : (f : Facts) (i : ℕ) (d : Constraint) → Accepted f → i < length (f .constraints) → Unpacks (getD (f .constraints) i d)
+accepted-unpack f i d h l = faults-unpack (f .elements) (f .constraints) [] i d (accepted-most f h) (h .no-fault) l
