@@ -16,9 +16,8 @@ use Rattle.sheet.specs.declared.Element.{Element}
 use Rattle.sheet.specs.declared.Constraint.{Constraint}
 use Rattle.sheet.specs.Facts.{Facts, blankConstraint}
 use Rattle.sheet.specs.Rules.{stands, constraintFault, constraintsFault}
-use Rattle.sheet.specs.Rules.Laws.{and-true, ends-true}
+use Rattle.sheet.specs.Rules.Laws.{and-true, ends-true, stands-more}
 use Rattle.sheet.specs.Accepted.Laws.{taken, none-else}
-use Rattle.sheet.specs.Noted.Laws.{stands-more}
 use Rattle.sheet.specs.Graph.{endsOf, clustersOf, listedEnds}
 use Rattle.sheet.specs.Graph.Laws.{ends-sound}
 use Rattle.graph.specs.Arrays.{endAt, endPair}
