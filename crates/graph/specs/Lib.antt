@@ -1,2 +1,3 @@
--- A sheet's constraints as lists of numbers.
+-- A sheet's constraints as lists of numbers, and its constraint graph in lent arrays.
 pub mod Arrays
+pub mod Lent

@@ -38,9 +38,13 @@ ended c (b ∷ rest) = refused 10
 unfoldable pub lastConstraint : Facts → List ℕ → Field Constraint
 lastConstraint f bytes = next (constraint (f .elements) (f .constraints) bytes) ended
 
+-- the facts with that constraint
+unfoldable pub longer : Facts → List ℕ → Field Facts
+longer f bytes = next (lastConstraint f bytes) (λ c end. value (extended f c) end)
+
 -- the sketch with that constraint
 unfoldable pub extendedSheet : List ℕ → List ℕ → Field Facts
-extendedSheet bytes more = next (heldSheet bytes) (λ f rest. next (lastConstraint f more) (λ c end. held (extended f c) end))
+extendedSheet bytes more = next (heldSheet bytes) (λ f rest. next (longer f more) held)
 
 -- its sheet, written into lent space
 unfoldable pub extendAnswer : List ℕ → List ℕ → List ℕ → Written

@@ -1,11 +1,12 @@
 // The public crate: every entry point that a user calls, each with its whole contract and no precondition. specs/ says what each answers.
 ghost use mathlib.Core.Path.{_≡_};
+ghost use Prim.Native.Nat.{_<_};
 ghost use Rattle.sheet.specs.Decode.{readSheet};
 ghost use Rattle.sheet.specs.Facts.{factsOf};
 ghost use Rattle.sheet.specs.Rules.{sheetFault};
-ghost use Rattle.reader.specs.Answers.{asReading, asConstraint};
+ghost use Rattle.reader.specs.Answers.{asReading};
 ghost use Rattle.sketch.specs.Sketch.{addedOf};
-ghost use Rattle.pattern.specs.Sketches.{heldSheet, lastConstraint, extendAnswer, extendAfter};
+ghost use Rattle.pattern.specs.Sketches.{heldSheet, longer, extendAnswer, extendAfter};
 ghost use Rattle.writer.specs.Write.{writeAnswer, writeAfter};
 ghost use mathlib.Core.List.{[], _∷_};
 ghost use Rattle.space.specs.Space.{answer, after};
@@ -14,8 +15,9 @@ ghost use Rattle.account.specs.Account.{reportOf};
 ghost use Rattle.pattern.specs.Plans.{checkAnswer, checkAfter};
 ghost use Rattle.pattern.specs.Judgements.{judgementOf};
 ghost use Rattle.pattern.specs.Sheets.{rewriteAnswer, rewriteAfter, itemsAnswer, itemsAfter, overNumbers};
-use reader::ConstraintRead;
+use graph::Head;
 use reader::Cursor;
+use reader::GraphRead;
 use reader::Outcome;
 use reader::Reading;
 use sheet::Constraint;
@@ -43,13 +45,14 @@ pub fn write(sheet: Sheet, out: &mut [u8]) -> Written
 pub fn rewrite(bytes: &[u8], out: &mut [u8]) -> Written
     ensures { λ r. ⌜ (r ≡ rewriteAnswer (now (bytes .entry)) (now (out .entry))) × (now (out .exit) ≡ rewriteAfter (now (bytes .entry)) (now (out .entry))) ⌝ }
 {
-    let reading = reader::read_sheet(bytes);
-    let outcome = reading.outcome;
-    let Outcome::Accepted = outcome else {
-        return Written::Refused(reader::refusal(outcome));
+    let mut near = [0u64; 64];
+    let mut start = [0u64; 200];
+    let mut sizes = [0i32; 200];
+    let got = reader::read_graph(bytes, &mut near, &mut start, &mut sizes);
+    let GraphRead::Value(_) = got else {
+        return Written::Refused(got.refusal());
     };
-    let sheet = reading.sheet;
-    writer::write_accepted(sheet, out)
+    writer::write_untagged(bytes, out)
 }
 
 // Two numbers into lent space, or 17.
@@ -185,24 +188,28 @@ pub fn add(held: Sheet, c: Constraint) -> Added
     sketch::add(held, c)
 }
 
-// One more constraint of a sheet as bytes, or the rule of 2 and 6 to 10 that refuses it.
-fn read_last(sheet: Sheet, bytes: &[u8]) -> ConstraintRead
-    requires { ⌜ sheetFault sheet ≡ 0 ⌝ }
-    ensures { λ r. ⌜ asConstraint (now (bytes .entry)) r ≡ lastConstraint (factsOf sheet) (now (bytes .entry)) ⌝ }
+// A sheet with one more constraint as bytes, or the rule of 2 and 6 to 10 that refuses it.
+fn read_more(sheet: Sheet, bytes: &[u8]) -> Reading
+    requires { ⌜ (sheetFault sheet ≡ 0) × (sheet .e < 200) ⌝ }
+    ensures { λ r. ⌜ r ≡ asReading (longer (factsOf sheet) (now (bytes .entry))) ⌝ }
 {
-    let n = sheet.n;
-    let elements = sheet.elements;
-    let lines = sheet::lines_of(elements, n);
-    let pairs = sketch::pairs_of(sheet);
-    let got = reader::read_constraint(bytes, Cursor { at: 0 }, &pairs, n, lines);
-    let ConstraintRead::Value(_, after) = got else {
-        return got;
+    let mut near = [0u64; 64];
+    let mut start = [0u64; 200];
+    let mut sizes = [0i32; 200];
+    let head = graph::fill(sheet, &mut near, &mut start, &mut sizes);
+    let n = head.n;
+    let e = head.e;
+    let lines = head.lines;
+    let front = Cursor { at: 0 };
+    let got = reader::read_constraints(bytes, front, n, lines, e, e + 1, &mut near, &mut start, &mut sizes);
+    let Outcome::Accepted = got else {
+        return reader::refuse(reader::refusal(got));
     };
-    let end = after.at;
-    if end < bytes.len() {
-        return ConstraintRead::Refused(10);
+    let more = graph::sheet_of(Head { n, e: e + 1, lines }, &start, &sizes);
+    Reading {
+        outcome: Outcome::Accepted,
+        sheet: more,
     }
-    got
 }
 
 // A sheet with one more constraint, both as bytes, or the rule of 1 to 11 and 17 that refuses them.
@@ -215,11 +222,12 @@ pub fn extend(bytes: &[u8], constraint: &[u8], out: &mut [u8]) -> Written
         return Written::Refused(reader::refusal(outcome));
     };
     let sheet = reading.sheet;
-    let got = read_last(sheet, constraint);
-    let ConstraintRead::Value(last, _) = got else {
-        return Written::Refused(got.refusal());
+    let extended = read_more(sheet, constraint);
+    let last = extended.outcome;
+    let Outcome::Accepted = last else {
+        return Written::Refused(reader::refusal(last));
     };
-    let more = sketch::store(sheet, last);
+    let more = extended.sheet;
     let fault = sketch::over_fault(more);
     if fault != 0 {
         return Written::Refused(fault);

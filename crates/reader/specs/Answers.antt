@@ -1,14 +1,21 @@
 -- What each answer of the reader says, over the bytes s that it reads: the value with the bytes from the next cursor on, or the refusal
 -- (document 01, "Where each form goes": each field read answers a value with the next cursor or a refusal number).
-use Prim.Native.Nat.{ℕ, _<_}
+use Prim.Native.Nat.{ℕ, _^_, _≤_, _<_}
 use mathlib.Core.Path.{_≡_}
+use mathlib.Core.Bool.{Bool}
 use mathlib.Core.List.{List, []}
+use lib.IntN.{ℤ}
 use lib.ListN.{drop}
 use Rattle.sheet.specs.declared.Element.{Element}
-use Rattle.sheet.specs.declared.Size.{Size}
+use Rattle.sheet.specs.declared.PairKind.{PairKind}
 use Rattle.sheet.specs.declared.Constraint.{Constraint}
 use Rattle.sheet.specs.Facts.{Facts, elementsOf, sheetOf}
-use Rattle.sheet.specs.Field.{Field, value, refused, next, openingBytes}
+use Rattle.sheet.specs.Field.{Field, value, refused, next, demand, byte as byteOf, openingBytes}
+use Rattle.sheet.specs.Rules.{pairAt, bitMap}
+use Rattle.sheet.specs.Decode.{size as sizeField, dimension, constraints}
+use Rattle.sheet.specs.Graph.{sizeOf}
+use Rattle.graph.specs.declared.Head.{Head}
+use Rattle.graph.specs.Lent.{headOf, InArrays}
 use Rattle.reader.specs.declared.Cursor.{Cursor}
 use Rattle.reader.specs.declared.OpeningRead.{OpeningRead}
 use Rattle.reader.specs.declared.OpeningRead.the-variants as opening
@@ -16,15 +23,20 @@ use Rattle.reader.specs.declared.ByteRead.{ByteRead}
 use Rattle.reader.specs.declared.ByteRead.the-variants as byte
 use Rattle.reader.specs.declared.NumberRead.{NumberRead}
 use Rattle.reader.specs.declared.NumberRead.the-variants as number
+use Rattle.reader.specs.declared.EndsRead.{EndsRead}
+use Rattle.reader.specs.declared.EndsRead.the-variants as ends
 use Rattle.reader.specs.declared.SizeRead.{SizeRead}
 use Rattle.reader.specs.declared.SizeRead.the-variants as size
 use Rattle.reader.specs.declared.TagRead.{TagRead}
 use Rattle.reader.specs.declared.TagRead.the-variants as tag
-use Rattle.reader.specs.declared.ConstraintRead.{ConstraintRead}
-use Rattle.reader.specs.declared.ConstraintRead.the-variants as constraint
+use Rattle.reader.specs.declared.HeadRead.{HeadRead}
+use Rattle.reader.specs.declared.HeadRead.the-variants as head
+use Rattle.reader.specs.declared.GraphRead.{GraphRead}
+use Rattle.reader.specs.declared.GraphRead.the-variants as graph
 use Rattle.reader.specs.declared.Outcome.{Outcome}
 use Rattle.reader.specs.declared.Outcome.the-variants as outcome
 use Rattle.reader.specs.declared.Reading.{Reading}
+pub mod Laws
 
 abbrev pub asOpening : List ℕ → OpeningRead → Field (List ℕ)
 asOpening s (opening.Value c) = value openingBytes (drop (c .at) s)
@@ -43,17 +55,37 @@ abbrev pub asKinds : ℕ → List ℕ → NumberRead → Field (List Element)
 asKinds n s (number.Value m c) = value (elementsOf n m) (drop (c .at) s)
 asKinds n s (number.Refused k) = refused k
 
-abbrev pub asSize : List ℕ → SizeRead → Field Size
-asSize s (size.Value v c) = value v (drop (c .at) s)
+-- the two ends: the rest of the constraint follows them
+abbrev pub asEnds : List Element → List ℕ → EndsRead → Field Constraint
+asEnds es s (ends.Value a b c) = dimension a b (pairAt es a b) (drop (c .at) s)
+asEnds es s (ends.Refused k) = refused k
+
+abbrev pub endsRule : EndsRead → ℕ
+endsRule (ends.Value a b c) = 0
+endsRule (ends.Refused k) = k
+
+-- the ends that were read ascend, below n
+pub record Ascending (n : ℕ) (r : EndsRead) : Type 0 where
+  pub ascend : (a b : ℕ) (c : Cursor) → r ≡ ends.Value a b c → (a < b) × (b < n)
+
+-- the bit map
+abbrev pub mapOf : PairKind → List ℕ → Field ℕ
+mapOf p s = next (byteOf s) (λ map s1. demand (bitMap p map) 8 (value map s1))
+
+pub record MapBelow (r : ByteRead) : Type 0 where
+  pub below : (map : ℕ) (c : Cursor) → r ≡ byte.Value map c → map < 4
+
+-- the size as a number
+abbrev pub sizeIn : PairKind → Bool → List ℕ → Field ℤ
+sizeIn p stands s = next (sizeField p stands s) (λ z s1. value (sizeOf z) s1)
+
+abbrev pub asSize : List ℕ → SizeRead → Field ℤ
+asSize s (size.Value z c) = value z (drop (c .at) s)
 asSize s (size.Refused k) = refused k
 
 abbrev pub asTag : List ℕ → TagRead → Field (Unit {0})
 asTag s (tag.Value c) = value tt (drop (c .at) s)
 asTag s (tag.Refused k) = refused k
-
-abbrev pub asConstraint : List ℕ → ConstraintRead → Field Constraint
-asConstraint s (constraint.Value v c) = value v (drop (c .at) s)
-asConstraint s (constraint.Refused k) = refused k
 
 -- the number of the rule that refuses, 0 of a value
 abbrev pub ruleOf : {A : Type 0} → Field A → ℕ
@@ -64,11 +96,48 @@ ruleOf (refused k) = k
 pub record Below (bound : ℕ) (r : NumberRead) : Type 0 where
   pub below : (v : ℕ) (c : Cursor) → r ≡ number.Value v c → v < bound
 
--- ---- the whole answer
+-- ---- the head and the constraints
 
 -- the facts of these elements and of the constraints that are read
 abbrev pub factsWith : List Element → Field (List Constraint) → Field Facts
 factsWith es f = next f (λ cs s. value (record { elements = es; constraints = cs }) s)
+
+-- a head: the constraints follow it
+abbrev pub asHead : List ℕ → HeadRead → Field Facts
+asHead s (head.Value h c) = factsWith (elementsOf (h .n) (h .lines)) (constraints (elementsOf (h .n) (h .lines)) (h .e) [] (drop (c .at) s))
+asHead s (head.Refused k) = refused k
+
+abbrev pub headRule : HeadRead → ℕ
+headRule (head.Value h c) = 0
+headRule (head.Refused k) = k
+
+-- the counts that were read are those that rules 3 to 5 take
+pub record Within (r : HeadRead) : Type 0 where
+  pub within : (h : Head) (c : Cursor) → r ≡ head.Value h c → (h .n ≤ 64) × (h .lines < 2 ^ h .n) × (h .e ≤ 200)
+
+-- the constraints that are read stand in the arrays, or the rule that refuses them is answered
+abbrev pub asOutcome : Field (List Constraint) → Outcome
+asOutcome (value cs s) = outcome.Accepted
+asOutcome (refused k) = outcome.Refused k
+
+pub record ListRead (x : Field (List Constraint)) (r : Outcome) (near start : List ℕ) (sizes : List ℤ) : Type 0 where
+  pub answers : r ≡ asOutcome x
+  pub holds : (cs : List Constraint) (t : List ℕ) → x ≡ value cs t → InArrays cs near start sizes
+
+-- so of a sheet
+abbrev pub asGraph : Field Facts → GraphRead
+asGraph (value f s) = graph.Value (headOf f)
+asGraph (refused k) = graph.Refused k
+
+abbrev pub graphRule : GraphRead → ℕ
+graphRule (graph.Value h) = 0
+graphRule (graph.Refused k) = k
+
+pub record SheetRead (x : Field Facts) (r : GraphRead) (near start : List ℕ) (sizes : List ℤ) : Type 0 where
+  pub answers : r ≡ asGraph x
+  pub holds : (f : Facts) (t : List ℕ) → x ≡ value f t → InArrays (f .constraints) near start sizes
+
+-- ---- a sheet by value
 
 -- the rule that refused the sheet, 0 of an accepted one
 abbrev pub outcomeNumber : Outcome → ℕ

@@ -3,14 +3,18 @@
 // the crate `sheet` and, for what an answer says, specs/Answers.antt.
 ghost use mathlib.Core.Path.{_≡_};
 ghost use mathlib.Core.List.{List, []};
-ghost use Prim.Native.Nat.{_≤_, _<_, _-_, _^_};
-ghost use lib.Dec.{eqb};
-ghost use lib.ListN.{length, drop};
-ghost use Rattle.sheet.specs.Facts.{elementsOf, linesOf};
+ghost use Prim.Native.Nat.{_+_, _≤_, _<_, _-_, _^_};
+ghost use lib.Dec.{eqb, leb};
+ghost use lib.IntN.{pos};
+ghost use lib.ListN.{length, drop, replicate};
+ghost use Rattle.sheet.specs.Facts.{linesOf};
 ghost use Rattle.sheet.specs.Field.{refused, byte, field, signed32, openingBytes, begins};
-ghost use Rattle.sheet.specs.Decode.{opening, size, tag, dimension, constraint, constraints, readKinds, readConstraints, readSheet};
+ghost use Rattle.sheet.specs.Decode.{opening, tag, constraint, constraints, readKinds, readSheet};
 ghost use Rattle.sheet.specs.Noted.{Noted};
-ghost use Rattle.reader.specs.Answers.{ruleOf, asOpening, asByte, asNumber, asSize, asTag, asConstraint, asKinds, Below, factsWith, asReading, outcomeNumber};
+ghost use Rattle.graph.specs.Lent.{InArrays};
+ghost use Rattle.reader.specs.Answers.{ruleOf, asOpening, asByte, asNumber, asEnds, endsRule, Ascending, mapOf, MapBelow, sizeIn, asSize, asTag, asKinds, Below};
+ghost use Rattle.reader.specs.Answers.{headRule, graphRule, asHead, Within, ListRead, SheetRead, asReading, outcomeNumber};
+use graph::Head;
 use sheet::Constraint;
 use sheet::Element;
 use sheet::Kind;
@@ -38,8 +42,15 @@ pub enum NumberRead {
     Refused(u8),
 }
 
+// The two ends of a constraint.
+pub enum EndsRead {
+    Value(u8, u8, Cursor),
+    Refused(u8),
+}
+
+// A size, 0 for a missing one.
 pub enum SizeRead {
-    Value(Size, Cursor),
+    Value(i32, Cursor),
     Refused(u8),
 }
 
@@ -49,8 +60,14 @@ pub enum TagRead {
     Refused(u8),
 }
 
-pub enum ConstraintRead {
-    Value(Constraint, Cursor),
+pub enum HeadRead {
+    Value(Head, Cursor),
+    Refused(u8),
+}
+
+// The constraint graph of a sheet: what is not in the arrays.
+pub enum GraphRead {
+    Value(Head),
     Refused(u8),
 }
 
@@ -101,6 +118,18 @@ impl NumberRead {
     }
 }
 
+impl EndsRead {
+    // The rule that refuses the ends, 0 of two that were read.
+    pub fn refusal(self) -> u8
+        ensures { λ k. ⌜ k ≡ endsRule self ⌝ }
+    {
+        match self {
+            EndsRead::Value(_, _, _) => 0,
+            EndsRead::Refused(k) => k,
+        }
+    }
+}
+
 impl SizeRead {
     // The rule that refuses the size, 0 of one that was read.
     pub fn refusal(self) -> u8
@@ -125,14 +154,26 @@ impl TagRead {
     }
 }
 
-impl ConstraintRead {
-    // The rule that refuses the constraint, 0 of one that was read.
+impl HeadRead {
+    // The rule that refuses the head, 0 of one that was read.
     pub fn refusal(self) -> u8
-        ensures { λ k. ⌜ k ≡ ruleOf (asConstraint [] self) ⌝ }
+        ensures { λ k. ⌜ k ≡ headRule self ⌝ }
     {
         match self {
-            ConstraintRead::Value(_, _) => 0,
-            ConstraintRead::Refused(k) => k,
+            HeadRead::Value(_, _) => 0,
+            HeadRead::Refused(k) => k,
+        }
+    }
+}
+
+impl GraphRead {
+    // The rule that refuses the sheet, 0 of one that was read.
+    pub fn refusal(self) -> u8
+        ensures { λ k. ⌜ k ≡ graphRule self ⌝ }
+    {
+        match self {
+            GraphRead::Value(_) => 0,
+            GraphRead::Refused(k) => k,
         }
     }
 }
@@ -176,14 +217,21 @@ pub fn read_byte(s: &[u8], c: Cursor) -> ByteRead
     }
 }
 
+// Whether k bytes stand from a place on. In a loop the first test is the same at each turn.
+fn enough(len: usize, at: usize, k: usize) -> bool
+    ensures { λ r. ⌜ r ≡ leb (at + k) len ⌝ }
+{
+    if len < k { false } else { at <= len - k }
+}
+
 // A number of k bytes, lowest first: rule 2 where they are not all there.
 pub fn read_number(s: &[u8], c: Cursor, k: usize) -> NumberRead
-    requires { ⌜ k ≤ 8 ⌝ }
+    requires { ⌜ (0 < k) × (k ≤ 8) ⌝ }
     ensures { λ r. ⌜ asNumber (now (s .entry)) r ≡ field k (drop (c .at) (now (s .entry))) ⌝ }
     ensures { λ r. ⌜ Below (256 ^ k) r ⌝ }
 {
     let at = c.at;
-    if bytes_left(s.len(), at) < k {
+    if !enough(s.len(), at, k) {
         return NumberRead::Refused(2);
     }
     let mut u: u64 = 0;
@@ -221,6 +269,62 @@ fn signed(u: u64) -> i32
     }
 }
 
+// The two ends of a constraint after those noted, among n elements: rules 6 and 7.
+fn read_ends(s: &[u8], c: Cursor, near: &[u64; 64], n: usize) -> EndsRead
+    requires { ⌜ n ≤ 64 ⌝ }
+    ensures { λ r. ⌜ ((es : List Element) (cs : List Constraint) → n ≡ length es → Noted (now (near .entry)) cs → asEnds es (now (s .entry)) r ≡ constraint es cs (drop (c .at) (now (s .entry)))) ⌝ }
+    ensures { λ r. ⌜ Ascending n r ⌝ }
+{
+    let start = read_byte(s, c);
+    let ByteRead::Value(a, c1) = start else {
+        return EndsRead::Refused(start.refusal());
+    };
+    let end = read_byte(s, c1);
+    let ByteRead::Value(b, c2) = end else {
+        return EndsRead::Refused(end.refusal());
+    };
+    if !sheet::ends_ascend(n, a, b) {
+        return EndsRead::Refused(6);
+    }
+    if sheet::pair_stands(near, a, b) {
+        return EndsRead::Refused(7);
+    }
+    EndsRead::Value(a, b, c2)
+}
+
+// The bit map: rule 8.
+fn read_map(s: &[u8], c: Cursor, p: PairKind) -> ByteRead
+    ensures { λ r. ⌜ asByte (now (s .entry)) r ≡ mapOf p (drop (c .at) (now (s .entry))) ⌝ }
+    ensures { λ r. ⌜ MapBelow r ⌝ }
+{
+    let third = read_byte(s, c);
+    let ByteRead::Value(map, after) = third else {
+        return third;
+    };
+    if !sheet::bit_map(p, map) {
+        return ByteRead::Refused(8);
+    }
+    ByteRead::Value(map, after)
+}
+
+// The size, where bit 0 of the map stands: rule 9.
+fn read_size(s: &[u8], c: Cursor, p: PairKind, stands: bool) -> SizeRead
+    ensures { λ r. ⌜ asSize (now (s .entry)) r ≡ sizeIn p stands (drop (c .at) (now (s .entry))) ⌝ }
+{
+    if !stands {
+        return SizeRead::Value(0, c);
+    }
+    let number = read_number(s, c, 4);
+    let NumberRead::Value(u, after) = number else {
+        return SizeRead::Refused(number.refusal());
+    };
+    let z = signed(u);
+    if !sheet::size_range(p, z) {
+        return SizeRead::Refused(9);
+    }
+    SizeRead::Value(z, after)
+}
+
 // The tag, where bit 1 of the map stands: twice the bit is how many bytes are passed over, so that the way does not part at the bit.
 fn skip_tag(s: &[u8], c: Cursor, bit: u8) -> TagRead
     requires { ⌜ bit < 2 ⌝ }
@@ -234,81 +338,50 @@ fn skip_tag(s: &[u8], c: Cursor, bit: u8) -> TagRead
     TagRead::Value(Cursor { at: at + width })
 }
 
-// The size, where bit 0 of the map stands: rule 9.
-fn read_size(s: &[u8], c: Cursor, p: PairKind, stands: bool) -> SizeRead
-    ensures { λ r. ⌜ asSize (now (s .entry)) r ≡ size p stands (drop (c .at) (now (s .entry))) ⌝ }
-{
-    if stands {
-        let number = read_number(s, c, 4);
-        let NumberRead::Value(u, after) = number else {
-            return SizeRead::Refused(number.refusal());
-        };
-        let z = signed(u);
-        if !sheet::size_range(p, z) {
-            return SizeRead::Refused(9);
-        }
-        SizeRead::Value(Size::Given(z), after)
-    } else {
-        SizeRead::Value(Size::Missing, c)
-    }
-}
-
-// The bit map and the fields whose bit stands: rule 8, and the constraint between the ends a and b.
-fn read_dimension(s: &[u8], c: Cursor, a: u8, b: u8, p: PairKind) -> ConstraintRead
-    ensures { λ r. ⌜ asConstraint (now (s .entry)) r ≡ dimension a b p (drop (c .at) (now (s .entry))) ⌝ }
-{
-    let third = read_byte(s, c);
-    let ByteRead::Value(map, c1) = third else {
-        return ConstraintRead::Refused(third.refusal());
-    };
-    if !sheet::bit_map(p, map) {
-        return ConstraintRead::Refused(8);
-    }
-    let sized = read_size(s, c1, p, map % 2 == 1);
-    let SizeRead::Value(z, c2) = sized else {
-        return ConstraintRead::Refused(sized.refusal());
-    };
-    let tagged = skip_tag(s, c2, map / 2);
-    let TagRead::Value(c3) = tagged else {
-        return ConstraintRead::Refused(tagged.refusal());
-    };
-    ConstraintRead::Value(
-        Constraint {
-            first: a,
-            second: b,
-            size: z,
-        },
-        c3,
-    )
-}
-
-// One constraint after those noted, among n elements whose kinds are the bits of lines: rules 6 to 9.
-pub fn read_constraint(
+// Constraints i0 to e - 1 after those in the arrays, and then the end of the bytes: rules 6 to 10.
+pub fn read_constraints(
     s: &[u8],
-    c: Cursor,
-    pairs: &[u64; 64],
+    from: Cursor,
     n: usize,
     lines: u64,
-) -> ConstraintRead
-    requires { ⌜ n ≤ 64 ⌝ }
-    ensures { λ r. ⌜ ((es : List Element) (cs : List Constraint) → n ≡ length es → lines ≡ linesOf es → Noted (now (pairs .entry)) cs → asConstraint (now (s .entry)) r ≡ constraint es cs (drop (c .at) (now (s .entry)))) ⌝ }
+    i0: usize,
+    e: usize,
+    near: &mut [u64; 64],
+    start: &mut [u64; 200],
+    sizes: &mut [i32; 200],
+) -> Outcome
+    requires { ⌜ (n ≤ 64) × (i0 ≤ e) × (e ≤ 200) ⌝ }
+    ensures { λ r. ⌜ ((es : List Element) (done : List Constraint) → n ≡ length es → lines ≡ linesOf es → length done ≡ i0 → InArrays done (now (near .entry)) (now (start .entry)) (now (sizes .entry)) → ListRead (constraints es (e - i0) done (drop (from .at) (now (s .entry)))) r (now (near .exit)) (now (start .exit)) (now (sizes .exit))) ⌝ }
 {
-    let start = read_byte(s, c);
-    let ByteRead::Value(a, c1) = start else {
-        return ConstraintRead::Refused(start.refusal());
-    };
-    let end = read_byte(s, c1);
-    let ByteRead::Value(b, c2) = end else {
-        return ConstraintRead::Refused(end.refusal());
-    };
-    if !sheet::ends_ascend(n, a, b) {
-        return ConstraintRead::Refused(6);
+    let mut c = from;
+    let mut i = i0;
+    while i < e {
+        let ends = read_ends(s, c, near, n);
+        let EndsRead::Value(a, b, c1) = ends else {
+            return Outcome::Refused(ends.refusal());
+        };
+        let p = sheet::pair_of(sheet::kind_at(lines, a), sheet::kind_at(lines, b));
+        let third = read_map(s, c1, p);
+        let ByteRead::Value(map, c2) = third else {
+            return Outcome::Refused(third.refusal());
+        };
+        let sized = read_size(s, c2, p, map % 2 == 1);
+        let SizeRead::Value(z, c3) = sized else {
+            return Outcome::Refused(sized.refusal());
+        };
+        let tagged = skip_tag(s, c3, map / 2);
+        let TagRead::Value(c4) = tagged else {
+            return Outcome::Refused(tagged.refusal());
+        };
+        graph::note(near, start, sizes, i, a, b, z);
+        c = c4;
+        i += 1;
     }
-    if sheet::pair_stands(pairs, a, b) {
-        return ConstraintRead::Refused(7);
+    let end = c.at;
+    if end < s.len() {
+        return Outcome::Refused(10);
     }
-    let p = sheet::pair_of(sheet::kind_at(lines, a), sheet::kind_at(lines, b));
-    read_dimension(s, c2, a, b, p)
+    Outcome::Accepted
 }
 
 // A refused sheet is the blank one.
@@ -334,49 +407,9 @@ pub fn refuse(k: u8) -> Reading
     }
 }
 
-// The e constraints after the kinds, and then the end of the sheet: rule 10.
-fn read_constraints(s: &[u8], start: Cursor, n: usize, lines: u64, e: usize) -> Reading
-    requires { ⌜ (n ≤ 64) × (lines < 2 ^ n) × (e ≤ 200) ⌝ }
-    ensures { λ r. ⌜ r ≡ asReading (factsWith (elementsOf n lines) (constraints (elementsOf n lines) e [] (drop (start .at) (now (s .entry))))) ⌝ }
-{
-    let none = Constraint {
-        first: 0,
-        second: 0,
-        size: Size::Missing,
-    };
-    let mut cs = [none; 200];
-    let mut pairs = [0u64; 64];
-    let mut c = start;
-    let mut i: usize = 0;
-    while i < e {
-        let got = read_constraint(s, c, &pairs, n, lines);
-        let ConstraintRead::Value(k, after) = got else {
-            return refuse(got.refusal());
-        };
-        sheet::note_pair(&mut pairs, k.first, k.second);
-        cs[i] = k;
-        c = after;
-        i += 1;
-    }
-    let end = c.at;
-    if end < s.len() {
-        return refuse(10);
-    }
-    let elements = sheet::elements_of(n, lines);
-    Reading {
-        outcome: Outcome::Accepted,
-        sheet: Sheet {
-            n,
-            e,
-            elements,
-            constraints: cs,
-        },
-    }
-}
-
 // The kinds of n elements as one number: rule 4.
 fn read_kinds(s: &[u8], c: Cursor, n: usize) -> NumberRead
-    requires { ⌜ n ≤ 64 ⌝ }
+    requires { ⌜ (0 < n) × (n ≤ 64) ⌝ }
     ensures { λ r. ⌜ asKinds n (now (s .entry)) r ≡ readKinds n (drop (c .at) (now (s .entry))) ⌝ }
     ensures { λ r. ⌜ Below (2 ^ n) r ⌝ }
 {
@@ -390,43 +423,75 @@ fn read_kinds(s: &[u8], c: Cursor, n: usize) -> NumberRead
     NumberRead::Value(m, after)
 }
 
-// What follows the kinds: rule 5, and the constraints.
-fn read_rest(s: &[u8], c: Cursor, n: usize, lines: u64) -> Reading
-    requires { ⌜ (n ≤ 64) × (lines < 2 ^ n) ⌝ }
-    ensures { λ r. ⌜ r ≡ asReading (readConstraints (elementsOf n lines) (drop (c .at) (now (s .entry)))) ⌝ }
+// All before the constraints: rules 1 to 5.
+fn read_head(s: &[u8]) -> HeadRead
+    ensures { λ r. ⌜ asHead (now (s .entry)) r ≡ readSheet (now (s .entry)) ⌝ }
+    ensures { λ r. ⌜ Within r ⌝ }
 {
-    let count = read_byte(s, c);
-    let ByteRead::Value(b, after) = count else {
-        return refuse(count.refusal());
+    let front = read_opening(s);
+    let OpeningRead::Value(c1) = front else {
+        return HeadRead::Refused(front.refusal());
     };
-    let e = b as usize;
-    if !sheet::constraint_count(e) {
-        return refuse(5);
+    let count = read_byte(s, c1);
+    let ByteRead::Value(b, c2) = count else {
+        return HeadRead::Refused(count.refusal());
+    };
+    let n = b as usize;
+    if !sheet::element_count(n) {
+        return HeadRead::Refused(3);
     }
-    read_constraints(s, after, n, lines, e)
+    let kinds = read_kinds(s, c2, n);
+    let NumberRead::Value(lines, c3) = kinds else {
+        return HeadRead::Refused(kinds.refusal());
+    };
+    let listed = read_byte(s, c3);
+    let ByteRead::Value(k, c4) = listed else {
+        return HeadRead::Refused(listed.refusal());
+    };
+    let e = k as usize;
+    if !sheet::constraint_count(e) {
+        return HeadRead::Refused(5);
+    }
+    HeadRead::Value(Head { n, e, lines }, c4)
+}
+
+// The constraint graph of the sheet that any bytes stand for, in arrays that were blank, or the rule that refuses them.
+pub fn read_graph(
+    s: &[u8],
+    near: &mut [u64; 64],
+    start: &mut [u64; 200],
+    sizes: &mut [i32; 200],
+) -> GraphRead
+    requires { ⌜ (now near ≡ replicate 64 0) × (now start ≡ replicate 200 0) × (now sizes ≡ replicate 200 (pos 0)) ⌝ }
+    ensures { λ r. ⌜ SheetRead (readSheet (now (s .entry))) r (now (near .exit)) (now (start .exit)) (now (sizes .exit)) ⌝ }
+{
+    let front = read_head(s);
+    let HeadRead::Value(head, c) = front else {
+        return GraphRead::Refused(front.refusal());
+    };
+    let rest = read_constraints(s, c, head.n, head.lines, 0, head.e, near, start, sizes);
+    let Outcome::Accepted = rest else {
+        return GraphRead::Refused(refusal(rest));
+    };
+    GraphRead::Value(head)
 }
 
 // The sheet that any bytes stand for, or the rule that refuses them.
 pub fn read_sheet(s: &[u8]) -> Reading
     ensures { λ r. ⌜ r ≡ asReading (readSheet (now (s .entry))) ⌝ }
 {
-    let front = read_opening(s);
-    let OpeningRead::Value(c1) = front else {
-        return refuse(front.refusal());
+    let mut near = [0u64; 64];
+    let mut start = [0u64; 200];
+    let mut sizes = [0i32; 200];
+    let got = read_graph(s, &mut near, &mut start, &mut sizes);
+    let GraphRead::Value(head) = got else {
+        return refuse(got.refusal());
     };
-    let count = read_byte(s, c1);
-    let ByteRead::Value(b, c2) = count else {
-        return refuse(count.refusal());
-    };
-    let n = b as usize;
-    if !sheet::element_count(n) {
-        return refuse(3);
+    let sheet = graph::sheet_of(head, &start, &sizes);
+    Reading {
+        outcome: Outcome::Accepted,
+        sheet,
     }
-    let kinds = read_kinds(s, c2, n);
-    let NumberRead::Value(lines, c3) = kinds else {
-        return refuse(kinds.refusal());
-    };
-    read_rest(s, c3, n, lines)
 }
 
 // The number of an outcome in document 01: the rule that refuses, 0 of an accepted sheet.

@@ -1,13 +1,13 @@
--- The pairs of a list of constraints as masks, one for each first end: bit b of place a stands if and only if the pair (a, b) does.
-use Prim.Native.Nat.{ℕ, _/_, _%_, _^_, _<_}
-use mathlib.Core.Path.{_≡_}
-use mathlib.Core.List.{List}
-use lib.Dec.{eqb}
-use lib.ListN.{getD, length}
+-- Constraints noted for rule 7, as who is constrained with whom (theory, `Near`).
+use mathlib.Core.List.{List, map}
+use Prim.Native.Nat.{ℕ}
+use Rattle.theory.specs.Constraints.{Sound, clusters}
+use Rattle.theory.specs.Near.{Near}
 use Rattle.sheet.specs.declared.Constraint.{Constraint}
-use Rattle.sheet.specs.Rules.{stands}
+use Rattle.sheet.specs.Graph.{endsOf}
 pub mod Laws
 
-pub record Noted (pairs : List ℕ) (cs : List Constraint) : Type 0 where
-  pub places : length pairs ≡ 64
-  pub says : (a b : ℕ) → a < 64 → eqb (getD pairs a 0 / 2 ^ b % 2) 1 ≡ stands cs a b
+pub record Noted (near : List ℕ) (cs : List Constraint) : Type 0 where
+  -- the ends ascend, below 64
+  pub ascend : Sound 64 (map endsOf cs)
+  pub pairs : Near (clusters (map endsOf cs)) near

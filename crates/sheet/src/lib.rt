@@ -217,35 +217,39 @@ pub fn lines_of(elements: [Element; 64], n: usize) -> u64
     lines
 }
 
-// Rule 7: whether the pair is noted. pairs[a] has bit b for each noted pair (a, b).
-pub fn pair_stands(pairs: &[u64; 64], a: u8, b: u8) -> bool
-    requires { ⌜ (a < 64) × (b < 64) ⌝ }
-    ensures { λ r. ⌜ ((cs : List Constraint) → Noted (now (pairs .entry)) cs → r ≡ stands cs a b) ⌝ }
+// Rule 7: whether the pair is noted. near[x] has bit y for each noted constraint between x and y.
+pub fn pair_stands(near: &[u64; 64], a: u8, b: u8) -> bool
+    requires { ⌜ (a < b) × (b < 64) ⌝ }
+    ensures { λ r. ⌜ ((cs : List Constraint) → Noted (now (near .entry)) cs → r ≡ stands cs a b) ⌝ }
 {
     let i = a as usize;
-    (pairs[i] >> b) % 2 == 1
+    (near[i] >> b) % 2 == 1
 }
 
-// Notes the pair of a constraint.
-pub fn note_pair(pairs: &mut [u64; 64], a: u8, b: u8)
-    requires { ⌜ (a < 64) × (b < 64) ⌝ }
-    ensures { λ r. ⌜ ((cs : List Constraint) (c : Constraint) → c .first ≡ a → c .second ≡ b → Noted (now (pairs .entry)) cs → Noted (now (pairs .exit)) (cs ++ c ∷ [])) ⌝ }
+// Notes the pair of a constraint, at both ends.
+pub fn note_pair(near: &mut [u64; 64], a: u8, b: u8)
+    requires { ⌜ (a < b) × (b < 64) ⌝ }
+    ensures { λ r. ⌜ ((cs : List Constraint) (c : Constraint) → c .first ≡ a → c .second ≡ b → Noted (now (near .entry)) cs → Noted (now (near .exit)) (cs ++ c ∷ [])) ⌝ }
 {
     let i = a as usize;
-    pairs[i] = pairs[i] | (1 << b);
+    let j = b as usize;
+    let x = near[i] | (1 << b);
+    let y = near[j] | (1 << a);
+    near[i] = x;
+    near[j] = y;
 }
 
 // Rules 6 to 9 of one constraint after those noted: the rule's number, or 0.
-pub fn constraint_fault(pairs: &[u64; 64], n: usize, lines: u64, c: Constraint) -> u8
+pub fn constraint_fault(near: &[u64; 64], n: usize, lines: u64, c: Constraint) -> u8
     requires { ⌜ n ≤ 64 ⌝ }
-    ensures { λ r. ⌜ ((es : List Element) (cs : List Constraint) → n ≡ length es → lines ≡ linesOf es → Noted (now (pairs .entry)) cs → r ≡ constraintFault es cs c) ⌝ }
+    ensures { λ r. ⌜ ((es : List Element) (cs : List Constraint) → n ≡ length es → lines ≡ linesOf es → Noted (now (near .entry)) cs → r ≡ constraintFault es cs c) ⌝ }
 {
     let a = c.first;
     let b = c.second;
     if !ends_ascend(n, a, b) {
         return 6;
     }
-    if pair_stands(pairs, a, b) {
+    if pair_stands(near, a, b) {
         return 7;
     }
     let z = c.size;
@@ -267,15 +271,15 @@ pub fn sheet_fault(s: Sheet) -> u8
     let elements = s.elements;
     let cs = s.constraints;
     let lines = lines_of(elements, n);
-    let mut pairs = [0u64; 64];
+    let mut near = [0u64; 64];
     let mut i: usize = 0;
     while i < e {
         let c = cs[i];
-        let k = constraint_fault(&pairs, n, lines, c);
+        let k = constraint_fault(&near, n, lines, c);
         if k != 0 {
             return k;
         }
-        note_pair(&mut pairs, c.first, c.second);
+        note_pair(&mut near, c.first, c.second);
         i += 1;
     }
     0

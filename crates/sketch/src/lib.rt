@@ -4,7 +4,6 @@ ghost use mathlib.Core.Path.{_≡_};
 ghost use Prim.Native.Nat.{_<_};
 ghost use Rattle.sheet.specs.Facts.{factsOf};
 ghost use Rattle.sheet.specs.Rules.{constraintFault, sheetFault};
-ghost use Rattle.sheet.specs.Noted.{Noted};
 ghost use Rattle.sheet.specs.Graph.{graphOf, overFault};
 ghost use Rattle.sketch.specs.Sketch.{holdFault, stored, addedOf};
 use sheet::Constraint;
@@ -50,32 +49,16 @@ pub fn hold_fault(s: Sheet) -> u8
     over_fault(s)
 }
 
-// The pairs of the constraints, noted for rule 7.
-pub fn pairs_of(s: Sheet) -> [u64; 64]
-    requires { ⌜ sheetFault s ≡ 0 ⌝ }
-    ensures { λ r. ⌜ Noted r (factsOf s .constraints) ⌝ }
-{
-    let e = s.e;
-    let mut pairs = [0u64; 64];
-    let mut i: usize = 0;
-    while i < e {
-        let c = s.constraints[i];
-        sheet::note_pair(&mut pairs, c.first, c.second);
-        i += 1;
-    }
-    pairs
-}
-
 // The rule of 6 to 9 that refuses one more constraint, or 0.
 fn last_fault(s: Sheet, c: Constraint) -> u8
     requires { ⌜ sheetFault s ≡ 0 ⌝ }
     ensures { λ r. ⌜ r ≡ constraintFault (factsOf s .elements) (factsOf s .constraints) c ⌝ }
 {
-    let elements = s.elements;
-    let n = s.n;
-    let lines = sheet::lines_of(elements, n);
-    let pairs = pairs_of(s);
-    sheet::constraint_fault(&pairs, n, lines, c)
+    let mut near = [0u64; 64];
+    let mut start = [0u64; 200];
+    let mut sizes = [0i32; 200];
+    let head = graph::fill(s, &mut near, &mut start, &mut sizes);
+    sheet::constraint_fault(&near, head.n, head.lines, c)
 }
 
 // The sheet with one constraint more, the last.

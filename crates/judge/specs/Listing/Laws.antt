@@ -17,9 +17,8 @@ use Rattle.sheet.specs.declared.Element.{Element}
 use Rattle.sheet.specs.declared.Constraint.{Constraint}
 use Rattle.sheet.specs.Facts.{Facts}
 use Rattle.sheet.specs.Rules.{stands, constraintFault, constraintsFault}
-use Rattle.sheet.specs.Rules.Laws.{ends-true}
+use Rattle.sheet.specs.Rules.Laws.{ends-true, stands-more}
 use Rattle.sheet.specs.Accepted.Laws.{taken, none-else}
-use Rattle.sheet.specs.Noted.Laws.{stands-more}
 use Rattle.sheet.specs.Graph.{clusterOf, graphOf}
 use Rattle.sheet.specs.Graph.Laws.{clusters-pairs, clusters-below}
 

@@ -1,33 +1,37 @@
 -- What is held and extended, step by step. Assumes nothing.
-use Prim.Native.Nat.{ℕ, zero, suc, _≤_, _<_}
+use Prim.Native.Nat.{ℕ, _+_, _≤_, _<_}
 use native.Mathlib.Omega.{arith}
 use mathlib.Core.Path.{_≡_, refl, sym, ap, _∙_}
-use mathlib.Core.List.{List, [], _∷_}
+use mathlib.Core.Bool.{Bool, true, false}
+use mathlib.Core.List.{List, [], _∷_, _++_}
+use borrow.Author.Tests.{le-leb}
+use lib.IntN.{ℤ}
 use lib.ListN.{length, drop, length-append, length-replicate, drop-of-length-le}
 use lib.Seq.{drop-cons}
 use Rattle.space.specs.declared.Written.the-variants.{Refused}
 use Rattle.space.specs.Space.{answer, after}
 use Rattle.sheet.specs.declared.Constraint.{Constraint}
 use Rattle.sheet.specs.declared.Sheet.{Sheet}
-use Rattle.sheet.specs.Facts.{Facts, sheetOf, factsOf}
-use Rattle.sheet.specs.Field.{value, refused, Bytes}
-use Rattle.sheet.specs.Field.Laws.{next-value, value-with, refused-value}
+use Rattle.sheet.specs.Facts.{Facts, sheetOf, factsOf, pick}
+use Rattle.sheet.specs.Field.{Field, value, refused, next, demand, Bytes}
+use Rattle.sheet.specs.Field.Laws.{next-value, demand-value, value-with, refused-value}
 use Rattle.sheet.specs.Rules.{constraintFault, sheetFault}
-use Rattle.sheet.specs.Decode.{constraint, readSheet}
+use Rattle.sheet.specs.Decode.{constraint, constraints, readSheet}
 use Rattle.sheet.specs.Encode.{sheetBytes}
 use Rattle.sheet.specs.Accepted.{Accepted}
 use Rattle.sheet.specs.Graph.Laws.{accepted-two, accepted-most}
 use Rattle.sheet.specs.RoundTrip.{written-read}
 use Rattle.sheet.specs.RoundTrip.Read.{constraint-front}
 use Rattle.sheet.specs.RoundTrip.Blocks.{constraints-most, factsOf-sheetOf, sheetOf-fault}
-use Rattle.sheet.specs.Graph.{graphOf, overFault}
-use Rattle.reader.specs.declared.Outcome.the-variants.{Accepted as Took}
+use Rattle.graph.specs.Lent.{InArrays}
+use Rattle.reader.specs.declared.Outcome.{Outcome}
+use Rattle.reader.specs.declared.Outcome.the-variants.{Accepted as Took, Refused as Stopped}
 use Rattle.reader.specs.declared.Reading.{Reading}
-use Rattle.reader.specs.Answers.{asReading}
-use Rattle.sketch.specs.Sketch.{extended, stored}
-use Rattle.sketch.specs.Sketch.Laws.{few-held, stored-facts, stored-fault}
+use Rattle.reader.specs.Answers.{asReading, asOutcome, ListRead}
+use Rattle.sketch.specs.Sketch.{notOver, overFault, extended, stored}
+use Rattle.sketch.specs.Sketch.Laws.{few-held, extended-none, stored-facts}
 use Rattle.pattern.specs.Sheets.Laws.{reading-accepted}
-use Rattle.pattern.specs.Sketches.{byRule, held, heldSheet, ended, lastConstraint, extendedSheet, extendAnswer, extendAfter}
+use Rattle.pattern.specs.Sketches.{held, heldSheet, ended, lastConstraint, longer, extendedSheet, extendAnswer, extendAfter}
 
 -- ---- rule 11
 
@@ -97,19 +101,6 @@ holding bytes r all e o =
 -- ---- one more constraint
 
 module _ (f : Facts) (bytes : List ℕ) where
-  pub last-refused : (k : ℕ) → constraint (f .elements) (f .constraints) bytes ≡ refused k → lastConstraint f bytes ≡ refused k
-  unfolding lastConstraint
-  last-refused k e = rw e
-
-  module _ (c : Constraint) (at : ℕ) (e : constraint (f .elements) (f .constraints) bytes ≡ value c (drop at bytes)) where
-    pub last-followed : at < length bytes → lastConstraint f bytes ≡ refused 10
-    unfolding lastConstraint
-    last-followed l = rw (e, drop-cons bytes at 0 l)
-
-    pub last-ended : length bytes ≤ at → lastConstraint f bytes ≡ value c (drop at bytes)
-    unfolding lastConstraint
-    last-ended l = rw (e, drop-of-length-le bytes l)
-
   -- no rule of 6 to 9 refuses it
   pub last-taken : (c : Constraint) (t : List ℕ) → Bytes bytes → lastConstraint f bytes ≡ value c t → constraintFault (f .elements) (f .constraints) c ≡ 0
   unfolding lastConstraint
@@ -121,6 +112,49 @@ module _ (f : Facts) (bytes : List ℕ) where
           → constraintFault (f .elements) (f .constraints) c ≡ 0
       go d [] h e = value-with (λ x u. constraintFault (f .elements) (f .constraints) x ≡ 0) e h
       go d (b ∷ rest) h e = refused-value e
+
+  -- as a list that is read
+  list-last : constraints (f .elements) 1 (f .constraints) bytes ≡ next (lastConstraint f bytes) (λ c t. value (f .constraints ++ c ∷ []) t)
+  unfolding constraints lastConstraint
+  list-last = last (constraint (f .elements) (f .constraints) bytes)
+    where
+      last : (x : Field Constraint)
+          → next x (λ c t. constraints (f .elements) 0 (f .constraints ++ c ∷ []) t) ≡ next (next x ended) (λ c t. value (f .constraints ++ c ∷ []) t)
+      last (value c []) = refl
+      last (value c (b ∷ t)) = refl
+      last (refused k) = refl
+
+  module _ {r : Outcome} {near start : List ℕ} {sizes : List ℤ} (l : ListRead (constraints (f .elements) 1 (f .constraints) bytes) r near start sizes) where
+    pub list-refused : (k : ℕ) → r ≡ Stopped k → longer f bytes ≡ refused k
+    unfolding longer
+    list-refused k e = by (lastConstraint f bytes) (sym e ∙ l .answers ∙ ap asOutcome list-last)
+      where
+        by : (x : Field Constraint) → Stopped k ≡ asOutcome (next x (λ c t. value (f .constraints ++ c ∷ []) t))
+            → next x (λ c end. value (extended f c) end) ≡ refused k
+        by (value c t) e = let z : _≡_ {A = ℕ} 0 1 = cc in absurd (omega arith)
+        by (refused j) e = let same : k ≡ j = cc in ap refused (sym same)
+
+    pub list-taken : r ≡ Took
+        → (c : Constraint) × (t : List ℕ) × (lastConstraint f bytes ≡ value c t) × InArrays (f .constraints ++ c ∷ []) near start sizes
+    list-taken e = by (lastConstraint f bytes) refl (sym e ∙ l .answers ∙ ap asOutcome list-last)
+      where
+        by : (x : Field Constraint) → lastConstraint f bytes ≡ x → Took ≡ asOutcome (next x (λ c t. value (f .constraints ++ c ∷ []) t))
+            → (c : Constraint) × (t : List ℕ) × (lastConstraint f bytes ≡ value c t) × InArrays (f .constraints ++ c ∷ []) near start sizes
+        by (value c t) is e = (c, t, is, l .holds (f .constraints ++ c ∷ []) t (list-last ∙ rw is))
+        by (refused j) is e = let z : _≡_ {A = ℕ} 0 1 = cc in absurd (omega arith)
+
+pub longer-taken : (f : Facts) (bytes : List ℕ) (c : Constraint) (t : List ℕ) → lastConstraint f bytes ≡ value c t → longer f bytes ≡ value (extended f c) t
+unfolding longer
+longer-taken f bytes c t e = rw e
+
+-- no rule refuses the facts with it
+pub extended-accepted : (f : Facts) (c : Constraint) → Accepted f → length (f .constraints) < 200 → constraintFault (f .elements) (f .constraints) c ≡ 0
+    → Accepted (extended f c)
+extended-accepted f c h l k = record {
+  element-count = h .element-count;
+  constraint-count = rw length-append (le-leb (length (f .constraints) + 1) 200 (omega arith));
+  no-fault = extended-none f c (h .no-fault) k;
+}
 
 -- the constraint stored in the blocks of the sheet
 module _ (f : Facts) (h : Accepted f) (o : overFault (graphOf f) ≡ 0) (s : Sheet) (is : s ≡ sheetOf f) where
@@ -140,9 +174,13 @@ module _ (f : Facts) (h : Accepted f) (o : overFault (graphOf f) ≡ 0) (s : She
   pub more-facts : (c : Constraint) → factsOf (stored s c) ≡ extended f c
   more-facts c = stored-facts s c long room ∙ ap (λ (g : Facts). extended g c) facts-are
 
-  pub more-none : (c : Constraint) → constraintFault (f .elements) (f .constraints) c ≡ 0 → sheetFault (stored s c) ≡ 0
-  more-none c k =
-      stored-fault s c long room (ap sheetFault is ∙ sheetOf-fault f h) (ap (λ (g : Facts). constraintFault (g .elements) (g .constraints) c) facts-are ∙ k)
+-- the facts with one more constraint that is read
+module _ (f : Facts) (bytes : List ℕ) (all : Bytes bytes) (h : Accepted f) (l : length (f .constraints) < 200) {g : Facts} {t : List ℕ} (e : longer f bytes ≡ value g t) where
+  pub longer-accepted : Accepted g
+  unfolding longer
+  longer-accepted =
+      next-value (lastConstraint f bytes) _ e (λ c u was e1.
+      value-with (λ (x : Facts) (v : List ℕ). Accepted x) e1 (extended-accepted f c h l (last-taken f bytes c u all was)))
 
 -- ---- the extended sheet
 
@@ -152,13 +190,16 @@ module _ (bytes more : List ℕ) where
   extended-unheld k e = rw e
 
   module _ (f : Facts) (rest : List ℕ) (e : heldSheet bytes ≡ value f rest) where
-    pub extended-unread : (k : ℕ) → lastConstraint f more ≡ refused k → extendedSheet bytes more ≡ refused k
+    pub extended-unread : (k : ℕ) → longer f more ≡ refused k → extendedSheet bytes more ≡ refused k
     unfolding extendedSheet
     extended-unread k l = rw (e, l)
 
-    pub extended-read : (c : Constraint) (t : List ℕ) → lastConstraint f more ≡ value c t → extendedSheet bytes more ≡ held (extended f c) t
+    pub extended-longer : (g : Facts) (t : List ℕ) → longer f more ≡ value g t → extendedSheet bytes more ≡ held g t
     unfolding extendedSheet
-    extended-read c t l = rw (e, l)
+    extended-longer g t l = rw (e, l)
+
+    pub extended-read : (c : Constraint) (t : List ℕ) → lastConstraint f more ≡ value c t → extendedSheet bytes more ≡ held (extended f c) t
+    extended-read c t l = extended-longer (extended f c) t (longer-taken f more c t l)
 
   module _ (space : List ℕ) where
     pub extend-refused : (k : ℕ) → extendedSheet bytes more ≡ refused k → (Refused k ≡ extendAnswer bytes more space) × (space ≡ extendAfter bytes more space)

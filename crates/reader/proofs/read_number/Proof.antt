@@ -4,6 +4,7 @@ use native.Mathlib.Omega.{arith}
 use native.Mathlib.Nat.{sub-self}
 use mathlib.Core.Path.{_≡_, refl, sym, ap, _∙_}
 use borrow.Author.Needs.{needs}
+use borrow.Author.Tests.{leb-true, leb-false, not-true, not-false}
 use lib.ListN.{length, take, drop}
 use Rattle.sheet.specs.Field.{value, number}
 use Rattle.reader.proofs.Numbers.{field-short, field-whole, number-none, number-more, below-more, below-most}
@@ -17,18 +18,17 @@ Inv-loop s k at u₀ i₀ u i =
 abbrev μ-loop : tie.MeasureT-loop
 μ-loop s k at u₀ i₀ u i = i
 
-bytes-left-requires : tie.Need-bytes-left-requires Inv-loop μ-loop
-bytes-left-requires c κs = search needs
-
 returns : tie.Need-returns Inv-loop μ-loop
 returns c =
     let b = c .before .before .before in (
-      sym (field-short (b .args .s .now) (b .args .c .at) (b .args .k) (omega arith)),
+      sym (field-short (b .args .s .now) (b .args .c .at) (b .args .k) (omega (arith, b .pre .0, leb-false (b .args .c .at + b .args .k) (length (b .args .s .now)) (sym (c .before .enough .ensures) ∙ not-true (c .before .enough .result) (c .if1 .taken))))),
       record { below = λ v d e. let z : _≡_ {A = ℕ} 0 1 = cc in omega arith },
     )
 
 room : (c : tie.Else1 Inv-loop μ-loop) → c .before .before .before .args .k ≤ length (c .before .before .before .args .s .now) - c .before .before .before .args .c .at
-room c = omega arith
+room c =
+    let b = c .before .before .before in
+    omega (arith, leb-true (b .args .c .at + b .args .k) (length (b .args .s .now)) (sym (c .before .enough .ensures) ∙ not-false (c .before .enough .result) (c .if1 .left)))
 
 loop-holds : tie.Need-loop-holds Inv-loop μ-loop
 loop-holds c = (omega arith, sym (number-none (c .before .before .before .args .s .now) (c .before .before .before .args .c .at) (c .before .before .before .args .k) (room c)), omega (arith, sub-self (c .before .before .before .args .k), ap (λ (m : ℕ). 256 ^ m) (sub-self (c .before .before .before .args .k))))
@@ -42,13 +42,13 @@ byte-below c = omega (arith, c .before .shared-slice-known2 .given (c .before .b
 mul-u : tie.Need-mul-u Inv-loop μ-loop
 mul-u c =
     let a = c .before .loop in
-    omega (arith, below-most (c .before .before .before .before .before .args .k) (a .i) (a .u) 0 (c .loop-test .taken) (a .inv .0) (a .inv .2) (omega arith) (c .before .before .before .before .before .pre))
+    omega (arith, below-most (c .before .before .before .before .before .args .k) (a .i) (a .u) 0 (c .loop-test .taken) (a .inv .0) (a .inv .2) (omega arith) (c .before .before .before .before .before .pre .1))
 
 add-wide : tie.Need-add-wide Inv-loop μ-loop
-add-wide c = search needs
+add-wide c = omega (arith, room (c .before .before))
 
 shared-slice-read-wide : tie.Need-shared-slice-read-wide Inv-loop μ-loop
-shared-slice-read-wide c = search needs
+shared-slice-read-wide c = omega (arith, room (c .before .before .before))
 
 wide-requires : tie.Need-wide-requires Inv-loop μ-loop
 wide-requires c κs = search needs
@@ -56,7 +56,7 @@ wide-requires c κs = search needs
 add-u : tie.Need-add-u Inv-loop μ-loop
 add-u c =
     let a = c .before .before .before .loop in
-    omega (arith, below-most (c .before .before .before .before .before .before .before .args .k) (a .i) (a .u) (c .wide .result) (c .before .before .loop-test .taken) (a .inv .0) (a .inv .2) (byte-below c) (c .before .before .before .before .before .before .before .pre))
+    omega (arith, below-most (c .before .before .before .before .before .before .before .args .k) (a .i) (a .u) (c .wide .result) (c .before .before .loop-test .taken) (a .inv .0) (a .inv .2) (byte-below c) (c .before .before .before .before .before .before .before .pre .1))
 
 loop-less : tie.Need-loop-less Inv-loop μ-loop
 loop-less c = search needs
@@ -70,8 +70,8 @@ loop-again c =
       below-more (b .before .before .before .args .k) (a .i) (a .u) (c .wide .result) (c .before .before .loop-test .taken) (a .inv .0) (a .inv .2) (byte-below c),
     )
 
-add-t7 : tie.Need-add-t7 Inv-loop μ-loop
-add-t7 c = search needs
+add-t8 : tie.Need-add-t8 Inv-loop μ-loop
+add-t8 c = omega (arith, room (c .before .before))
 
 returns-2 : tie.Need-returns-2 Inv-loop μ-loop
 returns-2 c =
@@ -91,7 +91,7 @@ read-number-spec =
     (tie.spec
     Inv-loop
     μ-loop
-    bytes-left-requires
+    (λ c κs. search needs)
     returns
     loop-holds
     sub-i
@@ -102,5 +102,5 @@ read-number-spec =
     add-u
     loop-less
     loop-again
-    add-t7
+    add-t8
     returns-2)

@@ -1,142 +1,54 @@
--- `reader::read_sheet` meets its contract. Assumes nothing.
-use mathlib.Core.Bool.{true}
-use mathlib.Core.Path.{_≡_, sym, ap, _∙_}
-use borrow.Author.Tests.{not-true, not-false}
+-- `reader::read_sheet` meets its contract: the sheet comes out of the arrays, since no rule refuses its facts. Assumes nothing.
 use borrow.Author.Needs.{needs}
-use lib.ListN.{drop}
-use Rattle.sheet.specs.Field.{value, byte, openingBytes}
-use Rattle.sheet.specs.Rules.{elementCount}
-use Rattle.sheet.specs.Decode.{opening}
-use Rattle.sheet.specs.RoundTrip.Blocks.{elements-most}
-use Rattle.reader.specs.Answers.{asOpening, asByte, asKinds, asReading}
-use Rattle.reader.proofs.Sheets.{no-opening, no-element-count, elements-outside, no-kinds, kinds-read}
+use mathlib.Core.Path.{_≡_, refl, sym, ap, _∙_}
+use mathlib.Core.List.{List}
+use Prim.Native.Nat.{ℕ, _≤_}
+use lib.ListN.{length}
+use Rattle.sheet.specs.Facts.{Facts}
+use Rattle.sheet.specs.Field.{value, Bytes}
+use Rattle.sheet.specs.Decode.{readSheet}
+use Rattle.sheet.specs.Accepted.{Accepted}
+use Rattle.sheet.specs.Graph.Laws.{accepted-most}
+use Rattle.sheet.specs.RoundTrip.{written-read}
+use Rattle.sheet.specs.RoundTrip.Blocks.{constraints-most}
+use Rattle.graph.specs.Lent.{headOf}
+use Rattle.reader.specs.Answers.{asReading, graphRule}
+use Rattle.reader.specs.Answers.Laws.{graph-refused, graph-accepted}
 use Rattle.reader.proofs.read_sheet.Statement.{statement}
 use Rattle.reader.proofs.read_sheet.Tie as tie
 
-read-opening-requires : tie.Need-read-opening-requires
-read-opening-requires c κs = search needs
-
-enum-known-front : tie.Need-enum-known-front
-enum-known-front c = search needs
-
-enum-told : tie.Need-enum-told
-enum-told c = search needs
-
-refusal-requires : tie.Need-refusal-requires
-refusal-requires c κs = search needs
-
-refuse-requires : tie.Need-refuse-requires
-refuse-requires c κs = search needs
-
 returns : tie.Need-returns
 returns c =
-    c .refuse .ensures
-    ∙ ap asReading (sym (no-opening _ (rw (← c .before .before .before .before .read-opening .ensures, c .before .refusal .ensures, c .before .before .enum-told .given .1))))
+    let r = c .before .before .before .before .read-graph in
+    let t = c .before .before .enum-told .given in
+    let e = graph-refused (readSheet (c .before .before .before .before .before .before .before .before .before .args .s .now)) (r .result) (t .0 .0) (r .ensures .answers) (t .1) in
+    c .refuse .ensures ∙ rw (e, c .before .refusal .ensures ∙ ap graphRule (t .1))
 
-read-byte-requires : tie.Need-read-byte-requires
-read-byte-requires c κs = search needs
+-- the facts of the sheet
+module _ (c : tie.After-sizes2) where
+  all : Bytes (c .before .before .before .before .before .before .before .before .before .before .args .s .now)
+  all = record { each = λ i. c .before .before .before .before .before .before .before .before .before .shared-slice-known .given i .fits }
 
-enum-known-count : tie.Need-enum-known-count
-enum-known-count c = search needs
+  found : (f : Facts) × (rest : List ℕ) × (readSheet (c .before .before .before .before .before .before .before .before .before .before .args .s .now) ≡ value f rest) × (c .before .before .before .got .given .0 .0 ≡ headOf f)
+  found = graph-accepted (readSheet (c .before .before .before .before .before .before .before .before .before .before .args .s .now)) (c .before .before .before .before .before .read-graph .result) (c .before .before .before .got .given .0 .0) (c .before .before .before .before .before .read-graph .ensures .answers) (c .before .before .before .got .given .1)
 
-enum-told-2 : tie.Need-enum-told-2
-enum-told-2 c = search needs
+  accepted : Accepted (found .0)
+  accepted = written-read (c .before .before .before .before .before .before .before .before .before .before .args .s .now) (found .0) (found .1) all (found .2) .2
 
-refusal-requires-2 : tie.Need-refusal-requires-2
-refusal-requires-2 c κs = search needs
-
-refuse-requires-2 : tie.Need-refuse-requires-2
-refuse-requires-2 c κs = search needs
+sheet-of-requires : tie.Need-sheet-of-requires
+sheet-of-requires c κs =
+    let f = found c in
+    rw (f .3) (accepted-most (f .0) (accepted c), constraints-most (length (f .0 .constraints)) (accepted c .constraint-count))
 
 returns-2 : tie.Need-returns-2
 returns-2 c =
-    c .refuse2 .ensures
-    ∙ ap asReading (sym
-    (no-element-count _ (sym (c .before .before .before .before .before .before .before .before .read-opening .ensures) ∙ ap (asOpening (c .before .before .before .before .before .before .before .before .before .before .args .s .now)) (c .before .before .before .before .before .before .front .given .1))
-    (rw (← c .before .before .before .before .read-byte .ensures, c .before .refusal2 .ensures, c .before .before .enum-told2 .given .1))))
-
-cast-n : tie.Need-cast-n
-cast-n c = search needs
-
-opened : (c : tie.After-known-told2) → opening (c .before .before .before .before .before .before .before .before .before .args .s .now) ≡ value openingBytes (drop (c .before .before .before .before .before .front .given .0 .0 .at) (c .before .before .before .before .before .before .before .before .before .args .s .now))
-opened c = sym (c .before .before .before .before .before .before .before .read-opening .ensures) ∙ ap (asOpening (c .before .before .before .before .before .before .before .before .before .args .s .now)) (c .before .before .before .before .before .front .given .1)
-
-counted : (c : tie.After-known-told2)
-    → byte (drop (c .before .before .before .before .before .front .given .0 .0 .at) (c .before .before .before .before .before .before .before .before .before .args .s .now)) ≡ value (c .before .count .given .0 .0) (drop (c .before .count .given .0 .1 .0 .at) (c .before .before .before .before .before .before .before .before .before .args .s .now))
-counted c = sym (c .before .before .before .read-byte .ensures) ∙ ap (asByte (c .before .before .before .before .before .before .before .before .before .args .s .now)) (c .before .count .given .1)
-
-element-count-requires : tie.Need-element-count-requires
-element-count-requires c κs = search needs
-
-refuse-requires-3 : tie.Need-refuse-requires-3
-refuse-requires-3 c κs = search needs
-
-returns-3 : tie.Need-returns-3
-returns-3 c =
-    c .refuse3 .ensures
-    ∙ ap asReading (sym (elements-outside _ (opened (c .before .before .before)) (counted (c .before .before .before)) (sym (c .before .before .element-count .ensures) ∙ not-true (c .before .before .element-count .result) (c .before .if1 .taken))))
-
-enough : (c : tie.Else1) → elementCount (c .before .before .before .count .given .0 .0) ≡ true
-enough c = sym (c .before .element-count .ensures) ∙ not-false (c .before .element-count .result) (c .if1 .left)
-
-read-kinds-requires : tie.Need-read-kinds-requires
-read-kinds-requires c κs = elements-most (c .before .before .before .count .given .0 .0) (enough c)
-
-enum-known-kinds : tie.Need-enum-known-kinds
-enum-known-kinds c = search needs
-
-enum-told-3 : tie.Need-enum-told-3
-enum-told-3 c = search needs
-
-refusal-requires-3 : tie.Need-refusal-requires-3
-refusal-requires-3 c κs = search needs
-
-refuse-requires-4 : tie.Need-refuse-requires-4
-refuse-requires-4 c κs = search needs
-
-returns-4 : tie.Need-returns-4
-returns-4 c =
-    c .refuse4 .ensures
-    ∙ ap asReading (sym
-    (no-kinds _ (opened (c .before .before .before .before .before .before .before)) (counted (c .before .before .before .before .before .before .before)) (enough (c .before .before .before .before .before))
-    (rw (← c .before .before .before .before .read-kinds .ensures .0, c .before .refusal3 .ensures, c .before .before .enum-told3 .given .1))))
-
-read-rest-requires : tie.Need-read-rest-requires
-read-rest-requires c κs =
-    (elements-most (c .before .before .before .before .before .before .before .count .given .0 .0) (enough (c .before .before .before .before)), c .before .before .before .read-kinds .ensures .1 .below _ _ (c .before .kinds .given .1))
-
-returns-5 : tie.Need-returns-5
-returns-5 c =
-    c .read-rest .ensures
-    ∙ ap asReading (sym
-    (kinds-read _ (opened (c .before .before .before .before .before .before .before)) (counted (c .before .before .before .before .before .before .before)) (enough (c .before .before .before .before .before))
-    (sym (c .before .before .before .before .read-kinds .ensures .0) ∙ ap (asKinds (c .before .before .before .before .before .before .before .before .count .given .0 .0) (c .before .before .before .before .before .before .before .before .before .before .before .before .before .before .before .before .args .s .now)) (c .before .before .kinds .given .1))))
+    let k = c .before in
+    let f = found k in
+    let h = k .before .before .before .before .before .read-graph .ensures .holds (f .0) (f .1) (f .2) in
+    rw (f .2, c .sheet-of .ensures (f .0) _ (accepted k) (f .3) h)
 
 pub read-sheet-spec : {M : Type 1} → statement M
 read-sheet-spec =
     tie.close
     (tie.spec
-    read-opening-requires
-    enum-known-front
-    enum-told
-    refusal-requires
-    refuse-requires
-    returns
-    read-byte-requires
-    enum-known-count
-    enum-told-2
-    refusal-requires-2
-    refuse-requires-2
-    returns-2
-    cast-n
-    element-count-requires
-    refuse-requires-3
-    returns-3
-    read-kinds-requires
-    enum-known-kinds
-    enum-told-3
-    refusal-requires-3
-    refuse-requires-4
-    returns-4
-    read-rest-requires
-    returns-5)
+    (λ c κs. (refl, refl, refl)) (λ c. search needs) (λ c. search needs) (λ c κs. search needs) (λ c κs. search needs) returns sheet-of-requires returns-2)

@@ -20,12 +20,12 @@ returns c = λ es cs en el h.
 fine : (c : tie.Else1) → ends (c .before .before .args .n) (c .before .before .args .c .first) (c .before .before .args .c .second) ≡ true
 fine c = sym (c .before .ends-ascend .ensures) ∙ not-false _ (c .if1 .left)
 
--- and so below 64
-both : (c : tie.Else1) → (c .before .before .args .c .first < 64) × (c .before .before .args .c .second < 64)
+-- they ascend, below 64
+both : (c : tie.Else1) → (c .before .before .args .c .first < c .before .before .args .c .second) × (c .before .before .args .c .second < 64)
 both c =
     let k = c .before .before .args .c in
     let h = ends-true (c .before .before .args .n) (k .first) (k .second) (fine c) in
-    (omega (arith, h, c .before .before .pre), omega (arith, h, c .before .before .pre))
+    (h .0, omega (arith, h, c .before .before .pre))
 
 pair-stands-requires : tie.Need-pair-stands-requires
 pair-stands-requires c κs = both c
@@ -35,7 +35,7 @@ returns-2 c = λ es cs en el h.
     sym (fault-stands es cs (c .before .before .before .before .args .c) (rw en at (fine (c .before .before))) (sym (c .before .pair-stands .ensures cs h) ∙ c .if2 .taken))
 
 kind-at-requires : tie.Need-kind-at-requires
-kind-at-requires c κs = both (c .before .before) .0
+kind-at-requires c κs = omega (arith, both (c .before .before))
 
 kind-at-requires-2 : tie.Need-kind-at-requires-2
 kind-at-requires-2 c κs = both (c .before .before .before) .1

@@ -1,18 +1,11 @@
+-- `sheet::pair_stands` meets its contract. Assumes nothing.
 use borrow.Author.Needs.{needs}
+use Rattle.sheet.specs.Noted.Laws.{noted-says}
 use Rattle.sheet.proofs.pair_stands.Statement.{statement}
 use Rattle.sheet.proofs.pair_stands.Tie as tie
 
-mul-result : tie.Need-mul-result
-mul-result c = search needs
-
-element-copy-out-result : tie.Need-element-copy-out-result
-element-copy-out-result c = search needs
-
-shr-result : tie.Need-shr-result
-shr-result c = search needs
-
 returns : tie.Need-returns
-returns c = λ cs h. h .says (c .before .args .a) (c .before .args .b) (c .before .pre .0)
+returns c = λ cs h. noted-says h (c .before .pre .0) (c .before .pre .1)
 
 pub pair-stands-spec : {M : Type 1} → statement M
-pair-stands-spec = tie.close (tie.spec mul-result element-copy-out-result shr-result returns)
+pair-stands-spec = tie.close (tie.spec (λ c. search needs) (λ c. search needs) (λ c. search needs) returns)

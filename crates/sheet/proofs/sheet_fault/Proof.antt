@@ -28,12 +28,12 @@ abbrev zeros : Constraint
 zeros = record { first = 0; second = 0; size = Given (pos 0) }
 
 abbrev Inv-loop : tie.InvT-loop
-Inv-loop n e cs lines pairs₀ i₀ pairs i =
-    (i ≤ e) × (e ≤ 200) × (length cs ≡ 200) × Noted pairs (take i cs)
+Inv-loop n e cs lines near₀ i₀ near i =
+    (i ≤ e) × (e ≤ 200) × (length cs ≡ 200) × Noted near (take i cs)
     × ((es : List Element) → n ≡ length es → lines ≡ linesOf es → constraintsFault es [] (take e cs) ≡ constraintsFault es (take i cs) (drop i (take e cs)))
 
 abbrev μ-loop : tie.MeasureT-loop
-μ-loop n e cs lines pairs₀ i₀ pairs i = e - i
+μ-loop n e cs lines near₀ i₀ near i = e - i
 
 element-count-requires : tie.Need-element-count-requires Inv-loop μ-loop
 element-count-requires c κs = search needs
@@ -102,14 +102,14 @@ module _ (c : tie.After-constraint-fault Inv-loop μ-loop) where
       c .constraint-fault .ensures (factsOf sheet .elements) (take (at-loop .loop .i) (sheet .constraints)) (sized (at-loop .before)) (at-loop .before .lines-of .ensures)
       (at-loop .loop .inv .3)
 
-  -- one that has none has its ends below 64
+  -- the ends of one that has none ascend, below 64
   below : c .constraint-fault .result ≡ 0
-      → (getD (sheet .constraints) (at-loop .loop .i) zeros .first < 64) × (getD (sheet .constraints) (at-loop .loop .i) zeros .second < 64)
+      → (getD (sheet .constraints) (at-loop .loop .i) zeros .first < getD (sheet .constraints) (at-loop .loop .i) zeros .second) × (getD (sheet .constraints) (at-loop .loop .i) zeros .second < 64)
   below e =
       let k = getD (sheet .constraints) (at-loop .loop .i) zeros in
       let h = ends-true (length (factsOf sheet .elements)) (k .first) (k .second) (fault-none (factsOf sheet .elements) (take (at-loop .loop .i) (sheet .constraints)) k (sym fault ∙ e)) in
       let n = few-elements (at-loop .before .before .before .before .before .before) in
-      (omega (arith, h, n, sized (at-loop .before)), omega (arith, h, n, sized (at-loop .before)))
+      (h .0, omega (arith, h, n, sized (at-loop .before)))
 
 returns-3 : tie.Need-returns-3 Inv-loop μ-loop
 returns-3 c =

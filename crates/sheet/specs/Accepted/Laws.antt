@@ -14,8 +14,7 @@ use Rattle.sheet.specs.declared.Element.{Element}
 use Rattle.sheet.specs.declared.Constraint.{Constraint}
 use Rattle.sheet.specs.Facts.{pick}
 use Rattle.sheet.specs.Rules.{ends, stands, pairAt, sizeFault, or-else, constraintCount, constraintFault, constraintsFault}
-use Rattle.sheet.specs.Rules.Laws.{fault-none, fault-size}
-use Rattle.sheet.specs.Noted.Laws.{stands-more}
+use Rattle.sheet.specs.Rules.Laws.{fault-none, fault-size, stands-more}
 use Rattle.sheet.specs.Accepted.{Accepted}
 
 -- ---- a constraint that no rule refuses

@@ -1,89 +1,83 @@
--- Laws of the noted pairs. Assumes nothing.
-use Prim.Native.Nat.{ℕ, zero, suc, _/_, _%_, _^_, _<_, _≤_, max}
-use native.Mathlib.Decide.{ℕ-discrete}
+-- Laws of the noted constraints: a pair's bit says whether the pair stands, and one constraint more. Assumes nothing.
+use Prim.Native.Nat.{ℕ, _/_, _%_, _^_, _<_, _≤_}
 use native.Mathlib.Omega.{arith}
-use mathlib.Core.Path.{_≡_, refl, sym, ap, _∙_, subst}
-use mathlib.Core.Logic.{_≢_}
+use mathlib.Core.Path.{_≡_, refl, sym, ap, _∙_}
+use mathlib.Core.Logic.{_↔_, inl, inr}
 use mathlib.Core.Bool.{Bool, true, false, _&&_, _||_}
-use mathlib.Core.List.{List, [], _∷_, _++_}
-use borrow.Author.Tests.{eq-eqb, ne-eqb}
+use mathlib.Core.List.{List, [], _∷_, _++_, map, map-append}
+use borrow.Author.Tests.{eqb-true, eq-eqb, ne-eqb}
 use lib.Bits.{bitOr}
-use lib.Dec.{eqb}
-use lib.ListN.{getD, set, length, length-set, replicate}
-use lib.Seq.{getD-set-same, getD-set-other}
-use Rattle.theory.specs.Set.{at, _∪_}
-use Rattle.theory.specs.Set.Laws.{at-or, at-le, at-div, at-same, at-other, at-zero}
+use lib.Dec.{T, eqb}
+use lib.ListN.{getD, set, replicate}
+use Rattle.theory.specs.Set.{at}
+use Rattle.theory.specs.Set.Laws.{at-div}
+use Rattle.theory.specs.Constraints.{Sound, Among, pair, clusters}
+use Rattle.theory.specs.Constraints.Laws.{pair-one}
+use Rattle.theory.specs.Near.Laws.{near-none, near-stored}
 use Rattle.sheet.specs.declared.Constraint.{Constraint}
 use Rattle.sheet.specs.Rules.{stands}
+use Rattle.sheet.specs.Rules.Laws.{and-true}
+use Rattle.sheet.specs.Graph.{endsOf}
 use Rattle.sheet.specs.Noted.{Noted}
 
--- the pair stands in a list with one constraint more
-pub stands-more : (cs : List Constraint) (c : Constraint) (a b : ℕ) → stands (cs ++ c ∷ []) a b ≡ stands cs a b || (eqb (c .first) a && eqb (c .second) b)
+-- ---- a pair that stands is one of the initial clusters
+
+stands-among : (cs : List Constraint) (a b : ℕ) → stands cs a b ≡ true → Among (pair a b) (clusters (map endsOf cs))
 unfolding stands
-stands-more [] c a b = or-false (eqb (c .first) a && eqb (c .second) b)
+stands-among [] a b e = let z : _≡_ {A = ℕ} 0 1 = cc in absurd (omega arith)
+stands-among (c ∷ cs) a b e = first (eqb (c .first) a && eqb (c .second) b) refl e (stands-among cs a b)
   where
-    or-false : (x : Bool) → x || false ≡ x
-    or-false true = refl
-    or-false false = refl
-stands-more (d ∷ cs) c a b =
-    ap (λ (x : Bool). (eqb (d .first) a && eqb (d .second) b) || x) (stands-more cs c a b)
-    ∙ or-assoc (eqb (d .first) a && eqb (d .second) b) (stands cs a b) (eqb (c .first) a && eqb (c .second) b)
+    first : (t : Bool) → eqb (c .first) a && eqb (c .second) b ≡ t → t || stands cs a b ≡ true
+        → (stands cs a b ≡ true → Among (pair a b) (clusters (map endsOf cs))) → Among (pair a b) (clusters (map endsOf (c ∷ cs)))
+    first true h e later =
+        let both = and-true (eqb (c .first) a) (eqb (c .second) b) h in
+        inl (rw (eqb-true (c .first) a (both .0), eqb-true (c .second) b (both .1)))
+    first false h e later = inr (later e)
+
+among-stands : (cs : List Constraint) (a b : ℕ) → Sound 64 (map endsOf cs) → a < b → Among (pair a b) (clusters (map endsOf cs)) → stands cs a b ≡ true
+unfolding stands
+among-stands (c ∷ cs) a b s l (inl e) =
+    let same = pair-one a b (c .first) (c .second) l (s .0) e in
+    rw (eq-eqb (c .first) a (sym (same .0)), eq-eqb (c .second) b (sym (same .1)))
+among-stands (c ∷ cs) a b s l (inr h) = rw (among-stands cs a b (s .2) l h) (or-true (eqb (c .first) a && eqb (c .second) b))
   where
-    or-assoc : (x y z : Bool) → x || (y || z) ≡ (x || y) || z
-    or-assoc true y z = refl
-    or-assoc false y z = refl
+    or-true : (x : Bool) → x || true ≡ true
+    or-true true = refl
+    or-true false = refl
 
-zeros : (n a : ℕ) → _≡_ {A = ℕ} (getD (replicate n 0) a 0) 0
-zeros zero a = refl
-zeros (suc n) zero = refl
-zeros (suc n) (suc a) = zeros n a
+-- bit b of near's item a
+pub noted-says : {near : List ℕ} {cs : List Constraint} {a b : ℕ} → Noted near cs → a < b → b < 64 → eqb (getD near a 0 / 2 ^ b % 2) 1 ≡ stands cs a b
+noted-says {near} {cs} {a} {b} h l m = rw (← at-div b (getD near a 0)) (by-rule (h .pairs .says a b (omega arith)) (stands cs a b) refl)
+  where
+    by-rule : (at b (getD near a 0) ≡ 1) ↔ Among (pair a b) (clusters (map endsOf cs)) → (t : Bool) → stands cs a b ≡ t
+        → eqb (at b (getD near a 0)) 1 ≡ stands cs a b
+    by-rule says true e = eq-eqb _ _ (says .1 (stands-among cs a b e)) ∙ sym e
+    by-rule says false e =
+        ne-eqb _ _ (λ i.
+        let never : true ≡ false = sym (among-stands cs a b (h .ascend) l (says .0 i)) ∙ e in
+        let z : _≡_ {A = ℕ} 0 1 = cc in omega arith)
+        ∙ sym e
 
--- no constraint is noted where no bit stands
+-- ---- lists that grow at their end
+
 pub noted-none : Noted (replicate 64 0) []
-unfolding stands
-noted-none = record {
-  places = refl;
-  says = λ a b h. rw (zeros 64 a, ← at-div b 0, at-zero b);
+noted-none = record { ascend = tt; pairs = near-none }
+
+sound-more : (n : ℕ) (cs : List Constraint) (c : Constraint) → Sound n (map endsOf cs) → c .first < c .second → c .second < n
+    → Sound n (map endsOf (cs ++ c ∷ []))
+sound-more n [] c s l m = (l, m, tt)
+sound-more n (d ∷ cs) c s l m = (s .0, s .1, sound-more n cs c (s .2) l m)
+
+pub clusters-more : (cs : List Constraint) (c : Constraint) → clusters (map endsOf (cs ++ c ∷ [])) ≡ clusters (map endsOf cs) ++ pair (c .first) (c .second) ∷ []
+clusters-more [] c = refl
+clusters-more (d ∷ cs) c = ap (λ (l : List ℕ). pair (d .first) (d .second) ∷ l) (clusters-more cs c)
+
+-- both sets read, then both stored
+pub noted-more : (near : List ℕ) (cs : List Constraint) (c : Constraint) → c .first < c .second → c .second < 64 → Noted near cs
+    → Noted (set (set near (c .first) (bitOr (getD near (c .first) 0) (2 ^ c .second))) (c .second) (bitOr (getD near (c .second) 0) (2 ^ c .first)))
+    (cs ++ c ∷ [])
+noted-more near cs c l m h = record {
+  ascend = sound-more 64 cs c (h .ascend) l m;
+  pairs = rw clusters-more
+      (near-stored (clusters (map endsOf cs)) near (h .pairs) (c .first) (c .second) (omega arith) m (λ e. omega arith) refl refl refl refl);
 }
-
-bit-or : (x y : ℕ) → x ≤ 1 → y ≤ 1 → eqb (max x y) 1 ≡ eqb x 1 || eqb y 1
-bit-or zero zero p q = refl
-bit-or zero (suc zero) p q = refl
-bit-or (suc zero) zero p q = refl
-bit-or (suc zero) (suc zero) p q = refl
-bit-or (suc (suc x)) y p q = absurd (omega arith)
-bit-or zero (suc (suc y)) p q = absurd (omega arith)
-bit-or (suc zero) (suc (suc y)) p q = absurd (omega arith)
-
--- one bit more
-module _ (m b v : ℕ) where
-  bit-more : eqb (bitOr m (2 ^ b) / 2 ^ v % 2) 1 ≡ eqb (m / 2 ^ v % 2) 1 || eqb b v
-  unfolding _∪_
-  bit-more =
-      rw (← at-div v (m ∪ 2 ^ b), ← at-div v m, at-or v m (2 ^ b), bit-or (at v m) (at v (2 ^ b)) (at-le v m) (at-le v (2 ^ b)), single (ℕ-discrete v b))
-    where
-      single : Dec (v ≡ b) → eqb (at v (2 ^ b)) 1 ≡ eqb b v
-      single (yes e) = rw (e, at-same b) (sym (eq-eqb b b refl))
-      single (no n) = rw (at-other v b n) (sym (ne-eqb b v (λ p. n (sym p))))
-
-pub noted-more : (pairs : List ℕ) (cs : List Constraint) (c : Constraint) → c .first < 64 → Noted pairs cs
-    → Noted (set pairs (c .first) (bitOr (getD pairs (c .first) 0) (2 ^ c .second))) (cs ++ c ∷ [])
-noted-more pairs cs c l h = record {
-  places = rw (length-set) (h .places);
-  says = λ a b k. says a b k (ℕ-discrete a (c .first));
-}
-  where
-    here : c .first < length pairs
-    here = rw (h .places) l
-
-    says : (a b : ℕ) → a < 64 → Dec (a ≡ c .first)
-        → eqb (getD (set pairs (c .first) (bitOr (getD pairs (c .first) 0) (2 ^ c .second))) a 0 / 2 ^ b % 2) 1 ≡ stands (cs ++ c ∷ []) a b
-    says a b k (yes e) =
-        rw (stands-more cs c a b, eq-eqb (c .first) a (sym e), e, getD-set-same pairs (c .first) (bitOr (getD pairs (c .first) 0) (2 ^ c .second)) 0 here, bit-more (getD pairs (c .first) 0) (c .second) b, h .says (c .first) b l)
-    says a b k (no n) =
-        rw (stands-more cs c a b, ne-eqb (c .first) a (λ p. n (sym p)), getD-set-other pairs (c .first) a (bitOr (getD pairs (c .first) 0) (2 ^ c .second)) 0 n, h .says a b k)
-        (sym (or-false (stands cs a b)))
-      where
-        or-false : (x : Bool) → x || false ≡ x
-        or-false true = refl
-        or-false false = refl

@@ -3,7 +3,7 @@ use Prim.Native.Nat.{ℕ, zero, suc, _+_, _/_, _%_, _^_, _<_, _≤_}
 use native.Mathlib.Numerals.{add-one}
 use native.Mathlib.Omega.{arith}
 use mathlib.Core.Path.{_≡_, refl, sym, ap, ap₂, _∙_, subst}
-use mathlib.Core.Bool.{Bool, true, false, _&&_}
+use mathlib.Core.Bool.{Bool, true, false, _&&_, _||_, or-false, or-assoc}
 use mathlib.Core.List.{List, [], _∷_, _++_}
 use borrow.Author.Tests.{ltb-true}
 use lib.Dec.{T, eqb, ltb}
@@ -25,6 +25,15 @@ and-true false y e = absurd (subst T (sym e) tt)
 pub ends-true : (n a b : ℕ) → ends n a b ≡ true → (a < b) × (b < n)
 ends-true n a b e =
     let h = and-true (ltb a b) (ltb b n) e in (ltb-true a b (h .0), ltb-true b n (h .1))
+
+-- the pair stands in a list with one constraint more
+pub stands-more : (cs : List Constraint) (c : Constraint) (a b : ℕ)
+    → stands (cs ++ c ∷ []) a b ≡ stands cs a b || (eqb (c .first) a && eqb (c .second) b)
+unfolding stands
+stands-more [] c a b = or-false (eqb (c .first) a && eqb (c .second) b)
+stands-more (d ∷ cs) c a b =
+    ap (λ (x : Bool). (eqb (d .first) a && eqb (d .second) b) || x) (stands-more cs c a b)
+    ∙ sym (or-assoc (eqb (d .first) a && eqb (d .second) b) (stands cs a b) (eqb (c .first) a && eqb (c .second) b))
 
 -- ---- one constraint after those in done
 

@@ -1,0 +1,97 @@
+-- `graph::fill` meets its contract: after i turns the arrays hold the first i constraints. Assumes nothing.
+use borrow.Author.Needs.{needs}
+use Prim.Native.Nat.{ℕ, _-_, _<_, _≤_}
+use native.Mathlib.Omega.{arith}
+use native.Mathlib.Numerals.{add-one}
+use mathlib.Core.Path.{_≡_, refl, sym, ap, _∙_, subst}
+use lib.IntN.{pos}
+use mir.Facts.{toZ-ofZ}
+use mir.Syntax.{w32}
+use lib.ListN.{length, take, getD}
+use lib.Seq.{take-suc, getD-take, length-take-le}
+use Rattle.sheet.proofs.Passed.{elements-long, constraints-long}
+use Rattle.sheet.specs.declared.Constraint.{Constraint}
+use Rattle.sheet.specs.declared.Size.the-variants.{Given}
+use Rattle.sheet.specs.Facts.{factsOf}
+use Rattle.sheet.specs.Accepted.{Accepted}
+use Rattle.sheet.specs.Graph.{sizeOf}
+use Rattle.sheet.specs.Graph.Laws.{accepted-most}
+use Rattle.sheet.specs.RoundTrip.Blocks.{constraints-most, elements-most, sheetFault-none, factsOf-accepted}
+use Rattle.graph.specs.Lent.{InArrays, Unpacks}
+use Rattle.graph.specs.Lent.Laws.{in-arrays-none, accepted-unpack}
+use Rattle.graph.proofs.fill.Statement.{statement}
+use Rattle.graph.proofs.fill.Tie as tie
+
+-- what the code reads past the end of a block
+abbrev zeros : Constraint
+zeros = record { first = 0; second = 0; size = Given (pos 0) }
+
+abbrev Inv-loop : tie.InvT-loop
+Inv-loop near₀ start₀ sizes₀ s n e i₀ near start sizes i = (i ≤ s .e) × InArrays (take i (s .constraints)) near start sizes
+
+abbrev μ-loop : tie.MeasureT-loop
+μ-loop near₀ start₀ sizes₀ s n e i₀ near start sizes i = s .e - i
+
+module _ (c : tie.Start Inv-loop μ-loop) where
+  long : length (c .args .t1 .constraints) ≡ 200
+  long = constraints-long (c .args .t1) (c .good .0)
+
+  few : (c .args .t1 .n ≤ 64) × (c .args .t1 .e ≤ 200)
+  few = let h = sheetFault-none (c .args .t1) (c .pre .0) in (elements-most _ (h .0), constraints-most _ (h .1))
+
+  counted : length (take (c .args .t1 .e) (c .args .t1 .constraints)) ≡ c .args .t1 .e
+  counted = length-take-le (c .args .t1 .e) (c .args .t1 .constraints) (rw long (few .1))
+
+  unpacks : (i : ℕ) → i < c .args .t1 .e → Unpacks (getD (c .args .t1 .constraints) i zeros)
+  unpacks i l =
+      let s = c .args .t1 in
+      let ok = factsOf-accepted s (elements-long s (c .good .0)) long (c .pre .0) in
+      rw (getD-take (s .e) (s .constraints) i zeros l) at (accepted-unpack (factsOf s) i zeros ok (rw counted l))
+
+loop-holds : tie.Need-loop-holds Inv-loop μ-loop
+loop-holds c = (omega arith, rw (c .pre .1, c .pre .2, c .pre .3) in-arrays-none)
+
+mul-c : tie.Need-mul-c Inv-loop μ-loop
+mul-c c = omega (arith, few (c .before .before))
+
+element-copy-out-c : tie.Need-element-copy-out-c Inv-loop μ-loop
+element-copy-out-c c = omega (arith, few (c .before .before))
+
+note-requires : tie.Need-note-requires Inv-loop μ-loop
+note-requires c κs =
+    let s = c .before .before .before .before .before .before .before in
+    let p = unpacks s (c .before .before .before .before .before .before .loop .i) (c .before .before .before .before .before .loop-test .taken) in
+    (omega (arith, few s), p .ascend, p .below)
+
+add-i : tie.Need-add-i Inv-loop μ-loop
+add-i c = omega (arith, few (c .before .before .before .before .before .before .before .before))
+
+loop-again : tie.Need-loop-again Inv-loop μ-loop
+loop-again c =
+    let s = c .before .before .before .before .before .before .before .before in
+    let a = c .before .before .before .before .before .before .before .loop in
+    let cs = s .args .t1 .constraints in
+    let i : a .i < length cs = omega (arith, few s, long s) in
+    (omega arith, rw (add-one, take-suc cs (a .i) zeros i)
+    (c .note .ensures (take (a .i) cs) (getD cs (a .i) zeros) (length-take-le (a .i) cs (omega arith))
+    (record {
+      first-is = refl;
+      second-is = refl;
+      size-is = sym (toZ-ofZ {w = w32} {z = c .before .size-of .result} (record { sfits = c .before .size-of .ok }) ∙ c .before .size-of .ensures);
+    })
+    (a .inv .1)))
+
+returns : tie.Need-returns Inv-loop μ-loop
+returns c =
+    let s = c .before .before .before .before in
+    let a = c .before .before .before .loop in
+    let same : a .i ≡ s .args .t1 .e = omega arith in
+    let n : length (take (s .args .t1 .n) (s .args .t1 .elements)) ≡ s .args .t1 .n =
+    length-take-le (s .args .t1 .n) (s .args .t1 .elements) (rw (elements-long (s .args .t1) (s .good .0)) (few s .0)) in
+    (cc (c .lines-of .ensures, counted s), rw (← same) (a .inv .1))
+
+pub fill-spec : {M : Type 1} → statement M
+fill-spec =
+    tie.close
+    (tie.spec Inv-loop μ-loop loop-holds mul-c element-copy-out-c (λ c κs. search needs) note-requires add-i (λ c. search needs) loop-again
+    (λ c κs. few (c .before .before .before) .0) returns)

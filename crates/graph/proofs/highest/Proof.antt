@@ -1,0 +1,20 @@
+-- `graph::highest` meets its contract: the leading zeros of a pair tell its higher element. Assumes nothing.
+use borrow.Author.Needs.{needs}
+use native.Mathlib.Omega.{arith}
+use mathlib.Core.Path.{_≡_, ap, _∙_}
+use lib.Count.{leading-top}
+use Rattle.graph.specs.Lent.Laws.{pair-some, pair-highest}
+use Rattle.graph.proofs.highest.Statement.{statement}
+use Rattle.graph.proofs.highest.Tie as tie
+
+returns : tie.Need-returns
+returns c = λ a b l m e. absurd (omega (arith, pair-some a b l m))
+
+sub-result : tie.Need-sub-result
+sub-result c = omega (arith, leading-top 64 (c .before .args .m) (omega (arith, c .if1 .left)) (omega arith))
+
+returns-2 : tie.Need-returns-2
+returns-2 c = λ a b l m e. rw e (pair-highest a b l m)
+
+pub highest-spec : {M : Type 1} → statement M
+highest-spec = tie.close (tie.spec returns sub-result (λ c. search needs) returns-2)

@@ -1,0 +1,37 @@
+-- The constraint graph of a sheet's facts in lent arrays of numbers: who is constrained with whom, the initial clusters and the sizes, 0 beyond them.
+-- A missing size is 0; no rule takes a 0 that is written (document 01, rule 9).
+use Prim.Native.Nat.{ℕ, _<_}
+use mathlib.Core.Path.{_≡_}
+use mathlib.Core.Logic.{_≢_}
+use mathlib.Core.List.{List, map}
+use lib.IntN.{ℤ, pos}
+use lib.ListN.{length}
+use Rattle.theory.specs.Constraints.{clusters}
+use Rattle.sheet.specs.declared.Constraint.{Constraint}
+use Rattle.sheet.specs.declared.Size.the-variants.{Given}
+use Rattle.sheet.specs.Facts.{Facts, linesOf, block}
+use Rattle.sheet.specs.Graph.{endsOf, sizeOf}
+use Rattle.sheet.specs.Noted.{Noted}
+use Rattle.graph.specs.declared.Head.{Head}
+pub mod Laws
+
+abbrev pub headOf : Facts → Head
+headOf f = record { n = length (f .elements); e = length (f .constraints); lines = linesOf (f .elements) }
+
+-- the arrays hold the constraints
+pub record InArrays (cs : List Constraint) (near start : List ℕ) (sizes : List ℤ) : Type 0 where
+  pub noted : Noted near cs
+  pub start-is : start ≡ block 200 0 (clusters (map endsOf cs))
+  pub sizes-are : sizes ≡ block 200 (pos 0) (map (λ c. sizeOf (c .size)) cs)
+
+-- a constraint between a and b whose size is z, 0 if it is missing
+pub record Packed (c : Constraint) (a b : ℕ) (z : ℤ) : Type 0 where
+  pub first-is : c .first ≡ a
+  pub second-is : c .second ≡ b
+  pub size-is : sizeOf (c .size) ≡ z
+
+-- it comes out again: its ends ascend, below 64, and no 0 is written
+pub record Unpacks (c : Constraint) : Type 0 where
+  pub ascend : c .first < c .second
+  pub below : c .second < 64
+  pub not-zero : c .size ≢ Given (pos 0)

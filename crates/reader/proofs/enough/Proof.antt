@@ -1,0 +1,25 @@
+-- `reader::enough` meets its contract. Assumes nothing.
+use Prim.Native.Nat.{ℕ, _+_, _-_, _≤_}
+use native.Mathlib.Omega.{arith}
+use mathlib.Core.Path.{_≡_, refl, sym, _∙_}
+use mathlib.Core.Bool.{Bool, true, false}
+use borrow.Author.Tests.{leb-true, leb-false, le-leb, lt-leb}
+use lib.Dec.{leb}
+use Rattle.reader.proofs.enough.Statement.{statement}
+use Rattle.reader.proofs.enough.Tie as tie
+
+shifted : (at k len : ℕ) → k ≤ len → leb at (len - k) ≡ leb (at + k) len
+shifted at k len h = by (leb (at + k) len) refl
+  where
+    by : (q : Bool) → leb (at + k) len ≡ q → leb at (len - k) ≡ leb (at + k) len
+    by true e = let l = leb-true (at + k) len e in le-leb at (len - k) (omega arith) ∙ sym e
+    by false e = let l = leb-false (at + k) len e in lt-leb at (len - k) (omega arith) ∙ sym e
+
+returns : tie.Need-returns
+returns c = sym (lt-leb (c .before .args .at + c .before .args .k) (c .before .args .len) (omega arith))
+
+returns-2 : tie.Need-returns-2
+returns-2 c = shifted (c .before .args .at) (c .before .args .k) (c .before .args .len) (omega arith)
+
+pub enough-spec : {M : Type 1} → statement M
+enough-spec = tie.close (tie.spec returns returns-2)

@@ -1,0 +1,21 @@
+-- `writer::byte_at` meets its contract. Assumes nothing.
+use borrow.Author.Needs.{needs}
+use Prim.Native.Nat.{ℕ, zero, suc, _≤_}
+use native.Mathlib.Nat.{le-of-suc-le-suc}
+use native.Mathlib.Omega.{arith}
+use mathlib.Core.Path.{_≡_, refl}
+use mathlib.Core.List.{List, [], _∷_}
+use lib.ListN.{length, getD}
+use Rattle.writer.proofs.byte_at.Statement.{statement}
+use Rattle.writer.proofs.byte_at.Tie as tie
+
+past : (s : List ℕ) (i : ℕ) → length s ≤ i → _≡_ {A = ℕ} 0 (getD s i 0)
+past [] i h = refl
+past (b ∷ s) zero h = absurd (omega arith)
+past (b ∷ s) (suc i) h = past s i (le-of-suc-le-suc h)
+
+returns-2 : tie.Need-returns-2
+returns-2 c = past (c .before .args .s .now) (c .before .args .i) (c .if1 .left)
+
+pub byte-at-spec : {M : Type 1} → statement M
+byte-at-spec = tie.close (tie.spec (λ c. search needs) (λ c. search needs) returns-2)
