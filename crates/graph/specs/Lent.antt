@@ -6,11 +6,11 @@ use mathlib.Core.Logic.{_≢_}
 use mathlib.Core.List.{List, map}
 use lib.IntN.{ℤ, pos}
 use lib.ListN.{length}
-use Rattle.theory.specs.Constraints.{clusters}
 use Rattle.sheet.specs.declared.Constraint.{Constraint}
 use Rattle.sheet.specs.declared.Size.the-variants.{Given}
-use Rattle.sheet.specs.Facts.{Facts, linesOf, block}
-use Rattle.sheet.specs.Graph.{endsOf, sizeOf}
+use Rattle.theory.specs.Block.{block}
+use Rattle.sheet.specs.Facts.{Facts, linesOf}
+use Rattle.sheet.specs.Graph.{clusterOf, sizeOf}
 use Rattle.sheet.specs.Noted.{Noted}
 use Rattle.graph.specs.declared.Head.{Head}
 pub mod Laws
@@ -21,7 +21,7 @@ headOf f = record { n = length (f .elements); e = length (f .constraints); lines
 -- the arrays hold the constraints
 pub record InArrays (cs : List Constraint) (near start : List ℕ) (sizes : List ℤ) : Type 0 where
   pub noted : Noted near cs
-  pub start-is : start ≡ block 200 0 (clusters (map endsOf cs))
+  pub start-is : start ≡ block 200 0 (map clusterOf cs)
   pub sizes-are : sizes ≡ block 200 (pos 0) (map (λ c. sizeOf (c .size)) cs)
 
 -- a constraint between a and b whose size is z, 0 if it is missing

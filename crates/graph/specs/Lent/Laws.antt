@@ -13,7 +13,7 @@ use lib.ListN.{length, getD, set, replicate, length-map, length-append, List·ge
 use lib.Seq.{set-append-seam}
 use Rattle.theory.specs.Set.{at}
 use Rattle.theory.specs.Set.Less.{trailing-at, at-room}
-use Rattle.theory.specs.Constraints.{pair, cluster, clusters}
+use Rattle.theory.specs.Constraints.{pair}
 use Rattle.theory.specs.Constraints.Laws.{at-pair, at-end, pair-below}
 use Rattle.sheet.specs.declared.Constraint.{Constraint}
 use Rattle.sheet.specs.declared.Element.{Element}
@@ -21,12 +21,13 @@ use Rattle.sheet.specs.declared.PairKind.{PairKind}
 use Rattle.sheet.specs.declared.PairKind.the-variants.{Points, PointLine, Lines}
 use Rattle.sheet.specs.declared.Size.{Size}
 use Rattle.sheet.specs.declared.Size.the-variants.{Given, Missing}
-use Rattle.sheet.specs.Facts.{Facts, block}
+use Rattle.theory.specs.Block.{block}
+use Rattle.sheet.specs.Facts.{Facts}
 use Rattle.sheet.specs.Rules.{pairAt, sizeFault, constraintFault, constraintsFault}
 use Rattle.sheet.specs.Rules.Laws.{ends-true}
 use Rattle.sheet.specs.Accepted.{Accepted}
 use Rattle.sheet.specs.Accepted.Laws.{taken, none-else}
-use Rattle.sheet.specs.Graph.{endsOf, sizeOf}
+use Rattle.sheet.specs.Graph.{clusterOf, sizeOf}
 use Rattle.sheet.specs.Graph.Laws.{accepted-most}
 use Rattle.sheet.specs.Noted.{Noted}
 use Rattle.sheet.specs.Noted.Laws.{noted-none, clusters-more}
@@ -54,7 +55,7 @@ pub in-arrays-more : {near near′ start : List ℕ} {sizes : List ℤ} (cs : Li
 in-arrays-more cs c i n l h more = record {
   noted = more;
   start-is =
-      filled-more 0 (clusters (map endsOf cs)) (pair (c .first) (c .second)) i (length-map (map endsOf cs) _ ∙ length-map cs _ ∙ n) l (clusters-more cs c)
+      filled-more 0 (map clusterOf cs) (pair (c .first) (c .second)) i (length-map cs _ ∙ n) l (clusters-more cs c)
       (h .start-is);
   sizes-are =
       filled-more (pos 0) (map (λ d. sizeOf (d .size)) cs) (sizeOf (c .size)) i (length-map cs _ ∙ n) l (map-append (λ d. sizeOf (d .size)) cs (c ∷ []))
@@ -71,11 +72,8 @@ getD-mapped f (x ∷ xs) (suc i) d e l = getD-mapped f xs i d e (le-of-suc-le-su
 module _ {cs : List Constraint} {near start : List ℕ} {sizes : List ℤ} (h : InArrays cs near start sizes) (i : ℕ) (d : Constraint) (l : i < length cs) where
   pub pair-in-start : getD start i 0 ≡ pair (getD cs i d .first) (getD cs i d .second)
   pair-in-start =
-      let m : i < length (map endsOf cs) = rw length-map l in
-      let k : i < length (clusters (map endsOf cs)) = rw length-map m in
-      rw (h .start-is)
-      (List·getD-append (clusters (map endsOf cs)) _ 0 i k ∙ getD-mapped cluster (map endsOf cs) i 0 (endsOf d) m
-      ∙ ap cluster (getD-mapped endsOf cs i (endsOf d) d l))
+      let k : i < length (map clusterOf cs) = rw length-map l in
+      rw (h .start-is) (List·getD-append (map clusterOf cs) _ 0 i k ∙ getD-mapped clusterOf cs i 0 d l)
 
   pub size-in-sizes : getD sizes i (pos 0) ≡ sizeOf (getD cs i d .size)
   size-in-sizes =
