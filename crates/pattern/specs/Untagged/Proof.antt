@@ -12,7 +12,7 @@ use Rattle.sheet.specs.RoundTrip.{read-without-tags, without-tags-again, constr
 use Rattle.pattern.specs.Sheets.{rewriteAnswer, rewriteAfter, itemsAnswer, itemsAfter}
 use Rattle.pattern.specs.Judgements.{judgementOf}
 use Rattle.pattern.specs.Plans.{checkAnswer, checkAfter}
-use Rattle.pattern.specs.Sketches.{heldSheet, ended, lastConstraint, extendedSheet, extendAnswer, extendAfter}
+use Rattle.pattern.specs.Sketches.{heldSheet, ended, lastConstraint, longer, extendedSheet, extendAnswer, extendAfter}
 use Rattle.pattern.specs.Untagged.{SameAnswers, Untagged}
 
 -- ---- sheets that read alike, and that are alike without their tags
@@ -64,7 +64,7 @@ same-last f more c end all e =
 module _ (bytes : List ℕ) (f : Facts) (rest more : List ℕ) (c : Constraint) (end space : List ℕ) (all : Bytes more) where
   same-constraint : heldSheet bytes ≡ value f rest → lastConstraint f more ≡ value c end
       → (extendAnswer bytes more space ≡ extendAnswer bytes (dropTags 1 more) space) × (extendAfter bytes more space ≡ extendAfter bytes (dropTags 1 more) space)
-  unfolding extendAnswer extendAfter extendedSheet
+  unfolding extendAnswer extendAfter extendedSheet longer
   same-constraint held last = rw (held, same-last f more c end all last) (refl, refl)
 
 pub untagged : Untagged
