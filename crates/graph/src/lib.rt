@@ -128,12 +128,7 @@ pub fn note(
 }
 
 // The constraint graph of a sheet's facts, in arrays that were blank.
-pub fn fill(
-    s: Sheet,
-    near: &mut [u64; 64],
-    start: &mut [u64; 200],
-    sizes: &mut [i32; 200],
-) -> Head
+pub fn fill(s: Sheet, near: &mut [u64; 64], start: &mut [u64; 200], sizes: &mut [i32; 200]) -> Head
     requires { ⌜ (sheetFault s ≡ 0) × (now near ≡ replicate 64 0) × (now start ≡ replicate 200 0) × (now sizes ≡ replicate 200 (pos 0)) ⌝ }
     ensures { λ r. ⌜ (r ≡ headOf (factsOf s)) × InArrays (factsOf s .constraints) (now (near .exit)) (now (start .exit)) (now (sizes .exit)) ⌝ }
 {
@@ -165,7 +160,11 @@ fn highest(m: u64) -> u8
 fn constraint_in(m: u64, z: i32) -> Constraint
     ensures { λ r. ⌜ ((c : Constraint) → Unpacks c → m ≡ pair (c .first) (c .second) → sizeOf (c .size) ≡ z → r ≡ c) ⌝ }
 {
-    let size = if z == 0 { Size::Missing } else { Size::Given(z) };
+    let size = if z == 0 {
+        Size::Missing
+    } else {
+        Size::Given(z)
+    };
     Constraint {
         first: u64::trailing_zeros(m) as u8,
         second: highest(m),

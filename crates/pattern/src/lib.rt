@@ -201,7 +201,17 @@ fn read_more(sheet: Sheet, bytes: &[u8]) -> Reading
     let e = head.e;
     let lines = head.lines;
     let front = Cursor { at: 0 };
-    let got = reader::read_constraints(bytes, front, n, lines, e, e + 1, &mut near, &mut start, &mut sizes);
+    let got = reader::read_constraints(
+        bytes,
+        front,
+        n,
+        lines,
+        e,
+        e + 1,
+        &mut near,
+        &mut start,
+        &mut sizes,
+    );
     let Outcome::Accepted = got else {
         return reader::refuse(reader::refusal(got));
     };

@@ -160,8 +160,17 @@ module _ {space s : List ℕ} {e at from to i : ℕ} {out : List ℕ} (w : Walk 
           at-in = omega arith;
           whole =
               w .whole
-              ∙ rw (one-less, plain s at room (e - (i + 1)) none, on, take-add (at - from) (3 + sizeLength bits) (drop from s), behind, there, append-assoc, append-assoc,
-              append-assoc);
+              ∙ rw (
+                one-less,
+                plain s at room (e - (i + 1)) none,
+                on,
+                take-add (at - from) (3 + sizeLength bits) (drop from s),
+                behind,
+                there,
+                append-assoc,
+                append-assoc,
+                append-assoc,
+              );
         }
 
     pub walk-tagged : {next : ℕ} {out′ : List ℕ} → bits / 2 % 2 ≡ 1

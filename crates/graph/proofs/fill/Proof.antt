@@ -71,15 +71,17 @@ loop-again c =
     let s = c .before .before .before .before .before .before .before .before in
     let a = c .before .before .before .before .before .before .before .loop in
     let cs = s .args .t1 .constraints in
-    let i : a .i < length cs = omega (arith, few s, long s) in
-    (omega arith, rw (add-one, take-suc cs (a .i) zeros i)
-    (c .note .ensures (take (a .i) cs) (getD cs (a .i) zeros) (length-take-le (a .i) cs (omega arith))
-    (record {
-      first-is = refl;
-      second-is = refl;
-      size-is = sym (toZ-ofZ {w = w32} {z = c .before .size-of .result} (record { sfits = c .before .size-of .ok }) ∙ c .before .size-of .ensures);
-    })
-    (a .inv .1)))
+    let i : a .i < length cs = omega (arith, few s, long s) in (
+      omega arith,
+      rw (add-one, take-suc cs (a .i) zeros i)
+          (c .note .ensures (take (a .i) cs) (getD cs (a .i) zeros) (length-take-le (a .i) cs (omega arith))
+          (record {
+            first-is = refl;
+            second-is = refl;
+            size-is = sym (toZ-ofZ {w = w32} {z = c .before .size-of .result} (record { sfits = c .before .size-of .ok }) ∙ c .before .size-of .ensures);
+          })
+          (a .inv .1)),
+    )
 
 returns : tie.Need-returns Inv-loop μ-loop
 returns c =

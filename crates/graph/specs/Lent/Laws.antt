@@ -104,8 +104,11 @@ module _ (a b : ℕ) (l : a < b) (m : b < 64) where
 
   pub pair-highest : 63 - leadingZeros 64 (pair a b) ≡ b
   pair-highest =
-      omega (arith, leading-unique 64 (pair a b) (63 - b) (suc b) (omega arith) (pair-below (suc b) a b (omega arith) (omega arith))
-      (let h = at-room b (pair a b) (at-end a b .1) in omega (arith, pow-succ' 2 b)))
+      omega (
+        arith,
+        leading-unique 64 (pair a b) (63 - b) (suc b) (omega arith) (pair-below (suc b) a b (omega arith) (omega arith))
+            (let h = at-room b (pair a b) (at-end a b .1) in omega (arith, pow-succ' 2 b)),
+      )
 
 pub constraint-is : {c : Constraint} {a b : ℕ} {s : Size} → a ≡ c .first → b ≡ c .second → s ≡ c .size → record { first = a; second = b; size = s } ≡ c
 constraint-is e f g = rw (e, f, g)

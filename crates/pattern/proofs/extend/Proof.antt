@@ -1,36 +1,23 @@
+-- `pattern::extend` meets its contract, step by step: the sketch is held, the constraint is read, rule 11, and the bytes. Assumes nothing.
 use borrow.Author.Needs.{needs}
 use Prim.Native.Nat.{ℕ}
 use mathlib.Core.Path.{_≡_, sym, ap, _∙_}
-use mathlib.Core.List.{List, []}
-use lib.ListN.{drop}
+use mathlib.Core.List.{List}
 use Rattle.space.specs.declared.Written.the-variants.{Refused}
 use Rattle.space.specs.Space.{answer, after}
-use Rattle.sheet.specs.declared.Constraint.{Constraint}
-use Rattle.sheet.specs.Facts.{Facts, factsOf}
+use Rattle.sheet.specs.Facts.{Facts, factsOf, sheetOf}
 use Rattle.sheet.specs.Field.{value, refused, Bytes}
-use Rattle.sheet.specs.Rules.{constraintFault, sheetFault}
+use Rattle.sheet.specs.Rules.{sheetFault}
 use Rattle.sheet.specs.Encode.{sheetBytes}
+use Rattle.sheet.specs.Accepted.{Accepted}
 use Rattle.sheet.specs.Graph.{graphOf, overFault}
-use Rattle.reader.specs.declared.ConstraintRead.{ConstraintRead}
-use Rattle.reader.specs.Answers.{outcomeNumber, asConstraint, ruleOf}
-use Rattle.sketch.specs.Sketch.{extended}
-use Rattle.pattern.specs.Sketches.{heldSheet, lastConstraint}
-use Rattle.pattern.specs.Sheets.Laws.{reading-refused}
-use Rattle.pattern.specs.Sketches.Laws.{Holds, holding, held-none, held-over, last-taken, room, more-facts, more-none, extended-unheld, extended-unread, extended-read, extend-refused, extend-given}
+use Rattle.sheet.specs.RoundTrip.Blocks.{factsOf-sheetOf, sheetOf-fault}
+use Rattle.reader.specs.Answers.{asReading, outcomeNumber}
+use Rattle.pattern.specs.Sketches.{heldSheet, longer}
+use Rattle.pattern.specs.Sheets.Laws.{reading-refused, reading-accepted}
+use Rattle.pattern.specs.Sketches.Laws.{Holds, holding, held-none, held-over, few-constraints, room, longer-accepted, extended-unheld, extended-unread, extended-longer, extend-refused, extend-given}
 use Rattle.pattern.proofs.extend.Statement.{statement}
 use Rattle.pattern.proofs.extend.Tie as tie
-
-hold-requires : tie.Need-hold-requires
-hold-requires c κs = search needs
-
-enum-told : tie.Need-enum-told
-enum-told c = search needs
-
-enum-told-2 : tie.Need-enum-told-2
-enum-told-2 c = search needs
-
-refusal-requires : tie.Need-refusal-requires
-refusal-requires c κs = search needs
 
 returns : tie.Need-returns
 returns c =
@@ -61,12 +48,67 @@ read-more-requires c κs =
     let h = sketch c in (h .no-fault, room (h .facts) (h .accepted) (h .no-over) _ (h .sheet-is))
 
 -- what is read of the constraint
-module _ (c : tie.After-read-more) where
-  longer-is : c .read-more .result ≡ asReading (longer (sketch (c .before) .facts) (start (c .before) .args .constraint .now))
-  longer-is = c .read-more .ensures ∙ ap (λ (f : Facts). asReading (longer f (start (c .before) .args .constraint .now))) (sketch (c .before) .facts-are)
+longer-is : (c : tie.After-read-more) → c .read-more .result ≡ asReading (longer (sketch (c .before) .facts) (start (c .before) .args .constraint .now))
+longer-is c = c .read-more .ensures ∙ ap (λ (f : Facts). asReading (longer f (start (c .before) .args .constraint .now))) (sketch (c .before) .facts-are)
 
 returns-2 : tie.Need-returns-2
-returns-2 c = ?
+returns-2 c =
+    let k = c .before .before .before in
+    let a = start (k .before) .args in
+    let h = sketch (k .before) in
+    let t = c .before .enum-told4 .given in
+    let l = reading-refused (longer (h .facts) (a .constraint .now)) (k .read-more .result) (longer-is k) (t .0 .0) (t .1) in
+    let g = extend-refused (a .bytes .now) (a .constraint .now) (a .out .now) (t .0 .0) (extended-unread (a .bytes .now) (a .constraint .now) (h .facts) (h .rest) (h .holds) (t .0 .0) l) in
+    (ap Refused (c .refusal2 .ensures ∙ ap outcomeNumber (t .1)) ∙ g .0, g .1)
+
+-- the facts with the constraint
+module _ (c : tie.After-more) where
+  abbrev held : tie.After-sheet
+  held = c .before .before .before .before
+
+  more : (g : Facts) × (t : List ℕ) × (longer (sketch held .facts) (start held .args .constraint .now) ≡ value g t) × (c .before .before .before .read-more .result .sheet ≡ sheetOf g)
+  more =
+      reading-accepted (longer (sketch held .facts) (start held .args .constraint .now)) (c .before .before .before .read-more .result) (longer-is (c .before .before .before)) (c .before .enum-told3 .given .1)
+
+  accepted : Accepted (more .0)
+  accepted = longer-accepted (sketch held .facts) (start held .args .constraint .now) (all-more held) (sketch held .accepted)
+      (few-constraints (sketch held .facts) (sketch held .accepted) (sketch held .no-over)) (more .2)
+
+  no-fault : sheetFault (c .before .before .before .read-more .result .sheet) ≡ 0
+  no-fault = ap sheetFault (more .3) ∙ sheetOf-fault (more .0) accepted
+
+  facts-are : factsOf (c .before .before .before .read-more .result .sheet) ≡ more .0
+  facts-are = ap factsOf (more .3) ∙ factsOf-sheetOf (more .0)
+
+over-is : (c : tie.After-over-fault) → c .over-fault .result ≡ overFault (more (c .before) .0)
+over-is c = c .over-fault .ensures ∙ ap overFault (facts-are (c .before))
+
+returns-3 : tie.Need-returns-3
+returns-3 c =
+    let k = c .before .before in
+    let a = start (held k) .args in
+    let h = sketch (held k) in
+    let (g, t, l, s) = more k in
+    let e = over-is (c .before) in
+    let x = extended-longer (a .bytes .now) (a .constraint .now) (h .facts) (h .rest) (h .holds) g t l ∙ held-over g t (λ z. c .if1 .taken (e ∙ z)) ∙ ap refused (sym e) in
+    extend-refused (a .bytes .now) (a .constraint .now) (a .out .now) (c .before .over-fault .result) x
+
+returns-4 : tie.Need-returns-4
+returns-4 c =
+    let k = c .before .before .before .before .before .before in
+    let a = start (held k) .args in
+    let h = sketch (held k) in
+    let (g, t, l, s) = more k in
+    let w = c .before .before .write-accepted .ensures in
+    let x = extended-longer (a .bytes .now) (a .constraint .now) (h .facts) (h .rest) (h .holds) g t l ∙ held-none g t (sym (over-is (c .before .before .before .before .before)) ∙ c .before .before .before .before .if1 .left) in
+    let y = extend-given (a .bytes .now) (a .constraint .now) (a .out .now) g t x in (
+      w .0 ∙ ap (λ (f : Facts). answer (sheetBytes f) (a .out .now)) (facts-are k) ∙ y .0,
+      w .1 ∙ ap (λ (f : Facts). after (sheetBytes f) (a .out .now)) (facts-are k) ∙ y .1,
+    )
 
 pub extend-spec : {M : Type 1} → statement M
-extend-spec = ?
+extend-spec =
+    tie.close
+    (tie.spec
+    (λ c κs. search needs) (λ c. search needs) (λ c. search needs) (λ c κs. search needs) returns read-more-requires (λ c. search needs) (λ c. search needs)
+    (λ c κs. search needs) returns-2 (λ c κs. no-fault c) returns-3 (λ c κs. no-fault (c .before .before .before)) (λ c. search needs) returns-4)

@@ -37,7 +37,7 @@ use Rattle.pattern.specs.declared.Judgement.the-variants.{Is, Refused as
 use Rattle.pattern.specs.Sheets.{onFacts, rewriteAnswer, itemsAnswer}
 use Rattle.pattern.specs.Judgements.{judgementOf}
 use Rattle.pattern.specs.Plans.{checkAnswer}
-use Rattle.pattern.specs.Sketches.{byRule, held, heldSheet, ended, lastConstraint, extendedSheet, extendAnswer}
+use Rattle.pattern.specs.Sketches.{byRule, held, heldSheet, ended, lastConstraint, longer, extendedSheet, extendAnswer}
 use Rattle.pattern.specs.Refusals.{Short, Refusal, Refusals}
 
 number : (j k : ℕ) → Refused j ≡ Refused k → j ≡ k
@@ -186,10 +186,11 @@ by-ended c [] = given
 by-ended c (b ∷ s) = ruled {k = 10} (record { from = omega arith; to = omega arith })
 
 by-extended : (bytes more : List ℕ) → By 1 11 (extendedSheet bytes more)
-unfolding extendedSheet lastConstraint
+unfolding extendedSheet longer lastConstraint
 by-extended bytes more =
     by-next (by-held bytes) (λ f rest.
-    by-next (by-next (by-wider (omega arith) (by-constraint (f .elements) (f .constraints) more)) (λ c s. by-ended c s)) (λ c end. by-over (extended f c) end))
+    by-next (by-next (by-next (by-wider (omega arith) (by-constraint (f .elements) (f .constraints) more)) (λ c s. by-ended c s)) (λ c end. given))
+    (λ g end. by-over g end))
 
 grown : (bytes more space : List ℕ) (k : ℕ) → extendAnswer bytes more space ≡ Refused k → Refusal 11 (extendedSheet bytes more) sheetBytes space k
 unfolding extendAnswer

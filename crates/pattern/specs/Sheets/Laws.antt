@@ -14,7 +14,6 @@ use Rattle.sheet.specs.Rules.{sheetFault}
 use Rattle.sheet.specs.Accepted.{Accepted}
 use Rattle.sheet.specs.Field.{Field, value, refused, Bytes}
 use Rattle.sheet.specs.Decode.{readSheet}
-use Rattle.sheet.specs.Encode.{sheetBytes}
 use Rattle.sheet.specs.WithoutTags.{withoutTags}
 use Rattle.sheet.specs.RoundTrip.{written-read}
 use Rattle.sheet.specs.RoundTrip.Blocks.{factsOf-sheetOf, sheetOf-fault}
@@ -79,14 +78,16 @@ facts-read bytes r all e o =
 pub refusal-read : (bytes : List ℕ) (r : Reading) (k : ℕ) → r ≡ asReading (readSheet bytes) → r .outcome ≡ Stopped k → readSheet bytes ≡ refused k
 refusal-read bytes r k e o = reading-refused (readSheet bytes) r e k o
 
--- an accepted sheet is written again without its tags
-module _ (bytes space : List ℕ) (r : Reading) (all : Bytes bytes) (h : FactsRead bytes r) where
-  same-sheet : sheetBytes (factsOf (r .sheet)) ≡ withoutTags bytes
-  same-sheet = ap sheetBytes (h .facts-are) ∙ written-read bytes (h .facts) (h .rest) all (h .reads) .1
-
-  pub rewrite-given : (answer (sheetBytes (factsOf (r .sheet))) space ≡ rewriteAnswer bytes space) × (after (sheetBytes (factsOf (r .sheet))) space ≡ rewriteAfter bytes space)
+-- a sheet is written again without its tags
+module _ (bytes space : List ℕ) where
+  pub rewrite-refused : (k : ℕ) → readSheet bytes ≡ refused k → (Refused k ≡ rewriteAnswer bytes space) × (space ≡ rewriteAfter bytes space)
   unfolding rewriteAnswer rewriteAfter
-  rewrite-given = rw (same-sheet, h .reads) (refl, refl)
+  rewrite-refused k e = rw e (refl, refl)
+
+  pub rewrite-given : (f : Facts) (rest : List ℕ) → readSheet bytes ≡ value f rest
+      → (answer (withoutTags bytes) space ≡ rewriteAnswer bytes space) × (after (withoutTags bytes) space ≡ rewriteAfter bytes space)
+  unfolding rewriteAnswer rewriteAfter
+  rewrite-given f rest e = rw e (refl, refl)
 
 -- ---- items into lent space
 

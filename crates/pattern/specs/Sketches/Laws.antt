@@ -156,13 +156,22 @@ extended-accepted f c h l k = record {
   no-fault = extended-none f c (h .no-fault) k;
 }
 
+-- a sketch has room for one more
+pub few-constraints : (f : Facts) → Accepted f → overFault f ≡ 0 → length (f .constraints) < 200
+few-constraints f h o =
+    let m = few-held f (record {
+      two = accepted-two f h;
+      elements = accepted-most f h;
+      constraints = constraints-most (length (f .constraints)) (h .constraint-count);
+      none = h .no-fault;
+    }) o in
+    omega (arith, m)
+
 -- the constraint stored in the blocks of the sheet
 module _ (f : Facts) (h : Accepted f) (o : overFault (graphOf f) ≡ 0) (s : Sheet) (is : s ≡ sheetOf f) where
   pub room : s .e < 200
   unfolding sheetOf
-  room =
-      let m = few-held f (record { two = accepted-two f h; elements = accepted-most f h; constraints = constraints-most (length (f .constraints)) (h .constraint-count); none = h .no-fault }) o in
-      rw is (omega (arith, m))
+  room = rw is (few-constraints f h o)
 
   long : length (s .constraints) ≡ 200
   unfolding sheetOf

@@ -13,7 +13,7 @@ use Rattle.sheet.specs.RoundTrip.{read-without-tags, without-tags-again, constr
 use Rattle.pattern.specs.Sheets.{rewriteAnswer, rewriteAfter, itemsAnswer, itemsAfter}
 use Rattle.pattern.specs.Judgements.{judgementOf}
 use Rattle.pattern.specs.Plans.{checkAnswer, checkAfter}
-use Rattle.pattern.specs.Sketches.{heldSheet, ended, lastConstraint, extendedSheet, extendAnswer, extendAfter}
+use Rattle.pattern.specs.Sketches.{heldSheet, ended, lastConstraint, longer, extendedSheet, extendAnswer, extendAfter}
 use Rattle.pattern.specs.Untagged.{Alike, SameAnswers, Untagged}
 
 -- ---- sheets that read alike, and that are alike without their tags
@@ -64,7 +64,7 @@ module _ (f : Facts) (more : List ℕ) (c : Constraint) (end : List ℕ) (all : 
       rw (was, constraint-without-tag (f .elements) (f .constraints) more d t all was))
 
   same-constraint : (bytes rest : List ℕ) → heldSheet bytes ≡ value f rest → Alike (extendAnswer bytes) (extendAfter bytes) more (dropTags 1 more)
-  unfolding extendAnswer extendAfter extendedSheet
+  unfolding extendAnswer extendAfter extendedSheet longer
   same-constraint bytes rest held space = rw (held, same-last) (refl, refl)
 
 pub untagged : Untagged

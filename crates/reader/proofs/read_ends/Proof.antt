@@ -21,8 +21,11 @@ returns c = (λ es cs en h. rw (← c .before .before .before .read-byte .ensure
 
 returns-2 : tie.Need-returns-2
 unfolding constraint
-returns-2 c = (λ es cs en h.
-    rw (← c .before .before .before .before .before .before .before .read-byte .ensures, c .before .before .before .before .before .start .given .1, ← c .before .before .before .read-byte2 .ensures, c .refusal2 .ensures, c .before .enum-told2 .given .1), no-ends)
+returns-2 c = (
+  λ es cs en h.
+      rw (← c .before .before .before .before .before .before .before .read-byte .ensures, c .before .before .before .before .before .start .given .1, ← c .before .before .before .read-byte2 .ensures, c .refusal2 .ensures, c .before .enum-told2 .given .1),
+  no-ends,
+)
 
 -- both ends are read
 first-read : (c : tie.After-known-told2)
@@ -34,8 +37,11 @@ second-read : (c : tie.After-known-told2)
 second-read c = sym (c .before .before .before .read-byte2 .ensures) ∙ ap (asByte (c .before .before .before .before .before .before .before .before .before .args .s .now)) (c .before .end .given .1)
 
 returns-3 : tie.Need-returns-3
-returns-3 c = (λ es cs en h.
-    sym (ends-wrong es cs _ (first-read (c .before .before)) (second-read (c .before .before)) (rw en at (sym (c .before .ends-ascend .ensures) ∙ not-true (c .before .ends-ascend .result) (c .if1 .taken)))), no-ends)
+returns-3 c = (
+  λ es cs en h.
+      sym (ends-wrong es cs _ (first-read (c .before .before)) (second-read (c .before .before)) (rw en at (sym (c .before .ends-ascend .ensures) ∙ not-true (c .before .ends-ascend .result) (c .if1 .taken)))),
+  no-ends,
+)
 
 -- they ascend, below n and so below 64
 ascend : (c : tie.Else1) → ends (c .before .before .before .before .before .before .before .before .before .before .before .args .n) (c .before .before .before .before .before .before .before .start .given .0 .0) (c .before .before .before .end .given .0 .0) ≡ true
@@ -50,19 +56,23 @@ pair-stands-requires : tie.Need-pair-stands-requires
 pair-stands-requires c κs = small c
 
 returns-4 : tie.Need-returns-4
-returns-4 c = (λ es cs en h.
-    sym (pair-again es cs _ (first-read (c .before .before .before .before)) (second-read (c .before .before .before .before)) (rw en at (ascend (c .before .before))) (sym (c .before .pair-stands .ensures cs h) ∙ c .if2 .taken)), no-ends)
+returns-4 c = (
+  λ es cs en h.
+      sym (pair-again es cs _ (first-read (c .before .before .before .before)) (second-read (c .before .before .before .before)) (rw en at (ascend (c .before .before))) (sym (c .before .pair-stands .ensures cs h) ∙ c .if2 .taken)),
+  no-ends,
+)
 
 returns-5 : tie.Need-returns-5
 returns-5 c =
     let k = c .before .before in
     let a = k .before .before .before .before .before .before .before .start .given .0 .0 in
     let b = k .before .before .before .end .given .0 .0 in
-    let o = ends-true (k .before .before .before .before .before .before .before .before .before .before .before .args .n) a b (ascend k) in
-    (λ es cs en h.
-    sym (pair-new es cs _ (first-read (k .before .before)) (second-read (k .before .before)) (rw en at (ascend k))
-    (sym (c .before .pair-stands .ensures cs h) ∙ c .if2 .left)),
-    record { ascend = λ x y d e. let p : a ≡ x = cc in let q : b ≡ y = cc in rw (← p, ← q) o })
+    let o = ends-true (k .before .before .before .before .before .before .before .before .before .before .before .args .n) a b (ascend k) in (
+      λ es cs en h.
+          sym (pair-new es cs _ (first-read (k .before .before)) (second-read (k .before .before)) (rw en at (ascend k))
+          (sym (c .before .pair-stands .ensures cs h) ∙ c .if2 .left)),
+      record { ascend = λ x y d e. let p : a ≡ x = cc in let q : b ≡ y = cc in rw (← p, ← q) o },
+    )
 
 pub read-ends-spec : {M : Type 1} → statement M
 read-ends-spec =

@@ -21,8 +21,12 @@ returns-2 : tie.Need-returns-2
 unfolding size
 returns-2 c =
     let b = c .before .before .before .before in
-    rw (not-false (b .before .before .args .stands) (b .if1 .left), ← c .before .before .before .read-number .ensures .0, c .refusal .ensures,
-    c .before .enum-told .given .1)
+    rw (
+      not-false (b .before .before .args .stands) (b .if1 .left),
+      ← c .before .before .before .read-number .ensures .0,
+      c .refusal .ensures,
+      c .before .enum-told .given .1,
+    )
 
 signed-requires : tie.Need-signed-requires
 signed-requires c κs = c .before .before .before .read-number .ensures .1 .below _ _ (c .before .number .given .1)
@@ -50,8 +54,14 @@ returns-3 c =
 returns-4 : tie.Need-returns-4
 unfolding size
 returns-4 c =
-    rw (toZ-ofZ {w = w32} {z = c .before .before .signed .result} (search needs), c .before .before .signed .ensures, stands (c .before), number-is (c .before),
-    ← range (c .before), not-false (c .before .size-range .result) (c .if2 .left))
+    rw (
+      toZ-ofZ {w = w32} {z = c .before .before .signed .result} (search needs),
+      c .before .before .signed .ensures,
+      stands (c .before),
+      number-is (c .before),
+      ← range (c .before),
+      not-false (c .before .size-range .result) (c .if2 .left),
+    )
 
 pub read-size-spec : {M : Type 1} → statement M
 read-size-spec =
