@@ -80,8 +80,8 @@ module _ (c : tie.After-more) where
   facts-are : factsOf (c .before .before .before .read-more .result .sheet) ≡ more .0
   facts-are = ap factsOf (more .3) ∙ factsOf-sheetOf (more .0)
 
-over-is : (c : tie.After-over-fault) → c .over-fault .result ≡ overFault (more (c .before) .0)
-over-is c = c .over-fault .ensures ∙ ap overFault (facts-are (c .before))
+over-is : (c : tie.After-over-fault) → c .over-fault .result ≡ overFault (graphOf (more (c .before) .0))
+over-is c = c .over-fault .ensures ∙ ap (λ (x : Facts). overFault (graphOf x)) (facts-are (c .before))
 
 returns-3 : tie.Need-returns-3
 returns-3 c =

@@ -1,8 +1,7 @@
 -- What is held and extended, step by step. Assumes nothing.
-use Prim.Native.Nat.{ℕ, _+_, _≤_, _<_}
+use Prim.Native.Nat.{ℕ, zero, suc, _+_, _≤_, _<_}
 use native.Mathlib.Omega.{arith}
 use mathlib.Core.Path.{_≡_, refl, sym, ap, _∙_}
-use mathlib.Core.Bool.{Bool, true, false}
 use mathlib.Core.List.{List, [], _∷_, _++_}
 use borrow.Author.Tests.{le-leb}
 use lib.IntN.{ℤ}
@@ -12,9 +11,9 @@ use Rattle.space.specs.declared.Written.the-variants.{Refused}
 use Rattle.space.specs.Space.{answer, after}
 use Rattle.sheet.specs.declared.Constraint.{Constraint}
 use Rattle.sheet.specs.declared.Sheet.{Sheet}
-use Rattle.sheet.specs.Facts.{Facts, sheetOf, factsOf, pick}
-use Rattle.sheet.specs.Field.{Field, value, refused, next, demand, Bytes}
-use Rattle.sheet.specs.Field.Laws.{next-value, demand-value, value-with, refused-value}
+use Rattle.sheet.specs.Facts.{Facts, sheetOf, factsOf}
+use Rattle.sheet.specs.Field.{Field, value, refused, next, Bytes}
+use Rattle.sheet.specs.Field.Laws.{next-value, value-with, refused-value}
 use Rattle.sheet.specs.Rules.{constraintFault, sheetFault}
 use Rattle.sheet.specs.Decode.{constraint, constraints, readSheet}
 use Rattle.sheet.specs.Encode.{sheetBytes}
@@ -28,10 +27,11 @@ use Rattle.reader.specs.declared.Outcome.{Outcome}
 use Rattle.reader.specs.declared.Outcome.the-variants.{Accepted as Took, Refused as Stopped}
 use Rattle.reader.specs.declared.Reading.{Reading}
 use Rattle.reader.specs.Answers.{asReading, asOutcome, ListRead}
-use Rattle.sketch.specs.Sketch.{notOver, overFault, extended, stored}
+use Rattle.sheet.specs.Graph.{graphOf, overFault}
+use Rattle.sketch.specs.Sketch.{extended, stored}
 use Rattle.sketch.specs.Sketch.Laws.{few-held, extended-none, stored-facts}
 use Rattle.pattern.specs.Sheets.Laws.{reading-accepted}
-use Rattle.pattern.specs.Sketches.{held, heldSheet, ended, lastConstraint, longer, extendedSheet, extendAnswer, extendAfter}
+use Rattle.pattern.specs.Sketches.{byRule, held, heldSheet, ended, lastConstraint, longer, extendedSheet, extendAnswer, extendAfter}
 
 -- ---- rule 11
 
@@ -157,7 +157,7 @@ extended-accepted f c h l k = record {
 }
 
 -- a sketch has room for one more
-pub few-constraints : (f : Facts) → Accepted f → overFault f ≡ 0 → length (f .constraints) < 200
+pub few-constraints : (f : Facts) → Accepted f → overFault (graphOf f) ≡ 0 → length (f .constraints) < 200
 few-constraints f h o =
     let m = few-held f (record {
       two = accepted-two f h;
