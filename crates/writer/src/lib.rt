@@ -209,10 +209,11 @@ pub fn write_untagged(s: &[u8], out: &mut [u8]) -> Written
         let written = put_untagged(out, s);
         return Written::Done(written);
     }
-    let needed = put_untagged(&mut out[..0], s);
-    if out.len() < needed {
-        return Written::Refused(17);
+    let length = put_untagged(&mut out[..0], s);
+    if out.len() < length {
+        Written::Refused(17)
+    } else {
+        let written = put_untagged(out, s);
+        Written::Done(written)
     }
-    let written = put_untagged(out, s);
-    Written::Done(written)
 }
