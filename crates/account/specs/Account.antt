@@ -1,5 +1,5 @@
--- The report of a sheet's graph. Document 01, "The report", and "Clusters and merges": the answer to an accepted saved plan is the report for that plan,
--- its steps in the saved order.
+-- The report of a sheet's graph. Document 01, "The report", and "Clusters and merges": the answer to an accepted saved plan is the report for that
+-- plan, its steps in the saved order.
 use Prim.Native.Nat.{ℕ, zero, suc}
 use mathlib.Core.List.{List}
 use lib.ListN.{length}

@@ -62,14 +62,17 @@ table =
     -- that with a fifth, unconstrained point: still over, though 6 is below 7
     ∷ row (of 5 0 (reports (sized 0 3 300 ∷ []))) (ascii "verdict over\nelements 5 constraints 6\nfirst 5\nset 0 1 2 3\n")
     -- each of 0, 1, 2 with each of 3, 4, 5: stuck, no step
-    ∷ row (of 6 0 (sized 0 3 300 ∷ sized 0 4 300 ∷ sized 0 5 300 ∷ sized 1 3 300 ∷ sized 1 4 300 ∷ sized 1 5 300 ∷ sized 2 3 300 ∷ sized 2 4 300 ∷ sized 2 5 300 ∷ []))
+    ∷ row (of 6 0 (sized 0 3 300 ∷ sized 0 4 300 ∷ sized 0 5 300 ∷ sized 1 3 300 ∷ sized 1 4 300 ∷ sized 1 5 300
+    ∷ sized 2 3 300 ∷ sized 2 4 300 ∷ sized 2 5 300 ∷ []))
     (ascii "verdict stuck\nelements 6 constraints 9\ncluster 0 holds 0 3\ncluster 1 holds 0 4\ncluster 2 holds 0 5\ncluster 3 holds 1 3\ncluster 4 holds 1 4\ncluster 5 holds 1 5\ncluster 6 holds 2 3\ncluster 7 holds 2 4\ncluster 8 holds 2 5\n")
     -- line 0, points 1 and 2; (0,1) without size, (0,2) 300, (1,2) 300: ways 1; (1,2) 299: ways 0
     ∷ row (foot 300) (ascii "verdict well\nelements 3 constraints 3\nstep 3 from 0 1 2 joint 0 1 2 kind ppl ways 1\ncluster 3 holds 0 1 2\n")
     ∷ row (foot 299) (ascii "verdict well\nelements 3 constraints 3\nstep 3 from 0 1 2 joint 0 1 2 kind ppl ways 0\ncluster 3 holds 0 1 2\n")
     -- distances 100, 200, 300: ways 1; 100, 200, 301: ways 0
-    ∷ row (triangle 100 200 300) (ascii "verdict well\nelements 3 constraints 3\nstep 3 from 0 1 2 joint 0 1 2 kind ppp ways 1\ncluster 3 holds 0 1 2\n")
-    ∷ row (triangle 100 200 301) (ascii "verdict well\nelements 3 constraints 3\nstep 3 from 0 1 2 joint 0 1 2 kind ppp ways 0\ncluster 3 holds 0 1 2\n")
+    ∷ row (triangle 100 200 300)
+    (ascii "verdict well\nelements 3 constraints 3\nstep 3 from 0 1 2 joint 0 1 2 kind ppp ways 1\ncluster 3 holds 0 1 2\n")
+    ∷ row (triangle 100 200 301)
+    (ascii "verdict well\nelements 3 constraints 3\nstep 3 from 0 1 2 joint 0 1 2 kind ppp ways 0\ncluster 3 holds 0 1 2\n")
     ∷ []
 
 -- no rule refuses any of them, and each prints its report

@@ -20,7 +20,9 @@ use theory::Finding;
 // The report of a list of merges of the sheet's constraints, with its own verdict.
 fn put_list(s: Sheet, run: Run, out: &mut [u8]) -> Written
     requires { ⌜ (sheetFault s ≡ 0) × NotOver (graphOf (factsOf s) .clusters) × Merged (graphOf (factsOf s) .clusters) run ⌝ }
-    ensures { λ r. ⌜ ((p : List Merge) → Valid (graphOf (factsOf s) .clusters) p → run ≡ runOf (graphOf (factsOf s) .clusters) p → (r ≡ answer (listReport (graphOf (factsOf s)) p) (now (out .entry))) × (now (out .exit) ≡ after (listReport (graphOf (factsOf s)) p) (now (out .entry)))) ⌝ }
+    ensures { λ r. ⌜ ((p : List Merge) → Valid (graphOf (factsOf s) .clusters) p → run ≡ runOf (graphOf (factsOf s) .clusters) p
+        → (r ≡ answer (listReport (graphOf (factsOf s)) p) (now (out .entry)))
+        × (now (out .exit) ≡ after (listReport (graphOf (factsOf s)) p) (now (out .entry)))) ⌝ }
 {
     let n = s.n;
     let e = s.e;
@@ -40,7 +42,8 @@ fn put_list(s: Sheet, run: Run, out: &mut [u8]) -> Written
 // The report of a sheet: the engine's plan, or of an over sheet the first constraint and the smallest set.
 pub fn report(s: Sheet, out: &mut [u8]) -> Written
     requires { ⌜ sheetFault s ≡ 0 ⌝ }
-    ensures { λ r. ⌜ (r ≡ answer (reportOf (graphOf (factsOf s))) (now (out .entry))) × (now (out .exit) ≡ after (reportOf (graphOf (factsOf s))) (now (out .entry))) ⌝ }
+    ensures { λ r. ⌜ (r ≡ answer (reportOf (graphOf (factsOf s))) (now (out .entry)))
+        × (now (out .exit) ≡ after (reportOf (graphOf (factsOf s))) (now (out .entry))) ⌝ }
 {
     let n = s.n;
     let e = s.e;
@@ -56,7 +59,8 @@ pub fn report(s: Sheet, out: &mut [u8]) -> Written
 // The check of a saved plan against a sheet that is not over, and the report for that plan.
 fn check_listed(s: Sheet, plan: &[u16], out: &mut [u8]) -> Written
     requires { ⌜ (sheetFault s ≡ 0) × (findingOf (graphOf (factsOf s)) ≡ Fine) ⌝ }
-    ensures { λ r. ⌜ (r ≡ savedAnswer (graphOf (factsOf s)) (now (plan .entry)) (now (out .entry))) × (now (out .exit) ≡ savedAfter (graphOf (factsOf s)) (now (plan .entry)) (now (out .entry))) ⌝ }
+    ensures { λ r. ⌜ (r ≡ savedAnswer (graphOf (factsOf s)) (now (plan .entry)) (now (out .entry)))
+        × (now (out .exit) ≡ savedAfter (graphOf (factsOf s)) (now (plan .entry)) (now (out .entry))) ⌝ }
 {
     let e = s.e;
     let cs = s.constraints;
@@ -73,7 +77,8 @@ fn check_listed(s: Sheet, plan: &[u16], out: &mut [u8]) -> Written
 // The check of a saved plan, and the report for it: 11, then 12 to 16, then 17.
 pub fn check_plan(s: Sheet, plan: &[u16], out: &mut [u8]) -> Written
     requires { ⌜ sheetFault s ≡ 0 ⌝ }
-    ensures { λ r. ⌜ (r ≡ savedAnswer (graphOf (factsOf s)) (now (plan .entry)) (now (out .entry))) × (now (out .exit) ≡ savedAfter (graphOf (factsOf s)) (now (plan .entry)) (now (out .entry))) ⌝ }
+    ensures { λ r. ⌜ (r ≡ savedAnswer (graphOf (factsOf s)) (now (plan .entry)) (now (out .entry)))
+        × (now (out .exit) ≡ savedAfter (graphOf (factsOf s)) (now (plan .entry)) (now (out .entry))) ⌝ }
 {
     let found = judge::over_of(s);
     let Finding::Fine = found else {

@@ -1,6 +1,6 @@
 -- The cases of the placements. Assumes nothing.
-use mathlib.Core.Path.{_≡_, refl, sym, ap, ap₂, _∙_}
-use mathlib.Core.Bool.{Bool, true, false, _&&_}
+use mathlib.Core.Path.{_≡_, sym, ap, ap₂, _∙_}
+use mathlib.Core.Bool.{Bool, _&&_}
 use mathlib.Core.Logic.{_≢_}
 use mathlib.Core.List.{List}
 use Prim.Native.Nat.{ℕ, _≤_, _<_}
@@ -65,7 +65,8 @@ module _ (lines : ℕ) (kind : JointKind) (e : ℕ) (sizes : List ℤ) (cs : Lis
       no-branch (ltb i e && (ltb j e && ltb k e)) _ _ (λ t. lt-ltb i e l t && (lt-ltb j e m t && le-ltb k e h t))
 
   pub ways-initial : i < e → j < e → k < e
-      → placed lines kind (slot cs i) (slot cs j) (getD sizes i (pos 0)) (getD sizes j (pos 0)) (getD sizes k (pos 0)) ≡ waysBy lines kind e sizes cs (merge i j k)
+      → placed lines kind (slot cs i) (slot cs j) (getD sizes i (pos 0)) (getD sizes j (pos 0)) (getD sizes k (pos 0))
+      ≡ waysBy lines kind e sizes cs (merge i j k)
   unfolding waysBy
   ways-initial l m h =
       yes-branch (ltb i e && (ltb j e && ltb k e)) _ _ (λ t. lt-ltb i e l t && (lt-ltb j e m t && lt-ltb k e h t))

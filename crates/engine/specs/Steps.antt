@@ -33,7 +33,9 @@ stepFrom lines e sizes cs made parts joints t = record {
   k = getD parts (3 * t + 2) 0;
   joint = getD joints t 0;
   kind = jointKind lines (getD joints t 0);
-  ways = waysBy lines (jointKind lines (getD joints t 0)) e sizes cs (merge (getD parts (3 * t) 0) (getD parts (3 * t + 1) 0) (getD parts (3 * t + 2) 0));
+  ways =
+      waysBy lines (jointKind lines (getD joints t 0)) e sizes cs
+      (merge (getD parts (3 * t) 0) (getD parts (3 * t + 1) 0) (getD parts (3 * t + 2) 0));
 }
 
 abbrev pub stepAt : ℕ → ℕ → List ℤ → List ℕ → List ℕ → List ℕ → ℕ → Step

@@ -247,7 +247,8 @@ pub fn steps_of(
 // The numbers of a list of merges, three a step, into lent space, or 17.
 pub fn put_plan(run: Run, out: &mut [u16]) -> Written
     requires { ⌜ (run .steps ≤ 62) × (length (run .parts) ≡ 192) ⌝ }
-    ensures { λ r. ⌜ (r ≡ answer (take (3 * run .steps) (run .parts)) (now (out .entry))) × (now (out .exit) ≡ after (take (3 * run .steps) (run .parts)) (now (out .entry))) ⌝ }
+    ensures { λ r. ⌜ (r ≡ answer (take (3 * run .steps) (run .parts)) (now (out .entry)))
+        × (now (out .exit) ≡ after (take (3 * run .steps) (run .parts)) (now (out .entry))) ⌝ }
 {
     let count = 3 * run.steps;
     let parts = run.parts;
@@ -280,7 +281,8 @@ fn count_living(slots: &[u64; 192], used: usize) -> usize
 // The clusters that live, by number, into lent space, or 17.
 pub fn put_clusters(slots: &[u64; 192], used: usize, out: &mut [u64]) -> Written
     requires { ⌜ (used ≤ 192) × (length (now slots) ≡ 192) ⌝ }
-    ensures { λ r. ⌜ (r ≡ answer (livingOf (take used (now (slots .entry)))) (now (out .entry))) × (now (out .exit) ≡ after (livingOf (take used (now (slots .entry)))) (now (out .entry))) ⌝ }
+    ensures { λ r. ⌜ (r ≡ answer (livingOf (take used (now (slots .entry)))) (now (out .entry)))
+        × (now (out .exit) ≡ after (livingOf (take used (now (slots .entry)))) (now (out .entry))) ⌝ }
 {
     let count = count_living(slots, used);
     if out.len() < count {

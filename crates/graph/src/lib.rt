@@ -2,7 +2,6 @@
 // is packed into them and out again. Contracts cite this crate's specs.
 ghost use mathlib.Core.Path.{_≡_};
 ghost use mathlib.Core.List.{List, _∷_, [], _++_, map};
-ghost use mathlib.Core.Logic.{_≢_};
 ghost use Prim.Native.Nat.{ℕ, _^_, _<_, _≤_};
 ghost use Rattle.theory.specs.Block.{block};
 ghost use Rattle.theory.specs.Constraints.{pair, Pairs};
@@ -120,7 +119,9 @@ pub fn note(
     z: i32,
 )
     requires { ⌜ (i < 200) × (a < b) × (b < 64) ⌝ }
-    ensures { λ r. ⌜ ((cs : List Constraint) (c : Constraint) → length cs ≡ i → Packed c a b z → InArrays cs (now (near .entry)) (now (start .entry)) (now (sizes .entry)) → InArrays (cs ++ c ∷ []) (now (near .exit)) (now (start .exit)) (now (sizes .exit))) ⌝ }
+    ensures { λ r. ⌜ ((cs : List Constraint) (c : Constraint) → length cs ≡ i → Packed c a b z
+        → InArrays cs (now (near .entry)) (now (start .entry)) (now (sizes .entry))
+        → InArrays (cs ++ c ∷ []) (now (near .exit)) (now (start .exit)) (now (sizes .exit))) ⌝ }
 {
     sheet::note_pair(near, a, b);
     start[i] = pair_of(a, b);
@@ -175,7 +176,8 @@ fn constraint_in(m: u64, z: i32) -> Constraint
 // The sheet whose constraint graph stands in the arrays.
 pub fn sheet_of(h: Head, start: &[u64; 200], sizes: &[i32; 200]) -> Sheet
     requires { ⌜ (h .n ≤ 64) × (h .e ≤ 200) ⌝ }
-    ensures { λ r. ⌜ ((f : Facts) (near : List ℕ) → Accepted f → h ≡ headOf f → InArrays (f .constraints) near (now (start .entry)) (now (sizes .entry)) → r ≡ sheetOf f) ⌝ }
+    ensures { λ r. ⌜ ((f : Facts) (near : List ℕ) → Accepted f → h ≡ headOf f
+        → InArrays (f .constraints) near (now (start .entry)) (now (sizes .entry)) → r ≡ sheetOf f) ⌝ }
 {
     let n = h.n;
     let e = h.e;

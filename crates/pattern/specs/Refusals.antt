@@ -1,5 +1,5 @@
--- Demand 1: nothing is refused except by a numbered rule. Which rules refuse a call of each entry point, for all bytes, plans and lent space; 17 comes
--- only where the lent space is shorter than the answer.
+-- Demand 1: nothing is refused except by a numbered rule. Which rules refuse a call of each entry point, for all bytes, plans and lent space; 17
+-- comes only where the lent space is shorter than the answer.
 use Prim.Native.Nat.{ℕ, _≤_, _<_}
 use mathlib.Core.Path.{_≡_}
 use mathlib.Core.Logic.{_≢_, _⊎_}
@@ -44,7 +44,8 @@ pub record Refusals : Type 0 where
   pub verdict : (bytes : List ℕ) (k : ℕ) → judgementOf bytes ≡ No k → Rule 1 10 k
   pub rewrite : (bytes space : List ℕ) (k : ℕ) → rewriteAnswer bytes space ≡ Refused k → Refusal 10 (readSheet bytes) (λ f. withoutTags bytes) space k
   -- the writer, and an addition to a held sketch
-  pub write : (s : Sheet) (space : List ℕ) (k : ℕ) → writeAnswer s space ≡ Refused k → Rule 3 9 k ⊎ ((k ≡ 17) × (length space < length (sheetBytes (factsOf s))))
+  pub write : (s : Sheet) (space : List ℕ) (k : ℕ) → writeAnswer s space ≡ Refused k
+      → Rule 3 9 k ⊎ ((k ≡ 17) × (length space < length (sheetBytes (factsOf s))))
   pub add : (s : Sheet) (c : Constraint) (k : ℕ) → addAnswer s c ≡ Not k → Rule 3 11 k
   -- over, plan, clusters and report
   pub items : (what : Graph → List ℕ) (bytes space : List ℕ) (k : ℕ) → itemsAnswer what bytes space ≡ Refused k

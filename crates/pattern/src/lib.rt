@@ -43,7 +43,8 @@ pub fn write(sheet: Sheet, out: &mut [u8]) -> Written
 
 // A sheet read and written again: the same sheet without its tags, or the rule of 1 to 10 and 17 that refuses it.
 pub fn rewrite(bytes: &[u8], out: &mut [u8]) -> Written
-    ensures { λ r. ⌜ (r ≡ rewriteAnswer (now (bytes .entry)) (now (out .entry))) × (now (out .exit) ≡ rewriteAfter (now (bytes .entry)) (now (out .entry))) ⌝ }
+    ensures { λ r. ⌜ (r ≡ rewriteAnswer (now (bytes .entry)) (now (out .entry)))
+        × (now (out .exit) ≡ rewriteAfter (now (bytes .entry)) (now (out .entry))) ⌝ }
 {
     let mut near = [0u64; 64];
     let mut start = [0u64; 200];
@@ -69,7 +70,8 @@ fn put_two(a: u64, b: u64, out: &mut [u64]) -> Written
 
 // Whether a sheet is over: the first constraint that makes it so and the smallest set, or no item where it is not over.
 pub fn over(bytes: &[u8], out: &mut [u64]) -> Written
-    ensures { λ r. ⌜ (r ≡ itemsAnswer overNumbers (now (bytes .entry)) (now (out .entry))) × (now (out .exit) ≡ itemsAfter overNumbers (now (bytes .entry)) (now (out .entry))) ⌝ }
+    ensures { λ r. ⌜ (r ≡ itemsAnswer overNumbers (now (bytes .entry)) (now (out .entry)))
+        × (now (out .exit) ≡ itemsAfter overNumbers (now (bytes .entry)) (now (out .entry))) ⌝ }
 {
     let reading = reader::read_sheet(bytes);
     let outcome = reading.outcome;
@@ -106,7 +108,8 @@ pub fn verdict(bytes: &[u8]) -> Judgement
 
 // The engine's plan, three numbers a step, ascending; no number of an over sheet.
 pub fn plan(bytes: &[u8], out: &mut [u16]) -> Written
-    ensures { λ r. ⌜ (r ≡ itemsAnswer planNumbers (now (bytes .entry)) (now (out .entry))) × (now (out .exit) ≡ itemsAfter planNumbers (now (bytes .entry)) (now (out .entry))) ⌝ }
+    ensures { λ r. ⌜ (r ≡ itemsAnswer planNumbers (now (bytes .entry)) (now (out .entry)))
+        × (now (out .exit) ≡ itemsAfter planNumbers (now (bytes .entry)) (now (out .entry))) ⌝ }
 {
     let reading = reader::read_sheet(bytes);
     let outcome = reading.outcome;
@@ -121,7 +124,8 @@ pub fn plan(bytes: &[u8], out: &mut [u16]) -> Written
 
 // The final clusters as sets, by number; none of an over sheet.
 pub fn clusters(bytes: &[u8], out: &mut [u64]) -> Written
-    ensures { λ r. ⌜ (r ≡ itemsAnswer finalClusters (now (bytes .entry)) (now (out .entry))) × (now (out .exit) ≡ itemsAfter finalClusters (now (bytes .entry)) (now (out .entry))) ⌝ }
+    ensures { λ r. ⌜ (r ≡ itemsAnswer finalClusters (now (bytes .entry)) (now (out .entry)))
+        × (now (out .exit) ≡ itemsAfter finalClusters (now (bytes .entry)) (now (out .entry))) ⌝ }
 {
     let reading = reader::read_sheet(bytes);
     let outcome = reading.outcome;
@@ -137,7 +141,8 @@ pub fn clusters(bytes: &[u8], out: &mut [u64]) -> Written
 
 // The report of a sheet, as bytes in lent space.
 pub fn report(bytes: &[u8], out: &mut [u8]) -> Written
-    ensures { λ r. ⌜ (r ≡ itemsAnswer reportOf (now (bytes .entry)) (now (out .entry))) × (now (out .exit) ≡ itemsAfter reportOf (now (bytes .entry)) (now (out .entry))) ⌝ }
+    ensures { λ r. ⌜ (r ≡ itemsAnswer reportOf (now (bytes .entry)) (now (out .entry)))
+        × (now (out .exit) ≡ itemsAfter reportOf (now (bytes .entry)) (now (out .entry))) ⌝ }
 {
     let reading = reader::read_sheet(bytes);
     let outcome = reading.outcome;
@@ -150,7 +155,8 @@ pub fn report(bytes: &[u8], out: &mut [u8]) -> Written
 
 // The check of a saved plan, three numbers a step, against a sheet; the report for that plan, or the rule of 1 to 17 that refuses.
 pub fn check_plan(bytes: &[u8], plan: &[u16], out: &mut [u8]) -> Written
-    ensures { λ r. ⌜ (r ≡ checkAnswer (now (bytes .entry)) (now (plan .entry)) (now (out .entry))) × (now (out .exit) ≡ checkAfter (now (bytes .entry)) (now (plan .entry)) (now (out .entry))) ⌝ }
+    ensures { λ r. ⌜ (r ≡ checkAnswer (now (bytes .entry)) (now (plan .entry)) (now (out .entry)))
+        × (now (out .exit) ≡ checkAfter (now (bytes .entry)) (now (plan .entry)) (now (out .entry))) ⌝ }
 {
     let reading = reader::read_sheet(bytes);
     let outcome = reading.outcome;
@@ -224,7 +230,8 @@ fn read_more(sheet: Sheet, bytes: &[u8]) -> Reading
 
 // A sheet with one more constraint, both as bytes, or the rule of 1 to 11 and 17 that refuses them.
 pub fn extend(bytes: &[u8], constraint: &[u8], out: &mut [u8]) -> Written
-    ensures { λ r. ⌜ (r ≡ extendAnswer (now (bytes .entry)) (now (constraint .entry)) (now (out .entry))) × (now (out .exit) ≡ extendAfter (now (bytes .entry)) (now (constraint .entry)) (now (out .entry))) ⌝ }
+    ensures { λ r. ⌜ (r ≡ extendAnswer (now (bytes .entry)) (now (constraint .entry)) (now (out .entry)))
+        × (now (out .exit) ≡ extendAfter (now (bytes .entry)) (now (constraint .entry)) (now (out .entry))) ⌝ }
 {
     let reading = hold(bytes);
     let outcome = reading.outcome;

@@ -30,7 +30,8 @@ fn count(w: Written) -> i32
 // A sheet read and written again: the same sheet without its tags, or the rule of 1 to 10 and 17 that refuses it.
 #[no_mangle]
 pub extern "C" fn pattern_rewrite(sheet: &[u8], out: &mut [u8]) -> i32
-    ensures { λ r. ⌜ (r ≡ asCount (rewriteAnswer (now (sheet .entry)) (now (out .entry)))) × (now (out .exit) ≡ rewriteAfter (now (sheet .entry)) (now (out .entry))) ⌝ }
+    ensures { λ r. ⌜ (r ≡ asCount (rewriteAnswer (now (sheet .entry)) (now (out .entry))))
+        × (now (out .exit) ≡ rewriteAfter (now (sheet .entry)) (now (out .entry))) ⌝ }
 {
     count(pattern::rewrite(sheet, out))
 }
@@ -96,7 +97,10 @@ pub extern "C" fn pattern_write(
     sizes: &[i32],
     out: &mut [u8],
 ) -> i32
-    ensures { λ r. ⌜ (r ≡ asCount (writeAnswer (sheetIn n e lines (now (firsts .entry)) (now (seconds .entry)) (now (maps .entry)) (now (sizes .entry))) (now (out .entry)))) × (now (out .exit) ≡ writeAfter (sheetIn n e lines (now (firsts .entry)) (now (seconds .entry)) (now (maps .entry)) (now (sizes .entry))) (now (out .entry))) ⌝ }
+    ensures { λ r. ⌜ (r ≡ asCount
+        (writeAnswer (sheetIn n e lines (now (firsts .entry)) (now (seconds .entry)) (now (maps .entry)) (now (sizes .entry))) (now (out .entry))))
+        × (now (out .exit) ≡ writeAfter (sheetIn n e lines (now (firsts .entry)) (now (seconds .entry)) (now (maps .entry)) (now (sizes .entry)))
+        (now (out .entry))) ⌝ }
 {
     let elements = sheet::elements_of(64, lines);
     let constraints = constraints_in(firsts, seconds, maps, sizes);
@@ -109,10 +113,12 @@ pub extern "C" fn pattern_write(
     count(pattern::write(facts, out))
 }
 
-// Whether a sheet is over: the number of the first constraint that makes it so and the smallest set, element i as bit i; no item where it is not over.
+// Whether a sheet is over: the number of the first constraint that makes it so and the smallest set, element i as bit i;
+// no item where it is not over.
 #[no_mangle]
 pub extern "C" fn pattern_over(sheet: &[u8], out: &mut [u64]) -> i32
-    ensures { λ r. ⌜ (r ≡ asCount (itemsAnswer overNumbers (now (sheet .entry)) (now (out .entry)))) × (now (out .exit) ≡ itemsAfter overNumbers (now (sheet .entry)) (now (out .entry))) ⌝ }
+    ensures { λ r. ⌜ (r ≡ asCount (itemsAnswer overNumbers (now (sheet .entry)) (now (out .entry))))
+        × (now (out .exit) ≡ itemsAfter overNumbers (now (sheet .entry)) (now (out .entry))) ⌝ }
 {
     count(pattern::over(sheet, out))
 }
@@ -138,7 +144,8 @@ pub extern "C" fn pattern_verdict(sheet: &[u8]) -> i32
 // The engine's plan, three numbers a step, ascending; no number of an over sheet.
 #[no_mangle]
 pub extern "C" fn pattern_plan(sheet: &[u8], out: &mut [u16]) -> i32
-    ensures { λ r. ⌜ (r ≡ asCount (itemsAnswer planNumbers (now (sheet .entry)) (now (out .entry)))) × (now (out .exit) ≡ itemsAfter planNumbers (now (sheet .entry)) (now (out .entry))) ⌝ }
+    ensures { λ r. ⌜ (r ≡ asCount (itemsAnswer planNumbers (now (sheet .entry)) (now (out .entry))))
+        × (now (out .exit) ≡ itemsAfter planNumbers (now (sheet .entry)) (now (out .entry))) ⌝ }
 {
     count(pattern::plan(sheet, out))
 }
@@ -146,7 +153,8 @@ pub extern "C" fn pattern_plan(sheet: &[u8], out: &mut [u16]) -> i32
 // The final clusters as sets, element i as bit i, by cluster number; none of an over sheet.
 #[no_mangle]
 pub extern "C" fn pattern_clusters(sheet: &[u8], out: &mut [u64]) -> i32
-    ensures { λ r. ⌜ (r ≡ asCount (itemsAnswer finalClusters (now (sheet .entry)) (now (out .entry)))) × (now (out .exit) ≡ itemsAfter finalClusters (now (sheet .entry)) (now (out .entry))) ⌝ }
+    ensures { λ r. ⌜ (r ≡ asCount (itemsAnswer finalClusters (now (sheet .entry)) (now (out .entry))))
+        × (now (out .exit) ≡ itemsAfter finalClusters (now (sheet .entry)) (now (out .entry))) ⌝ }
 {
     count(pattern::clusters(sheet, out))
 }
@@ -154,7 +162,8 @@ pub extern "C" fn pattern_clusters(sheet: &[u8], out: &mut [u64]) -> i32
 // The report of a sheet, as bytes; or the rule of 1 to 10 and 17 that refuses it.
 #[no_mangle]
 pub extern "C" fn pattern_report(sheet: &[u8], out: &mut [u8]) -> i32
-    ensures { λ r. ⌜ (r ≡ asCount (itemsAnswer reportOf (now (sheet .entry)) (now (out .entry)))) × (now (out .exit) ≡ itemsAfter reportOf (now (sheet .entry)) (now (out .entry))) ⌝ }
+    ensures { λ r. ⌜ (r ≡ asCount (itemsAnswer reportOf (now (sheet .entry)) (now (out .entry))))
+        × (now (out .exit) ≡ itemsAfter reportOf (now (sheet .entry)) (now (out .entry))) ⌝ }
 {
     count(pattern::report(sheet, out))
 }
@@ -162,7 +171,8 @@ pub extern "C" fn pattern_report(sheet: &[u8], out: &mut [u8]) -> i32
 // The check of a saved plan, three numbers a step: the report for that plan, or the rule of 1 to 17 that refuses.
 #[no_mangle]
 pub extern "C" fn pattern_check_plan(sheet: &[u8], plan: &[u16], out: &mut [u8]) -> i32
-    ensures { λ r. ⌜ (r ≡ asCount (checkAnswer (now (sheet .entry)) (now (plan .entry)) (now (out .entry)))) × (now (out .exit) ≡ checkAfter (now (sheet .entry)) (now (plan .entry)) (now (out .entry))) ⌝ }
+    ensures { λ r. ⌜ (r ≡ asCount (checkAnswer (now (sheet .entry)) (now (plan .entry)) (now (out .entry))))
+        × (now (out .exit) ≡ checkAfter (now (sheet .entry)) (now (plan .entry)) (now (out .entry))) ⌝ }
 {
     count(pattern::check_plan(sheet, plan, out))
 }
@@ -170,7 +180,8 @@ pub extern "C" fn pattern_check_plan(sheet: &[u8], plan: &[u16], out: &mut [u8])
 // The sheet with one more constraint, given as its bytes in a sheet, or the rule of 1 to 11 and 17 that refuses them.
 #[no_mangle]
 pub extern "C" fn pattern_add(sheet: &[u8], constraint: &[u8], out: &mut [u8]) -> i32
-    ensures { λ r. ⌜ (r ≡ asCount (extendAnswer (now (sheet .entry)) (now (constraint .entry)) (now (out .entry)))) × (now (out .exit) ≡ extendAfter (now (sheet .entry)) (now (constraint .entry)) (now (out .entry))) ⌝ }
+    ensures { λ r. ⌜ (r ≡ asCount (extendAnswer (now (sheet .entry)) (now (constraint .entry)) (now (out .entry))))
+        × (now (out .exit) ≡ extendAfter (now (sheet .entry)) (now (constraint .entry)) (now (out .entry))) ⌝ }
 {
     count(pattern::extend(sheet, constraint, out))
 }

@@ -1,10 +1,9 @@
 -- One constraint field by field, and the constraints that are left in a walk: which answer comes when. Assumes nothing.
-use Prim.Native.Nat.{ℕ, zero, suc, _+_, _-_, _/_, _%_, _<_, _≤_}
+use Prim.Native.Nat.{ℕ, suc, _+_, _-_, _/_, _%_, _<_, _≤_}
 use native.Mathlib.Omega.{arith}
-use mathlib.Core.Path.{_≡_, refl, sym, ap, _∙_, subst}
-use mathlib.Core.Bool.{Bool, true, false, not}
+use mathlib.Core.Path.{_≡_, refl, sym, ap, _∙_}
+use mathlib.Core.Bool.{Bool, true, false}
 use mathlib.Core.List.{List, [], _∷_, _++_}
-use borrow.Author.Tests.{not-true}
 use lib.Dec.{eqb}
 use lib.IntN.{ℤ}
 use lib.ListN.{length, drop, length-append, drop-of-length-le}
@@ -24,7 +23,8 @@ use Rattle.reader.specs.declared.ByteRead.the-variants as byte-read
 use Rattle.reader.specs.declared.Outcome.the-variants as outcome
 use Rattle.reader.specs.Answers.{Ascending, MapBelow, mapOf, sizeIn, ListRead}
 
-module _ (es : List Element) (cs : List Constraint) (s : List ℕ) {a b : ℕ} {s1 s2 : List ℕ} (first : byte s ≡ value a s1) (second : byte s1 ≡ value b s2) where
+module _ (es : List Element) (cs : List Constraint) (s : List ℕ) {a b : ℕ} {s1 s2 : List ℕ} (first : byte s ≡ value a s1)
+    (second : byte s1 ≡ value b s2) where
   pub ends-wrong : ends (length es) a b ≡ false → constraint es cs s ≡ refused 6
   unfolding constraint
   ends-wrong e = rw (first, second, e)
@@ -61,7 +61,8 @@ after-map a b p s = by-map (byte s)
     demanded false map t = refl
 
     by-map : (x : Field ℕ)
-        → next x (λ map t. demand (bitMap p map) 8 (sized-by a b p map t)) ≡ next (next x (λ map t. demand (bitMap p map) 8 (value map t))) (sized-by a b p)
+        → next x (λ map t. demand (bitMap p map) 8 (sized-by a b p map t))
+        ≡ next (next x (λ map t. demand (bitMap p map) 8 (value map t))) (sized-by a b p)
     by-map (value map t) = demanded (bitMap p map) map t
     by-map (refused k) = refl
 
@@ -74,7 +75,8 @@ given-size : (x : Field Size) {y : ℤ} {u : List ℕ} → next x (λ z t. value
 given-size x e =
     next-value x _ e (λ z t was e1. value-with (λ y u. (z : Size) × (x ≡ value z u) × (sizeOf z ≡ y)) e1 (z, was, refl))
 
-module _ (es : List Element) (done : List Constraint) (s : List ℕ) (a b : ℕ) (p : PairKind) (s1 : List ℕ) (ended : constraint es done s ≡ dimension a b p s1) where
+module _ (es : List Element) (done : List Constraint) (s : List ℕ) (a b : ℕ) (p : PairKind) (s1 : List ℕ)
+    (ended : constraint es done s ≡ dimension a b p s1) where
   pub map-refused : {k : ℕ} → mapOf p s1 ≡ refused k → constraint es done s ≡ refused k
   map-refused e = ended ∙ rw (after-map a b p s1, e)
 
@@ -99,7 +101,8 @@ module _ (es : List Element) (done : List Constraint) (s : List ℕ) (a b : ℕ)
 
 -- ---- a walk over constraints i0 to e - 1, i of them read: what is left gives the answer
 
-pub record Turn (s : List ℕ) (es : List Element) (done : List Constraint) (i0 e from : ℕ) (near start : List ℕ) (sizes : List ℤ) (at i : ℕ) : Type 0 where
+pub record Turn (s : List ℕ) (es : List Element) (done : List Constraint) (i0 e from : ℕ) (near start : List ℕ)
+    (sizes : List ℤ) (at i : ℕ) : Type 0 where
   pub read : List Constraint
   pub count : length read ≡ i
   pub holds : InArrays read near start sizes
@@ -139,7 +142,10 @@ module _ {s : List ℕ} {es : List Element} {done : List Constraint} {i0 e from 
     unfolding constraints
     at-end h =
         let x : constraints es (e - i0) done (drop from s) ≡ value (t .read) [] = t .left ∙ rw (none-left, drop-of-length-le s h) in
-        record { answers = rw x; holds = λ cs u v. value-with (λ (r : List Constraint) (w : List ℕ). InArrays r near start sizes) (sym x ∙ v) (t .holds) }
+        record {
+          answers = rw x;
+          holds = λ cs u v. value-with (λ (r : List Constraint) (w : List ℕ). InArrays r near start sizes) (sym x ∙ v) (t .holds);
+        }
 
     pub bytes-follow : at < length s → ListRead (constraints es (e - i0) done (drop from s)) (outcome.Refused 10) near start sizes
     unfolding constraints

@@ -1,14 +1,13 @@
 -- A number of k bytes at a place, from its highest byte down: one law for every width. Assumes nothing.
-use Prim.Native.Nat.{ℕ, zero, suc, _+_, _*_, _-_, _^_, _<_, _≤_}
+use Prim.Native.Nat.{ℕ, suc, _+_, _*_, _-_, _^_, _<_, _≤_}
 use native.Mathlib.Nat.{pow-succ', pow-le-pow-right}
-use native.Mathlib.Numerals.{add-one}
 use native.Mathlib.Omega.{arith}
 use mathlib.Core.Path.{_≡_, ap, _∙_}
-use mathlib.Core.List.{List, [], _∷_}
+use mathlib.Core.List.{List}
 use lib.ListN.{length, take, drop, getD, length-drop, drop-of-length-le}
 use lib.Seq.{drop-cons, drop-drop, getD-take, getD-drop, length-take-le}
 use borrow.Author.Tests.{lt-ltb, le-ltb}
-use Rattle.sheet.specs.Field.{Field, value, refused, field, number}
+use Rattle.sheet.specs.Field.{value, refused, field, number}
 
 module _ (s : List ℕ) (at k : ℕ) where
   pub field-short : length s - at < k → field k (drop at s) ≡ refused 2
@@ -27,14 +26,16 @@ module _ (s : List ℕ) (at k : ℕ) where
   number-none h =
       let e : length (take k (drop at s)) ≤ k = omega (arith, window h) in rw (drop-of-length-le (take k (drop at s)) e)
 
-  number-step : (i : ℕ) → i < k → k ≤ length s - at → number (drop i (take k (drop at s))) ≡ 256 * number (drop (suc i) (take k (drop at s))) + getD s (at + i) 0
+  number-step : (i : ℕ) → i < k → k ≤ length s - at
+      → number (drop i (take k (drop at s))) ≡ 256 * number (drop (suc i) (take k (drop at s))) + getD s (at + i) 0
   unfolding number
   number-step i a h =
       let e : i < length (take k (drop at s)) = rw (window h) a in
       rw (drop-cons (take k (drop at s)) i 0 e, getD-take k (drop at s) i 0 a, getD-drop at s i 0) (omega arith)
 
   -- the byte before i goes in below those from i on
-  pub number-more : (i : ℕ) → 0 < i → i ≤ k → k ≤ length s - at → number (drop (i - 1) (take k (drop at s))) ≡ 256 * number (drop i (take k (drop at s))) + getD s (at + (i - 1)) 0
+  pub number-more : (i : ℕ) → 0 < i → i ≤ k → k ≤ length s - at
+      → number (drop (i - 1) (take k (drop at s))) ≡ 256 * number (drop i (take k (drop at s))) + getD s (at + (i - 1)) 0
   number-more i p a h =
       let j : suc (i - 1) ≡ i = omega arith in
       number-step (i - 1) (omega arith) h ∙ ap (λ (m : ℕ). 256 * number (drop m (take k (drop at s))) + getD s (at + (i - 1)) 0) j

@@ -1,7 +1,7 @@
 -- The fields of a sheet in file order: what the whole answer is, once they are known up to one of them. Assumes nothing.
 use Prim.Native.Nat.{ℕ, zero, suc, _+_, _^_, _<_}
 use native.Mathlib.Omega.{arith}
-use mathlib.Core.Path.{_≡_, refl, sym, ap, _∙_}
+use mathlib.Core.Path.{_≡_, refl, sym, _∙_}
 use mathlib.Core.Bool.{true, false}
 use mathlib.Core.List.{List, [], _∷_, _++_}
 use lib.IntN.{ℤ}
@@ -90,7 +90,8 @@ module _ (h : Head) (s : List ℕ) (lines : h .lines < 2 ^ h .n) where
   abbrev es : List Element
   es = elementsOf (h .n) (h .lines)
 
-  pub list-read : {r : Outcome} {near start : List ℕ} {sizes : List ℤ} → ListRead (constraints es (h .e) [] s) r near start sizes → r ≡ outcome.Accepted
+  pub list-read : {r : Outcome} {near start : List ℕ} {sizes : List ℤ}
+      → ListRead (constraints es (h .e) [] s) r near start sizes → r ≡ outcome.Accepted
       → SheetRead (factsWith es (constraints es (h .e) [] s)) (graph.Value h) near start sizes
   list-read {near = near} {start} {sizes} l o = by (constraints es (h .e) [] s) refl (sym o ∙ l .answers)
     where

@@ -12,7 +12,8 @@ ghost use Rattle.sheet.specs.Field.{refused, byte, field, signed32, openingByte
 ghost use Rattle.sheet.specs.Decode.{opening, tag, constraint, constraints, readKinds, readSheet};
 ghost use Rattle.sheet.specs.Noted.{Noted};
 ghost use Rattle.graph.specs.Lent.{InArrays};
-ghost use Rattle.reader.specs.Answers.{ruleOf, asOpening, asByte, asNumber, asEnds, endsRule, Ascending, mapOf, MapBelow, sizeIn, asSize, asTag, asKinds, Below};
+ghost use Rattle.reader.specs.Answers.{ruleOf, asOpening, asByte, asNumber, asEnds, endsRule, Ascending, mapOf, MapBelow, sizeIn, asSize};
+ghost use Rattle.reader.specs.Answers.{asTag, asKinds, Below};
 ghost use Rattle.reader.specs.Answers.{headRule, graphRule, asHead, Within, ListRead, SheetRead, asReading, outcomeNumber};
 use graph::Head;
 use sheet::Constraint;
@@ -272,7 +273,8 @@ fn signed(u: u64) -> i32
 // The two ends of a constraint after those noted, among n elements: rules 6 and 7.
 fn read_ends(s: &[u8], c: Cursor, near: &[u64; 64], n: usize) -> EndsRead
     requires { ⌜ n ≤ 64 ⌝ }
-    ensures { λ r. ⌜ ((es : List Element) (cs : List Constraint) → n ≡ length es → Noted (now (near .entry)) cs → asEnds es (now (s .entry)) r ≡ constraint es cs (drop (c .at) (now (s .entry)))) ⌝ }
+    ensures { λ r. ⌜ ((es : List Element) (cs : List Constraint) → n ≡ length es → Noted (now (near .entry)) cs
+        → asEnds es (now (s .entry)) r ≡ constraint es cs (drop (c .at) (now (s .entry)))) ⌝ }
     ensures { λ r. ⌜ Ascending n r ⌝ }
 {
     let start = read_byte(s, c);
@@ -351,7 +353,9 @@ pub fn read_constraints(
     sizes: &mut [i32; 200],
 ) -> Outcome
     requires { ⌜ (n ≤ 64) × (i0 ≤ e) × (e ≤ 200) ⌝ }
-    ensures { λ r. ⌜ ((es : List Element) (done : List Constraint) → n ≡ length es → lines ≡ linesOf es → length done ≡ i0 → InArrays done (now (near .entry)) (now (start .entry)) (now (sizes .entry)) → ListRead (constraints es (e - i0) done (drop (from .at) (now (s .entry)))) r (now (near .exit)) (now (start .exit)) (now (sizes .exit))) ⌝ }
+    ensures { λ r. ⌜ ((es : List Element) (done : List Constraint) → n ≡ length es → lines ≡ linesOf es → length done ≡ i0
+        → InArrays done (now (near .entry)) (now (start .entry)) (now (sizes .entry))
+        → ListRead (constraints es (e - i0) done (drop (from .at) (now (s .entry)))) r (now (near .exit)) (now (start .exit)) (now (sizes .exit))) ⌝ }
 {
     let mut c = from;
     let mut i = i0;

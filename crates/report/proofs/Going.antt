@@ -15,7 +15,8 @@ pub start : {space : List ℕ} {at : ℕ} (whole : List ℕ) → Going space at 
 start whole = record { last = λ p. p }
 
 infixl 5 _step_
-pub _step_ : {space whole s1 s2 xs ys : List ℕ} {at a1 a2 : ℕ} → Going space at whole s1 a1 (xs ++ ys) → Put s1 a1 xs a2 s2 → Going space at whole s2 a2 ys
+pub _step_ : {space whole s1 s2 xs ys : List ℕ} {at a1 a2 : ℕ} → Going space at whole s1 a1 (xs ++ ys) → Put s1 a1 xs a2 s2
+    → Going space at whole s2 a2 ys
 g step p = record { last = λ q. g .last (p then q) }
 
 pub as-rest : {space whole s1 xs ys : List ℕ} {at a1 : ℕ} → xs ≡ ys → Going space at whole s1 a1 xs → Going space at whole s1 a1 ys

@@ -1,7 +1,7 @@
 -- Rules 3 to 9 (document 01, "Refused, in checking order"), each as what it takes. The reader tries them field by field; the writer and a held sketch
 -- try them on facts.
-use Prim.Native.Nat.{ℕ, zero, suc, _+_, _/_, _%_, _^_}
-use mathlib.Core.Bool.{Bool, true, false, not, _&&_, _||_}
+use Prim.Native.Nat.{ℕ, zero, suc, _%_, _^_}
+use mathlib.Core.Bool.{Bool, true, false, _&&_, _||_}
 use mathlib.Core.List.{List, [], _∷_, _++_}
 use lib.Dec.{eqb, ltb, leb}
 use lib.IntN.{ℤ, pos, negsuc}
@@ -16,7 +16,7 @@ use Rattle.sheet.specs.declared.Size.{Size}
 use Rattle.sheet.specs.declared.Size.the-variants.{Given, Missing}
 use Rattle.sheet.specs.declared.Constraint.{Constraint}
 use Rattle.sheet.specs.declared.Sheet.{Sheet}
-use Rattle.sheet.specs.Facts.{Facts, factsOf, pick, blankElement}
+use Rattle.sheet.specs.Facts.{factsOf, pick, blankElement}
 pub mod Laws
 
 -- 3: 2 to 64 elements

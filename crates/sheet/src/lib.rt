@@ -7,7 +7,8 @@ ghost use lib.Dec.{eqb};
 ghost use lib.ListN.{length, take};
 ghost use Rattle.theory.specs.Block.{block};
 ghost use Rattle.sheet.specs.Facts.{kindOf, lineBit, elementsOf, linesOf, blankElement};
-ghost use Rattle.sheet.specs.Rules.{elementCount, kindBits, constraintCount, ends, stands, pairOf, optional, bitMap, within as liesWithin, sizeRange, sizeFault, constraintFault, sheetFault};
+ghost use Rattle.sheet.specs.Rules.{elementCount, kindBits, constraintCount, ends, stands, pairOf, optional, bitMap, within as liesWithin};
+ghost use Rattle.sheet.specs.Rules.{sizeRange, sizeFault, constraintFault, sheetFault};
 ghost use Rattle.sheet.specs.Range.{lowestSize, highestSize};
 ghost use Rattle.sheet.specs.Noted.{Noted};
 
@@ -229,7 +230,8 @@ pub fn pair_stands(near: &[u64; 64], a: u8, b: u8) -> bool
 // Notes the pair of a constraint, at both ends.
 pub fn note_pair(near: &mut [u64; 64], a: u8, b: u8)
     requires { ⌜ (a < b) × (b < 64) ⌝ }
-    ensures { λ r. ⌜ ((cs : List Constraint) (c : Constraint) → c .first ≡ a → c .second ≡ b → Noted (now (near .entry)) cs → Noted (now (near .exit)) (cs ++ c ∷ [])) ⌝ }
+    ensures { λ r. ⌜ ((cs : List Constraint) (c : Constraint) → c .first ≡ a → c .second ≡ b → Noted (now (near .entry)) cs
+        → Noted (now (near .exit)) (cs ++ c ∷ [])) ⌝ }
 {
     let i = a as usize;
     let j = b as usize;
@@ -242,7 +244,8 @@ pub fn note_pair(near: &mut [u64; 64], a: u8, b: u8)
 // Rules 6 to 9 of one constraint after those noted: the rule's number, or 0.
 pub fn constraint_fault(near: &[u64; 64], n: usize, lines: u64, c: Constraint) -> u8
     requires { ⌜ n ≤ 64 ⌝ }
-    ensures { λ r. ⌜ ((es : List Element) (cs : List Constraint) → n ≡ length es → lines ≡ linesOf es → Noted (now (near .entry)) cs → r ≡ constraintFault es cs c) ⌝ }
+    ensures { λ r. ⌜ ((es : List Element) (cs : List Constraint) → n ≡ length es → lines ≡ linesOf es → Noted (now (near .entry)) cs
+        → r ≡ constraintFault es cs c) ⌝ }
 {
     let a = c.first;
     let b = c.second;

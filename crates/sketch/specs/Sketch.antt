@@ -1,4 +1,5 @@
--- A held sketch by value: the blocks of a sheet. Document 01, "A held sketch": a sketch held from an accepted sheet takes one more constraint by 6, 7,
+-- A held sketch by value: the blocks of a sheet. Document 01, "A held sketch": a sketch held from an accepted sheet takes one more constraint by 6,
+-- 7,
 -- 8 (the missing size), 9 and 11, in that order. It is then the sheet with that constraint last, and the answer is its verdict. "Refused": a refusal
 -- gives its number alone, and a held sketch is unchanged.
 use Prim.Native.Nat.{ℕ, zero, suc, _+_}

@@ -25,7 +25,8 @@ pub record Lent (queue from : List ℕ) : Type 0 where
   pub places : length queue ≡ 64
   pub places′ : length from ≡ 64
 
--- the queue has the elements reached so far, each but the first two with the place of an earlier one that uses a freedom towards it; seen is their set
+-- the queue has the elements reached so far, each but the first two with the place of an earlier one that uses a freedom towards it;
+-- seen is their set
 pub record Reached (own : List (List ℕ)) (a b : ℕ) (queue from : List ℕ) (seen count : ℕ) : Type 0 where
   pub lent : Lent queue from
   pub low : 2 ≤ count

@@ -57,7 +57,8 @@ pub struct Front {
 // Element y, met from the element at place p, goes to the end of the queue unless it is known.
 fn visit(queue: &mut [u8; 64], from: &mut [u8; 64], f: Front, y: u8, p: u8) -> Front
     requires { ⌜ (y < 64) × (ones (f .seen) ≡ f .count) ⌝ }
-    ensures { λ r. ⌜ Visit (now (queue .entry)) (now (from .entry)) (f .seen) (f .count) y p (now (queue .exit)) (now (from .exit)) (r .seen) (r .count) ⌝ }
+    ensures { λ r. ⌜ Visit (now (queue .entry)) (now (from .entry)) (f .seen) (f .count) y p (now (queue .exit))
+        (now (from .exit)) (r .seen) (r .count) ⌝ }
 {
     let bit = peeling::single(y);
     if f.seen & bit != 0 {

@@ -74,6 +74,7 @@ unfoldable pub ways : ℕ → ℕ → List ℤ → List ℕ → Merge → Ways
 ways lines e sizes s m =
     elim (initial e m) [
       | true ↦
-          placed lines (jointKind lines (joint (three s m))) (slot s (m .i)) (slot s (m .j)) (sizeAt sizes (m .i)) (sizeAt sizes (m .j)) (sizeAt sizes (m .k))
+          placed lines (jointKind lines (joint (three s m))) (slot s (m .i)) (slot s (m .j)) (sizeAt sizes (m .i))
+          (sizeAt sizes (m .j)) (sizeAt sizes (m .k))
       | false ↦ Unknown
     ]

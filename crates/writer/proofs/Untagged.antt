@@ -3,9 +3,8 @@
 use Prim.Native.Nat.{ℕ, zero, suc, _+_, _*_, _-_, _/_, _%_, _≤_, _<_, min}
 use native.Mathlib.Nat.{sub-zero, sub-self}
 use native.Mathlib.Decide.{decLt}
-use native.Mathlib.Numerals.{add-one}
 use native.Mathlib.Omega.{arith}
-use mathlib.Core.Path.{_≡_, refl, sym, ap, _∙_}
+use mathlib.Core.Path.{_≡_, refl, sym, _∙_}
 use mathlib.Core.List.{List, [], _∷_, _++_, append-nil, append-assoc}
 use lib.ListN.{length, take, drop, getD, length-append, length-take, length-drop, take-append-drop, drop-of-length-le}
 use lib.Seq.{drop-cons, drop-drop, take-add, take-all}
@@ -51,7 +50,8 @@ module _ (s : List ℕ) (at : ℕ) (room : at + 3 ≤ length s) where
 
   -- one with a tag
   tagged : (k : ℕ) → map / 2 % 2 ≡ 1
-      → dropTags (suc k) (drop at s) ≡ take 2 (drop at s) ++ (map - 2) ∷ take (sizeLength map) (drop (at + 3) s) ++ dropTags k (drop (at + 5 + sizeLength map) s)
+      → dropTags (suc k) (drop at s)
+      ≡ take 2 (drop at s) ++ (map - 2) ∷ take (sizeLength map) (drop (at + 3) s) ++ dropTags k (drop (at + 5 + sizeLength map) s)
   unfolding dropTags
   tagged k one =
       let less : withoutBit1 map ≡ map - 2 = omega arith in
@@ -180,7 +180,8 @@ module _ {space s : List ℕ} {e at from to i : ℕ} {out : List ℕ} (w : Walk 
         let piece : take (at + 2 - from) (drop from s) ≡ take (at - from) (drop from s) ++ take 2 (drop at s) =
         (let on : at + 2 - from ≡ (at - from) + 2 = omega (arith, w .passed) in rw (on, take-add (at - from) 2 (drop from s), behind)) in
         let size = take (4 * (bits % 2)) (drop (at + 3) s) in
-        let long : length (take (at + 2 - from) (drop from s) ++ (bits - 2) ∷ size) ≡ min (at + 2 - from) (length s - from) + suc (min (4 * (bits % 2)) (length s - (at + 3))) =
+        let long : length (take (at + 2 - from) (drop from s) ++ (bits - 2) ∷ size)
+        ≡ min (at + 2 - from) (length s - from) + suc (min (4 * (bits % 2)) (length s - (at + 3))) =
         rw (length-append, length-take, length-drop, length-take, length-drop) in
         record {
           turns = omega arith;
@@ -192,5 +193,6 @@ module _ {space s : List ℕ} {e at from to i : ℕ} {out : List ℕ} (w : Walk 
           at-in = omega arith;
           whole =
               w .whole
-              ∙ rw (one-less, tagged s at room (e - (i + 1)) one, drop-least s (at + 5 + 4 * (bits % 2)), sub-self, append-nil, piece) (simp append-assoc);
+              ∙ rw (one-less, tagged s at room (e - (i + 1)) one, drop-least s (at + 5 + 4 * (bits % 2)), sub-self, append-nil, piece)
+              (simp append-assoc);
         }

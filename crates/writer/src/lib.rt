@@ -12,7 +12,6 @@ ghost use Rattle.sheet.specs.WithoutTags.{withoutTags};
 ghost use Rattle.space.specs.Space.{Put, answer, after};
 ghost use Rattle.writer.specs.Write.{writeAnswer, writeAfter};
 use sheet::Constraint;
-use sheet::Element;
 use sheet::Sheet;
 use sheet::Size;
 use space::Written;
@@ -117,7 +116,8 @@ fn put_sheet(out: &mut [u8], s: Sheet, lines: u64) -> usize
 // The facts in their blocks as bytes, where no rule refuses them: space for the largest sheet needs no measuring.
 pub fn write_accepted(s: Sheet, out: &mut [u8]) -> Written
     requires { ⌜ sheetFault s ≡ 0 ⌝ }
-    ensures { λ r. ⌜ (r ≡ answer (sheetBytes (factsOf s)) (now (out .entry))) × (now (out .exit) ≡ after (sheetBytes (factsOf s)) (now (out .entry))) ⌝ }
+    ensures { λ r. ⌜ (r ≡ answer (sheetBytes (factsOf s)) (now (out .entry)))
+        × (now (out .exit) ≡ after (sheetBytes (factsOf s)) (now (out .entry))) ⌝ }
 {
     let elements = s.elements;
     let lines = sheet::lines_of(elements, s.n);
@@ -162,7 +162,9 @@ fn least(a: usize, b: usize) -> usize
 // What stands from a place on up to the bit map of a constraint with a tag, the map without bit 1, and the size.
 fn put_tagged(out: &mut [u8], to: usize, s: &[u8], from: usize, at: usize, size: usize) -> usize
     requires { ⌜ (to ≤ from) × (from ≤ at) × (at + 3 ≤ length (now s)) × (2 ≤ getD (now s) (at + 2) 0) × (size ≤ 4) ⌝ }
-    ensures { λ r. ⌜ Put (now (out .entry)) to (take (at + 2 - from) (drop from (now (s .entry))) ++ (getD (now (s .entry)) (at + 2) 0 - 2) ∷ take size (drop (at + 3) (now (s .entry)))) r (now (out .exit)) ⌝ }
+    ensures { λ r. ⌜ Put (now (out .entry)) to
+        (take (at + 2 - from) (drop from (now (s .entry))) ++ (getD (now (s .entry)) (at + 2) 0 - 2) ∷ take size (drop (at + 3) (now (s .entry)))) r
+        (now (out .exit)) ⌝ }
 {
     let map = at + 2;
     let first = at + 3;
@@ -203,7 +205,8 @@ fn put_untagged(out: &mut [u8], s: &[u8]) -> usize
 
 // A sheet's bytes without their tags: space for all of them needs no measuring.
 pub fn write_untagged(s: &[u8], out: &mut [u8]) -> Written
-    ensures { λ r. ⌜ (r ≡ answer (withoutTags (now (s .entry))) (now (out .entry))) × (now (out .exit) ≡ after (withoutTags (now (s .entry))) (now (out .entry))) ⌝ }
+    ensures { λ r. ⌜ (r ≡ answer (withoutTags (now (s .entry))) (now (out .entry)))
+        × (now (out .exit) ≡ after (withoutTags (now (s .entry))) (now (out .entry))) ⌝ }
 {
     if s.len() <= out.len() {
         let written = put_untagged(out, s);

@@ -31,12 +31,6 @@ check-plan-requires c κs =
     let h = sheet-fits (c .before .before .before .before .before) in
     (h .begins (g .result) (g .ensures), subst NotOver (sym (h .begins-list (g .result) (g .ensures))) (h .notOver))
 
-enum-known-outcome : tie.Need-enum-known-outcome
-enum-known-outcome c = search needs
-
-enum-told : tie.Need-enum-told
-enum-told c = search needs
-
 -- what the check answers is the definition's, of the sheet's constraints
 module _ (c : tie.After-check-plan) where
   abbrev asked : tie.Start
@@ -45,15 +39,18 @@ module _ (c : tie.After-check-plan) where
   checked : c .check-plan .result ≡ checkOf (graphOf (factsOf (asked .args .s)) .clusters) (asked .args .plan .now)
   checked =
       c .check-plan .ensures
-      ∙ ap (λ (cs : List ℕ). checkOf cs (asked .args .plan .now)) (sheet-fits asked .begins-list (c .before .before .start-of .result) (c .before .before .start-of .ensures))
+      ∙ ap (λ (cs : List ℕ). checkOf cs (asked .args .plan .now))
+      (sheet-fits asked .begins-list (c .before .before .start-of .result) (c .before .before .start-of .ensures))
 
 module _ (c : tie.After-put-list-arg) where
   abbrev start : tie.Start
   start = c .before .before .before .before .before .before .before .before .before .before
 
-  took : Took (graphOf (factsOf (start .args .s))) (start .args .plan .now) (start .args .out .now) (start .pre .1) (c .before .before .before .before .check-plan .result) (checked (c .before .before .before .before))
+  took : Took (graphOf (factsOf (start .args .s))) (start .args .plan .now) (start .args .out .now) (start .pre .1)
+      (c .before .before .before .before .check-plan .result) (checked (c .before .before .before .before))
   took =
-      saved-taken (graphOf (factsOf (start .args .s))) (start .args .plan .now) (start .args .out .now) (start .pre .1) (c .before .before .before .before .check-plan .result) (checked (c .before .before .before .before))
+      saved-taken (graphOf (factsOf (start .args .s))) (start .args .plan .now) (start .args .out .now) (start .pre .1)
+      (c .before .before .before .before .check-plan .result) (checked (c .before .before .before .before))
       (c .before .enum-told .given .1)
 
 put-list-requires : tie.Need-put-list-requires
@@ -64,10 +61,8 @@ returns c =
     let k = c .before .before .before .before in
     let o = asked k in
     let g = c .before .outcome .given in
-    saved-refused (graphOf (factsOf (o .args .s))) (o .args .plan .now) (o .args .out .now) (o .pre .1) (k .check-plan .result) (checked k) (g .0 .0) (g .1)
-
-same-length : tie.Need-same-length
-same-length c = search needs
+    saved-refused (graphOf (factsOf (o .args .s))) (o .args .plan .now) (o .args .out .now) (o .pre .1)
+    (k .check-plan .result) (checked k) (g .0 .0) (g .1)
 
 returns-2 : tie.Need-returns-2
 returns-2 c =
@@ -78,12 +73,5 @@ returns-2 c =
 pub check-listed-spec : {M : Type 1} → statement M
 check-listed-spec =
     tie.close
-    (tie.spec
-    start-of-requires
-    check-plan-requires
-    enum-known-outcome
-    enum-told
-    put-list-requires
-    returns
-    same-length
-    returns-2)
+    (tie.spec start-of-requires check-plan-requires (λ c. search needs) (λ c. search needs) put-list-requires returns
+    (λ c. search needs) returns-2)

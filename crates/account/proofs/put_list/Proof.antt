@@ -57,7 +57,8 @@ module _ (c : tie.After-slots2) where
   abbrev sized : tie.After-sizes-of
   sized = c .before .before .before .before .before .before .before .before .before
 
-  told : Told (start .args .s) (start .args .run) (sized .before .before .before .lines-of .result) (c .before .before .before .before .before .settle .result)
+  told : Told (start .args .s) (start .args .run) (sized .before .before .before .lines-of .result)
+      (c .before .before .before .before .before .settle .result)
       (sized .before .start-of .result) (sized .sizes-of .result) (c .before .before .steps-of .result)
   told =
       record {
@@ -87,9 +88,6 @@ write-report-requires c κs =
       not-long (o .args .s) h (m .p) (m .valid) (o .args .run) (m .is) _ _ _ _ _ (told c),
     )
 
-same-length : tie.Need-same-length
-same-length c = search needs
-
 returns : tie.Need-returns
 returns c p valid is =
     let w = c .before .before .write-report .ensures in
@@ -101,13 +99,5 @@ returns c p valid is =
 pub put-list-spec : {M : Type 1} → statement M
 put-list-spec =
     tie.close
-    (tie.spec
-    lines-of-requires
-    start-of-requires
-    sizes-of-requires
-    settle-requires
-    steps-of-requires
-    add-write-report
-    write-report-requires
-    same-length
-    returns)
+    (tie.spec lines-of-requires start-of-requires sizes-of-requires settle-requires steps-of-requires add-write-report
+    write-report-requires (λ c. search needs) returns)

@@ -16,12 +16,6 @@ use Rattle.account.specs.Account.Answers.{OverFound, over-found, PlanFou
 use Rattle.account.proofs.report.Statement.{statement}
 use Rattle.account.proofs.report.Tie as tie
 
-judge-requires : tie.Need-judge-requires
-judge-requires c κs = search needs
-
-number-requires : tie.Need-number-requires
-number-requires c κs = search needs
-
 -- the sheet
 fine : (c : tie.Start) → Blocks (c .args .s)
 fine c =
@@ -32,18 +26,20 @@ module _ (c : tie.After-write-over-report-arg) where
   abbrev start-over : tie.Start
   start-over = c .before .before .before .before .before
 
-  over : OverFound (graphOf (factsOf (start-over .args .s))) (fine start-over .paired) (fine start-over .below) (c .before .before .before .judge .result) (c .before .before .before .judge .ensures)
+  over : OverFound (graphOf (factsOf (start-over .args .s))) (fine start-over .paired) (fine start-over .below)
+      (c .before .before .before .judge .result) (c .before .before .before .judge .ensures)
   over =
-      over-found (graphOf (factsOf (start-over .args .s))) (fine start-over .paired) (fine start-over .below) (c .before .before .before .judge .result) (c .before .before .before .judge .ensures)
+      over-found (graphOf (factsOf (start-over .args .s))) (fine start-over .paired) (fine start-over .below)
+      (c .before .before .before .judge .result) (c .before .before .before .judge .ensures)
       (sym (c .before .before .number .ensures) ∙ c .before .if1 .taken)
 
 write-over-report-requires : tie.Need-write-over-report-requires
 write-over-report-requires c κs =
-    let b = fine (start-over c) in
-    (omega (arith, b .elements-most), omega (arith, b .most), omega (arith, over c .first-below, length-clusters (factsOf (start-over c .args .s)), b .count, b .most))
-
-same-length : tie.Need-same-length
-same-length c = search needs
+    let b = fine (start-over c) in (
+      omega (arith, b .elements-most),
+      omega (arith, b .most),
+      omega (arith, over c .first-below, length-clusters (factsOf (start-over c .args .s)), b .count, b .most),
+    )
 
 same : {A : Type 0} (h : List ℕ → A) (g : Graph) (n e c x : ℕ) → g .n ≡ n → length (g .clusters) ≡ e
     → overReport (g .n) (length (g .clusters)) c x ≡ reportOf g → h (overReport n e c x) ≡ h (reportOf g)
@@ -66,33 +62,27 @@ module _ (c : tie.After-put-list-arg) where
   abbrev start-plan : tie.Start
   start-plan = c .before .before .before .before .before .before
 
-  plan : PlanFound (graphOf (factsOf (start-plan .args .s))) (fine start-plan .paired) (fine start-plan .below) (c .before .before .before .before .judge .result) (c .before .before .before .before .judge .ensures)
+  plan : PlanFound (graphOf (factsOf (start-plan .args .s))) (fine start-plan .paired) (fine start-plan .below)
+      (c .before .before .before .before .judge .result) (c .before .before .before .before .judge .ensures)
   plan =
-      plan-found (graphOf (factsOf (start-plan .args .s))) (fine start-plan .paired) (fine start-plan .below) (c .before .before .before .before .judge .result) (c .before .before .before .before .judge .ensures)
+      plan-found (graphOf (factsOf (start-plan .args .s))) (fine start-plan .paired) (fine start-plan .below)
+      (c .before .before .before .before .judge .result) (c .before .before .before .before .judge .ensures)
       (λ v. c .before .before .if1 .left (c .before .before .before .number .ensures ∙ v))
 
 put-list-requires : tie.Need-put-list-requires
 put-list-requires c κs = (start-plan c .pre, plan c .notOver, record { p = _; valid = plan c .valid; is = plan c .is })
 
-same-length-2 : tie.Need-same-length-2
-same-length-2 c = search needs
-
 returns-2 : tie.Need-returns-2
 returns-2 c =
     let a = c .before .before .before in
     let o = start-plan a in
-    let w = c .before .before .put-list .ensures _ (plan a .valid) (plan a .is) in
-    (w .0 ∙ ap (λ (l : List ℕ). answer l (o .args .out .now)) (plan a .report-is), w .1 ∙ ap (λ (l : List ℕ). after l (o .args .out .now)) (plan a .report-is))
+    let w = c .before .before .put-list .ensures _ (plan a .valid) (plan a .is) in (
+      w .0 ∙ ap (λ (l : List ℕ). answer l (o .args .out .now)) (plan a .report-is),
+      w .1 ∙ ap (λ (l : List ℕ). after l (o .args .out .now)) (plan a .report-is),
+    )
 
 pub report-spec : {M : Type 1} → statement M
 report-spec =
     tie.close
-    (tie.spec
-    judge-requires
-    number-requires
-    write-over-report-requires
-    same-length
-    returns
-    put-list-requires
-    same-length-2
-    returns-2)
+    (tie.spec (λ c κs. search needs) (λ c κs. search needs) write-over-report-requires (λ c. search needs) returns
+    put-list-requires (λ c. search needs) returns-2)

@@ -43,7 +43,8 @@ module _ (g : Graph) (paired : Pairs (g .clusters)) (below : Below (g .n) (g .cl
     where
       go : (o : Finding) → findingOf g ≡ o → OverFound
       go Fine q =
-          absurd (list-not-over g (planOf (g .clusters)) (number-over _ (sym (ap (λ (x : Judged). verdictNumber (x .verdict)) (e ∙ ap (judgedBy g) q)) ∙ v)))
+          absurd
+          (list-not-over g (planOf (g .clusters)) (number-over _ (sym (ap (λ (x : Judged). verdictNumber (x .verdict)) (e ∙ ap (judgedBy g) q)) ∙ v)))
       go (First c x) q =
           let i : j ≡ overFound c x = e ∙ ap (judgedBy g) q in
           record {
@@ -83,7 +84,8 @@ module _ (g : Graph) (l space : List ℕ) where
     unfolding savedAnswer savedAfter savedFault overFault checkOf
     saved-refused k o = rw q (go (planFault (g .clusters) l) (sym o ∙ ap (λ (x : Checked). x .outcome) e))
       where
-        go : (rule : ℕ) → Stopped k ≡ answerOf rule (runOf (g .clusters) (savedSteps l)) .outcome → (Refused k ≡ answerBy g l space rule) × (space ≡ afterBy g l space rule)
+        go : (rule : ℕ) → Stopped k ≡ answerOf rule (runOf (g .clusters) (savedSteps l)) .outcome
+            → (Refused k ≡ answerBy g l space rule) × (space ≡ afterBy g l space rule)
         go zero h = absurd (let z : _≡_ {A = ℕ} 0 1 = cc in omega arith)
         go (suc rule) h = let n : k ≡ suc rule = cc in (ap Refused n, refl)
 

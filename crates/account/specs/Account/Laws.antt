@@ -1,7 +1,7 @@
 -- The report of a list of merges, from the arrays that hold the list. Assumes nothing.
 use Prim.Native.Nat.{ℕ, _+_, _*_, _≤_}
 use native.Mathlib.Omega.{arith}
-use mathlib.Core.Path.{_≡_, refl, sym, ap, _∙_, subst}
+use mathlib.Core.Path.{_≡_, sym, ap, _∙_, subst}
 use mathlib.Core.Bool.{true, false, _&&_}
 use mathlib.Core.List.{List, map}
 use lib.Dec.{ltb}
@@ -55,7 +55,8 @@ fit s b fine =
       few-constraints = rw (b .count) at (few f (b .elements-few) (b .elements-some) (b .constraints-few) (b .fine) fine);
       ends = ends-below-64 f (b .elements-few) (b .elements-some) (b .constraints-few) (b .fine) fine;
       begins = λ slots are. fine-starts f (b .elements-few) (b .elements-some) (b .constraints-few) (b .fine) fine slots (s .e) (sym (b .count)) are;
-      begins-list = λ slots are. fine-list f (b .elements-few) (b .elements-some) (b .constraints-few) (b .fine) fine slots (s .e) (sym (b .count)) are;
+      begins-list =
+          λ slots are. fine-list f (b .elements-few) (b .elements-some) (b .constraints-few) (b .fine) fine slots (s .e) (sym (b .count)) are;
     }
 
 -- ---- a missing size, and a place beyond the list, is 0
@@ -100,7 +101,8 @@ pub record Told (s : Sheet) (run : Run) (lines : ℕ) (v : Verdict) (start : Lis
   pub sizes-are : sizes ≡ block 200 (pos 0) (map constraintSize (factsOf s .constraints))
   pub stepped : Stepped lines (s .e) sizes start run steps
 
-module _ (s : Sheet) (h : Fit s) (p : List Merge) (valid : Valid (graphOf (factsOf s) .clusters) p) (run : Run) (is : run ≡ runOf (graphOf (factsOf s) .clusters) p) where
+module _ (s : Sheet) (h : Fit s) (p : List Merge) (valid : Valid (graphOf (factsOf s) .clusters) p) (run : Run)
+    (is : run ≡ runOf (graphOf (factsOf s) .clusters) p) where
   abbrev f : Facts
   f = factsOf s
 
@@ -135,7 +137,8 @@ module _ (s : Sheet) (h : Fit s) (p : List Merge) (valid : Valid (graphOf (facts
     verdict-is : v ≡ listVerdict (graphOf f) p
     unfolding listed
     verdict-is =
-        ap (λ (j : Judged). j .verdict) (settled f p (h .sheet .paired) valid run is lines (s .n) (s .e) v (t .lines-are) (sym (h .sheet .elements-count)) (sym (h .sheet .count)) (t .v-is))
+        ap (λ (j : Judged). j .verdict) (settled f p (h .sheet .paired) valid run is lines (s .n) (s .e) v (t .lines-are)
+        (sym (h .sheet .elements-count)) (sym (h .sheet .count)) (t .v-is))
 
     pub steps-list : take (run .steps) steps ≡ stepsOf (graphOf f) p
     steps-list =
@@ -155,7 +158,8 @@ module _ (s : Sheet) (h : Fit s) (p : List Merge) (valid : Valid (graphOf (facts
     pub all-small : AllSmall (take (run .steps) steps)
     all-small =
         subst AllSmall (sym steps-list)
-        (small-steps (graphOf f) (graphOf f .clusters) p valid (omega (arith, length-clusters f, h .sheet .count, h .few-constraints, steps-most, steps-are)))
+        (small-steps (graphOf f) (graphOf f .clusters) p valid
+        (omega (arith, length-clusters f, h .sheet .count, h .few-constraints, steps-most, steps-are)))
 
     pub not-long : length (report (s .n) (s .e) v (take (run .steps) steps) (take (s .e + run .steps) (run .slots))) ≤ 3786
     unfolding listReport

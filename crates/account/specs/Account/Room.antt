@@ -39,4 +39,5 @@ module _ (f : Facts) (a : Accepted f) where
 
   pub saved-room : (l : List ℕ) → savedFault (graphOf f) l ≡ 0 → length (listReport (graphOf f) (savedSteps l)) ≤ 3786
   saved-room l h =
-      list-room (overOf-fine (graphOf f .n) (graphOf f .clusters) (paired f a) (below f a) (let-through f a l h)) (savedSteps l) (saved-maximal f a l h .2 .valid)
+      list-room (overOf-fine (graphOf f .n) (graphOf f .clusters) (paired f a) (below f a) (let-through f a l h)) (savedSteps l)
+      (saved-maximal f a l h .2 .valid)

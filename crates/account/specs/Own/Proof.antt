@@ -72,15 +72,20 @@ module _ (f : Facts) (a : Accepted f) where
       → (verdictOf (graphOf f) ≢ Over) × (length l % 3 ≡ 0) × Maximal (graphOf f .clusters) (savedSteps l)
   unfolding savedFault
   saved-maximal l h =
-      let m = accepted-maximal (graphOf f .clusters) l .0 (none-else (f .elements) (overFault (graphOf f)) (planFault (graphOf f .clusters) l) h .1) in
+      let m = accepted-maximal (graphOf f .clusters) l .0
+      (none-else (f .elements) (overFault (graphOf f)) (planFault (graphOf f .clusters) l) h .1) in
       (fine-not-over (graphOf f) (let-through l h), m .0, m .1)
 
   saved-list : (l : List ℕ) → SavedList (graphOf f) l
   unfolding savedFault
   saved-list l = record {
-    accepted = (saved-maximal l, λ h. rw (fine-fault (graphOf f) (not-over-fine (graphOf f) (h .0))) (accepted-maximal (graphOf f .clusters) l .1 (h .1, h .2)));
+    accepted = (
+      saved-maximal l,
+      λ h. rw (fine-fault (graphOf f) (not-over-fine (graphOf f) (h .0))) (accepted-maximal (graphOf f .clusters) l .1 (h .1, h .2)),
+    );
     same = λ h. let m = saved-maximal l h in
-        sheet-demand3 f a (m .0) .every (f .constraints) same (planOf (graphOf f .clusters)) (savedSteps l) (plan-of-maximal (graphOf f .clusters) paired) (m .2);
+        sheet-demand3 f a (m .0) .every (f .constraints) same (planOf (graphOf f .clusters)) (savedSteps l)
+        (plan-of-maximal (graphOf f .clusters) paired) (m .2);
     own = λ h. reports-own (graphOf f) (savedSteps l);
   }
 

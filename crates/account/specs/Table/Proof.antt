@@ -20,7 +20,10 @@ use Rattle.account.specs.Account.{listReport, reportOf}
 use Rattle.account.specs.Table.{Row, table, Printed}
 
 printed : map (λ (r : Row). reportOf (graphOf (r .facts))) table ≡ map (λ (r : Row). r .prints) table
-unfolding reportOf listReport report overReport stepLines stepLine clusterLines slotLine clusterLine decimal elements among at stepsFrom stepOf ascending ways placed triangle strip stripOf against jointKind listVerdict judged angled planOf plan firstOf secondOf thirdOf openTest put cleared union joint joints left total has carried ones _∩_ _∪_ elementsOf linesOf pair isOver anyBelow heavy isTight smaller fewestBelow smallestSet next overUpTo overOf
+unfolding reportOf listReport report overReport stepLines stepLine clusterLines slotLine clusterLine decimal elements among at stepsFrom
+    stepOf ascending ways placed triangle strip stripOf against jointKind listVerdict judged angled planOf plan firstOf secondOf thirdOf
+    openTest put cleared union joint joints left total has carried ones _∩_ _∪_ elementsOf linesOf pair isOver anyBelow heavy isTight smaller
+    fewestBelow smallestSet next overUpTo overOf
 printed = refl
 
 fine : map (λ (r : Row). sheetFault (sheetOf (r .facts))) table ≡ map (λ (r : Row). 0) table

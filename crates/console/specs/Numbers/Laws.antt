@@ -2,7 +2,7 @@
 use Prim.Native.Nat.{ℕ, suc, _+_, _*_, _≤_, _<_}
 use native.Mathlib.Numerals.{add-one}
 use native.Mathlib.Omega.{arith}
-use mathlib.Core.Path.{_≡_, refl, sym, ap, ap₂, _∙_, subst}
+use mathlib.Core.Path.{_≡_, refl, sym, ap, _∙_}
 use mathlib.Core.List.{List, [], _∷_, _++_, append-assoc, append-nil}
 use lib.ListN.{length, getD, take, drop, set, length-set, length-drop}
 use lib.Seq.{drop-cons, take-suc-set}
@@ -24,9 +24,11 @@ module _ (bytes : List ℕ) (places i : ℕ) (list : List ℕ) (h : Filling byte
       let n : suc (2 * i) ≡ 2 * i + 1 = omega arith in
       let m : suc (2 * i + 1) ≡ 2 * (i + 1) = omega arith in
       drop-cons bytes (2 * i) 0 (omega arith)
-      ∙ ap (λ (r : List ℕ). getD bytes (2 * i) 0 ∷ r) (ap (λ (k : ℕ). drop k bytes) n ∙ drop-cons bytes (2 * i + 1) 0 (omega arith) ∙ ap (λ (k : ℕ). getD bytes (2 * i + 1) 0 ∷ drop k bytes) m)
+      ∙ ap (λ (r : List ℕ). getD bytes (2 * i) 0 ∷ r)
+      (ap (λ (k : ℕ). drop k bytes) n ∙ drop-cons bytes (2 * i + 1) 0 (omega arith) ∙ ap (λ (k : ℕ). getD bytes (2 * i + 1) 0 ∷ drop k bytes) m)
 
-  pub filling-more : (v : ℕ) → i < places → 2 * i + 2 ≤ length bytes → v ≡ getD bytes (2 * i) 0 + 256 * getD bytes (2 * i + 1) 0 → Filling bytes places (i + 1) (set list i v)
+  pub filling-more : (v : ℕ) → i < places → 2 * i + 2 ≤ length bytes → v ≡ getD bytes (2 * i) 0 + 256 * getD bytes (2 * i + 1) 0
+      → Filling bytes places (i + 1) (set list i v)
   unfolding numbersIn
   filling-more v l m e =
       let r = numbersIn (drop (2 * (i + 1)) bytes) in
@@ -37,7 +39,8 @@ module _ (bytes : List ℕ) (places i : ℕ) (list : List ℕ) (h : Filling byte
         read = omega arith;
         front =
             ap (λ (x : List ℕ). x ++ r) (ap (λ (k : ℕ). take k (set list i v)) (add-one i) ∙ take-suc-set list i v q)
-            ∙ append-assoc (take i list) (v ∷ []) r ∙ ap (λ (x : List ℕ). take i list ++ x) (ap (λ (y : ℕ). y ∷ r) e ∙ sym (ap numbersIn (two-more m))) ∙ h .front;
+            ∙ append-assoc (take i list) (v ∷ []) r
+            ∙ ap (λ (x : List ℕ). take i list ++ x) (ap (λ (y : ℕ). y ∷ r) e ∙ sym (ap numbersIn (two-more m))) ∙ h .front;
       }
 
   none-left : (l : List ℕ) → length l < 2 → numbersIn l ≡ []

@@ -1,6 +1,6 @@
 -- `engine::angled` meets its contract: what is left of the joints decides. Assumes nothing.
 use mathlib.Core.Path.{_≡_, refl, sym, ap, _∙_}
-use mathlib.Core.Bool.{Bool, true, false, _||_}
+use mathlib.Core.Bool.{Bool, _||_}
 use mathlib.Core.List.{List, _∷_}
 use Prim.Native.Nat.{ℕ, suc, _+_, _-_, _≤_, _<_}
 use native.Mathlib.Omega.{arith}
@@ -36,31 +36,23 @@ module _ (lines : ℕ) (joints : List ℕ) (steps i : ℕ) (long : length joints
 loop-holds : tie.Need-loop-holds Inv-loop μ-loop
 loop-holds c = (search needs, refl)
 
-mul-j : tie.Need-mul-j Inv-loop μ-loop
-mul-j c = search needs
-
-element-copy-out-j : tie.Need-element-copy-out-j Inv-loop μ-loop
-element-copy-out-j c = search needs
-
 returns : tie.Need-returns Inv-loop μ-loop
 unfolding _∩_
 returns c =
     let a = c .before .before .before .before .args in
     let l = c .before .before .before .loop in
-    sym (l .inv .1 ∙ ahead-is (a .lines) (a .joints .now) (a .steps) (l .i) (search needs) (search needs) (search needs) ∙ ap (λ (b : Bool). b || angled (a .lines) (drop (l .i + 1) (take (a .steps) (a .joints .now)))) (eq-eqb _ _ (c .if1 .taken)))
-
-add-i : tie.Need-add-i Inv-loop μ-loop
-add-i c = search needs
-
-loop-less : tie.Need-loop-less Inv-loop μ-loop
-loop-less c = search needs
+    sym (l .inv .1 ∙ ahead-is (a .lines) (a .joints .now) (a .steps) (l .i) (search needs) (search needs) (search needs)
+    ∙ ap (λ (b : Bool). b || angled (a .lines) (drop (l .i + 1) (take (a .steps) (a .joints .now)))) (eq-eqb _ _ (c .if1 .taken)))
 
 loop-again : tie.Need-loop-again Inv-loop μ-loop
 unfolding _∩_
 loop-again c =
     let a = c .before .before .before .before .args in
-    let l = c .before .before .before .loop in
-    (search needs, l .inv .1 ∙ ahead-is (a .lines) (a .joints .now) (a .steps) (l .i) (search needs) (search needs) (search needs) ∙ ap (λ (b : Bool). b || angled (a .lines) (drop (l .i + 1) (take (a .steps) (a .joints .now)))) (ne-eqb _ _ (c .if1 .left)))
+    let l = c .before .before .before .loop in (
+      search needs,
+      l .inv .1 ∙ ahead-is (a .lines) (a .joints .now) (a .steps) (l .i) (search needs) (search needs) (search needs)
+          ∙ ap (λ (b : Bool). b || angled (a .lines) (drop (l .i + 1) (take (a .steps) (a .joints .now)))) (ne-eqb _ _ (c .if1 .left)),
+    )
 
 returns-2 : tie.Need-returns-2 Inv-loop μ-loop
 unfolding angled
@@ -73,14 +65,5 @@ returns-2 c =
 pub angled-spec : {M : Type 1} → statement M
 angled-spec =
     tie.close
-    (tie.spec
-    Inv-loop
-    μ-loop
-    loop-holds
-    mul-j
-    element-copy-out-j
-    returns
-    add-i
-    loop-less
-    loop-again
-    returns-2)
+    (tie.spec Inv-loop μ-loop loop-holds (λ c. search needs) (λ c. search needs) returns (λ c. search needs)
+    (λ c. search needs) loop-again returns-2)

@@ -1,6 +1,6 @@
 -- `engine::apart` meets its contract. Assumes nothing.
 use mathlib.Core.Path.{_≡_, sym, ap, ap₂, _∙_, subst}
-use Prim.Native.Nat.{ℕ, _<_}
+use Prim.Native.Nat.{_<_}
 use native.Mathlib.Omega.{arith}
 use lib.IntN.{ℤ, natAbs, _-ℤ_}
 use mir.Syntax.{w32, w64}
@@ -11,14 +11,16 @@ use Rattle.engine.proofs.apart.Statement.{statement}
 use Rattle.engine.proofs.apart.Tie as tie
 
 -- the difference of the two numbers as they are
-difference : (c : tie.Start) → toZ w64 (ofZ w64 (toZ w32 (ofZ w32 (c .args .y)))) -ℤ toZ w64 (ofZ w64 (toZ w32 (ofZ w32 (c .args .x)))) ≡ c .args .y -ℤ c .args .x
+difference : (c : tie.Start)
+    → toZ w64 (ofZ w64 (toZ w32 (ofZ w32 (c .args .y)))) -ℤ toZ w64 (ofZ w64 (toZ w32 (ofZ w32 (c .args .x)))) ≡ c .args .y -ℤ c .args .x
 difference c = ap₂ _-ℤ_ (widened (c .args .y) (c .fits .y)) (widened (c .args .x) (c .fits .x))
 
 fits : (c : tie.Start) → SFits w64 (c .args .y -ℤ c .args .x)
 fits c = difference-fits (c .args .y) (c .args .x) (c .fits .y) (c .fits .x)
 
 taken : (c : tie.Start)
-    → toZ w64 (ofZ w64 (toZ w64 (ofZ w64 (toZ w32 (ofZ w32 (c .args .y)))) -ℤ toZ w64 (ofZ w64 (toZ w32 (ofZ w32 (c .args .x)))))) ≡ c .args .y -ℤ c .args .x
+    → toZ w64 (ofZ w64 (toZ w64 (ofZ w64 (toZ w32 (ofZ w32 (c .args .y)))) -ℤ toZ w64 (ofZ w64 (toZ w32 (ofZ w32 (c .args .x))))))
+    ≡ c .args .y -ℤ c .args .x
 taken c = ap (λ (z : ℤ). toZ w64 (ofZ w64 z)) (difference c) ∙ toZ-ofZ (fits c)
 
 cast-magnitude : tie.Need-cast-magnitude

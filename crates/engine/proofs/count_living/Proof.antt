@@ -1,5 +1,5 @@
 -- `engine::count_living` meets its contract: the clusters passed are counted. Assumes nothing.
-use mathlib.Core.Path.{_≡_, refl, sym, ap, _∙_}
+use mathlib.Core.Path.{_≡_, refl, ap, _∙_}
 use mathlib.Core.Logic.{⊎-elim}
 use mathlib.Core.List.{[], _∷_}
 use Prim.Native.Nat.{ℕ, _+_, _-_, _≤_, _<_}
@@ -21,20 +21,8 @@ loop-holds : tie.Need-loop-holds Inv-loop μ-loop
 unfolding livingOf
 loop-holds c = (search needs, search needs, refl)
 
-mul-if1 : tie.Need-mul-if1 Inv-loop μ-loop
-mul-if1 c = search needs
-
-element-copy-out-if1 : tie.Need-element-copy-out-if1 Inv-loop μ-loop
-element-copy-out-if1 c = search needs
-
 add-count : tie.Need-add-count Inv-loop μ-loop
 add-count c = omega (arith, c .before .before .before .loop .inv .1, c .before .before .before .loop .inv .0)
-
-add-c : tie.Need-add-c Inv-loop μ-loop
-add-c c = search needs
-
-loop-less : tie.Need-loop-less Inv-loop μ-loop
-loop-less c = search needs
 
 loop-again : tie.Need-loop-again Inv-loop μ-loop
 loop-again c =
@@ -44,7 +32,8 @@ loop-again c =
     ⊎-elim
     (λ w.
     let e : length (livingOf (take (l .c + 1) (a .slots .now))) ≡ length (livingOf (take (l .c) (a .slots .now))) + 1 =
-    ap length (living-one (a .slots .now) (l .c) h (w .0 .taken)) ∙ length-append (livingOf (take (l .c) (a .slots .now))) (getD (a .slots .now) (l .c) 0 ∷ []) in
+    ap length (living-one (a .slots .now) (l .c) h (w .0 .taken))
+    ∙ length-append (livingOf (take (l .c) (a .slots .now))) (getD (a .slots .now) (l .c) 0 ∷ []) in
     (search needs, omega (arith, l .inv .1, w .1), omega (arith, l .inv .2, w .1)))
     (λ w.
     let e : length (livingOf (take (l .c + 1) (a .slots .now))) ≡ length (livingOf (take (l .c) (a .slots .now))) =
@@ -61,14 +50,5 @@ returns c =
 pub count-living-spec : {M : Type 1} → statement M
 count-living-spec =
     tie.close
-    (tie.spec
-    Inv-loop
-    μ-loop
-    loop-holds
-    mul-if1
-    element-copy-out-if1
-    add-count
-    add-c
-    loop-less
-    loop-again
-    returns)
+    (tie.spec Inv-loop μ-loop loop-holds (λ c. search needs) (λ c. search needs) add-count (λ c. search needs)
+    (λ c. search needs) loop-again returns)

@@ -1,7 +1,5 @@
 -- `engine::magnitude` meets its contract. Assumes nothing.
 use mathlib.Core.Path.{_≡_, sym, ap, _∙_, subst}
-use mathlib.Core.Bool.{true, false}
-use Prim.Native.Nat.{ℕ, _<_}
 use native.Mathlib.Omega.{arith}
 use borrow.Author.Needs.{needs}
 use lib.IntN.{ℤ, pos, natAbs, _-ℤ_}
@@ -39,14 +37,13 @@ cast-result c =
 
 cast-result-2 : tie.Need-cast-result-2
 cast-result-2 c =
-    subst (λ (z : ℤ). T (nonNeg z) × Fits w64 (natAbs z)) (sym (itself (c .before)))
-    (not-negative (c .before .args .z) (sym (ap (λ (z : ℤ). ltZ z (pos 0)) (itself (c .before))) ∙ c .if1 .left), record { fits = omega (arith, c .before .pre) })
+    subst (λ (z : ℤ). T (nonNeg z) × Fits w64 (natAbs z)) (sym (itself (c .before))) (
+      not-negative (c .before .args .z) (sym (ap (λ (z : ℤ). ltZ z (pos 0)) (itself (c .before))) ∙ c .if1 .left),
+      record { fits = omega (arith, c .before .pre) },
+    )
 
 returns : tie.Need-returns
 returns c = ap natAbs (taken c)
 
-returns-2 : tie.Need-returns-2
-returns-2 c = search needs
-
 pub magnitude-spec : {M : Type 1} → statement M
-magnitude-spec = tie.close (tie.spec sub-result cast-result cast-result-2 returns returns-2)
+magnitude-spec = tie.close (tie.spec sub-result cast-result cast-result-2 returns (λ c. search needs))

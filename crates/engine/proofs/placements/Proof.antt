@@ -9,41 +9,16 @@ use borrow.Author.Needs.{needs}
 use Rattle.engine.proofs.placements.Statement.{statement}
 use Rattle.engine.proofs.placements.Tie as tie
 
-enum-told : tie.Need-enum-told
-enum-told c = search needs
-
-size-of-requires : tie.Need-size-of-requires
-size-of-requires c κs = search needs
-
-size-of-requires-2 : tie.Need-size-of-requires-2
-size-of-requires-2 c κs = search needs
-
-size-of-requires-3 : tie.Need-size-of-requires-3
-size-of-requires-3 c κs = search needs
-
-triangle-requires : tie.Need-triangle-requires
-triangle-requires c κs = search needs
-
-enum-told-2 : tie.Need-enum-told-2
-enum-told-2 c = search needs
-
-strip-of-requires : tie.Need-strip-of-requires
-strip-of-requires c κs = search needs
-
-enum-told-3 : tie.Need-enum-told-3
-enum-told-3 c = search needs
-
-enum-told-4 : tie.Need-enum-told-4
-enum-told-4 c = search needs
-
 returns : tie.Need-returns
 returns c =
     let a = c .before .before .before .before .before .before .args in
     let f = c .before .before .before .before .before .before .fits in
-    let x : c .before .before .before .size-of .result ≡ natAbs (a .x) = c .before .before .before .size-of .ensures .0 ∙ ap natAbs (toZ-ofZ (f .x)) in
+    let x : c .before .before .before .size-of .result ≡ natAbs (a .x) =
+    c .before .before .before .size-of .ensures .0 ∙ ap natAbs (toZ-ofZ (f .x)) in
     let y : c .before .before .size-of2 .result ≡ natAbs (a .y) = c .before .before .size-of2 .ensures .0 ∙ ap natAbs (toZ-ofZ (f .y)) in
     let z : c .before .size-of3 .result ≡ natAbs (a .z) = c .before .size-of3 .ensures .0 ∙ ap natAbs (toZ-ofZ (f .z)) in
-    let h : c .triangle .result ≡ triangle (natAbs (a .x)) (natAbs (a .y)) (natAbs (a .z)) = c .triangle .ensures ∙ (λ t. triangle (x t) (y t) (z t)) in
+    let h : c .triangle .result ≡ triangle (natAbs (a .x)) (natAbs (a .y)) (natAbs (a .z)) =
+    c .triangle .ensures ∙ (λ t. triangle (x t) (y t) (z t)) in
     ap Known h ∙ placed-ppp (a .lines) (a .a) (a .b) (a .x) (a .y) (a .z) (a .kind) (c .before .before .before .before .enum-told .given .1)
 
 returns-2 : tie.Need-returns-2
@@ -63,17 +38,6 @@ returns-4 c = let a = c .before .before .args in placed-lll (a .lines) (a .a) (a
 pub placements-spec : {M : Type 1} → statement M
 placements-spec =
     tie.close
-    (tie.spec
-    enum-told
-    size-of-requires
-    size-of-requires-2
-    size-of-requires-3
-    triangle-requires
-    enum-told-2
-    strip-of-requires
-    enum-told-3
-    enum-told-4
-    returns
-    returns-2
-    returns-3
-    returns-4)
+    (tie.spec (λ c. search needs) (λ c κs. search needs) (λ c κs. search needs) (λ c κs. search needs)
+    (λ c κs. search needs) (λ c. search needs) (λ c κs. search needs) (λ c. search needs) (λ c. search needs) returns
+    returns-2 returns-3 returns-4)

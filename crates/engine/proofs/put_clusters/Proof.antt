@@ -1,8 +1,8 @@
 -- `engine::put_clusters` meets its contract: the living clusters passed are put. Assumes nothing.
-use mathlib.Core.Path.{_≡_, refl, sym, ap, _∙_, subst}
+use mathlib.Core.Path.{_≡_, sym, ap, subst}
 use mathlib.Core.Logic.{⊎-elim}
-use mathlib.Core.List.{List, [], _∷_, _++_}
-use Prim.Native.Nat.{ℕ, _+_, _-_, _≤_, _<_}
+use mathlib.Core.List.{List, [], _∷_}
+use Prim.Native.Nat.{ℕ, _-_, _≤_, _<_}
 use native.Mathlib.Omega.{arith}
 use borrow.Author.Needs.{needs}
 use lib.ListN.{length, take, getD}
@@ -32,27 +32,25 @@ loop-holds : tie.Need-loop-holds Inv-loop μ-loop
 unfolding livingOf
 loop-holds c = (search needs, search needs, put-none (c .before .before .before .args .out .now) 0)
 
-mul-x : tie.Need-mul-x Inv-loop μ-loop
-mul-x c = search needs
-
-element-copy-out-x : tie.Need-element-copy-out-x Inv-loop μ-loop
-element-copy-out-x c = search needs
-
 put-number64-requires : tie.Need-put-number64-requires Inv-loop μ-loop
-put-number64-requires c κs = omega (arith, c .before .before .before .before .loop .inv .0, c .before .before .before .before .loop .inv .1, c .before .before .before .before .before .before .before .before .pre .0)
-
-add-c : tie.Need-add-c Inv-loop μ-loop
-add-c c = search needs
-
-loop-less : tie.Need-loop-less Inv-loop μ-loop
-loop-less c = search needs
+put-number64-requires c κs =
+    omega (
+      arith,
+      c .before .before .before .before .loop .inv .0,
+      c .before .before .before .before .loop .inv .1,
+      c .before .before .before .before .before .before .before .before .pre .0,
+    )
 
 loop-again : tie.Need-loop-again Inv-loop μ-loop
 loop-again c =
     let a = c .before .before .before .before .before .before .before .args in
     let l = c .before .before .before .loop in
     let t : l .c < a .used = c .before .before .loop-test .taken in
-    let h : l .c < length (a .slots .now) = omega (arith, c .before .before .before .before .before .before .before .pre .0, c .before .before .before .before .before .before .before .pre .1) in
+    let h : l .c < length (a .slots .now) = omega (
+      arith,
+      c .before .before .before .before .before .before .before .pre .0,
+      c .before .before .before .before .before .before .before .pre .1,
+    ) in
     ⊎-elim
     (λ w.
     let q : Put (l .out) (l .next) (getD (a .slots .now) (l .c) 0 ∷ []) (c .if2 .next) (c .if2 .out) =
@@ -77,23 +75,12 @@ returns-2 c =
     let q : Put (a .out .now) 0 (livingOf (take (a .used) (a .slots .now))) (l .next) (l .out) =
     put-as (ap (λ (n : ℕ). livingOf (take n (a .slots .now))) h) (l .inv .2) in
     let e : l .next ≡ k .result = omega (arith, q .next-is, k .ensures) in
-    subst (λ (n : ℕ). (Done n ≡ answer (livingOf (take (a .used) (a .slots .now))) (a .out .now)) × (l .out ≡ after (livingOf (take (a .used) (a .slots .now))) (a .out .now))) e
+    subst (λ (n : ℕ). (Done n ≡ answer (livingOf (take (a .used) (a .slots .now))) (a .out .now))
+    × (l .out ≡ after (livingOf (take (a .used) (a .slots .now))) (a .out .now))) e
     (put-done (omega (arith, k .ensures, c .before .before .if1 .left)) q)
 
 pub put-clusters-spec : {M : Type 1} → statement M
 put-clusters-spec =
     tie.close
-    (tie.spec
-    Inv-loop
-    μ-loop
-    count-living-requires
-    returns
-    loop-holds
-    mul-x
-    element-copy-out-x
-    put-number64-requires
-    add-c
-    loop-less
-    loop-again
-    same-length
-    returns-2)
+    (tie.spec Inv-loop μ-loop count-living-requires returns loop-holds (λ c. search needs) (λ c. search needs)
+    put-number64-requires (λ c. search needs) (λ c. search needs) loop-again same-length returns-2)

@@ -1,11 +1,11 @@
 -- `engine::put_plan` meets its contract: the numbers passed are put. Assumes nothing.
-use mathlib.Core.Path.{_≡_, refl, sym, ap, _∙_, subst}
-use mathlib.Core.List.{List, [], _∷_, _++_}
+use mathlib.Core.Path.{_≡_, sym, ap, _∙_, subst}
+use mathlib.Core.List.{List}
 use Prim.Native.Nat.{ℕ, _+_, _-_, _*_, _≤_, _<_}
 use native.Mathlib.Omega.{arith}
 use native.Mathlib.Numerals.{add-one}
 use borrow.Author.Needs.{needs}
-use lib.ListN.{length, take, getD, length-take}
+use lib.ListN.{length, take, length-take}
 use lib.Seq.{take-suc}
 use Rattle.space.specs.declared.Written.the-variants.{Done}
 use Rattle.space.specs.Space.{Put, answer, after}
@@ -23,26 +23,15 @@ Inv-loop out₀ count parts i₀ out i = (i ≤ count) × Put out₀ 0 (take i p
 abbrev μ-loop : tie.MeasureT-loop
 μ-loop out₀ count parts i₀ out i = count - i
 
-mul-count : tie.Need-mul-count Inv-loop μ-loop
-mul-count c = search needs
-
 returns : tie.Need-returns Inv-loop μ-loop
 returns c =
     let r = c .before .before .before .before .args .run in
     let p = c .before .before .before .before .pre in
-    put-refused (take (3 * r .steps) (r .parts)) (c .before .before .before .before .args .out .now) (omega (arith, long (r .parts) (r .steps) (p .1) (p .0), c .if1 .taken))
+    put-refused (take (3 * r .steps) (r .parts)) (c .before .before .before .before .args .out .now)
+    (omega (arith, long (r .parts) (r .steps) (p .1) (p .0), c .if1 .taken))
 
 loop-holds : tie.Need-loop-holds Inv-loop μ-loop
 loop-holds c = (search needs, put-none (c .before .before .before .before .args .out .now) 0)
-
-mul-put-number16 : tie.Need-mul-put-number16 Inv-loop μ-loop
-mul-put-number16 c = search needs
-
-array-read-put-number16 : tie.Need-array-read-put-number16 Inv-loop μ-loop
-array-read-put-number16 c = search needs
-
-put-number16-requires : tie.Need-put-number16-requires Inv-loop μ-loop
-put-number16-requires c κs = search needs
 
 loop-less : tie.Need-loop-less Inv-loop μ-loop
 loop-less c = omega (arith, c .before .before .put-number16 .ensures .next-is)
@@ -53,8 +42,15 @@ loop-again c =
     let l = c .before .before .before .before .before .loop in
     let q = c .before .before .put-number16 in
     let e : q .result ≡ l .i + 1 = q .ensures .next-is in
-    let h : l .i < length (r .parts) = omega (arith, c .before .before .before .before .before .before .before .before .before .before .pre .0, c .before .before .before .before .before .before .before .before .before .before .pre .1, c .before .before .before .before .loop-test .taken) in
-    (omega (arith, c .before .before .before .before .loop-test .taken), put-as (sym (ap (λ (n : ℕ). take n (r .parts)) (e ∙ add-one (l .i)) ∙ take-suc (r .parts) (l .i) 0 h)) (l .inv .1 then q .ensures))
+    let h : l .i < length (r .parts) = omega (
+      arith,
+      c .before .before .before .before .before .before .before .before .before .before .pre .0,
+      c .before .before .before .before .before .before .before .before .before .before .pre .1,
+      c .before .before .before .before .loop-test .taken,
+    ) in (
+      omega (arith, c .before .before .before .before .loop-test .taken),
+      put-as (sym (ap (λ (n : ℕ). take n (r .parts)) (e ∙ add-one (l .i)) ∙ take-suc (r .parts) (l .i) 0 h)) (l .inv .1 then q .ensures),
+    )
 
 same-length : tie.Need-same-length Inv-loop μ-loop
 same-length c = c .before .loop .inv .1 .length-is
@@ -65,22 +61,13 @@ returns-2 c =
     let l = c .before .loop in
     let p = c .before .before .before .before .before .before .pre in
     let h : l .i ≡ 3 * r .steps = omega (arith, l .inv .0, c .loop-test .left) in
-    subst (λ (n : ℕ). (Done n ≡ answer (take (3 * r .steps) (r .parts)) (c .before .before .before .before .before .before .args .out .now)) × (l .out ≡ after (take (3 * r .steps) (r .parts)) (c .before .before .before .before .before .before .args .out .now))) h
-    (put-done (omega (arith, long (r .parts) (r .steps) (p .1) (p .0), c .before .before .if1 .left)) (put-as (ap (λ (n : ℕ). take n (r .parts)) h) (l .inv .1)))
+    subst (λ (n : ℕ). (Done n ≡ answer (take (3 * r .steps) (r .parts)) (c .before .before .before .before .before .before .args .out .now))
+    × (l .out ≡ after (take (3 * r .steps) (r .parts)) (c .before .before .before .before .before .before .args .out .now))) h
+    (put-done (omega (arith, long (r .parts) (r .steps) (p .1) (p .0), c .before .before .if1 .left))
+    (put-as (ap (λ (n : ℕ). take n (r .parts)) h) (l .inv .1)))
 
 pub put-plan-spec : {M : Type 1} → statement M
 put-plan-spec =
     tie.close
-    (tie.spec
-    Inv-loop
-    μ-loop
-    mul-count
-    returns
-    loop-holds
-    mul-put-number16
-    array-read-put-number16
-    put-number16-requires
-    loop-less
-    loop-again
-    same-length
-    returns-2)
+    (tie.spec Inv-loop μ-loop (λ c. search needs) returns loop-holds (λ c. search needs) (λ c. search needs)
+    (λ c κs. search needs) loop-less loop-again same-length returns-2)

@@ -9,28 +9,13 @@ use borrow.Author.Needs.{needs}
 use Rattle.engine.proofs.settle.Statement.{statement}
 use Rattle.engine.proofs.settle.Tie as tie
 
-angled-requires : tie.Need-angled-requires
-angled-requires c κs = search needs
-
 returns : tie.Need-returns
 unfolding judged angled
 returns c finals left-is = simp (sym (c .before .angled .ensures) ∙ c .if1 .taken)
 
-add-if2 : tie.Need-add-if2
-add-if2 c = search needs
-
-mul-if2 : tie.Need-mul-if2
-mul-if2 c = search needs
-
 returns-2 : tie.Need-returns-2
 unfolding judged angled
 returns-2 c finals left-is = simp (sym (c .before .before .angled .ensures) ∙ c .before .if1 .left, ne-eqb _ _ (c .if2 .taken))
-
-mul-if3 : tie.Need-mul-if3
-mul-if3 c = search needs
-
-sub-if3 : tie.Need-sub-if3
-sub-if3 c = search needs
 
 returns-3 : tie.Need-returns-3
 unfolding judged angled
@@ -47,13 +32,5 @@ returns-4 c finals left-is =
 pub settle-spec : {M : Type 1} → statement M
 settle-spec =
     tie.close
-    (tie.spec
-    angled-requires
-    returns
-    add-if2
-    mul-if2
-    returns-2
-    mul-if3
-    sub-if3
-    returns-3
-    returns-4)
+    (tie.spec (λ c κs. search needs) returns (λ c. search needs) (λ c. search needs) returns-2 (λ c. search needs)
+    (λ c. search needs) returns-3 returns-4)

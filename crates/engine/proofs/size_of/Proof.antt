@@ -1,6 +1,6 @@
 -- `engine::size_of` meets its contract. Assumes nothing.
 use mathlib.Core.Path.{_≡_, sym, ap, _∙_, subst}
-use Prim.Native.Nat.{ℕ, _<_}
+use Prim.Native.Nat.{_<_}
 use native.Mathlib.Omega.{arith}
 use lib.IntN.{ℤ, natAbs}
 use Rattle.engine.proofs.Signed.{abs-mag, wide, widened}
@@ -19,7 +19,8 @@ magnitude-requires c κs =
 
 returns : tie.Need-returns
 returns c =
-    let e : c .magnitude .result ≡ natAbs (c .before .args .z) = c .magnitude .ensures ∙ ap natAbs (widened (c .before .args .z) (c .before .fits .z)) in
+    let e : c .magnitude .result ≡ natAbs (c .before .args .z) =
+    c .magnitude .ensures ∙ ap natAbs (widened (c .before .args .z) (c .before .fits .z)) in
     (e, omega (arith, small (c .before)))
 
 pub size-of-spec : {M : Type 1} → statement M

@@ -1,5 +1,5 @@
 -- `engine::steps_of` meets its contract: the steps passed stand, and the rest is blank. Assumes nothing.
-use mathlib.Core.Path.{_≡_, refl, sym, ap, _∙_, subst}
+use mathlib.Core.Path.{_≡_, refl, sym, ap, _∙_}
 use mathlib.Core.List.{List}
 use Prim.Native.Nat.{ℕ, zero, suc, _+_, _-_, _≤_, _<_}
 use native.Mathlib.Omega.{arith}
@@ -47,9 +47,6 @@ Inv-loop start sizes lines e count parts joints steps₀ t₀ steps t = Standing
 abbrev μ-loop : tie.MeasureT-loop
 μ-loop start sizes lines e count parts joints steps₀ t₀ steps t = count - t
 
-no-steps-requires : tie.Need-no-steps-requires Inv-loop μ-loop
-no-steps-requires c κs = search needs
-
 loop-holds : tie.Need-loop-holds Inv-loop μ-loop
 loop-holds c =
     let e = c .no-steps .ensures in record {
@@ -59,45 +56,25 @@ loop-holds c =
       blank = λ k h. ap (λ (l : List Step). getD l k blankStep) e ∙ all-blank 62 k;
     }
 
-step-at-requires : tie.Need-step-at-requires Inv-loop μ-loop
-step-at-requires c κs = search needs
-
-mul-steps : tie.Need-mul-steps Inv-loop μ-loop
-mul-steps c = search needs
-
-array-set-from-steps : tie.Need-array-set-from-steps Inv-loop μ-loop
-array-set-from-steps c = search needs
-
-add-t : tie.Need-add-t Inv-loop μ-loop
-add-t c = search needs
-
-loop-less : tie.Need-loop-less Inv-loop μ-loop
-loop-less c = search needs
-
 loop-again : tie.Need-loop-again Inv-loop μ-loop
 loop-again c =
     let a = c .before .before .before .before .before .before .before .before .args in
     let l = c .before .before .before .before .loop in
-    one-more (a .lines) (a .e) (a .sizes .now) (a .start .now) (a .run .parts) (a .run .joints) (a .run .steps) (l .t) (l .steps) (l .inv) (search needs) (search needs)
+    one-more (a .lines) (a .e) (a .sizes .now) (a .start .now) (a .run .parts) (a .run .joints) (a .run .steps) (l .t) (l .steps) (l .inv)
+    (search needs) (search needs)
     (c .step-at .result) (c .step-at .ensures)
 
 returns : tie.Need-returns Inv-loop μ-loop
 returns c =
     let l = c .before .loop in
-    record { long = l .inv .long; each = λ k h. l .inv .each k (omega (arith, c .loop-test .left)); blank = λ k h. l .inv .blank k (omega (arith, l .inv .few)) }
+    record {
+      long = l .inv .long;
+      each = λ k h. l .inv .each k (omega (arith, c .loop-test .left));
+      blank = λ k h. l .inv .blank k (omega (arith, l .inv .few));
+    }
 
 pub steps-of-spec : {M : Type 1} → statement M
 steps-of-spec =
     tie.close
-    (tie.spec
-    Inv-loop
-    μ-loop
-    no-steps-requires
-    loop-holds
-    step-at-requires
-    mul-steps
-    array-set-from-steps
-    add-t
-    loop-less
-    loop-again
-    returns)
+    (tie.spec Inv-loop μ-loop (λ c κs. search needs) loop-holds (λ c κs. search needs) (λ c. search needs)
+    (λ c. search needs) (λ c. search needs) (λ c. search needs) loop-again returns)

@@ -9,15 +9,6 @@ use borrow.Author.Needs.{needs}
 use Rattle.engine.proofs.strip_of.Statement.{statement}
 use Rattle.engine.proofs.strip_of.Tie as tie
 
-apart-requires : tie.Need-apart-requires
-apart-requires c κs = search needs
-
-size-of-requires : tie.Need-size-of-requires
-size-of-requires c κs = search needs
-
-against-requires : tie.Need-against-requires
-against-requires c κs = search needs
-
 returns : tie.Need-returns
 unfolding _∩_
 returns c =
@@ -28,24 +19,6 @@ returns c =
     let g : c .before .size-of .result ≡ natAbs (a .x) = c .before .size-of .ensures .0 ∙ ap natAbs (toZ-ofZ (f .x)) in
     c .against .ensures ∙ ap₂ against e g ∙ points-first (a .lines) (a .a) (a .b) (a .x) (a .y) (a .z) (c .before .before .before .if1 .taken)
 
-apart-requires-2 : tie.Need-apart-requires-2
-apart-requires-2 c κs = search needs
-
-size-of-requires-2 : tie.Need-size-of-requires-2
-size-of-requires-2 c κs = search needs
-
-against-requires-2 : tie.Need-against-requires-2
-against-requires-2 c κs = search needs
-
-apart-requires-3 : tie.Need-apart-requires-3
-apart-requires-3 c κs = search needs
-
-size-of-requires-3 : tie.Need-size-of-requires-3
-size-of-requires-3 c κs = search needs
-
-against-requires-3 : tie.Need-against-requires-3
-against-requires-3 c κs = search needs
-
 returns-2 : tie.Need-returns-2
 unfolding _∩_
 returns-2 c =
@@ -54,7 +27,9 @@ returns-2 c =
     let e : c .before .before .apart2 .result ≡ natAbs (a .z -ℤ a .x) =
     c .before .before .apart2 .ensures ∙ ap₂ (λ (p q : ℤ). natAbs (p -ℤ q)) (toZ-ofZ (f .z)) (toZ-ofZ (f .x)) in
     let g : c .before .size-of2 .result ≡ natAbs (a .y) = c .before .size-of2 .ensures .0 ∙ ap natAbs (toZ-ofZ (f .y)) in
-    c .against2 .ensures ∙ ap₂ against e g ∙ points-second (a .lines) (a .a) (a .b) (a .x) (a .y) (a .z) (c .before .before .before .before .if1 .left) (c .before .before .before .if2 .taken)
+    c .against2 .ensures ∙ ap₂ against e g
+    ∙ points-second (a .lines) (a .a) (a .b) (a .x) (a .y) (a .z) (c .before .before .before .before .if1 .left)
+    (c .before .before .before .if2 .taken)
 
 returns-3 : tie.Need-returns-3
 unfolding _∩_
@@ -64,21 +39,12 @@ returns-3 c =
     let e : c .before .before .apart3 .result ≡ natAbs (a .y -ℤ a .x) =
     c .before .before .apart3 .ensures ∙ ap₂ (λ (p q : ℤ). natAbs (p -ℤ q)) (toZ-ofZ (f .y)) (toZ-ofZ (f .x)) in
     let g : c .before .size-of3 .result ≡ natAbs (a .z) = c .before .size-of3 .ensures .0 ∙ ap natAbs (toZ-ofZ (f .z)) in
-    c .against3 .ensures ∙ ap₂ against e g ∙ points-third (a .lines) (a .a) (a .b) (a .x) (a .y) (a .z) (c .before .before .before .before .if1 .left) (c .before .before .before .if2 .left)
+    c .against3 .ensures ∙ ap₂ against e g
+    ∙ points-third (a .lines) (a .a) (a .b) (a .x) (a .y) (a .z) (c .before .before .before .before .if1 .left) (c .before .before .before .if2 .left)
 
 pub strip-of-spec : {M : Type 1} → statement M
 strip-of-spec =
     tie.close
-    (tie.spec
-    apart-requires
-    size-of-requires
-    against-requires
-    returns
-    apart-requires-2
-    size-of-requires-2
-    against-requires-2
-    apart-requires-3
-    size-of-requires-3
-    against-requires-3
-    returns-2
-    returns-3)
+    (tie.spec (λ c κs. search needs) (λ c κs. search needs) (λ c κs. search needs) returns (λ c κs. search needs)
+    (λ c κs. search needs) (λ c κs. search needs) (λ c κs. search needs) (λ c κs. search needs) (λ c κs. search needs)
+    returns-2 returns-3)

@@ -1,5 +1,5 @@
 -- `engine::triangle` meets its contract. Assumes nothing.
-use mathlib.Core.Path.{_≡_, sym, ap, ap₂, _∙_}
+use mathlib.Core.Path.{_≡_, ap, _∙_}
 use mathlib.Core.Logic.{⊎-elim}
 use Prim.Native.Nat.{ℕ, _+_, _-_, max}
 use native.Mathlib.Omega.{arith}
@@ -11,20 +11,13 @@ use Rattle.engine.proofs.triangle.Tie as tie
 -- the longest of the three
 longest : (c : tie.Joined2) → c .if2 .b ≡ max (max (c .before .before .args .x) (c .before .before .args .y)) (c .before .before .args .z)
 longest c =
-    ⊎-elim (λ v. ⊎-elim (λ w. omega (arith, v .0 .taken, v .1, w .0 .taken, w .1)) (λ w. omega (arith, v .0 .taken, v .1, w .0 .left, w .1)) (c .if2 .came))
-    (λ v. ⊎-elim (λ w. omega (arith, v .0 .left, v .1, w .0 .taken, w .1)) (λ w. omega (arith, v .0 .left, v .1, w .0 .left, w .1)) (c .if2 .came)) (c .before .if1 .came)
-
-add-against : tie.Need-add-against
-add-against c = search needs
-
-add-against-2 : tie.Need-add-against-2
-add-against-2 c = search needs
+    ⊎-elim
+    (λ v. ⊎-elim (λ w. omega (arith, v .0 .taken, v .1, w .0 .taken, w .1)) (λ w. omega (arith, v .0 .taken, v .1, w .0 .left, w .1)) (c .if2 .came))
+    (λ v. ⊎-elim (λ w. omega (arith, v .0 .left, v .1, w .0 .taken, w .1)) (λ w. omega (arith, v .0 .left, v .1, w .0 .left, w .1)) (c .if2 .came))
+    (c .before .if1 .came)
 
 sub-against : tie.Need-sub-against
 sub-against c = omega (arith, longest (c .before))
-
-against-requires : tie.Need-against-requires
-against-requires c κs = search needs
 
 returns : tie.Need-returns
 unfolding triangle
@@ -33,4 +26,4 @@ returns c =
     c .against .ensures ∙ ap (λ (b : ℕ). against b (a .x + a .y + a .z - b)) (longest (c .before .before))
 
 pub triangle-spec : {M : Type 1} → statement M
-triangle-spec = tie.close (tie.spec add-against add-against-2 sub-against against-requires returns)
+triangle-spec = tie.close (tie.spec (λ c. search needs) (λ c. search needs) sub-against (λ c κs. search needs) returns)

@@ -1,5 +1,5 @@
 -- `engine::ways_of` meets its contract. Assumes nothing.
-use mathlib.Core.Path.{_≡_, ap, _∙_}
+use mathlib.Core.Path.{_≡_, _∙_}
 use lib.IntN.{pos}
 use lib.ListN.{getD}
 use mir.Syntax.{w32}
@@ -25,40 +25,8 @@ returns-2 c =
 returns-3 : tie.Need-returns-3
 returns-3 c =
     let a = c .before .before .before .args in
-    ways-k (a .lines) (a .kind) (a .e) (a .sizes .now) (a .start .now) (a .i) (a .j) (a .k) (c .before .before .if1 .left) (c .before .if2 .left) (c .if3 .taken)
-
-mul-placements : tie.Need-mul-placements
-mul-placements c = search needs
-
-element-copy-out-placements : tie.Need-element-copy-out-placements
-element-copy-out-placements c = search needs
-
-mul-placements-2 : tie.Need-mul-placements-2
-mul-placements-2 c = search needs
-
-element-copy-out-placements-2 : tie.Need-element-copy-out-placements-2
-element-copy-out-placements-2 c = search needs
-
-mul-placements-3 : tie.Need-mul-placements-3
-mul-placements-3 c = search needs
-
-element-copy-out-placements-3 : tie.Need-element-copy-out-placements-3
-element-copy-out-placements-3 c = search needs
-
-mul-placements-4 : tie.Need-mul-placements-4
-mul-placements-4 c = search needs
-
-element-copy-out-placements-4 : tie.Need-element-copy-out-placements-4
-element-copy-out-placements-4 c = search needs
-
-mul-placements-5 : tie.Need-mul-placements-5
-mul-placements-5 c = search needs
-
-element-copy-out-placements-5 : tie.Need-element-copy-out-placements-5
-element-copy-out-placements-5 c = search needs
-
-placements-requires : tie.Need-placements-requires
-placements-requires c κs = search needs
+    ways-k (a .lines) (a .kind) (a .e) (a .sizes .now) (a .start .now) (a .i) (a .j) (a .k)
+    (c .before .before .if1 .left) (c .before .if2 .left) (c .if3 .taken)
 
 returns-4 : tie.Need-returns-4
 returns-4 c =
@@ -67,28 +35,18 @@ returns-4 c =
     let y : SFits w32 (getD (a .sizes .now) (a .j) (pos 0)) = record { sfits = c .before .before .placements-arg4 .given } in
     let z : SFits w32 (getD (a .sizes .now) (a .k) (pos 0)) = record { sfits = c .before .placements-arg5 .given } in
     let h : c .placements .result
-    ≡ placed (a .lines) (a .kind) (slot (a .start .now) (a .i)) (slot (a .start .now) (a .j)) (getD (a .sizes .now) (a .i) (pos 0)) (getD (a .sizes .now) (a .j) (pos 0)) (getD (a .sizes .now) (a .k) (pos 0)) =
+    ≡ placed (a .lines) (a .kind) (slot (a .start .now) (a .i)) (slot (a .start .now) (a .j)) (getD (a .sizes .now) (a .i) (pos 0))
+    (getD (a .sizes .now) (a .j) (pos 0)) (getD (a .sizes .now) (a .k) (pos 0)) =
     c .placements .ensures
     ∙ (λ t. placed (a .lines) (a .kind) (slot (a .start .now) (a .i)) (slot (a .start .now) (a .j)) (toZ-ofZ x t) (toZ-ofZ y t) (toZ-ofZ z t)) in
     h
-    ∙ ways-initial (a .lines) (a .kind) (a .e) (a .sizes .now) (a .start .now) (a .i) (a .j) (a .k) (c .before .before .before .before .before .before .before .before .if1 .left) (c .before .before .before .before .before .before .before .if2 .left) (c .before .before .before .before .before .before .if3 .left)
+    ∙ ways-initial (a .lines) (a .kind) (a .e) (a .sizes .now) (a .start .now) (a .i) (a .j) (a .k)
+    (c .before .before .before .before .before .before .before .before .if1 .left)
+    (c .before .before .before .before .before .before .before .if2 .left) (c .before .before .before .before .before .before .if3 .left)
 
 pub ways-of-spec : {M : Type 1} → statement M
 ways-of-spec =
     tie.close
-    (tie.spec
-    returns
-    returns-2
-    returns-3
-    mul-placements
-    element-copy-out-placements
-    mul-placements-2
-    element-copy-out-placements-2
-    mul-placements-3
-    element-copy-out-placements-3
-    mul-placements-4
-    element-copy-out-placements-4
-    mul-placements-5
-    element-copy-out-placements-5
-    placements-requires
-    returns-4)
+    (tie.spec returns returns-2 returns-3 (λ c. search needs) (λ c. search needs) (λ c. search needs)
+    (λ c. search needs) (λ c. search needs) (λ c. search needs) (λ c. search needs) (λ c. search needs)
+    (λ c. search needs) (λ c. search needs) (λ c κs. search needs) returns-4)

@@ -1,8 +1,8 @@
 -- The lists hold the numbers of the list of merges, and the final clusters. Assumes nothing.
-use mathlib.Core.Path.{_≡_, refl, sym, ap, _∙_, subst}
-use mathlib.Core.Logic.{_≢_, _↔_, inl, inr, ⊎-elim}
+use mathlib.Core.Path.{_≡_, refl, sym, ap, _∙_}
+use mathlib.Core.Logic.{_≢_, _↔_, inl, inr}
 use mathlib.Core.List.{List, [], _∷_, _++_, map, append-nil}
-use Prim.Native.Nat.{ℕ, zero, suc, _+_, _*_, _≤_, _<_}
+use Prim.Native.Nat.{ℕ, zero, suc, _+_, _*_, _<_}
 use native.Mathlib.Omega.{arith}
 use native.Mathlib.Numerals.{add-one}
 use lib.ListN.{length, getD, take}
@@ -65,7 +65,9 @@ module _ (s : List ℕ) (c : ℕ) (h : c < length s) where
 
   pub living-dead : getD s c 0 ≡ 0 → livingOf (take (c + 1) s) ≡ livingOf (take c s)
   unfolding livingOf
-  living-dead e = ap livingOf next ∙ living-append (take c s) (getD s c 0 ∷ []) ∙ ap (λ (x : ℕ). livingOf (take c s) ++ livingOf (x ∷ [])) e ∙ append-nil (livingOf (take c s))
+  living-dead e =
+      ap livingOf next ∙ living-append (take c s) (getD s c 0 ∷ []) ∙ ap (λ (x : ℕ). livingOf (take c s) ++ livingOf (x ∷ [])) e
+      ∙ append-nil (livingOf (take c s))
 
   pub living-one : getD s c 0 ≢ 0 → livingOf (take (c + 1) s) ≡ livingOf (take c s) ++ (getD s c 0 ∷ [])
   unfolding livingOf

@@ -64,7 +64,8 @@ module _ (lines e : ℕ) (sizes : List ℤ) (cs s : List ℕ) (k : Initial e cs 
 -- one step
 step-same : (g : Graph) (s : List ℕ) → Initial (length (g .clusters)) (g .clusters) s → (m : Merge) → OpenAt s m → (base : ℕ) (parts knots : List ℕ)
     → base ≡ length s
-    → stepFrom (g .lines) (length (g .clusters)) (g .sizes) (g .clusters) base (ascending m .i ∷ ascending m .j ∷ ascending m .k ∷ parts) (joint (three s m) ∷ knots) 0
+    → stepFrom (g .lines) (length (g .clusters)) (g .sizes) (g .clusters) base (ascending m .i ∷ ascending m .j ∷ ascending m .k ∷ parts)
+    (joint (three s m) ∷ knots) 0
     ≡ stepOf g s m
 unfolding stepFrom stepOf ways
 step-same g s k m o base parts knots b =
@@ -73,7 +74,8 @@ step-same g s k m o base parts knots b =
     let j : joint (three s m) ≡ joint (three s (ascending m)) = sym (joint-ascending s m) in
     let made : base + 0 ≡ length s = omega arith in
     let w = ap (λ (x : ℕ). waysBy (g .lines) (jointKind (g .lines) x) e (g .sizes) (g .clusters) (ascending m)) j
-    ∙ ways-same (g .lines) e (g .sizes) (g .clusters) s k (jointKind (g .lines) (joint (three s (ascending m)))) (ascending m) (a .livei) (a .livej) in
+    ∙ ways-same (g .lines) e (g .sizes) (g .clusters) s k
+    (jointKind (g .lines) (joint (three s (ascending m)))) (ascending m) (a .livei) (a .livej) in
     λ z. record {
       made = made z;
       i = ascending m .i;
@@ -108,12 +110,14 @@ later lines e sizes cs made x i j k parts knots t =
 
 steps-from : (g : Graph) (p : List Merge) (s : List ℕ) (base t : ℕ) → Valid s p → Initial (length (g .clusters)) (g .clusters) s
     → length (g .clusters) ≤ length s → base ≡ length s → t < length p
-    → stepFrom (g .lines) (length (g .clusters)) (g .sizes) (g .clusters) base (flat (map ascending p)) (joints s p) t ≡ getD (stepsFrom g s p) t blankStep
+    → stepFrom (g .lines) (length (g .clusters)) (g .sizes) (g .clusters) base (flat (map ascending p)) (joints s p) t
+    ≡ getD (stepsFrom g s p) t blankStep
 unfolding flat joints stepsFrom
 steps-from g [] s base t v k h b l = absurd (omega arith)
 steps-from g (m ∷ p) s base zero v k h b l = step-same g s k m (v .0) base (flat (map ascending p)) (joints (put s m) p) b
 steps-from g (m ∷ p) s base (suc t) v k h b l =
-    later (g .lines) (length (g .clusters)) (g .sizes) (g .clusters) base (joint (three s m)) (ascending m .i) (ascending m .j) (ascending m .k) (flat (map ascending p))
+    later (g .lines) (length (g .clusters)) (g .sizes) (g .clusters) base (joint (three s m)) (ascending m .i) (ascending m .j)
+    (ascending m .k) (flat (map ascending p))
     (joints (put s m) p) t
     ∙ steps-from g p (put s m) (suc base) t (v .1) (initial-put (length (g .clusters)) (g .clusters) s m h k) (omega (arith, length-put s m))
     (omega (arith, length-put s m)) (omega arith)
@@ -128,11 +132,13 @@ read-lists lines e sizes cs parts knots t =
     let k = getD-block 192 0 parts (3 * t + 2) in
     let x = getD-block 64 0 knots t in
     let m = merge (slot parts (3 * t)) (slot parts (3 * t + 1)) (slot parts (3 * t + 2)) in
-    let w : waysBy lines (jointKind lines (slot (block 64 0 knots) t)) e sizes (block 200 0 cs) (merge (slot (block 192 0 parts) (3 * t)) (slot (block 192 0 parts) (3 * t + 1)) (slot (block 192 0 parts) (3 * t + 2)))
+    let w : waysBy lines (jointKind lines (slot (block 64 0 knots) t)) e sizes (block 200 0 cs)
+    (merge (slot (block 192 0 parts) (3 * t)) (slot (block 192 0 parts) (3 * t + 1)) (slot (block 192 0 parts) (3 * t + 2)))
     ≡ waysBy lines (jointKind lines (slot knots t)) e sizes cs m =
     (λ z. waysBy lines (jointKind lines (x z)) e sizes (block 200 0 cs) (merge (i z) (j z) (k z)))
     ∙ (λ z. elim (ltb (m .i) e && (ltb (m .j) e && ltb (m .k) e)) [
-      | true ↦ placed lines (jointKind lines (slot knots t)) (getD-block 200 0 cs (m .i) z) (getD-block 200 0 cs (m .j) z) (getD sizes (m .i) (pos 0)) (getD sizes (m .j) (pos 0)) (getD sizes (m .k) (pos 0))
+      | true ↦ placed lines (jointKind lines (slot knots t)) (getD-block 200 0 cs (m .i) z) (getD-block 200 0 cs (m .j) z) (getD sizes (m .i) (pos 0))
+          (getD sizes (m .j) (pos 0)) (getD sizes (m .k) (pos 0))
       | false ↦ Unknown
     ]) in
     λ z. record { made = e + t; i = i z; j = j z; k = k z; joint = x z; kind = jointKind lines (x z); ways = w z }

@@ -1,7 +1,7 @@
 -- `graph::constraint_in` meets its contract: the constraint that was packed comes out. Assumes nothing.
 use borrow.Author.Needs.{needs}
 use native.Mathlib.Omega.{arith}
-use mathlib.Core.Path.{_≡_, sym, ap, _∙_}
+use mathlib.Core.Path.{sym, ap, _∙_}
 use mathlib.Core.Logic.{⊎-elim}
 use mir.Facts.{toZ-ofZ}
 use mir.Val.{toZ, ofZ}

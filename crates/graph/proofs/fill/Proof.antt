@@ -3,7 +3,7 @@ use borrow.Author.Needs.{needs}
 use Prim.Native.Nat.{ℕ, _-_, _<_, _≤_}
 use native.Mathlib.Omega.{arith}
 use native.Mathlib.Numerals.{add-one}
-use mathlib.Core.Path.{_≡_, refl, sym, ap, _∙_, subst}
+use mathlib.Core.Path.{_≡_, refl, sym, _∙_}
 use lib.IntN.{pos}
 use mir.Facts.{toZ-ofZ}
 use mir.Syntax.{w32}
@@ -13,9 +13,6 @@ use Rattle.sheet.proofs.Passed.{elements-long, constraints-long}
 use Rattle.sheet.specs.declared.Constraint.{Constraint}
 use Rattle.sheet.specs.declared.Size.the-variants.{Given}
 use Rattle.sheet.specs.Facts.{factsOf}
-use Rattle.sheet.specs.Accepted.{Accepted}
-use Rattle.sheet.specs.Graph.{sizeOf}
-use Rattle.sheet.specs.Graph.Laws.{accepted-most}
 use Rattle.sheet.specs.RoundTrip.Blocks.{constraints-most, elements-most, sheetFault-none, factsOf-accepted}
 use Rattle.graph.specs.Lent.{InArrays, Unpacks}
 use Rattle.graph.specs.Lent.Laws.{in-arrays-none, accepted-unpack}
@@ -78,7 +75,8 @@ loop-again c =
           (record {
             first-is = refl;
             second-is = refl;
-            size-is = sym (toZ-ofZ {w = w32} {z = c .before .size-of .result} (record { sfits = c .before .size-of .ok }) ∙ c .before .size-of .ensures);
+            size-is =
+                sym (toZ-ofZ {w = w32} {z = c .before .size-of .result} (record { sfits = c .before .size-of .ok }) ∙ c .before .size-of .ensures);
           })
           (a .inv .1)),
     )

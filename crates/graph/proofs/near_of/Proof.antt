@@ -32,18 +32,6 @@ low s {i} d h = ends-below (s .args .t1) (s .args .e) i d (s .pre .1) h (room s)
 loop-holds : tie.Need-loop-holds Inv-loop μ-loop
 loop-holds c = (omega arith, near-none)
 
-mul-c : tie.Need-mul-c Inv-loop μ-loop
-mul-c c = search needs
-
-array-copy-out-c : tie.Need-array-copy-out-c Inv-loop μ-loop
-array-copy-out-c c = search needs
-
-wide-requires : tie.Need-wide-requires Inv-loop μ-loop
-wide-requires c κs = search needs
-
-wide-requires-2 : tie.Need-wide-requires-2 Inv-loop μ-loop
-wide-requires-2 c κs = search needs
-
 array-read-with-a : tie.Need-array-read-with-a Inv-loop μ-loop
 array-read-with-a c =
     rw (c .before .wide .ensures)
@@ -109,25 +97,6 @@ returns c =
 pub near-of-spec : {M : Type 1} → statement M
 near-of-spec =
     tie.close
-    (tie.spec
-    Inv-loop
-    μ-loop
-    loop-holds
-    mul-c
-    array-copy-out-c
-    wide-requires
-    wide-requires-2
-    mul-with-a
-    array-read-with-a
-    single-requires
-    mul-with-b
-    array-read-with-b
-    single-requires-2
-    mul-near
-    array-write-near
-    mul-near-2
-    array-write-near-2
-    add-i
-    loop-less
-    loop-again
-    returns)
+    (tie.spec Inv-loop μ-loop loop-holds (λ c. search needs) (λ c. search needs) (λ c κs. search needs)
+    (λ c κs. search needs) mul-with-a array-read-with-a single-requires mul-with-b array-read-with-b single-requires-2
+    mul-near array-write-near mul-near-2 array-write-near-2 add-i loop-less loop-again returns)

@@ -7,15 +7,9 @@ use borrow.Author.Needs.{needs}
 use Rattle.graph.proofs.pair_of.Statement.{statement}
 use Rattle.graph.proofs.pair_of.Tie as tie
 
-single-requires : tie.Need-single-requires
-single-requires c κs = search needs
-
-single-requires-2 : tie.Need-single-requires-2
-single-requires-2 c κs = search needs
-
 returns : tie.Need-returns
 unfolding pair _∪_
 returns c = ap₂ bitOr (c .before .single .ensures) (c .single2 .ensures)
 
 pub pair-of-spec : {M : Type 1} → statement M
-pair-of-spec = tie.close (tie.spec single-requires single-requires-2 returns)
+pair-of-spec = tie.close (tie.spec (λ c κs. search needs) (λ c κs. search needs) returns)

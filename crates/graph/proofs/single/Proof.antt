@@ -6,11 +6,8 @@ use lib.Pow.{pow-lt}
 use Rattle.graph.proofs.single.Statement.{statement}
 use Rattle.graph.proofs.single.Tie as tie
 
-shl-result : tie.Need-shl-result
-shl-result c = search needs
-
 returns : tie.Need-returns
 returns c = let p : 2 ^ c .args .a < 2 ^ 64 = pow-lt (c .pre) in rw (one-mul, mod-eq-of-lt p)
 
 pub single-spec : {M : Type 1} → statement M
-single-spec = tie.close (tie.spec shl-result returns)
+single-spec = tie.close (tie.spec (λ c. search needs) returns)

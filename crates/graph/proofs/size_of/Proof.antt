@@ -1,16 +1,10 @@
 use borrow.Author.Needs.{needs}
-use mathlib.Core.Path.{_≡_, sym, ap, _∙_}
+use mathlib.Core.Path.{sym, ap, _∙_}
 use mir.Facts.{toZ-ofZ}
 use mir.Syntax.{w32}
 use Rattle.sheet.specs.Graph.{sizeOf}
 use Rattle.graph.proofs.size_of.Statement.{statement}
 use Rattle.graph.proofs.size_of.Tie as tie
-
-enum-known-size : tie.Need-enum-known-size
-enum-known-size c = search needs
-
-enum-told : tie.Need-enum-told
-enum-told c = search needs
 
 returns : tie.Need-returns
 returns c =
@@ -21,4 +15,4 @@ returns-2 : tie.Need-returns-2
 returns-2 c = sym (ap sizeOf (c .enum-told .given .1))
 
 pub size-of-spec : {M : Type 1} → statement M
-size-of-spec = tie.close (tie.spec enum-known-size enum-told returns returns-2)
+size-of-spec = tie.close (tie.spec (λ c. search needs) (λ c. search needs) returns returns-2)

@@ -1,8 +1,8 @@
 use borrow.Author.Needs.{needs}
-use Prim.Native.Nat.{ℕ, _-_, _<_, _≤_}
+use Prim.Native.Nat.{_-_}
 use native.Mathlib.Omega.{arith}
-use mathlib.Core.Path.{_≡_, refl, sym, ap, _∙_}
-use lib.ListN.{length, take, set}
+use mathlib.Core.Path.{_≡_}
+use lib.ListN.{length}
 use lib.IntN.{pos}
 use mir.Facts.{toZ-ofZ}
 use mir.Syntax.{w32}
@@ -23,24 +23,6 @@ long c = search needs
 loop-holds : tie.Need-loop-holds Inv-loop μ-loop
 loop-holds c = filling-none constraintSize (c .args .t1) 200 (pos 0) (c .args .e)
 
-mul-c : tie.Need-mul-c Inv-loop μ-loop
-mul-c c = search needs
-
-array-copy-out-c : tie.Need-array-copy-out-c Inv-loop μ-loop
-array-copy-out-c c = search needs
-
-size-of-requires : tie.Need-size-of-requires Inv-loop μ-loop
-size-of-requires c κs = search needs
-
-mul-sizes : tie.Need-mul-sizes Inv-loop μ-loop
-mul-sizes c = search needs
-
-array-set-from-sizes : tie.Need-array-set-from-sizes Inv-loop μ-loop
-array-set-from-sizes c = search needs
-
-add-i : tie.Need-add-i Inv-loop μ-loop
-add-i c = search needs
-
 loop-less : tie.Need-loop-less Inv-loop μ-loop
 loop-less c = omega (arith, c .before .before .before .loop .inv .within)
 
@@ -48,26 +30,17 @@ loop-again : tie.Need-loop-again Inv-loop μ-loop
 loop-again c =
     let s = c .before .before .before .before in
     let a = c .before .before .before .loop in
-    rw (toZ-ofZ {w = w32} {z = c .size-of .result} (record { sfits = c .size-of .ok }), c .size-of .ensures) (filling-more constraintSize (s .args .t1) 200 (pos 0) (s .args .e) (a .i) (a .sizes) _ (c .before .before .loop-test .taken) (rw (long s) (s .pre)) (s .pre) (a .inv))
+    rw (toZ-ofZ {w = w32} {z = c .size-of .result} (record { sfits = c .size-of .ok }), c .size-of .ensures) (filling-more constraintSize
+    (s .args .t1) 200 (pos 0) (s .args .e) (a .i) (a .sizes) _ (c .before .before .loop-test .taken) (rw (long s) (s .pre)) (s .pre) (a .inv))
 
 returns : tie.Need-returns Inv-loop μ-loop
 returns c =
     let s = c .before .before in
-    filling-all constraintSize (s .args .t1) 200 (pos 0) (s .args .e) (c .before .loop .i) (c .before .loop .sizes) (c .loop-test .left) (s .pre) (c .before .loop .inv)
+    filling-all constraintSize (s .args .t1) 200 (pos 0) (s .args .e) (c .before .loop .i) (c .before .loop .sizes)
+    (c .loop-test .left) (s .pre) (c .before .loop .inv)
 
 pub sizes-of-spec : {M : Type 1} → statement M
 sizes-of-spec =
     tie.close
-    (tie.spec
-    Inv-loop
-    μ-loop
-    loop-holds
-    mul-c
-    array-copy-out-c
-    size-of-requires
-    mul-sizes
-    array-set-from-sizes
-    add-i
-    loop-less
-    loop-again
-    returns)
+    (tie.spec Inv-loop μ-loop loop-holds (λ c. search needs) (λ c. search needs) (λ c κs. search needs)
+    (λ c. search needs) (λ c. search needs) (λ c. search needs) loop-less loop-again returns)

@@ -21,12 +21,6 @@ long c = search needs
 loop-holds : tie.Need-loop-holds Inv-loop μ-loop
 loop-holds c = filling-none endPair (c .args .t1) 200 0 (c .args .e)
 
-mul-c : tie.Need-mul-c Inv-loop μ-loop
-mul-c c = search needs
-
-array-copy-out-c : tie.Need-array-copy-out-c Inv-loop μ-loop
-array-copy-out-c c = search needs
-
 pair-of-requires : tie.Need-pair-of-requires Inv-loop μ-loop
 pair-of-requires c κs =
     let s = c .before .before .before in
@@ -34,15 +28,6 @@ pair-of-requires c κs =
     let h = c .before .loop-test .taken in
     let r : s .args .e ≤ length (s .args .t1) = rw (long s) (omega (arith, s .pre .0)) in
     ends-below (s .args .t1) (s .args .e) i _ (s .pre .1) h r
-
-mul-start : tie.Need-mul-start Inv-loop μ-loop
-mul-start c = search needs
-
-array-write-start : tie.Need-array-write-start Inv-loop μ-loop
-array-write-start c = search needs
-
-add-i : tie.Need-add-i Inv-loop μ-loop
-add-i c = search needs
 
 loop-less : tie.Need-loop-less Inv-loop μ-loop
 loop-less c = omega (arith, c .before .before .before .loop .inv .within)
@@ -64,16 +49,5 @@ returns c =
 pub start-of-spec : {M : Type 1} → statement M
 start-of-spec =
     tie.close
-    (tie.spec
-    Inv-loop
-    μ-loop
-    loop-holds
-    mul-c
-    array-copy-out-c
-    pair-of-requires
-    mul-start
-    array-write-start
-    add-i
-    loop-less
-    loop-again
-    returns)
+    (tie.spec Inv-loop μ-loop loop-holds (λ c. search needs) (λ c. search needs) pair-of-requires (λ c. search needs)
+    (λ c. search needs) (λ c. search needs) loop-less loop-again returns)

@@ -46,18 +46,22 @@ module _ {A B : Type 0} (f : A → B) (from : List A) (places : ℕ) (blank : B)
       record {
         within = omega arith;
         long = rw length-set (h .long);
-        front = rw (add-one, take-suc-set into i (f (getD from i d)) q, take-suc from i d p, h .front) (sym (map-append f (take i from) (getD from i d ∷ [])));
+        front =
+            rw (add-one, take-suc-set into i (f (getD from i d)) q, take-suc from i d p, h .front)
+            (sym (map-append f (take i from) (getD from i d ∷ [])));
         rest = still-blank into places i blank (f (getD from i d)) (omega arith) (h .rest);
       }
 
-  pub filling-all : (i : ℕ) (into : List B) → e ≤ i → e ≤ places → Filling f from places blank e i into → into ≡ block places blank (map f (take e from))
+  pub filling-all : (i : ℕ) (into : List B) → e ≤ i → e ≤ places → Filling f from places blank e i into
+      → into ≡ block places blank (map f (take e from))
   filling-all i into l m h =
       let s : i ≡ e = omega (arith, h .within) in
       let q : i ≤ length into = rw (h .long) (omega arith) in
       filled into places i blank q (h .rest) ∙ ap (block places blank) (h .front ∙ ap (λ (k : ℕ). map f (take k from)) s)
 
 -- ends of the first e constraints
-pub ends-below : (cs : List Constraint) (e i : ℕ) (d : Constraint) → EndsBelow64 (take e cs) → i < e → e ≤ length cs → (getD cs i d .first < 64) × (getD cs i d .second < 64)
+pub ends-below : (cs : List Constraint) (e i : ℕ) (d : Constraint) → EndsBelow64 (take e cs) → i < e → e ≤ length cs
+    → (getD cs i d .first < 64) × (getD cs i d .second < 64)
 ends-below cs e i d h l r =
     let k : i < length (take e cs) = rw (length-take-le e cs r) l in
     (rw (getD-take e cs i d l) at (h .firsts i d k), rw (getD-take e cs i d l) at (h .seconds i d k))

@@ -1,15 +1,14 @@
 -- Laws of the constraint graph in lent arrays: one constraint more, and each constraint out again. Assumes nothing.
-use Prim.Native.Nat.{ℕ, zero, suc, _+_, _-_, _%_, _/_, _^_, _<_, _≤_}
+use Prim.Native.Nat.{ℕ, zero, suc, _+_, _-_, _%_, _/_, _<_, _≤_}
 use native.Mathlib.Nat.{le-of-suc-le-suc, pow-succ'}
 use native.Mathlib.Omega.{arith}
-use mathlib.Core.Path.{_≡_, refl, sym, ap, _∙_, subst}
+use mathlib.Core.Path.{_≡_, refl, sym, ap, _∙_}
 use mathlib.Core.Logic.{_≢_, ⊎-elim}
-use mathlib.Core.Bool.{Bool, true, false}
 use mathlib.Core.List.{List, [], _∷_, _++_, map, map-append, append-assoc}
 use lib.IntN.{ℤ, pos}
 use lib.Pow.{pow-pos}
 use lib.Count.{trailingZeros, under, leadingZeros, leading-unique}
-use lib.ListN.{length, getD, set, replicate, length-map, length-append, List·getD-append, List·getD-map}
+use lib.ListN.{length, getD, set, replicate, length-map, length-append, List·getD-append}
 use lib.Seq.{set-append-seam}
 use Rattle.theory.specs.Set.{at}
 use Rattle.theory.specs.Set.Less.{trailing-at, at-room}
@@ -58,7 +57,8 @@ in-arrays-more cs c i n l h more = record {
       filled-more 0 (map clusterOf cs) (pair (c .first) (c .second)) i (length-map cs _ ∙ n) l (clusters-more cs c)
       (h .start-is);
   sizes-are =
-      filled-more (pos 0) (map (λ d. sizeOf (d .size)) cs) (sizeOf (c .size)) i (length-map cs _ ∙ n) l (map-append (λ d. sizeOf (d .size)) cs (c ∷ []))
+      filled-more (pos 0) (map (λ d. sizeOf (d .size)) cs) (sizeOf (c .size)) i (length-map cs _ ∙ n) l
+      (map-append (λ d. sizeOf (d .size)) cs (c ∷ []))
       (h .sizes-are);
 }
 
@@ -69,7 +69,8 @@ getD-mapped f [] i d e l = absurd (omega arith)
 getD-mapped f (x ∷ xs) zero d e l = refl
 getD-mapped f (x ∷ xs) (suc i) d e l = getD-mapped f xs i d e (le-of-suc-le-suc l)
 
-module _ {cs : List Constraint} {near start : List ℕ} {sizes : List ℤ} (h : InArrays cs near start sizes) (i : ℕ) (d : Constraint) (l : i < length cs) where
+module _ {cs : List Constraint} {near start : List ℕ} {sizes : List ℤ} (h : InArrays cs near start sizes) (i : ℕ) (d : Constraint)
+    (l : i < length cs) where
   pub pair-in-start : getD start i 0 ≡ pair (getD cs i d .first) (getD cs i d .second)
   pair-in-start =
       let k : i < length (map clusterOf cs) = rw length-map l in
@@ -110,7 +111,8 @@ module _ (a b : ℕ) (l : a < b) (m : b < 64) where
             (let h = at-room b (pair a b) (at-end a b .1) in omega (arith, pow-succ' 2 b)),
       )
 
-pub constraint-is : {c : Constraint} {a b : ℕ} {s : Size} → a ≡ c .first → b ≡ c .second → s ≡ c .size → record { first = a; second = b; size = s } ≡ c
+pub constraint-is : {c : Constraint} {a b : ℕ} {s : Size} → a ≡ c .first → b ≡ c .second → s ≡ c .size
+    → record { first = a; second = b; size = s } ≡ c
 constraint-is e f g = rw (e, f, g)
 
 -- the size, given or missing
@@ -136,7 +138,8 @@ zero-refused Points z e q = let k : sizeFault Points (Given (pos 0)) ≡ 0 = rw 
 zero-refused PointLine z e q = let k : sizeFault PointLine (Given (pos 0)) ≡ 0 = rw q at e in omega arith
 zero-refused Lines z e q = let k : sizeFault Lines (Given (pos 0)) ≡ 0 = rw q at e in omega arith
 
-faults-unpack : (es : List Element) (cs done : List Constraint) (i : ℕ) (d : Constraint) → length es ≤ 64 → constraintsFault es done cs ≡ 0 → i < length cs
+faults-unpack : (es : List Element) (cs done : List Constraint) (i : ℕ) (d : Constraint) → length es ≤ 64
+    → constraintsFault es done cs ≡ 0 → i < length cs
     → Unpacks (getD cs i d)
 unfolding constraintsFault
 faults-unpack es [] done i d m e l = absurd (omega arith)

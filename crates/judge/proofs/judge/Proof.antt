@@ -18,53 +18,30 @@ add-if1 c = omega (arith, sheet (c .before) .in-blocks .most)
 mul-if1 : tie.Need-mul-if1
 mul-if1 c = omega (arith, sheet (c .before .before) .in-blocks .elements-most)
 
-judge-full-requires : tie.Need-judge-full-requires
-judge-full-requires c κs = search needs
-
-returns : tie.Need-returns
-returns c = search needs
-
-over-of-requires : tie.Need-over-of-requires
-over-of-requires c κs = search needs
-
-enum-known-found : tie.Need-enum-known-found
-enum-known-found c = search needs
-
-over-found-requires : tie.Need-over-found-requires
-over-found-requires c κs = search needs
-
-enum-told : tie.Need-enum-told
-enum-told c = search needs
-
 plan-of-requires : tie.Need-plan-of-requires
 plan-of-requires c κs =
     let s = c .before .before .before .before .before .before in
-    let o = c .before .before .over-of in
-    (s .pre, not-over (graphOf (factsOf (s .args .s))) (o .result) (o .ensures) (sheet s .in-blocks .paired) (sheet s .in-blocks .below) (c .enum-told .given .1))
+    let o = c .before .before .over-of in (
+      s .pre,
+      not-over (graphOf (factsOf (s .args .s))) (o .result) (o .ensures) (sheet s .in-blocks .paired) (sheet s .in-blocks .below)
+          (c .enum-told .given .1),
+    )
 
 returns-2 : tie.Need-returns-2
 returns-2 c =
     let g = c .before .before .found .given in
     let o = c .before .before .before .before .over-of in
-    c .over-found .ensures ∙ sym (first-found (graphOf (factsOf (c .before .before .before .before .before .before .before .before .args .s))) (o .result) (o .ensures) (g .0 .0) (g .0 .1 .0) (g .1))
+    c .over-found .ensures ∙ sym (first-found (graphOf (factsOf (c .before .before .before .before .before .before .before .before .args .s)))
+    (o .result) (o .ensures) (g .0 .0) (g .0 .1 .0) (g .1))
 
 returns-3 : tie.Need-returns-3
 returns-3 c =
     let o = c .before .before .before .over-of in
-    c .plan-of .ensures ∙ sym (not-found (graphOf (factsOf (c .before .before .before .before .before .before .before .args .s))) (o .result) (o .ensures) (c .before .enum-told .given .1))
+    c .plan-of .ensures ∙ sym (not-found (graphOf (factsOf (c .before .before .before .before .before .before .before .args .s))) (o .result)
+    (o .ensures) (c .before .enum-told .given .1))
 
 pub judge-spec : {M : Type 1} → statement M
 judge-spec =
     tie.close
-    (tie.spec
-    add-if1
-    mul-if1
-    judge-full-requires
-    returns
-    over-of-requires
-    enum-known-found
-    over-found-requires
-    enum-told
-    plan-of-requires
-    returns-2
-    returns-3)
+    (tie.spec add-if1 mul-if1 (λ c κs. search needs) (λ c. search needs) (λ c κs. search needs) (λ c. search needs)
+    (λ c κs. search needs) (λ c. search needs) plan-of-requires returns-2 returns-3)

@@ -37,18 +37,6 @@ returns c =
     let fine = one-left (s .args .s) (sheet s) (r .result) (r .ensures .merged) (c .before .if1 .taken) in
     c .listed-by .ensures fine ∙ sym (fine-judged (s .args .s) (sheet s) fine)
 
-over-of-requires : tie.Need-over-of-requires
-over-of-requires c κs = search needs
-
-enum-known-found : tie.Need-enum-known-found
-enum-known-found c = search needs
-
-over-found-requires : tie.Need-over-found-requires
-over-found-requires c κs = search needs
-
-enum-told : tie.Need-enum-told
-enum-told c = search needs
-
 listed-by-requires-2 : tie.Need-listed-by-requires-2
 listed-by-requires-2 c κs =
     let s = c .before .before .before .before .before .before .before in
@@ -58,7 +46,8 @@ returns-2 : tie.Need-returns-2
 returns-2 c =
     let g = c .before .before .found .given in
     let o = c .before .before .before .before .over-of in
-    c .over-found .ensures ∙ sym (first-found (graphOf (factsOf (c .before .before .before .before .before .before .before .before .before .args .s))) (o .result) (o .ensures) (g .0 .0) (g .0 .1 .0) (g .1))
+    c .over-found .ensures ∙ sym (first-found (graphOf (factsOf (c .before .before .before .before .before .before .before .before .before .args .s)))
+    (o .result) (o .ensures) (g .0 .0) (g .0 .1 .0) (g .1))
 
 returns-3 : tie.Need-returns-3
 returns-3 c =
@@ -66,21 +55,11 @@ returns-3 c =
     let o = c .before .before .before .over-of in
     let g = graphOf (factsOf (s .args .s)) in
     let t = c .before .enum-told .given .1 in
-    c .listed-by2 .ensures (not-over g (o .result) (o .ensures) (sheet s .in-blocks .paired) (sheet s .in-blocks .below) t) ∙ sym (not-found g (o .result) (o .ensures) t)
+    c .listed-by2 .ensures (not-over g (o .result) (o .ensures) (sheet s .in-blocks .paired) (sheet s .in-blocks .below) t)
+    ∙ sym (not-found g (o .result) (o .ensures) t)
 
 pub judge-full-spec : {M : Type 1} → statement M
 judge-full-spec =
     tie.close
-    (tie.spec
-    run-of-requires
-    mul-if1
-    add-if1
-    listed-by-requires
-    returns
-    over-of-requires
-    enum-known-found
-    over-found-requires
-    enum-told
-    listed-by-requires-2
-    returns-2
-    returns-3)
+    (tie.spec run-of-requires mul-if1 add-if1 listed-by-requires returns (λ c κs. search needs) (λ c. search needs)
+    (λ c κs. search needs) (λ c. search needs) listed-by-requires-2 returns-2 returns-3)

@@ -32,13 +32,15 @@ settle-requires c κs =
       omega (arith, h, in-blocks s .count),
       in-blocks s .elements-most,
       in-blocks s .most,
-      joints-long (facts s) (planned s .merged .p) (in-blocks s .paired) (planned s .merged .valid) (s .args .run) (planned s .merged .is) (rw (in-blocks s .count) (s .pre .1)),
+      joints-long (facts s) (planned s .merged .p) (in-blocks s .paired) (planned s .merged .valid) (s .args .run) (planned s .merged .is)
+          (rw (in-blocks s .count) (s .pre .1)),
     )
 
 returns : tie.Need-returns
 returns c fine =
     let s = c .before .before .before .before .before in
-    settled (facts s) (planned s .merged .p) (in-blocks s .paired) (planned s .merged .valid) (s .args .run) (planned s .merged .is) _ _ _ (c .settle .result)
+    settled (facts s) (planned s .merged .p) (in-blocks s .paired) (planned s .merged .valid) (s .args .run)
+    (planned s .merged .is) _ _ _ (c .settle .result)
     (c .before .before .before .lines-of .ensures) (sym (in-blocks s .elements-count)) (sym (in-blocks s .count)) (c .settle .ensures)
     ∙ ap (listed (graphOf (facts s))) (planned s .plan fine)
 

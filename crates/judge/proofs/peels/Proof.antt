@@ -15,9 +15,6 @@ near-of-requires c κs =
     let b = in-blocks (c .before) in
     (b .most, ends-in-64 (factsOf (c .before .args .s)) (b .elements-few) (b .constraints-few) (b .fine), b .paired)
 
-peel-of-requires : tie.Need-peel-of-requires
-peel-of-requires c κs = search needs
-
 returns : tie.Need-returns
 returns c =
     let s = c .before .before .before .before in
@@ -25,4 +22,4 @@ returns c =
     c .peel-of .ensures (graphOf (factsOf (s .args .s)) .clusters) (b .simple) (c .before .before .near-of .ensures)
 
 pub peels-spec : {M : Type 1} → statement M
-peels-spec = tie.close (tie.spec near-of-requires peel-of-requires returns)
+peels-spec = tie.close (tie.spec near-of-requires (λ c κs. search needs) returns)

@@ -1,6 +1,4 @@
 use Prim.Native.Nat.{_≤_}
-use mathlib.Core.Path.{_≡_, sym, _∙_}
-use lib.ListN.{length}
 use Rattle.sheet.specs.Facts.{Facts, factsOf}
 use Rattle.judge.specs.Listing.Blocks.{Blocks, passed-blocks}
 use Rattle.judge.specs.Judged.Laws.{few}
@@ -18,7 +16,8 @@ module _ (c : tie.Start) where
 
   few-constraints : c .args .s .e ≤ 125
   few-constraints =
-      rw (in-blocks .count) at (few facts (in-blocks .elements-few) (in-blocks .elements-some) (in-blocks .constraints-few) (in-blocks .fine) (c .pre .1))
+      rw (in-blocks .count) at
+      (few facts (in-blocks .elements-few) (in-blocks .elements-some) (in-blocks .constraints-few) (in-blocks .fine) (c .pre .1))
 
 run-of-requires : tie.Need-run-of-requires
 run-of-requires c κs = (c .pre .0, few-constraints c)

@@ -1,8 +1,7 @@
-use Prim.Native.Nat.{ℕ, _≤_}
+use Prim.Native.Nat.{ℕ}
 use native.Mathlib.Omega.{arith}
-use mathlib.Core.Path.{_≡_, sym, ap, _∙_, subst}
+use mathlib.Core.Path.{sym, subst}
 use mathlib.Core.List.{List}
-use lib.ListN.{length, take}
 use Rattle.sheet.specs.Facts.{Facts, factsOf}
 use Rattle.merges.specs.Run.{Planned}
 use Rattle.judge.specs.Listing.Blocks.{Blocks, passed-blocks}

@@ -13,15 +13,6 @@ sheet : (c : tie.Start) → Whole (c .args .s)
 sheet c =
     whole (c .args .s) (c .good .0) (c .pre .0)
 
-over-of-requires : tie.Need-over-of-requires
-over-of-requires c κs = search needs
-
-enum-told : tie.Need-enum-told
-enum-told c = search needs
-
-enum-told-2 : tie.Need-enum-told-2
-enum-told-2 c = search needs
-
 returns : tie.Need-returns
 returns c =
     let s = c .before .before .before in
@@ -40,4 +31,5 @@ returns-2 c =
     sym (fewer-is (s .args .s) (sheet s) (s .pre .1) fine (s .pre .2))
 
 pub sparse-verdict-spec : {M : Type 1} → statement M
-sparse-verdict-spec = tie.close (tie.spec over-of-requires enum-told enum-told-2 returns returns-2)
+sparse-verdict-spec =
+    tie.close (tie.spec (λ c κs. search needs) (λ c. search needs) (λ c. search needs) returns returns-2)

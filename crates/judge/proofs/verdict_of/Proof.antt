@@ -1,6 +1,6 @@
 use borrow.Author.Needs.{needs}
 use native.Mathlib.Omega.{arith}
-use mathlib.Core.Path.{_≡_, sym, ap, _∙_}
+use mathlib.Core.Path.{sym, ap}
 use lib.Count.{ones}
 use Rattle.judge.specs.Judged.Short.{Whole, whole, more-is}
 use Rattle.judge.proofs.verdict_of.Statement.{statement}
@@ -27,18 +27,6 @@ lines-of-requires c κs = sheet (c .before .before .before) .in-blocks .elements
 mul-if2 : tie.Need-mul-if2
 mul-if2 c = omega (arith, sheet (c .before .before .before .before) .in-blocks .elements-most)
 
-full-verdict-requires : tie.Need-full-verdict-requires
-full-verdict-requires c κs = search needs
-
-returns-2 : tie.Need-returns-2
-returns-2 c = search needs
-
-judged-verdict-requires : tie.Need-judged-verdict-requires
-judged-verdict-requires c κs = search needs
-
-returns-3 : tie.Need-returns-3
-returns-3 c = search needs
-
 sparse-verdict-requires : tie.Need-sparse-verdict-requires
 sparse-verdict-requires c κs =
     let s = c .before .before .before .before .before .before in (
@@ -47,21 +35,8 @@ sparse-verdict-requires c κs =
       omega (arith, c .before .before .before .before .if1 .left, c .before .if2 .left),
     )
 
-returns-4 : tie.Need-returns-4
-returns-4 c = search needs
-
 pub verdict-of-spec : {M : Type 1} → statement M
 verdict-of-spec =
     tie.close
-    (tie.spec
-    add-used
-    mul-if1
-    returns
-    lines-of-requires
-    mul-if2
-    full-verdict-requires
-    returns-2
-    judged-verdict-requires
-    returns-3
-    sparse-verdict-requires
-    returns-4)
+    (tie.spec add-used mul-if1 returns lines-of-requires mul-if2 (λ c κs. search needs) (λ c. search needs)
+    (λ c κs. search needs) (λ c. search needs) sparse-verdict-requires (λ c. search needs))

@@ -1,5 +1,5 @@
 -- The arrays of a sheet's constraints are where the merging begins, and its verdict is the list's own. Assumes nothing.
-use Prim.Native.Nat.{ℕ, _+_, _-_, _*_, _≤_}
+use Prim.Native.Nat.{ℕ, _+_, _*_, _≤_}
 use native.Mathlib.Omega.{arith}
 use mathlib.Core.Path.{_≡_, sym, ap, _∙_}
 use mathlib.Core.List.{List, [], map}
@@ -64,7 +64,8 @@ module _ (f : Facts) (elements : length (f .elements) ≤ 64) (two : 2 ≤ lengt
 
 -- ---- the judgement of a list of merges in arrays
 
-module _ (f : Facts) (p : List Merge) (paired : Pairs (graphOf f .clusters)) (valid : Valid (graphOf f .clusters) p) (run : Run) (is : run ≡ runOf (graphOf f .clusters) p) where
+module _ (f : Facts) (p : List Merge) (paired : Pairs (graphOf f .clusters)) (valid : Valid (graphOf f .clusters) p) (run : Run)
+    (is : run ≡ runOf (graphOf f .clusters) p) where
   -- two clusters fewer at each step
   pub steps-few : 2 * run .steps ≤ length (f .constraints)
   unfolding runOf
@@ -73,7 +74,8 @@ module _ (f : Facts) (p : List Merge) (paired : Pairs (graphOf f .clusters)) (va
   pub joints-long : length (f .constraints) ≤ 125 → length (run .joints) ≡ 64
   unfolding runOf
   joints-long few =
-      let l : length (joints (graphOf f .clusters) p) ≤ 64 = omega (arith, steps-left (graphOf f .clusters) paired p valid, length-clusters f, length-joints p (graphOf f .clusters)) in
+      let l : length (joints (graphOf f .clusters) p) ≤ 64 =
+      omega (arith, steps-left (graphOf f .clusters) paired p valid, length-clusters f, length-joints p (graphOf f .clusters)) in
       rw (is, length-append, length-replicate) (omega arith)
 
   pub settled : (lines n e : ℕ) (v : Verdict) → lines ≡ graphOf f .lines → n ≡ graphOf f .n → e ≡ length (f .constraints)

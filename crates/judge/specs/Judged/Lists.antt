@@ -35,7 +35,8 @@ living-append [] k = living-none k
 living-append (zero ∷ l) k = living-append l k
 living-append (suc x ∷ l) k = ap (λ (r : List ℕ). suc x ∷ r) (living-append l k)
 
-module _ (g : Graph) (paired : Pairs (g .clusters)) (below : Below (g .n) (g .clusters)) (few : NotOver (g .clusters) → length (g .clusters) ≤ 125) where
+module _ (g : Graph) (paired : Pairs (g .clusters)) (below : Below (g .n) (g .clusters))
+    (few : NotOver (g .clusters) → length (g .clusters) ≤ 125) where
   pub record Held (j : Judged) : Type 0 where
     pub steps-most : j .run .steps ≤ 62
     pub parts-long : length (j .run .parts) ≡ 192
@@ -59,7 +60,9 @@ module _ (g : Graph) (paired : Pairs (g .clusters)) (below : Below (g .n) (g .cl
         parts-long = length-block 192 0 (flat (map ascending p)) (omega arith);
         slots-long = length-block 192 0 (final cs p) (omega arith);
         numbers = take-block 192 0 (flat (map ascending p)) (3 * length p) (sym l) ∙ sym (ap (λ (o : Finding). flat (map ascending (planBy g o))) q);
-        finals = ap livingOf (take-all 192 (block 192 0 (final cs p)) (omega (arith, length-block 192 0 (final cs p) (omega arith)))) ∙ living-append (final cs p) (192 - length (final cs p)) ∙ sym (ap (finalsBy g) q);
+        finals =
+            ap livingOf (take-all 192 (block 192 0 (final cs p)) (omega (arith, length-block 192 0 (final cs p) (omega arith))))
+            ∙ living-append (final cs p) (192 - length (final cs p)) ∙ sym (ap (finalsBy g) q);
         verdict-is = sym (fine-verdict g q);
       }
 

@@ -45,14 +45,25 @@ module _ (s : Sheet) (w : Whole s) where
   pub steps-room : (run : Run) → Merged (graphOf (factsOf s) .clusters) run → 2 * run .steps ≤ s .e
   unfolding runOf
   steps-room run merged =
-      omega (arith, steps-left (graphOf (factsOf s) .clusters) (w .in-blocks .paired) (merged .p) (merged .valid), w .count, ap (λ (r : Run). r .steps) (merged .is))
+      omega (
+        arith,
+        steps-left (graphOf (factsOf s) .clusters) (w .in-blocks .paired) (merged .p) (merged .valid),
+        w .count,
+        ap (λ (r : Run). r .steps) (merged .is),
+      )
 
   -- merges that leave one cluster show that the sheet is not over
   pub one-left : (run : Run) → Merged (graphOf (factsOf s) .clusters) run → 2 * run .steps + 1 ≡ s .e → NotOver (graphOf (factsOf s) .clusters)
   unfolding runOf
   one-left run merged one =
       one-fine (graphOf (factsOf s) .clusters) (w .in-blocks .paired) (merged .p) (merged .valid)
-      (omega (arith, steps-left (graphOf (factsOf s) .clusters) (w .in-blocks .paired) (merged .p) (merged .valid), w .count, one, ap (λ (r : Run). r .steps) (merged .is)))
+      (omega (
+        arith,
+        steps-left (graphOf (factsOf s) .clusters) (w .in-blocks .paired) (merged .p) (merged .valid),
+        w .count,
+        one,
+        ap (λ (r : Run). r .steps) (merged .is),
+      ))
 
   none-found : NotOver (graphOf (factsOf s) .clusters) → findingOf (graphOf (factsOf s)) ≡ Fine
   none-found = fine-finding (graphOf (factsOf s)) (w .in-blocks .paired) (w .in-blocks .below)
@@ -77,7 +88,8 @@ module _ (s : Sheet) (w : Whole s) where
 
   pub more-is : 2 * s .n < s .e + 3 → verdictOf (graphOf (factsOf s)) ≡ Over
   more-is h =
-      verdict-more (graphOf (factsOf s)) (omega (arith, w .in-blocks .elements-count, w .in-blocks .elements-two)) (w .in-blocks .paired) (w .in-blocks .below)
+      verdict-more (graphOf (factsOf s)) (omega (arith, w .in-blocks .elements-count, w .in-blocks .elements-two))
+      (w .in-blocks .paired) (w .in-blocks .below)
       (omega (arith, w .in-blocks .elements-count, w .count))
 
   -- fewer than 2n-3 constraints, and no three lines

@@ -1,5 +1,5 @@
 -- The constraints of a sheet that no rule refuses are two elements each, and none stands twice. Assumes nothing.
-use Prim.Native.Nat.{ℕ, zero, suc, _<_, _≤_, _^_}
+use Prim.Native.Nat.{ℕ, zero, suc, _<_, _≤_}
 use native.Mathlib.Omega.{arith}
 use borrow.Author.Tests.{eq-eqb}
 use mathlib.Core.Path.{_≡_, refl, sym, ap, ap₂, _∙_, subst}
@@ -45,7 +45,8 @@ module _ (es : List Element) where
   unfolding constraintsFault
   each-ends [] done e i d h = absurd (omega arith)
   each-ends (c ∷ cs) done e zero d h =
-      ends-true (length es) (c .first) (c .second) (taken es done c (none-else es (constraintFault es done c) (constraintsFault es (done ++ c ∷ []) cs) e .0) .ends-ascend)
+      ends-true (length es) (c .first) (c .second)
+      (taken es done c (none-else es (constraintFault es done c) (constraintsFault es (done ++ c ∷ []) cs) e .0) .ends-ascend)
   each-ends (c ∷ cs) done e (suc i) d h =
       each-ends cs (done ++ c ∷ []) (none-else es (constraintFault es done c) (constraintsFault es (done ++ c ∷ []) cs) e .1) i d (le-of-suc-le-suc h)
 

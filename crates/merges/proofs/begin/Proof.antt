@@ -28,9 +28,6 @@ more {start} {e} slots i b h are =
     ∙ store-block 192 0 (take i start) i (getD start i 0) (omega (arith, length-take i start)) (omega (arith, b .few))
     ∙ ap (block 192 0) (sym (ap (λ (n : ℕ). take n start) (add-one i) ∙ take-suc start i 0 l))
 
-loop-holds : tie.Need-loop-holds Inv-loop μ-loop
-loop-holds c = search needs
-
 loop-again : tie.Need-loop-again Inv-loop μ-loop
 loop-again c =
     let l = c .before .before .loop in
@@ -46,5 +43,5 @@ returns c =
 pub begin-spec : {M : Type 1} → statement M
 begin-spec =
     tie.close
-    (tie.spec Inv-loop μ-loop loop-holds (λ c. search needs) (λ c. search needs) (λ c. search needs) (λ c. search needs)
-    (λ c. search needs) (λ c. search needs) loop-again returns)
+    (tie.spec Inv-loop μ-loop (λ c. search needs) (λ c. search needs) (λ c. search needs) (λ c. search needs)
+    (λ c. search needs) (λ c. search needs) (λ c. search needs) loop-again returns)

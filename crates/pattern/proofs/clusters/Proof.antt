@@ -1,5 +1,5 @@
 use borrow.Author.Needs.{needs}
-use mathlib.Core.Path.{_≡_, refl, sym, ap, _∙_}
+use mathlib.Core.Path.{ap, _∙_}
 use Rattle.sheet.specs.Field.{Bytes}
 use Rattle.reader.specs.Answers.{outcomeNumber}
 use Rattle.space.specs.declared.Written.the-variants.{Refused}
@@ -9,31 +9,23 @@ use Rattle.pattern.specs.Judgements.Laws.{Judging, judging}
 use Rattle.pattern.proofs.clusters.Statement.{statement}
 use Rattle.pattern.proofs.clusters.Tie as tie
 
-read-sheet-requires : tie.Need-read-sheet-requires
-read-sheet-requires c κs = search needs
-
-enum-told : tie.Need-enum-told
-enum-told c = search needs
-
-enum-told-2 : tie.Need-enum-told-2
-enum-told-2 c = search needs
-
-refusal-requires : tie.Need-refusal-requires
-refusal-requires c κs = search needs
-
 returns : tie.Need-returns
 returns c =
     let a = c .before .before .before .before .before .before .args in
     let r = c .before .before .before .read-sheet in
     let t = c .before .enum-told2 .given in
-    let g = items-refused finalClusters (a .bytes .now) (a .out .now) (t .0 .0) (refusal-read (a .bytes .now) (r .result) (t .0 .0) (r .ensures) (t .1)) in
+    let g = items-refused finalClusters (a .bytes .now) (a .out .now) (t .0 .0)
+    (refusal-read (a .bytes .now) (r .result) (t .0 .0) (r .ensures) (t .1)) in
     (ap Refused (c .refusal .ensures ∙ ap outcomeNumber (t .1)) ∙ g .0, g .1)
 
 -- the facts of the sheet, and its judgement
-read : (c : tie.After-sheet) → FactsRead (c .before .before .before .before .before .before .args .bytes .now) (c .before .before .before .read-sheet .result)
+read : (c : tie.After-sheet)
+    → FactsRead (c .before .before .before .before .before .before .args .bytes .now) (c .before .before .before .read-sheet .result)
 read c =
-    let all : Bytes (c .before .before .before .before .before .before .args .bytes .now) = record { each = λ i. c .before .before .before .before .before .shared-slice-known .given i .fits } in
-    facts-read (c .before .before .before .before .before .before .args .bytes .now) (c .before .before .before .read-sheet .result) all (c .before .before .before .read-sheet .ensures) (c .before .enum-told .given .1)
+    let all : Bytes (c .before .before .before .before .before .before .args .bytes .now) =
+    record { each = λ i. c .before .before .before .before .before .shared-slice-known .given i .fits } in
+    facts-read (c .before .before .before .before .before .before .args .bytes .now) (c .before .before .before .read-sheet .result) all
+    (c .before .before .before .read-sheet .ensures) (c .before .enum-told .given .1)
 
 judge-requires : tie.Need-judge-requires
 judge-requires c κs = read c .no-fault
@@ -41,13 +33,8 @@ judge-requires c κs = read c .no-fault
 judged : (c : tie.After-judge) → Judging (read (c .before) .facts) (c .judge .result)
 judged c =
     let f = read (c .before) in
-    judging (f .facts) (f .accepted) (c .before .before .before .before .read-sheet .result .sheet) (f .facts-are) (c .judge .result) (c .judge .ensures)
-
-put-clusters-requires : tie.Need-put-clusters-requires
-put-clusters-requires c κs = search needs
-
-same-length : tie.Need-same-length
-same-length c = search needs
+    judging (f .facts) (f .accepted) (c .before .before .before .before .read-sheet .result .sheet)
+    (f .facts-are) (c .judge .result) (c .judge .ensures)
 
 returns-2 : tie.Need-returns-2
 returns-2 c =
@@ -60,13 +47,5 @@ returns-2 c =
 pub clusters-spec : {M : Type 1} → statement M
 clusters-spec =
     tie.close
-    (tie.spec
-    read-sheet-requires
-    enum-told
-    enum-told-2
-    refusal-requires
-    returns
-    judge-requires
-    put-clusters-requires
-    same-length
-    returns-2)
+    (tie.spec (λ c κs. search needs) (λ c. search needs) (λ c. search needs) (λ c κs. search needs) returns
+    judge-requires (λ c κs. search needs) (λ c. search needs) returns-2)

@@ -9,15 +9,6 @@ use Rattle.pattern.specs.Sketches.Laws.{held-none, held-over, held-read,
 use Rattle.pattern.proofs.hold.Statement.{statement}
 use Rattle.pattern.proofs.hold.Tie as tie
 
-read-sheet-requires : tie.Need-read-sheet-requires
-read-sheet-requires c κs = search needs
-
-enum-told : tie.Need-enum-told
-enum-told c = search needs
-
-enum-told-2 : tie.Need-enum-told-2
-enum-told-2 c = search needs
-
 returns : tie.Need-returns
 returns c =
     let a = c .before .before .before .before .args in
@@ -29,14 +20,13 @@ returns c =
 -- the facts of the sheet
 read : (c : tie.After-sheet) → FactsRead (c .before .before .before .before .before .args .bytes .now) (c .before .before .before .read-sheet .result)
 read c =
-    let all : Bytes (c .before .before .before .before .before .args .bytes .now) = record { each = λ i. c .before .before .before .before .shared-slice-known .given i .fits } in
-    facts-read (c .before .before .before .before .before .args .bytes .now) (c .before .before .before .read-sheet .result) all (c .before .before .before .read-sheet .ensures) (c .before .enum-told .given .1)
+    let all : Bytes (c .before .before .before .before .before .args .bytes .now) =
+    record { each = λ i. c .before .before .before .before .shared-slice-known .given i .fits } in
+    facts-read (c .before .before .before .before .before .args .bytes .now) (c .before .before .before .read-sheet .result) all
+    (c .before .before .before .read-sheet .ensures) (c .before .enum-told .given .1)
 
 over-fault-requires : tie.Need-over-fault-requires
 over-fault-requires c κs = read c .no-fault
-
-refuse-requires : tie.Need-refuse-requires
-refuse-requires c κs = search needs
 
 returns-2 : tie.Need-returns-2
 returns-2 c =
@@ -57,12 +47,5 @@ returns-3 c =
 pub hold-spec : {M : Type 1} → statement M
 hold-spec =
     tie.close
-    (tie.spec
-    read-sheet-requires
-    enum-told
-    enum-told-2
-    returns
-    over-fault-requires
-    refuse-requires
-    returns-2
-    returns-3)
+    (tie.spec (λ c κs. search needs) (λ c. search needs) (λ c. search needs) returns over-fault-requires
+    (λ c κs. search needs) returns-2 returns-3)

@@ -14,18 +14,6 @@ use Rattle.pattern.specs.Sheets.Overs.{none-over, first-over}
 use Rattle.pattern.proofs.over.Statement.{statement}
 use Rattle.pattern.proofs.over.Tie as tie
 
-read-sheet-requires : tie.Need-read-sheet-requires
-read-sheet-requires c κs = search needs
-
-enum-told : tie.Need-enum-told
-enum-told c = search needs
-
-enum-told-2 : tie.Need-enum-told-2
-enum-told-2 c = search needs
-
-refusal-requires : tie.Need-refusal-requires
-refusal-requires c κs = search needs
-
 returns : tie.Need-returns
 returns c =
     let a = c .before .before .before .before .before .before .args in
@@ -36,19 +24,16 @@ returns c =
     (ap Refused (c .refusal .ensures ∙ ap outcomeNumber (t .1)) ∙ g .0, g .1)
 
 -- the facts of the sheet
-read : (c : tie.After-sheet) → FactsRead (c .before .before .before .before .before .before .args .bytes .now) (c .before .before .before .read-sheet .result)
+read : (c : tie.After-sheet)
+    → FactsRead (c .before .before .before .before .before .before .args .bytes .now) (c .before .before .before .read-sheet .result)
 read c =
-    let all : Bytes (c .before .before .before .before .before .before .args .bytes .now) = record { each = λ i. c .before .before .before .before .before .shared-slice-known .given i .fits } in
-    facts-read (c .before .before .before .before .before .before .args .bytes .now) (c .before .before .before .read-sheet .result) all (c .before .before .before .read-sheet .ensures) (c .before .enum-told .given .1)
+    let all : Bytes (c .before .before .before .before .before .before .args .bytes .now) =
+    record { each = λ i. c .before .before .before .before .before .shared-slice-known .given i .fits } in
+    facts-read (c .before .before .before .before .before .before .args .bytes .now) (c .before .before .before .read-sheet .result) all
+    (c .before .before .before .read-sheet .ensures) (c .before .enum-told .given .1)
 
 over-of-requires : tie.Need-over-of-requires
 over-of-requires c κs = read c .no-fault
-
-enum-known-found : tie.Need-enum-known-found
-enum-known-found c = search needs
-
-enum-told-3 : tie.Need-enum-told-3
-enum-told-3 c = search needs
 
 -- what is found is the definition's, of the facts that were read
 found : (c : tie.After-over-of) → c .over-of .result ≡ findingOf (graphOf (read (c .before) .facts))
@@ -59,14 +44,9 @@ returns-2 c =
     let o = c .before .before in
     let f = read (o .before) in
     let e = stored-items (c .before .before .before .before .before .before .before .before .before .args .out .now) [] (omega arith) in
-    let i = items-given overNumbers _ _ (f .facts) (f .rest) [] (f .reads) (none-over (graphOf (f .facts)) (o .over-of .result) (found o) (c .enum-told3 .given .1)) in
+    let i = items-given overNumbers _ _ (f .facts) (f .rest) [] (f .reads)
+    (none-over (graphOf (f .facts)) (o .over-of .result) (found o) (c .enum-told3 .given .1)) in
     (e .0 ∙ i .0, e .1 ∙ i .1)
-
-put-two-requires : tie.Need-put-two-requires
-put-two-requires c κs = search needs
-
-same-length : tie.Need-same-length
-same-length c = search needs
 
 returns-3 : tie.Need-returns-3
 returns-3 c =
@@ -74,22 +54,13 @@ returns-3 c =
     let g = c .before .before .before .before .before .found .given in
     let f = read (o .before) in
     let p = c .before .before .put-two .ensures in
-    let i = items-given overNumbers _ _ (f .facts) (f .rest) (g .0 .0 ∷ g .0 .1 .0 ∷ []) (f .reads) (first-over (graphOf (f .facts)) (o .over-of .result) (found o) (g .0 .0) (g .0 .1 .0) (g .1)) in
+    let i = items-given overNumbers _ _ (f .facts) (f .rest) (g .0 .0 ∷ g .0 .1 .0 ∷ []) (f .reads)
+    (first-over (graphOf (f .facts)) (o .over-of .result) (found o) (g .0 .0) (g .0 .1 .0) (g .1)) in
     (p .0 ∙ i .0, p .1 ∙ i .1)
 
 pub over-spec : {M : Type 1} → statement M
 over-spec =
     tie.close
-    (tie.spec
-    read-sheet-requires
-    enum-told
-    enum-told-2
-    refusal-requires
-    returns
-    over-of-requires
-    enum-known-found
-    enum-told-3
-    returns-2
-    put-two-requires
-    same-length
+    (tie.spec (λ c κs. search needs) (λ c. search needs) (λ c. search needs) (λ c κs. search needs) returns
+    over-of-requires (λ c. search needs) (λ c. search needs) returns-2 (λ c κs. search needs) (λ c. search needs)
     returns-3)

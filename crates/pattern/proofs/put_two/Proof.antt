@@ -1,6 +1,6 @@
 use borrow.Author.Needs.{needs}
-use borrow.Author.Tests.{lt-ltb, le-ltb}
-use mathlib.Core.Path.{_≡_, refl, sym, ap, _∙_}
+use borrow.Author.Tests.{lt-ltb}
+use mathlib.Core.Path.{refl}
 use mathlib.Core.List.{[], _∷_}
 use Rattle.space.specs.Space.{answer, after}
 use Rattle.pattern.specs.Sheets.Laws.{stored-items}
@@ -11,19 +11,10 @@ returns : tie.Need-returns
 unfolding answer after
 returns c = rw (lt-ltb _ _ (c .if1 .taken)) (refl, refl)
 
-slice-write-out : tie.Need-slice-write-out
-slice-write-out c = search needs
-
-slice-write-out-2 : tie.Need-slice-write-out-2
-slice-write-out-2 c = search needs
-
-same-length : tie.Need-same-length
-same-length c = search needs
-
 returns-2 : tie.Need-returns-2
 returns-2 c =
     let a = c .before .args in
     stored-items (a .out .now) (a .a ∷ a .b ∷ []) (c .if1 .left)
 
 pub put-two-spec : {M : Type 1} → statement M
-put-two-spec = tie.close (tie.spec returns slice-write-out slice-write-out-2 same-length returns-2)
+put-two-spec = tie.close (tie.spec returns (λ c. search needs) (λ c. search needs) (λ c. search needs) returns-2)

@@ -10,18 +10,6 @@ use Rattle.pattern.specs.Sheets.Laws.{FactsRead, facts-read, refusal-rea
 use Rattle.pattern.proofs.report.Statement.{statement}
 use Rattle.pattern.proofs.report.Tie as tie
 
-read-sheet-requires : tie.Need-read-sheet-requires
-read-sheet-requires c κs = search needs
-
-enum-told : tie.Need-enum-told
-enum-told c = search needs
-
-enum-told-2 : tie.Need-enum-told-2
-enum-told-2 c = search needs
-
-refusal-requires : tie.Need-refusal-requires
-refusal-requires c κs = search needs
-
 returns : tie.Need-returns
 returns c =
     let a = c .before .before .before .before .before .before .args in
@@ -31,16 +19,16 @@ returns c =
     (ap Refused (c .refusal .ensures ∙ ap outcomeNumber (t .1)) ∙ g .0, g .1)
 
 -- the facts of the sheet
-read : (c : tie.After-report-arg) → FactsRead (c .before .before .before .before .before .before .before .args .bytes .now) (c .before .before .before .before .read-sheet .result)
+read : (c : tie.After-report-arg)
+    → FactsRead (c .before .before .before .before .before .before .before .args .bytes .now) (c .before .before .before .before .read-sheet .result)
 read c =
-    let all : Bytes (c .before .before .before .before .before .before .before .args .bytes .now) = record { each = λ i. c .before .before .before .before .before .before .shared-slice-known .given i .fits } in
-    facts-read (c .before .before .before .before .before .before .before .args .bytes .now) (c .before .before .before .before .read-sheet .result) all (c .before .before .before .before .read-sheet .ensures) (c .before .before .enum-told .given .1)
+    let all : Bytes (c .before .before .before .before .before .before .before .args .bytes .now) =
+    record { each = λ i. c .before .before .before .before .before .before .shared-slice-known .given i .fits } in
+    facts-read (c .before .before .before .before .before .before .before .args .bytes .now) (c .before .before .before .before .read-sheet .result)
+    all (c .before .before .before .before .read-sheet .ensures) (c .before .before .enum-told .given .1)
 
 report-requires : tie.Need-report-requires
 report-requires c κs = read c .no-fault
-
-same-length : tie.Need-same-length
-same-length c = search needs
 
 returns-2 : tie.Need-returns-2
 returns-2 c =
@@ -52,12 +40,5 @@ returns-2 c =
 pub report-spec : {M : Type 1} → statement M
 report-spec =
     tie.close
-    (tie.spec
-    read-sheet-requires
-    enum-told
-    enum-told-2
-    refusal-requires
-    returns
-    report-requires
-    same-length
-    returns-2)
+    (tie.spec (λ c κs. search needs) (λ c. search needs) (λ c. search needs) (λ c κs. search needs) returns
+    report-requires (λ c. search needs) returns-2)

@@ -11,18 +11,6 @@ use Rattle.pattern.specs.Sheets.Laws.{FactsRead, facts-read, refusal-rea
 use Rattle.pattern.proofs.verdict.Statement.{statement}
 use Rattle.pattern.proofs.verdict.Tie as tie
 
-read-sheet-requires : tie.Need-read-sheet-requires
-read-sheet-requires c κs = search needs
-
-enum-told : tie.Need-enum-told
-enum-told c = search needs
-
-enum-told-2 : tie.Need-enum-told-2
-enum-told-2 c = search needs
-
-refusal-requires : tie.Need-refusal-requires
-refusal-requires c κs = search needs
-
 returns : tie.Need-returns
 unfolding judgementOf
 returns c =
@@ -34,8 +22,10 @@ returns c =
 -- the facts of the sheet
 read : (c : tie.After-sheet) → FactsRead (c .before .before .before .before .before .args .bytes .now) (c .before .before .before .read-sheet .result)
 read c =
-    let all : Bytes (c .before .before .before .before .before .args .bytes .now) = record { each = λ i. c .before .before .before .before .shared-slice-known .given i .fits } in
-    facts-read (c .before .before .before .before .before .args .bytes .now) (c .before .before .before .read-sheet .result) all (c .before .before .before .read-sheet .ensures) (c .before .enum-told .given .1)
+    let all : Bytes (c .before .before .before .before .before .args .bytes .now) =
+    record { each = λ i. c .before .before .before .before .shared-slice-known .given i .fits } in
+    facts-read (c .before .before .before .before .before .args .bytes .now) (c .before .before .before .read-sheet .result) all
+    (c .before .before .before .read-sheet .ensures) (c .before .enum-told .given .1)
 
 verdict-of-requires : tie.Need-verdict-of-requires
 verdict-of-requires c κs = read c .no-fault
@@ -49,11 +39,5 @@ returns-2 c =
 pub verdict-spec : {M : Type 1} → statement M
 verdict-spec =
     tie.close
-    (tie.spec
-    read-sheet-requires
-    enum-told
-    enum-told-2
-    refusal-requires
-    returns
-    verdict-of-requires
-    returns-2)
+    (tie.spec (λ c κs. search needs) (λ c. search needs) (λ c. search needs) (λ c κs. search needs) returns
+    verdict-of-requires returns-2)

@@ -24,7 +24,8 @@ use Rattle.sheet.specs.Encode.{sheetBytes}
 use Rattle.sheet.specs.WithoutTags.{withoutTags}
 use Rattle.sheet.specs.RoundTrip.{written-read}
 use Rattle.sheet.specs.Refusals.{Rule, By, given, ruled, Fault}
-use Rattle.sheet.specs.Refusals.Laws.{by-next, by-wider, which, by-constraint, by-sheet, refused-by, fault-else, fault-constraint, fault-sheet, fault-wider}
+use Rattle.sheet.specs.Refusals.Laws.{by-next, by-wider, which, by-constraint, by-sheet, refused-by, fault-else, fault-constraint, fault-sheet}
+use Rattle.sheet.specs.Refusals.Laws.{fault-wider}
 use Rattle.sheet.specs.Graph.{graphOf, overRule, overFault}
 use Rattle.plans.specs.Check.{planFault, savedSteps}
 use Rattle.plans.specs.Check.Laws.{fault-range}
@@ -48,7 +49,8 @@ short : (items space : List ℕ) (k : ℕ) → answer items space ≡ Refused k 
 unfolding answer
 short items space k e = go (ltb (length space) (length items)) refl e
   where
-    go : (b : Bool) → ltb (length space) (length items) ≡ b → cond b (Refused 17) (Done (length items)) ≡ Refused k → (k ≡ 17) × (length space < length items)
+    go : (b : Bool) → ltb (length space) (length items) ≡ b → cond b (Refused 17) (Done (length items)) ≡ Refused k
+        → (k ≡ 17) × (length space < length items)
     go true p h = (sym (number 17 k h), ltb-true (length space) (length items) p)
     go false p h = absurd (let z : _≡_ {A = ℕ} 0 1 = cc in omega arith)
 
@@ -84,11 +86,13 @@ rewritten bytes space k e =
     on 10 (readSheet bytes) k (λ f. answer (withoutTags bytes) space) (by-sheet bytes) inl
     (seventeen 10 (readSheet bytes) (λ f. withoutTags bytes) space k) e
 
-written : (s : Sheet) (space : List ℕ) (k : ℕ) → writeAnswer s space ≡ Refused k → Rule 3 9 k ⊎ ((k ≡ 17) × (length space < length (sheetBytes (factsOf s))))
+written : (s : Sheet) (space : List ℕ) (k : ℕ) → writeAnswer s space ≡ Refused k
+    → Rule 3 9 k ⊎ ((k ≡ 17) × (length space < length (sheetBytes (factsOf s))))
 unfolding writeAnswer
 written s space k e = go (sheetFault s) (fault-sheet s) e
   where
-    go : (j : ℕ) → Fault 3 9 j → pick (eqb j 0) (answer (sheetBytes (factsOf s)) space) (Refused j) ≡ Refused k → Rule 3 9 k ⊎ ((k ≡ 17) × (length space < length (sheetBytes (factsOf s))))
+    go : (j : ℕ) → Fault 3 9 j → pick (eqb j 0) (answer (sheetBytes (factsOf s)) space) (Refused j) ≡ Refused k
+        → Rule 3 9 k ⊎ ((k ≡ 17) × (length space < length (sheetBytes (factsOf s))))
     go zero h q = inr (short (sheetBytes (factsOf s)) space k q)
     go (suc j) h q =
         let z = ap (λ (b : Bool). pick b (answer (sheetBytes (factsOf s)) space) (Refused (suc j))) (ne-eqb (suc j) 0 (λ p. omega arith)) in
@@ -106,9 +110,11 @@ fault-add : (s : Sheet) (c : Constraint) → Fault 3 11 (addFault s c)
 unfolding addFault holdFault nextFault
 fault-add s c =
     fault-else 3 11 (or-else (sheetFault s) (overFault (graphOf (factsOf s)))) _
-    (fault-else 3 11 (sheetFault s) (overFault (graphOf (factsOf s))) (fault-wider 3 9 11 (sheetFault s) (omega arith) (fault-sheet s)) (fault-over (graphOf (factsOf s))))
+    (fault-else 3 11 (sheetFault s) (overFault (graphOf (factsOf s))) (fault-wider 3 9 11 (sheetFault s) (omega arith) (fault-sheet s))
+    (fault-over (graphOf (factsOf s))))
     (fault-else 3 11 (constraintFault (factsOf s .elements) (factsOf s .constraints) c) (overFault (graphOf (extended (factsOf s) c)))
-    (fault-wider 3 9 11 (constraintFault (factsOf s .elements) (factsOf s .constraints) c) (omega arith) (fault-constraint (factsOf s .elements) (factsOf s .constraints) c))
+    (fault-wider 3 9 11 (constraintFault (factsOf s .elements) (factsOf s .constraints) c) (omega arith)
+    (fault-constraint (factsOf s .elements) (factsOf s .constraints) c))
     (fault-over (graphOf (extended (factsOf s) c))))
 
 added : (s : Sheet) (c : Constraint) (k : ℕ) → addAnswer s c ≡ Not k → Rule 3 11 k
@@ -123,7 +129,8 @@ listed : (what : Graph → List ℕ) (bytes space : List ℕ) (k : ℕ) → item
     → Refusal 10 (readSheet bytes) (λ f. what (graphOf f)) space k
 unfolding itemsAnswer
 listed what bytes space k e =
-    on 10 (readSheet bytes) k (λ f. answer (what (graphOf f)) space) (by-sheet bytes) inl (seventeen 10 (readSheet bytes) (λ f. what (graphOf f)) space k) e
+    on 10 (readSheet bytes) k (λ f. answer (what (graphOf f)) space) (by-sheet bytes) inl
+    (seventeen 10 (readSheet bytes) (λ f. what (graphOf f)) space k) e
 
 -- 3,786 bytes take every report
 printed : (bytes space : List ℕ) (k : ℕ) → Bytes bytes → 3786 ≤ length space → itemsAnswer reportOf bytes space ≡ Refused k → Rule 1 10 k

@@ -43,11 +43,14 @@ module _ (bytes more : List ℕ) (f : Facts) (rest : List ℕ) (c : Constraint) 
   same-addition all all-more e l =
       let h = held-accepted bytes f rest all e in
       let k = last-taken f more c t all-more l in
-      let n : constraintFault (factsOf (sheetOf f) .elements) (factsOf (sheetOf f) .constraints) c ≡ 0 = ap (λ (g : Facts). constraintFault (g .elements) (g .constraints) c) (factsOf-sheetOf f) ∙ k in
-      let a : addFault (sheetOf f) c ≡ overFault (graphOf (extended f c)) = add-last (sheetOf f) c (no-fault f (h .0) (h .1)) n ∙ ap (λ (g : Facts). overFault (graphOf (extended g c))) (factsOf-sheetOf f) in
+      let n : constraintFault (factsOf (sheetOf f) .elements) (factsOf (sheetOf f) .constraints) c ≡ 0 =
+      ap (λ (g : Facts). constraintFault (g .elements) (g .constraints) c) (factsOf-sheetOf f) ∙ k in
+      let a : addFault (sheetOf f) c ≡ overFault (graphOf (extended f c)) =
+      add-last (sheetOf f) c (no-fault f (h .0) (h .1)) n ∙ ap (λ (g : Facts). overFault (graphOf (extended g c))) (factsOf-sheetOf f) in
       extended-read bytes more f rest e c t l ∙ go (h .0) (h .1) a (overFault (graphOf (extended f c))) refl
     where
-      go : Accepted f → overFault (graphOf f) ≡ 0 → addFault (sheetOf f) c ≡ overFault (graphOf (extended f c)) → (k : ℕ) → overFault (graphOf (extended f c)) ≡ k
+      go : Accepted f → overFault (graphOf f) ≡ 0 → addFault (sheetOf f) c ≡ overFault (graphOf (extended f c)) → (k : ℕ)
+          → overFault (graphOf (extended f c)) ≡ k
           → held (extended f c) t ≡ byRule (addFault (sheetOf f) c) (value (factsOf (addAfter (sheetOf f) c)) t)
       go h o a zero e =
           held-none (extended f c) t e

@@ -1,12 +1,11 @@
 -- What is held and extended, step by step. Assumes nothing.
-use Prim.Native.Nat.{ℕ, zero, suc, _+_, _≤_, _<_}
+use Prim.Native.Nat.{ℕ, zero, suc, _+_, _<_}
 use native.Mathlib.Omega.{arith}
 use mathlib.Core.Path.{_≡_, refl, sym, ap, _∙_}
 use mathlib.Core.List.{List, [], _∷_, _++_}
 use borrow.Author.Tests.{le-leb}
 use lib.IntN.{ℤ}
-use lib.ListN.{length, drop, length-append, length-replicate, drop-of-length-le}
-use lib.Seq.{drop-cons}
+use lib.ListN.{length, length-append, length-replicate}
 use Rattle.space.specs.declared.Written.the-variants.{Refused}
 use Rattle.space.specs.Space.{answer, after}
 use Rattle.sheet.specs.declared.Constraint.{Constraint}
@@ -76,7 +75,8 @@ pub record Holds (bytes : List ℕ) (r : Reading) : Type 0 where
   pub no-fault : sheetFault (r .sheet) ≡ 0
 
 -- no rule refuses the facts
-pub held-accepted : (bytes : List ℕ) (f : Facts) (rest : List ℕ) → Bytes bytes → heldSheet bytes ≡ value f rest → Accepted f × (overFault (graphOf f) ≡ 0)
+pub held-accepted : (bytes : List ℕ) (f : Facts) (rest : List ℕ) → Bytes bytes → heldSheet bytes ≡ value f rest
+    → Accepted f × (overFault (graphOf f) ≡ 0)
 unfolding heldSheet
 held-accepted bytes f rest all q =
     next-value (readSheet bytes) held q (λ g t was e.
@@ -102,7 +102,8 @@ holding bytes r all e o =
 
 module _ (f : Facts) (bytes : List ℕ) where
   -- no rule of 6 to 9 refuses it
-  pub last-taken : (c : Constraint) (t : List ℕ) → Bytes bytes → lastConstraint f bytes ≡ value c t → constraintFault (f .elements) (f .constraints) c ≡ 0
+  pub last-taken : (c : Constraint) (t : List ℕ) → Bytes bytes → lastConstraint f bytes ≡ value c t
+      → constraintFault (f .elements) (f .constraints) c ≡ 0
   unfolding lastConstraint
   last-taken c t all e =
       next-value (constraint (f .elements) (f .constraints) bytes) ended e (λ d rest was e1.
@@ -124,7 +125,8 @@ module _ (f : Facts) (bytes : List ℕ) where
       last (value c (b ∷ t)) = refl
       last (refused k) = refl
 
-  module _ {r : Outcome} {near start : List ℕ} {sizes : List ℤ} (l : ListRead (constraints (f .elements) 1 (f .constraints) bytes) r near start sizes) where
+  module _ {r : Outcome} {near start : List ℕ} {sizes : List ℤ}
+      (l : ListRead (constraints (f .elements) 1 (f .constraints) bytes) r near start sizes) where
     pub list-refused : (k : ℕ) → r ≡ Stopped k → longer f bytes ≡ refused k
     unfolding longer
     list-refused k e = by (lastConstraint f bytes) (sym e ∙ l .answers ∙ ap asOutcome list-last)
@@ -143,12 +145,14 @@ module _ (f : Facts) (bytes : List ℕ) where
         by (value c t) is e = (c, t, is, l .holds (f .constraints ++ c ∷ []) t (list-last ∙ rw is))
         by (refused j) is e = let z : _≡_ {A = ℕ} 0 1 = cc in absurd (omega arith)
 
-pub longer-taken : (f : Facts) (bytes : List ℕ) (c : Constraint) (t : List ℕ) → lastConstraint f bytes ≡ value c t → longer f bytes ≡ value (extended f c) t
+pub longer-taken : (f : Facts) (bytes : List ℕ) (c : Constraint) (t : List ℕ) → lastConstraint f bytes ≡ value c t
+    → longer f bytes ≡ value (extended f c) t
 unfolding longer
 longer-taken f bytes c t e = rw e
 
 -- no rule refuses the facts with it
-pub extended-accepted : (f : Facts) (c : Constraint) → Accepted f → length (f .constraints) < 200 → constraintFault (f .elements) (f .constraints) c ≡ 0
+pub extended-accepted : (f : Facts) (c : Constraint) → Accepted f → length (f .constraints) < 200
+    → constraintFault (f .elements) (f .constraints) c ≡ 0
     → Accepted (extended f c)
 extended-accepted f c h l k = record {
   element-count = h .element-count;
@@ -184,7 +188,8 @@ module _ (f : Facts) (h : Accepted f) (o : overFault (graphOf f) ≡ 0) (s : She
   more-facts c = stored-facts s c long room ∙ ap (λ (g : Facts). extended g c) facts-are
 
 -- the facts with one more constraint that is read
-module _ (f : Facts) (bytes : List ℕ) (all : Bytes bytes) (h : Accepted f) (l : length (f .constraints) < 200) {g : Facts} {t : List ℕ} (e : longer f bytes ≡ value g t) where
+module _ (f : Facts) (bytes : List ℕ) (all : Bytes bytes) (h : Accepted f) (l : length (f .constraints) < 200) {g : Facts} {t : List ℕ}
+    (e : longer f bytes ≡ value g t) where
   pub longer-accepted : Accepted g
   unfolding longer
   longer-accepted =
@@ -211,7 +216,8 @@ module _ (bytes more : List ℕ) where
     extended-read c t l = extended-longer (extended f c) t (longer-taken f more c t l)
 
   module _ (space : List ℕ) where
-    pub extend-refused : (k : ℕ) → extendedSheet bytes more ≡ refused k → (Refused k ≡ extendAnswer bytes more space) × (space ≡ extendAfter bytes more space)
+    pub extend-refused : (k : ℕ) → extendedSheet bytes more ≡ refused k
+        → (Refused k ≡ extendAnswer bytes more space) × (space ≡ extendAfter bytes more space)
     unfolding extendAnswer extendAfter
     extend-refused k e = rw e (refl, refl)
 

@@ -15,17 +15,8 @@ abbrev μ-loop : tie.MeasureT-loop
 loop-holds : tie.Need-loop-holds Inv-loop μ-loop
 loop-holds c = filling-none _ _ _ _ _ refl
 
-constraint-at-requires : tie.Need-constraint-at-requires Inv-loop μ-loop
-constraint-at-requires c κs = search needs
-
-mul-cs : tie.Need-mul-cs Inv-loop μ-loop
-mul-cs c = search needs
-
 array-set-from-cs : tie.Need-array-set-from-cs Inv-loop μ-loop
 array-set-from-cs c = omega (arith, c .before .loop-test .taken)
-
-add-i : tie.Need-add-i Inv-loop μ-loop
-add-i c = search needs
 
 loop-less : tie.Need-loop-less Inv-loop μ-loop
 loop-less c = omega (arith, c .before .before .loop .inv .within)
@@ -35,24 +26,17 @@ loop-again c =
     let a = c .before .before .before .before .before .before .args in
     let l = c .before .before .loop in
     rw (c .constraint-at .ensures)
-    (filling-more (a .firsts .now) (a .seconds .now) (a .maps .now) (a .sizes .now) (l .i) (l .cs) (omega (arith, c .before .loop-test .taken)) (l .inv))
+    (filling-more (a .firsts .now) (a .seconds .now) (a .maps .now) (a .sizes .now) (l .i) (l .cs)
+    (omega (arith, c .before .loop-test .taken)) (l .inv))
 
 returns : tie.Need-returns Inv-loop μ-loop
 returns c =
     let a = c .before .before .before .before .before .args in
-    filling-all (a .firsts .now) (a .seconds .now) (a .maps .now) (a .sizes .now) (c .before .loop .i) (c .before .loop .cs) (c .loop-test .left) (c .before .loop .inv)
+    filling-all (a .firsts .now) (a .seconds .now) (a .maps .now) (a .sizes .now) (c .before .loop .i) (c .before .loop .cs)
+    (c .loop-test .left) (c .before .loop .inv)
 
 pub constraints-in-spec : {M : Type 1} → statement M
 constraints-in-spec =
     tie.close
-    (tie.spec
-    Inv-loop
-    μ-loop
-    loop-holds
-    constraint-at-requires
-    mul-cs
-    array-set-from-cs
-    add-i
-    loop-less
-    loop-again
-    returns)
+    (tie.spec Inv-loop μ-loop loop-holds (λ c κs. search needs) (λ c. search needs) array-set-from-cs
+    (λ c. search needs) loop-less loop-again returns)

@@ -1,6 +1,6 @@
 use borrow.Author.Needs.{needs}
 use borrow.Author.Tests.{lt-ltb, le-ltb}
-use Prim.Native.Nat.{ℕ, _<_}
+use Prim.Native.Nat.{_<_}
 use native.Mathlib.Omega.{arith}
 use mathlib.Core.Path.{_≡_, sym, ap, _∙_}
 use lib.IntN.{pos, _-ℤ_}
@@ -20,18 +20,6 @@ negative : (c : tie.After-known-told2) → pos 0 -ℤ toZ w32 (c .before .w2 .gi
 negative c =
     let h : c .before .w2 .given .0 .0 < 2147483648 = omega (arith, rule c) in
     ap (λ z. pos 0 -ℤ z) (toZ-pos w32 h) ∙ zero-minus (c .before .w2 .given .0 .0)
-
-enum-known-w : tie.Need-enum-known-w
-enum-known-w c = search needs
-
-cast-result : tie.Need-cast-result
-cast-result c = search needs
-
-enum-known-w-2 : tie.Need-enum-known-w-2
-enum-known-w-2 c = search needs
-
-cast-result-2 : tie.Need-cast-result-2
-cast-result-2 c = search needs
 
 sub-result : tie.Need-sub-result
 sub-result c = rw (negative c) (minus-fits (c .before .w2 .given .0 .0) (rule c))
@@ -54,12 +42,5 @@ returns-3 c =
 pub count-spec : {M : Type 1} → statement M
 count-spec =
     tie.close
-    (tie.spec
-    enum-known-w
-    cast-result
-    enum-known-w-2
-    cast-result-2
-    sub-result
-    returns
-    returns-2
-    returns-3)
+    (tie.spec (λ c. search needs) (λ c. search needs) (λ c. search needs) (λ c. search needs) sub-result returns
+    returns-2 returns-3)

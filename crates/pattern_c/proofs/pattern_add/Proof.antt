@@ -3,19 +3,10 @@ use Rattle.pattern_c.specs.Numbers.Laws.{counted}
 use Rattle.pattern_c.proofs.pattern_add.Statement.{statement}
 use Rattle.pattern_c.proofs.pattern_add.Tie as tie
 
-extend-requires : tie.Need-extend-requires
-extend-requires c κs = search needs
-
-count-requires : tie.Need-count-requires
-count-requires c κs = search needs
-
-same-length : tie.Need-same-length
-same-length c = search needs
-
 returns : tie.Need-returns
 returns c =
     let w = c .before .before .before .extend in
     (counted (c .count .result) (w .result) _ (record { sfits = c .count .ok }) (c .count .ensures) (w .ensures .0), w .ensures .1)
 
 pub pattern-add-spec : {M : Type 1} → statement M
-pattern-add-spec = tie.close (tie.spec extend-requires count-requires same-length returns)
+pattern-add-spec = tie.close (tie.spec (λ c κs. search needs) (λ c κs. search needs) (λ c. search needs) returns)

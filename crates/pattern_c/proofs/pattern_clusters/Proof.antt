@@ -3,19 +3,10 @@ use Rattle.pattern_c.specs.Numbers.Laws.{counted}
 use Rattle.pattern_c.proofs.pattern_clusters.Statement.{statement}
 use Rattle.pattern_c.proofs.pattern_clusters.Tie as tie
 
-clusters-requires : tie.Need-clusters-requires
-clusters-requires c κs = search needs
-
-count-requires : tie.Need-count-requires
-count-requires c κs = search needs
-
-same-length : tie.Need-same-length
-same-length c = search needs
-
 returns : tie.Need-returns
 returns c =
     let w = c .before .before .before .clusters in
     (counted (c .count .result) (w .result) _ (record { sfits = c .count .ok }) (c .count .ensures) (w .ensures .0), w .ensures .1)
 
 pub pattern-clusters-spec : {M : Type 1} → statement M
-pattern-clusters-spec = tie.close (tie.spec clusters-requires count-requires same-length returns)
+pattern-clusters-spec = tie.close (tie.spec (λ c κs. search needs) (λ c κs. search needs) (λ c. search needs) returns)

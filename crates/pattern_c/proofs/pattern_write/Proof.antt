@@ -7,37 +7,20 @@ use Rattle.pattern_c.specs.Numbers.Laws.{counted}
 use Rattle.pattern_c.proofs.pattern_write.Statement.{statement}
 use Rattle.pattern_c.proofs.pattern_write.Tie as tie
 
-elements-of-requires : tie.Need-elements-of-requires
-elements-of-requires c κs = search needs
-
-constraints-in-requires : tie.Need-constraints-in-requires
-constraints-in-requires c κs = search needs
-
-write-requires : tie.Need-write-requires
-write-requires c κs = search needs
-
-count-requires : tie.Need-count-requires
-count-requires c κs = search needs
-
-same-length : tie.Need-same-length
-same-length c = search needs
-
 returns : tie.Need-returns
 returns c =
     let a = c .before .before .before .before .before .before .before .before .before .before .before .args in
     let w = c .before .before .before .write in
-    let e = sheet-in (a .firsts .now) (a .seconds .now) (a .maps .now) (a .sizes .now) (a .n) (a .e) (a .lines) _ _ (c .before .before .before .before .before .before .elements-of .ensures) (c .before .before .before .before .before .constraints-in .ensures) in (
-      counted (c .count .result) (w .result) _ (record { sfits = c .count .ok }) (c .count .ensures) (w .ensures .0 ∙ ap (λ (s : Sheet). writeAnswer s (a .out .now)) e),
+    let e = sheet-in (a .firsts .now) (a .seconds .now) (a .maps .now) (a .sizes .now) (a .n) (a .e) (a .lines) _ _
+    (c .before .before .before .before .before .before .elements-of .ensures)
+    (c .before .before .before .before .before .constraints-in .ensures) in (
+      counted (c .count .result) (w .result) _ (record { sfits = c .count .ok }) (c .count .ensures)
+          (w .ensures .0 ∙ ap (λ (s : Sheet). writeAnswer s (a .out .now)) e),
       w .ensures .1 ∙ ap (λ (s : Sheet). writeAfter s (a .out .now)) e,
     )
 
 pub pattern-write-spec : {M : Type 1} → statement M
 pattern-write-spec =
     tie.close
-    (tie.spec
-    elements-of-requires
-    constraints-in-requires
-    write-requires
-    count-requires
-    same-length
-    returns)
+    (tie.spec (λ c κs. search needs) (λ c κs. search needs) (λ c κs. search needs) (λ c κs. search needs)
+    (λ c. search needs) returns)

@@ -3,11 +3,8 @@ use borrow.Author.Needs.{needs}
 use Rattle.peeling.proofs.core_of.Statement.{statement}
 use Rattle.peeling.proofs.core_of.Tie as tie
 
-peel-of-requires : tie.Need-peel-of-requires
-peel-of-requires c κs = search needs
-
 returns : tie.Need-returns
 returns c = λ cs simple near. c .peel-of .ensures cs simple near .core
 
 pub core-of-spec : {M : Type 1} → statement M
-core-of-spec = tie.close (tie.spec peel-of-requires returns)
+core-of-spec = tie.close (tie.spec (λ c κs. search needs) returns)

@@ -8,9 +8,6 @@ use borrow.Author.Needs.{needs}
 use Rattle.peeling.proofs.drop_low.Statement.{statement}
 use Rattle.peeling.proofs.drop_low.Tie as tie
 
-sub-result : tie.Need-sub-result
-sub-result c = search needs
-
 returns : tie.Need-returns
 returns c = omega (arith, size-zero, ap ones (c .if1 .taken))
 
@@ -18,4 +15,4 @@ returns-2 : tie.Need-returns-2
 returns-2 c = omega (arith, drop-low (c .before .args .m) (omega arith))
 
 pub drop-low-spec : {M : Type 1} → statement M
-drop-low-spec = tie.close (tie.spec sub-result returns returns-2)
+drop-low-spec = tie.close (tie.spec (λ c. search needs) returns returns-2)

@@ -19,29 +19,11 @@ abbrev μ-loop : tie.MeasureT-loop
 loop-holds : tie.Need-loop-holds Inv-loop μ-loop
 loop-holds c = (omega arith, light-none (c .args .near .now) (full 64))
 
-wide-requires : tie.Need-wide-requires Inv-loop μ-loop
-wide-requires c κs = search needs
-
 mul-drop-low : tie.Need-mul-drop-low Inv-loop μ-loop
 mul-drop-low c = omega (arith, c .wide .ensures)
 
 element-copy-out-drop-low : tie.Need-element-copy-out-drop-low Inv-loop μ-loop
 element-copy-out-drop-low c = omega (arith, c .wide .ensures)
-
-drop-low-requires : tie.Need-drop-low-requires Inv-loop μ-loop
-drop-low-requires c κs = search needs
-
-drop-low-requires-2 : tie.Need-drop-low-requires-2 Inv-loop μ-loop
-drop-low-requires-2 c κs = search needs
-
-single-requires : tie.Need-single-requires Inv-loop μ-loop
-single-requires c κs = search needs
-
-add-x : tie.Need-add-x Inv-loop μ-loop
-add-x c = omega arith
-
-loop-less : tie.Need-loop-less Inv-loop μ-loop
-loop-less c = omega arith
 
 loop-again : tie.Need-loop-again Inv-loop μ-loop
 loop-again c =
@@ -63,17 +45,6 @@ returns c = c .before .loop .inv .1
 pub light-all-spec : {M : Type 1} → statement M
 light-all-spec =
     tie.close
-    (tie.spec
-    Inv-loop
-    μ-loop
-    loop-holds
-    wide-requires
-    mul-drop-low
-    element-copy-out-drop-low
-    drop-low-requires
-    drop-low-requires-2
-    single-requires
-    add-x
-    loop-less
-    loop-again
-    returns)
+    (tie.spec Inv-loop μ-loop loop-holds (λ c κs. search needs) mul-drop-low element-copy-out-drop-low
+    (λ c κs. search needs) (λ c κs. search needs) (λ c κs. search needs) (λ c. omega arith) (λ c. omega arith)
+    loop-again returns)

@@ -24,12 +24,6 @@ abbrev μ-loop : tie.MeasureT-loop
 loop-holds : tie.Need-loop-holds Inv-loop μ-loop
 loop-holds c = (c .pre, light-none (c .args .near .now) (c .args .left))
 
-lowest-requires : tie.Need-lowest-requires Inv-loop μ-loop
-lowest-requires c κs = search needs
-
-wide-requires : tie.Need-wide-requires Inv-loop μ-loop
-wide-requires c κs = search needs
-
 single-requires : tie.Need-single-requires Inv-loop μ-loop
 single-requires c κs = c .before .lowest .ensures .0
 
@@ -39,17 +33,24 @@ mul-drop-low c = omega (arith, c .before .wide .ensures, c .before .before .lowe
 element-copy-out-drop-low : tie.Need-element-copy-out-drop-low Inv-loop μ-loop
 element-copy-out-drop-low c = omega (arith, c .before .wide .ensures, c .before .before .lowest .ensures .0)
 
-drop-low-requires : tie.Need-drop-low-requires Inv-loop μ-loop
-drop-low-requires c κs = search needs
-
-drop-low-requires-2 : tie.Need-drop-low-requires-2 Inv-loop μ-loop
-drop-low-requires-2 c κs = search needs
-
 sub-m : tie.Need-sub-m Inv-loop μ-loop
-sub-m c = omega (arith, at-room (c .before .before .before .before .before .before .lowest .result) (c .before .before .before .before .before .before .before .before .loop .m) (c .before .before .before .before .before .before .lowest .ensures .1), c .before .before .before .before .single .ensures)
+sub-m c =
+    omega (
+      arith,
+      at-room (c .before .before .before .before .before .before .lowest .result)
+          (c .before .before .before .before .before .before .before .before .loop .m)
+          (c .before .before .before .before .before .before .lowest .ensures .1),
+      c .before .before .before .before .single .ensures,
+    )
 
 loop-less : tie.Need-loop-less Inv-loop μ-loop
-loop-less c = omega (arith, sub-m c, c .before .before .before .before .single .ensures, pow-pos (c .before .before .before .before .before .before .lowest .result))
+loop-less c =
+    omega (
+      arith,
+      sub-m c,
+      c .before .before .before .before .single .ensures,
+      pow-pos (c .before .before .before .before .before .before .lowest .result),
+    )
 
 loop-again : tie.Need-loop-again Inv-loop μ-loop
 loop-again c =
@@ -74,18 +75,5 @@ returns c = c .before .loop .inv .1
 pub light-of-spec : {M : Type 1} → statement M
 light-of-spec =
     tie.close
-    (tie.spec
-    Inv-loop
-    μ-loop
-    loop-holds
-    lowest-requires
-    wide-requires
-    single-requires
-    mul-drop-low
-    element-copy-out-drop-low
-    drop-low-requires
-    drop-low-requires-2
-    sub-m
-    loop-less
-    loop-again
-    returns)
+    (tie.spec Inv-loop μ-loop loop-holds (λ c κs. search needs) (λ c κs. search needs) single-requires mul-drop-low
+    element-copy-out-drop-low (λ c κs. search needs) (λ c κs. search needs) sub-m loop-less loop-again returns)

@@ -23,12 +23,6 @@ loop-holds : tie.Need-loop-holds Inv-loop μ-loop
 unfolding full corners angled
 loop-holds c = (record { peeled = whole; angle-is = refl }, c .pre)
 
-lowest-requires : tie.Need-lowest-requires Inv-loop μ-loop
-lowest-requires c κs = search needs
-
-wide-requires : tie.Need-wide-requires Inv-loop μ-loop
-wide-requires c κs = search needs
-
 single-requires : tie.Need-single-requires Inv-loop μ-loop
 single-requires c κs = c .before .lowest .ensures .0
 
@@ -37,12 +31,6 @@ mul-three-lines c = omega (arith, c .before .wide .ensures, c .before .before .l
 
 element-copy-out-three-lines : tie.Need-element-copy-out-three-lines Inv-loop μ-loop
 element-copy-out-three-lines c = omega (arith, c .before .wide .ensures, c .before .before .lowest .ensures .0)
-
-three-lines-requires : tie.Need-three-lines-requires Inv-loop μ-loop
-three-lines-requires c κs = search needs
-
-either-requires : tie.Need-either-requires Inv-loop μ-loop
-either-requires c κs = search needs
 
 sub-left : tie.Need-sub-left Inv-loop μ-loop
 sub-left c =
@@ -64,14 +52,16 @@ mul-light-of : tie.Need-mul-light-of Inv-loop μ-loop
 mul-light-of c = omega (arith, c .before .before .before .before .wide .ensures, c .before .before .before .before .before .lowest .ensures .0)
 
 element-copy-out-light-of : tie.Need-element-copy-out-light-of Inv-loop μ-loop
-element-copy-out-light-of c = omega (arith, c .before .before .before .before .wide .ensures, c .before .before .before .before .before .lowest .ensures .0)
+element-copy-out-light-of c =
+    omega (arith, c .before .before .before .before .wide .ensures, c .before .before .before .before .before .lowest .ensures .0)
 
 light-of-requires : tie.Need-light-of-requires Inv-loop μ-loop
 unfolding _∩_
 light-of-requires c κs =
     let s = c .before .before .before .before .before .before .before .before .before in
     let l = c .before .before .before .before .before .before .before .before .loop in
-    and-r (getD (s .args .near .now) (c .before .before .before .before .before .wide .result) 0) (l .left - c .before .before .before .before .single .result)
+    and-r (getD (s .args .near .now) (c .before .before .before .before .before .wide .result) 0)
+    (l .left - c .before .before .before .before .single .result)
 
 loop-less : tie.Need-loop-less Inv-loop μ-loop
 loop-less c =
@@ -91,9 +81,11 @@ loop-again c =
     let b = c .before .before .before .before .before .single in
     let t = c .before .before .before .three-lines in
     let n = c .before .before .either in (
-      taken-next (s .args .near .now) (s .args .lines) (l .left) (l .todo) (l .angle) (l .inv .0) (l .inv .1) (x .result) (b .result) (i .result) (x .ensures .1) (b .ensures)
+      taken-next (s .args .near .now) (s .args .lines) (l .left) (l .todo) (l .angle) (l .inv .0) (l .inv .1) (x .result) (b .result) (i .result)
+          (x .ensures .1) (b .ensures)
           (i .ensures) (t .result) (n .result) (t .ensures) (n .ensures),
-      light-next (s .args .near .now) (l .left) (l .todo) (x .result) (b .result) (l .inv .0 .peeled) (l .inv .1) (x .ensures .1) (b .ensures) (c .light-of .result)
+      light-next (s .args .near .now) (l .left) (l .todo) (x .result) (b .result) (l .inv .0 .peeled) (l .inv .1)
+          (x .ensures .1) (b .ensures) (c .light-of .result)
           (c .light-of .ensures),
     )
 
@@ -103,22 +95,6 @@ returns c = c .before .loop .inv .0
 pub peel-spec : {M : Type 1} → statement M
 peel-spec =
     tie.close
-    (tie.spec
-    Inv-loop
-    μ-loop
-    loop-holds
-    lowest-requires
-    wide-requires
-    single-requires
-    mul-three-lines
-    element-copy-out-three-lines
-    three-lines-requires
-    either-requires
-    sub-left
-    sub-todo
-    mul-light-of
-    element-copy-out-light-of
-    light-of-requires
-    loop-less
-    loop-again
-    returns)
+    (tie.spec Inv-loop μ-loop loop-holds (λ c κs. search needs) (λ c κs. search needs) single-requires mul-three-lines
+    element-copy-out-three-lines (λ c κs. search needs) (λ c κs. search needs) sub-left sub-todo mul-light-of
+    element-copy-out-light-of light-of-requires loop-less loop-again returns)

@@ -4,16 +4,10 @@ use borrow.Author.Needs.{needs}
 use Rattle.peeling.proofs.peel_of.Statement.{statement}
 use Rattle.peeling.proofs.peel_of.Tie as tie
 
-light-all-requires : tie.Need-light-all-requires
-light-all-requires c κs = search needs
-
-peel-requires : tie.Need-peel-requires
-peel-requires c κs = search needs
-
 returns : tie.Need-returns
 returns c =
     let a = c .before .before .args in
     λ cs simple near. all-told cs (a .near .now) simple near (a .lines) (c .peel .result .left) (c .peel .result .angle) (c .peel .ensures)
 
 pub peel-of-spec : {M : Type 1} → statement M
-peel-of-spec = tie.close (tie.spec light-all-requires peel-requires returns)
+peel-of-spec = tie.close (tie.spec (λ c κs. search needs) (λ c κs. search needs) returns)

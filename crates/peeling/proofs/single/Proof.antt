@@ -8,14 +8,8 @@ use borrow.Author.Needs.{needs}
 use Rattle.peeling.proofs.single.Statement.{statement}
 use Rattle.peeling.proofs.single.Tie as tie
 
-cast-result : tie.Need-cast-result
-cast-result c = search needs
-
-shl-result : tie.Need-shl-result
-shl-result c = search needs
-
 returns : tie.Need-returns
 returns c = shl-exact 1 (c .args .x) 64 (lt-suc-self 1) (omega arith) ∙ one-mul (2 ^ (c .args .x))
 
 pub single-spec : {M : Type 1} → statement M
-single-spec = tie.close (tie.spec cast-result shl-result returns)
+single-spec = tie.close (tie.spec (λ c. search needs) (λ c. search needs) returns)

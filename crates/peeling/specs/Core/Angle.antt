@@ -25,7 +25,8 @@ pub angle-more : (near : List ℕ) (lines v x : ℕ) (p : Peeled near v) (q : at
 unfolding corners angled
 angle-more near lines v x p q h = go (eqb (ones (corner near v x)) 3)
   where
-    go : (b : Bool) → angled lines (elim b [ true ↦ corner near v x ∷ corners p | false ↦ corners p ]) ≡ (b && allLines lines (corner near v x)) || angled lines (corners p)
+    go : (b : Bool) → angled lines (elim b [ true ↦ corner near v x ∷ corners p | false ↦ corners p ])
+        ≡ (b && allLines lines (corner near v x)) || angled lines (corners p)
     go true = refl
     go false = refl
 
@@ -54,6 +55,8 @@ module _ (near : List ℕ) (lines left todo : ℕ) (angle : Bool) (w : Taken nea
       subst (λ (z : ℕ). Taken near lines (left - z) next) (sym es)
       (record {
         peeled = less x (w .peeled) (g .0) (g .1);
-        angle-is = n ∙ ap₂ _||_ (t ∙ ap₂ (λ (b y : ℕ). eqb (ones (b ∪ (getD near y 0 ∩ left))) 3 && allLines lines (b ∪ (getD near y 0 ∩ left))) es ei) (w .angle-is)
+        angle-is =
+            n ∙ ap₂ _||_ (t ∙ ap₂ (λ (b y : ℕ). eqb (ones (b ∪ (getD near y 0 ∩ left))) 3 && allLines lines (b ∪ (getD near y 0 ∩ left))) es ei)
+            (w .angle-is)
             ∙ sym (angle-more near lines left x (w .peeled) (g .0) (g .1));
       })

@@ -9,7 +9,8 @@ use native.Mathlib.Decide.{ℕ-discrete}
 use lib.Count.{ones}
 use lib.ListN.{getD}
 use Rattle.theory.specs.Set.{_∩_, _∪_, _⊑_, at}
-use Rattle.theory.specs.Set.Laws.{at-or, at-le, at-same, at-other, bit, ext, zero-ext, size-eq, size-pow, size-or, sub-trans, sub-antisymm, or-least, other, two-in, both, in-both, in-either, or-left, or-right}
+use Rattle.theory.specs.Set.Laws.{at-or, at-le, at-same, at-other, bit, ext, zero-ext, size-eq, size-pow, size-or, sub-trans, sub-antisymm, or-least}
+use Rattle.theory.specs.Set.Laws.{other, two-in, both, in-both, in-either, or-left, or-right}
 use Rattle.theory.specs.Constraints.{Among, Pairs}
 use Rattle.theory.specs.Constraints.Laws.{pairs-share}
 use Rattle.theory.specs.Near.{Simple, Near}
@@ -90,7 +91,8 @@ module _ (cs near : List ℕ) (simple : Simple cs) (is-near : Near cs near) wher
           p-in = p .1;
           p≢x = p .2;
           p-b = less-other x (p .0) a xa (p .2) ∙ pa;
-          p-near = both (p .0) (getD near x 0) v (has-near x (p .0) m small i xm (p .1) (p .2)) (omega (arith, within .le (p .0), pa, at-le (p .0) v));
+          p-near =
+              both (p .0) (getD near x 0) v (has-near x (p .0) m small i xm (p .1) (p .2)) (omega (arith, within .le (p .0), pa, at-le (p .0) v));
           only = two-are m x (p .0) (Ne·symm (p .2)) xm (p .1) (omega (arith, two-ends m i));
         }
 
@@ -105,7 +107,8 @@ module _ (cs near : List ℕ) (simple : Simple cs) (is-near : Near cs near) wher
             absurd (omega (
               arith,
               pairs-share m k (two-ends m (e .among)) (two-ends k (f .among)) r,
-              two-in (m ∩ k) x (e .p) (both x m k (e .x-in) (f .x-in)) (both (e .p) m k (e .p-in) (subst (λ (w : ℕ). at w k ≡ 1) (sym q) (f .p-in))) (Ne·symm (e .p≢x)),
+              two-in (m ∩ k) x (e .p) (both x m k (e .x-in) (f .x-in))
+                  (both (e .p) m k (e .p-in) (subst (λ (w : ℕ). at w k ≡ 1) (sym q) (f .p-in))) (Ne·symm (e .p≢x)),
             ))
 
     module _ (m k : ℕ) (e : End m) (f : End k) (m≢k : m ≢ k) where
@@ -169,14 +172,16 @@ module _ (cs near : List ℕ) (simple : Simple cs) (is-near : Near cs near) wher
           near-in z i = or-right z (2 ^ x) (getD near x 0 ∩ v) i
 
           inner : (z : ℕ) → (at z (b ∩ m) ≡ 1) ⊎ (at z (m ∩ k) ≡ 1) → at z (corner near v x) ≡ 1
-          inner z (inl i) = let r = in-both z b m i in near-in z (subst (λ (w : ℕ). at w (getD near x 0 ∩ v) ≡ 1) (sym (in-bm z (r .0) (r .1))) (e .p-near))
+          inner z (inl i) =
+              let r = in-both z b m i in near-in z (subst (λ (w : ℕ). at w (getD near x 0 ∩ v) ≡ 1) (sym (in-bm z (r .0) (r .1))) (e .p-near))
           inner z (inr i) =
               let r = in-both z m k i in
               or-left z (2 ^ x) (getD near x 0 ∩ v) (subst (λ (w : ℕ). at w (2 ^ x) ≡ 1) (sym (in-mk z (r .0) (r .1))) (at-same x))
 
           outer : (z : ℕ) → (at z ((b ∩ m) ∪ (m ∩ k)) ≡ 1) ⊎ (at z (b ∩ k) ≡ 1) → at z (corner near v x) ≡ 1
           outer z (inl i) = inner z (in-either z (b ∩ m) (m ∩ k) i)
-          outer z (inr i) = let r = in-both z b k i in near-in z (subst (λ (w : ℕ). at w (getD near x 0 ∩ v) ≡ 1) (sym (in-bk z (r .0) (r .1))) (f .p-near))
+          outer z (inr i) =
+              let r = in-both z b k i in near-in z (subst (λ (w : ℕ). at w (getD near x 0 ∩ v) ≡ 1) (sym (in-bk z (r .0) (r .1))) (f .p-near))
 
           go : (z : ℕ) → (at z (joint t) ≡ 0) ⊎ (at z (joint t) ≡ 1) → at z (joint t) ≤ at z (corner near v x)
           go z (inl i) = omega arith

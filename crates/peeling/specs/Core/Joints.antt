@@ -1,5 +1,5 @@
--- Of 2n-3 constraints that peel off to the last element, the joints of every list of merges are the elements taken away with two neighbours, each with
--- these: put back in turn, each merges with what is there. Assumes nothing.
+-- Of 2n-3 constraints that peel off to the last element, the joints of every list of merges are the elements taken away with two neighbours, each
+-- with these: put back in turn, each merges with what is there. Assumes nothing.
 use mathlib.Core.Path.{_≡_, refl, sym, ap, ap₂, _∙_, subst}
 use mathlib.Core.Logic.{_≢_, _⊎_, inl, inr, ⊎-elim, _↔_, Iff·rfl, Iff·trans, Iff·symm}
 use mathlib.Core.Bool.{Bool, true, false}
@@ -13,7 +13,8 @@ use lib.ListN.{length, getD}
 use lib.Pow.{pow-pos, pow-mono}
 use Rattle.theory.specs.Tests.{eq-test}
 use Rattle.theory.specs.Set.{_∩_, _⊑_, at, full}
-use Rattle.theory.specs.Set.Laws.{at-and, at-le, at-other, bit, size-le, size-eq, size-zero, size-full, size-pow, size-or, sub-refl, sub-trans, sub-antisymm, and-l, and-r, and-most, sub-and, some, both, in-both, in-either, below-full}
+use Rattle.theory.specs.Set.Laws.{at-and, at-le, at-other, bit, size-le, size-eq, size-zero, size-full, size-pow, size-or, sub-refl, sub-trans}
+use Rattle.theory.specs.Set.Laws.{sub-antisymm, and-l, and-r, and-most, sub-and, some, both, in-both, in-either, below-full}
 use Rattle.theory.specs.Constraints.{Among, Pairs, Below, pair, same, carried, NotOver}
 use Rattle.theory.specs.Constraints.Laws.{carried-small, carried-full, pair-ends}
 use Rattle.theory.specs.Merge.{Three, joint, Merge, Maximal, joints}
@@ -67,7 +68,9 @@ module _ (cs near : List ℕ) (simple : Simple cs) (is-near : Near cs near) (n :
 
   all-of : full 64 ∩ full n ≡ full n
   unfolding full
-  all-of = sub-antisymm (full 64 ∩ full n) (full n) (and-r (full 64) (full n)) (and-most (below-full 64 (full n) (omega (arith, pow-mono most, pow-pos n))) (sub-refl (full n)))
+  all-of =
+      sub-antisymm (full 64 ∩ full n) (full n) (and-r (full 64) (full n))
+      (and-most (below-full 64 (full n) (omega (arith, pow-mono most, pow-pos n))) (sub-refl (full n)))
 
   tight-at : (u : ℕ) → Peeled near u → 2 ≤ ones (u ∩ full n) → carried cs (u ∩ full n) + 3 ≡ 2 * ones (u ∩ full n)
   unfolding NotOver
@@ -86,7 +89,8 @@ module _ (cs near : List ℕ) (simple : Simple cs) (is-near : Near cs near) (n :
             ih (omega arith),
             fine ((v ∩ full n) - 2 ^ x) k,
             near-counts x (v ∩ full n) z cs near simple is-near (at-below 64 x v (peeled-small v p) q),
-            size-le (getD near x 0 ∩ v) (getD near x 0 ∩ (v ∩ full n)) (and-most (and-l (getD near x 0) (v ∩ full n)) (sub-trans (and-r (getD near x 0) (v ∩ full n)) (and-l v (full n)))),
+            size-le (getD near x 0 ∩ v) (getD near x 0 ∩ (v ∩ full n))
+                (and-most (and-l (getD near x 0) (v ∩ full n)) (sub-trans (and-r (getD near x 0) (v ∩ full n)) (and-l v (full n)))),
             two,
           ))
 
@@ -131,8 +135,12 @@ module _ (cs near : List ℕ) (simple : Simple cs) (is-near : Near cs near) (n :
     small = at-below 64 x v (peeled-small v p) q
 
     step-out : at x (v ∩ full n) ≡ 0 → (G : Fam) → Merges v p G → Merges (v - 2 ^ x) (less x p q two) G
-    step-out z G (l, valid, ends, js) =
-        (l, valid, ends, λ y. subst (λ (c : List ℕ). Among y (jointsIn l) ↔ Among y c) (sym (corners-few x p q two (corner-few v x small q z))) (js y))
+    step-out z G (l, valid, ends, js) = (
+      l,
+      valid,
+      ends,
+      λ y. subst (λ (c : List ℕ). Among y (jointsIn l) ↔ Among y c) (sym (corners-few x p q two (corner-few v x small q z))) (js y),
+    )
 
     step-in : at x (v ∩ full n) ≡ 1 → 2 ≤ ones ((v - 2 ^ x) ∩ full n) → (G : Fam) → Same G (Parted cs ((v - 2 ^ x) ∩ full n))
         → ((H : Fam) → Same H (Parted cs (v ∩ full n)) → Merges v p H) → Merges (v - 2 ^ x) (less x p q two) G
@@ -146,9 +154,12 @@ module _ (cs near : List ℕ) (simple : Simple cs) (is-near : Near cs near) (n :
         let tb : carried cs b′ + 3 ≡ 2 * ones b′ = rw e at (tight-at (v - 2 ^ x) (less x p q two) h) in
         let more : carried cs b′ + 2 ≤ carried cs a′ = omega (arith, tight-at v p (omega arith), tb) in
         let w = two-between cs a′ b′ more in
-        let m≢k : w .m ≢ w .k = λ f. omega (arith, w .twice f, pairs (w .m) (w .m-is .among), fine (w .m) (omega (arith, pairs (w .m) (w .m-is .among)))) in
-        let em = end cs near simple is-near v (v ∩ full n) x small (and-l v (full n)) z two (w .m) (w .m-is .among) (w .m-is .in-a) (w .m-is .not-b) in
-        let ek = end cs near simple is-near v (v ∩ full n) x small (and-l v (full n)) z two (w .k) (w .k-is .among) (w .k-is .in-a) (w .k-is .not-b) in
+        let m≢k : w .m ≢ w .k =
+        λ f. omega (arith, w .twice f, pairs (w .m) (w .m-is .among), fine (w .m) (omega (arith, pairs (w .m) (w .m-is .among)))) in
+        let em = end cs near simple is-near v (v ∩ full n) x small (and-l v (full n)) z two (w .m)
+        (w .m-is .among) (w .m-is .in-a) (w .m-is .not-b) in
+        let ek = end cs near simple is-near v (v ∩ full n) x small (and-l v (full n)) z two (w .k)
+        (w .k-is .among) (w .k-is .in-a) (w .k-is .not-b) in
         let t′ = t cs near simple is-near v (v ∩ full n) x small (and-l v (full n)) z two (w .m) (w .k) em ek m≢k in
         let s′ : Same G (Parted cs b′) = subst (λ (c : ℕ). Same G (Parted cs c)) e s in
         let i = ih (after G t′) (merged cs near simple is-near v (v ∩ full n) x small (and-l v (full n)) z two (w .m) (w .k) em ek m≢k G s′) in
@@ -156,12 +167,18 @@ module _ (cs near : List ℕ) (simple : Simple cs) (is-near : Near cs near) (n :
         let o = isopen cs near simple is-near v (v ∩ full n) x small (and-l v (full n)) z two (w .m) (w .k) em ek m≢k in (
           t′ ∷ i .0,
           (
-            record { ina = s′ b′ .1 (inl refl); inb = s′ (w .m) .1 (inr (w .m-is .among, w .m-is .not-b)); inc = s′ (w .k) .1 (inr (w .k-is .among, w .k-is .not-b)); open3 = o },
+            record {
+              ina = s′ b′ .1 (inl refl);
+              inb = s′ (w .m) .1 (inr (w .m-is .among, w .m-is .not-b));
+              inc = s′ (w .k) .1 (inr (w .k-is .among, w .k-is .not-b));
+              open3 = o;
+            },
             i .1,
           ),
           i .2,
           λ y.
-              subst (λ (c : List ℕ). Among y (joint t′ ∷ jointsIn (i .0)) ↔ Among y c) (sym (corners-three x p q two (sym (ap ones kn) ∙ size-joint t′ o)))
+              subst (λ (c : List ℕ). Among y (joint t′ ∷ jointsIn (i .0)) ↔ Among y c)
+              (sym (corners-three x p q two (sym (ap ones kn) ∙ size-joint t′ o)))
               (⊎-elim (λ f. inl (f ∙ kn)) (λ f. inr (i .3 y .0 f)), ⊎-elim (λ f. inl (f ∙ sym kn)) (λ f. inr (i .3 y .1 f))),
         )
 
@@ -182,7 +199,8 @@ module _ (cs near : List ℕ) (simple : Simple cs) (is-near : Near cs near) (n :
   -- two of the elements are left before the last of them goes
   last-two : (u : ℕ) (d : Peeled near u) → ones (u ∩ full n) ≤ 2 → (v : ℕ) × (c : Peeled near v) × (ones (v ∩ full n) ≡ 2) × (corners d ≡ corners c)
   last-two u whole h = (u, whole, omega (arith, h, ap ones all-of, size-full n), refl)
-  last-two u (less {u = v} x p q two) h = go (decLe 2 (ones ((v - 2 ^ x) ∩ full n))) (bit (at x (v ∩ full n)) (at-le x (v ∩ full n))) (λ k. last-two v p k)
+  last-two u (less {u = v} x p q two) h =
+      go (decLe 2 (ones ((v - 2 ^ x) ∩ full n))) (bit (at x (v ∩ full n)) (at-le x (v ∩ full n))) (λ k. last-two v p k)
     where
       l : x < 64
       l = at-below 64 x v (peeled-small v p) q
@@ -196,8 +214,12 @@ module _ (cs near : List ℕ) (simple : Simple cs) (is-near : Near cs near) (n :
           (r .0, r .1, r .2, corners-few x p q two (corner-few v x l q z) ∙ r .3)
       go (no k) (inr z) ih =
           let s : ones (v ∩ full n) ≤ 2 = omega (arith, size-less x (v ∩ full n) z, ap ones (cut-in v x q z), k) in
-          let r = ih s in
-          (r .0, r .1, r .2, corners-few x p q two (λ e. omega (arith, e, size-le (v ∩ full n) (corner near v x) (corner-within v x l q z), s)) ∙ r .3)
+          let r = ih s in (
+            r .0,
+            r .1,
+            r .2,
+            corners-few x p q two (λ e. omega (arith, e, size-le (v ∩ full n) (corner near v x) (corner-within v x l q z), s)) ∙ r .3,
+          )
 
   -- one set alone is in no open merge
   ended-one : EndedIn (Parted cs (full n))
@@ -223,7 +245,8 @@ module _ (cs near : List ℕ) (simple : Simple cs) (is-near : Near cs near) (n :
       let q : r .0 ≡ a′ = size-eq a′ (r .0) (r .1 .in-a) (omega (arith, f .2, pairs (r .0) (r .1 .among))) in
       let g = put-back v (f .1) (omega (arith, f .2)) (start cs) (first a′ (f .2) (subst (λ (z : ℕ). Among z cs) q (r .1 .among))) in
       let w =
-      every-order-in cs pairs fine cs same (threes cs p) (g .0) (as-start cs pairs fine p (m .valid)) (ended-there cs pairs fine p (m .valid) (m .ended)) (g .1)
+      every-order-in cs pairs fine cs same (threes cs p) (g .0) (as-start cs pairs fine p (m .valid))
+      (ended-there cs pairs fine p (m .valid) (m .ended)) (g .1)
       (ended-same (λ z. Iff·symm (g .2 z)) ended-one) in
       rw (joints-threes cs p, f .3) (Iff·trans (w .knots y) (g .3 y))
     where

@@ -1,4 +1,5 @@
--- Constraints that are peeled off to the last element: 2n-3 of them on n elements end in one cluster, whatever list of merges is made. Assumes nothing.
+-- Constraints that are peeled off to the last element: 2n-3 of them on n elements end in one cluster, whatever list of merges is made.
+-- Assumes nothing.
 use mathlib.Core.Path.{_≡_, refl, sym, ap, _∙_, subst}
 use mathlib.Core.Logic.{_≢_, _⊎_, inl, inr, Ne·symm}
 use mathlib.Core.List.{List, [], _∷_}
@@ -102,7 +103,12 @@ module _ (cs : List ℕ) (pairs : Pairs cs) (fine : NotOver cs) (H : Fam) (good 
   unfolding EndedIn
   corner y u v p q x hy hu hv out n py pu qy qv xu xv =
       ended (record { a = y; b = u; c = v })
-      (record { ina = hy; inb = hu; inc = hv; open3 = meet-open y u v (one-shared y u p hy hu yu py pu) (one-shared u v x hu hv uv xu xv) (one-shared y v q hy hv yv qy qv) none })
+      (record {
+        ina = hy;
+        inb = hu;
+        inc = hv;
+        open3 = meet-open y u v (one-shared y u p hy hu yu py pu) (one-shared u v x hu hv uv xu xv) (one-shared y v q hy hv yv qy qv) none;
+      })
     where
       yu : y ≢ u
       yu e = omega (arith, ap (at x) e)
@@ -170,8 +176,10 @@ module _ (cs : List ℕ) (pairs : Pairs cs) (fine : NotOver cs) (H : Fam) (good 
             ) in
             absurd (
             corner y (u .0) (v .0) (p .0) (q .0) x hy (u .1) (v .1) e n
-            (in-y (p .0) (omega (arith, t .m-is .in-a .le (p .0), p .1, at-le (p .0) a)) (p .2)) (omega (arith, u .2 .le (p .0), p .1, at-le (p .0) (u .0)))
-            (in-y (q .0) (omega (arith, t .k-is .in-a .le (q .0), q .1, at-le (q .0) a)) (q .2)) (omega (arith, v .2 .le (q .0), q .1, at-le (q .0) (v .0)))
+            (in-y (p .0) (omega (arith, t .m-is .in-a .le (p .0), p .1, at-le (p .0) a)) (p .2))
+            (omega (arith, u .2 .le (p .0), p .1, at-le (p .0) (u .0)))
+            (in-y (q .0) (omega (arith, t .k-is .in-a .le (q .0), q .1, at-le (q .0) a)) (q .2))
+            (omega (arith, v .2 .le (q .0), q .1, at-le (q .0) (v .0)))
             (omega (arith, u .2 .le x, xm, at-le x (u .0))) (omega (arith, v .2 .le x, xk, at-le x (v .0))))
 
     within : (k a : ℕ) → ones a ≤ k → a < 2 ^ 64 → 2 ≤ ones a → carried cs a + 3 ≡ 2 * ones a → (y : ℕ) × H y × (a ⊑ y)
@@ -203,7 +211,8 @@ none-lives (zero ∷ s) h e = omega (arith, none-lives s (λ j n. h (suc j) n) (
 none-lives (suc x ∷ s) h e = absurd (omega (arith, h 0 (λ z. omega arith)))
 
 -- a cluster that carries all constraints is the only one
-all-in-one : (s : List ℕ) (i y n : ℕ) → slot s i ≡ y → y ≢ 0 → n ≤ ones y → weights s + 3 ≡ 2 * n → ((j : ℕ) → slot s j ≢ 0 → 2 ≤ ones (slot s j)) → left s ≡ 1
+all-in-one : (s : List ℕ) (i y n : ℕ) → slot s i ≡ y → y ≢ 0 → n ≤ ones y → weights s + 3 ≡ 2 * n
+    → ((j : ℕ) → slot s j ≢ 0 → 2 ≤ ones (slot s j)) → left s ≡ 1
 unfolding left weights
 all-in-one s i y n at-i lives size count two =
     let rest = none-lives (set s i 0) (λ j. others j (ℕ-discrete j i)) (omega (arith, total-set weight weight-zero s i, ap ones at-i)) in
@@ -220,7 +229,8 @@ all-in-one s i y n at-i lives size count two =
     others j (yes e) h = absurd (h (ap (slot (set s i 0)) e ∙ zero-at s i))
     others j (no n) h = let e = getD-set-other s i j 0 0 n in rw e (two j (λ z. h (e ∙ z)))
 
-pub loose-one : (n : ℕ) (cs : List ℕ) → 2 ≤ n → n ≤ 64 → Pairs cs → Below n cs → NotOver cs → Loose cs → length cs + 3 ≡ 2 * n → (p : List Merge) → Maximal cs p
+pub loose-one : (n : ℕ) (cs : List ℕ) → 2 ≤ n → n ≤ 64 → Pairs cs → Below n cs → NotOver cs → Loose cs
+    → length cs + 3 ≡ 2 * n → (p : List Merge) → Maximal cs p
     → left (final cs p) ≡ 1
 unfolding full
 loose-one n cs two most pairs below fine loose count p m =
@@ -228,9 +238,11 @@ loose-one n cs two most pairs below fine loose count p m =
     let g = good-final cs fine p cs (start-good cs pairs fine) (start-distinct cs pairs fine) (m .valid) .0 in
     let z = size-full n in
     let y =
-    within cs pairs fine (live s) g (as-ended cs fine s g (m .ended)) covered loose n (full n) (omega (arith, z)) (omega (arith, pow-mono most, pow-pos n)) (omega (arith, z))
+    within cs pairs fine (live s) g (as-ended cs fine s g (m .ended)) covered loose n (full n) (omega (arith, z))
+    (omega (arith, pow-mono most, pow-pos n)) (omega (arith, z))
     (omega (arith, z, carried-full n cs below)) in
-    all-in-one s (y .1 .0) (y .0) n (y .1 .1) (y .1 .2) (omega (arith, z, size-le (y .0) (full n) (y .2))) (omega (arith, weights-kept cs pairs p (m .valid), count))
+    all-in-one s (y .1 .0) (y .0) n (y .1 .1) (y .1 .2) (omega (arith, z, size-le (y .0) (full n) (y .2)))
+    (omega (arith, weights-kept cs pairs p (m .valid), count))
     (λ j h. big cs fine g (slot s j) (j, refl, h))
   where
     covered : (c : ℕ) → Among c cs → (y : ℕ) × live (final cs p) y × (c ⊑ y)

@@ -34,7 +34,8 @@ light-one near u todo x t e h = record { light = λ y q. go y q (ℕ-discrete y 
     go y q (yes p) = subst (λ (z : ℕ). (at z u ≡ 1) × (ones (getD near z 0 ∩ u) ≤ 2)) (sym p) (e, h)
     go y q (no n) = t .light y (omega (arith, q, at-or y todo (2 ^ x), at-other y x n))
 
-pub light-code : (near : List ℕ) (u todo : ℕ) {x i s new : ℕ} → Light near u todo → at x u ≡ 1 → i ≡ x → s ≡ 2 ^ x → ones (bitAnd (getD near i 0) u) ≤ 2
+pub light-code : (near : List ℕ) (u todo : ℕ) {x i s new : ℕ} → Light near u todo → at x u ≡ 1 → i ≡ x → s ≡ 2 ^ x
+    → ones (bitAnd (getD near i 0) u) ≤ 2
     → new ≡ bitOr todo s → Light near u new
 unfolding _∪_ _∩_
 light-code near u todo {x} {i} {s} {new} t e ei es two q =

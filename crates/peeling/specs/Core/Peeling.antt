@@ -133,7 +133,11 @@ module _ (cs near : List ℕ) (simple : Simple cs) (is-near : Near cs near) wher
       go (inr r) i = inr r
       go (inl s) (inl z) = inl (sub-less x v a q s z)
       go (inl s) (inr z) =
-          inr (x, z, omega (arith, near-counts x a z cs near simple is-near (at-below 64 x v (peeled-small v p) q), near-sub (getD near x 0) a v s, two))
+          inr (
+            x,
+            z,
+            omega (arith, near-counts x a z cs near simple is-near (at-below 64 x v (peeled-small v p) q), near-sub (getD near x 0) a v s, two),
+          )
 
   all-loose : (u : ℕ) → Peeled near u → u ≡ 0 → Loose cs
   all-loose u p z = record { least = λ a h some. go a some (peeled-loose u p a h) }

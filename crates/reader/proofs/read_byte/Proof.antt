@@ -6,12 +6,6 @@ use lib.Seq.{drop-cons}
 use Rattle.reader.proofs.read_byte.Statement.{statement}
 use Rattle.reader.proofs.read_byte.Tie as tie
 
-shared-slice-read-t8 : tie.Need-shared-slice-read-t8
-shared-slice-read-t8 c = search needs
-
-add-t9 : tie.Need-add-t9
-add-t9 c = search needs
-
 returns : tie.Need-returns
 returns c =
     rw (add-one, drop-cons (c .before .before .args .s .now) (c .before .before .args .c .at) 0 (c .before .if1 .taken))
@@ -20,4 +14,4 @@ returns-2 : tie.Need-returns-2
 returns-2 c = rw (drop-of-length-le (c .before .args .s .now) (c .if1 .left))
 
 pub read-byte-spec : {M : Type 1} → statement M
-read-byte-spec = tie.close (tie.spec shared-slice-read-t8 add-t9 returns returns-2)
+read-byte-spec = tie.close (tie.spec (λ c. search needs) (λ c. search needs) returns returns-2)

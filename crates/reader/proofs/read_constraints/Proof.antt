@@ -1,8 +1,7 @@
 -- `reader::read_constraints` meets its contract: whatever the elements and the constraints before are, what is left gives the answer (`Turn`).
 -- Assumes nothing.
-use Prim.Native.Nat.{ℕ, _+_, _-_, _/_, _%_, _<_, _≤_}
+use Prim.Native.Nat.{_-_, _%_, _<_, _≤_}
 use native.Mathlib.Omega.{arith}
-use native.Mathlib.Nat.{sub-zero}
 use mathlib.Core.List.{List, []}
 use mathlib.Core.Path.{_≡_, refl, sym, ap, _∙_}
 use borrow.Author.Needs.{needs}
@@ -17,7 +16,7 @@ use Rattle.sheet.specs.Facts.{linesOf}
 use Rattle.sheet.specs.Field.{Field, value}
 use Rattle.sheet.specs.Rules.{pairAt}
 use Rattle.sheet.specs.Rules.Laws.{pair-shift}
-use Rattle.sheet.specs.Decode.{tag, dimension, constraint}
+use Rattle.sheet.specs.Decode.{dimension, constraint}
 use Rattle.graph.specs.Lent.{InArrays}
 use Rattle.reader.specs.declared.ByteRead.{ByteRead}
 use Rattle.reader.specs.declared.SizeRead.{SizeRead}
@@ -49,7 +48,8 @@ record Given (a : tie.At-loop Inv-loop μ-loop) : Type 0 where
   holds : InArrays done (a .before .before .args .near .now) (a .before .before .args .start .now) (a .before .before .args .sizes .now)
 
 module _ (a : tie.At-loop Inv-loop μ-loop) (g : Given a) where
-  turn : Turn (a .before .before .args .s .now) (g .es) (g .done) (a .before .before .args .i0) (a .before .before .args .e) (a .before .before .args .from .at) (a .loop .near) (a .loop .start) (a .loop .sizes)
+  turn : Turn (a .before .before .args .s .now) (g .es) (g .done) (a .before .before .args .i0) (a .before .before .args .e)
+      (a .before .before .args .from .at) (a .loop .near) (a .loop .start) (a .loop .sizes)
       (a .loop .c .at) (a .loop .i)
   turn = a .loop .inv .1 (g .es) (g .done) (g .n-is) (g .lines-are) (g .count) (g .holds)
 
@@ -57,8 +57,10 @@ module _ (a : tie.At-loop Inv-loop μ-loop) (g : Given a) where
   abbrev this : Field Constraint
   this = constraint (g .es) (turn .read) (drop (a .loop .c .at) (a .before .before .args .s .now))
 
-ends-are : (c : tie.After-read-ends Inv-loop μ-loop) (g : Given (c .before .before .before)) → this (c .before .before .before) g ≡ asEnds (g .es) (c .before .before .before .before .before .args .s .now) (c .read-ends .result)
-ends-are c g = sym (c .read-ends .ensures .0 (g .es) (turn (c .before .before .before) g .read) (g .n-is) (turn (c .before .before .before) g .holds .noted))
+ends-are : (c : tie.After-read-ends Inv-loop μ-loop) (g : Given (c .before .before .before))
+    → this (c .before .before .before) g ≡ asEnds (g .es) (c .before .before .before .before .before .args .s .now) (c .read-ends .result)
+ends-are c g =
+    sym (c .read-ends .ensures .0 (g .es) (turn (c .before .before .before) g .read) (g .n-is) (turn (c .before .before .before) g .holds .noted))
 
 returns : tie.Need-returns Inv-loop μ-loop
 returns c = λ es done en el n h.
@@ -66,24 +68,32 @@ returns c = λ es done en el n h.
     let g : Given a = record { es = es; done = done; n-is = en; lines-are = el; count = n; holds = h } in
     let t = c .before .enum-told .given in
     rw (c .refusal .ensures ∙ ap endsRule (t .1))
-    (stopped (turn a g) (c .before .before .before .before .before .loop-test .taken) (ends-are (c .before .before .before) g ∙ ap (asEnds es (a .before .before .args .s .now)) (t .1)))
+    (stopped (turn a g) (c .before .before .before .before .before .loop-test .taken)
+    (ends-are (c .before .before .before) g ∙ ap (asEnds es (a .before .before .args .s .now)) (t .1)))
 
 -- the two ends
-below : (c : tie.After-known-told Inv-loop μ-loop) → (c .before .ends .given .0 .0 < c .before .ends .given .0 .1 .0) × (c .before .ends .given .0 .1 .0 < 64)
+below : (c : tie.After-known-told Inv-loop μ-loop)
+    → (c .before .ends .given .0 .0 < c .before .ends .given .0 .1 .0) × (c .before .ends .given .0 .1 .0 < 64)
 below c =
     let o = c .before .before .before .read-ends .ensures .1 .ascend _ _ _ (c .before .ends .given .1) in
     (o .0, omega (arith, o .1, c .before .before .before .before .before .before .before .before .pre .0))
 
 -- the kinds of the two ends
 ended : (c : tie.After-pair-of Inv-loop μ-loop) (g : Given (c .before .before .before .before .before .before .before .before .before))
-    → this (c .before .before .before .before .before .before .before .before .before) g ≡ dimension (c .before .before .before .before .ends .given .0 .0) (c .before .before .before .before .ends .given .0 .1 .0) (c .pair-of .result) (drop (c .before .before .before .before .ends .given .0 .1 .1 .0 .at) (c .before .before .before .before .before .before .before .before .before .before .before .args .s .now))
+    → this (c .before .before .before .before .before .before .before .before .before) g
+    ≡ dimension (c .before .before .before .before .ends .given .0 .0) (c .before .before .before .before .ends .given .0 .1 .0) (c .pair-of .result)
+    (drop (c .before .before .before .before .ends .given .0 .1 .1 .0 .at)
+    (c .before .before .before .before .before .before .before .before .before .before .before .args .s .now))
 ended c g =
     let a = c .before .before .before .before .ends .given .0 .0 in
     let b = c .before .before .before .before .ends .given .0 .1 .0 in
-    let rest = drop (c .before .before .before .before .ends .given .0 .1 .1 .0 .at) (c .before .before .before .before .before .before .before .before .before .before .before .args .s .now) in
+    let rest = drop (c .before .before .before .before .ends .given .0 .1 .1 .0 .at)
+    (c .before .before .before .before .before .before .before .before .before .before .before .args .s .now) in
     let kinds : c .pair-of .result ≡ pairAt (g .es) a b =
     c .pair-of .ensures ∙ rw (c .before .kind-at2 .ensures, c .before .before .kind-at .ensures, g .lines-are) (pair-shift (g .es) a b) in
-    ends-are (c .before .before .before .before .before .before) g ∙ ap (asEnds (g .es) (c .before .before .before .before .before .before .before .before .before .before .before .args .s .now)) (c .before .before .before .before .ends .given .1) ∙ ap (λ (p : PairKind). dimension a b p rest) (sym kinds)
+    ends-are (c .before .before .before .before .before .before) g
+    ∙ ap (asEnds (g .es) (c .before .before .before .before .before .before .before .before .before .before .before .args .s .now))
+    (c .before .before .before .before .ends .given .1) ∙ ap (λ (p : PairKind). dimension a b p rest) (sym kinds)
 
 returns-2 : tie.Need-returns-2 Inv-loop μ-loop
 returns-2 c = λ es done en el n h.
@@ -91,22 +101,34 @@ returns-2 c = λ es done en el n h.
     let g : Given a = record { es = es; done = done; n-is = en; lines-are = el; count = n; holds = h } in
     let t = c .before .enum-told2 .given in
     rw (c .refusal2 .ensures ∙ ap (λ (r : ByteRead). ruleOf (asByte [] r)) (t .1))
-    (stopped (turn a g) (c .before .before .before .before .before .before .before .before .before .before .before .before .loop-test .taken) (map-refused _ _ _ _ _ _ _ (ended (c .before .before .before .before) g) (sym (c .before .before .before .read-map .ensures .0) ∙ ap (asByte (a .before .before .args .s .now)) (t .1))))
+    (stopped (turn a g) (c .before .before .before .before .before .before .before .before .before .before .before .before .loop-test .taken)
+    (map-refused _ _ _ _ _ _ _ (ended (c .before .before .before .before) g)
+    (sym (c .before .before .before .read-map .ensures .0) ∙ ap (asByte (a .before .before .args .s .now)) (t .1))))
 
 -- the bit map
 mapped : (c : tie.After-known-told2 Inv-loop μ-loop)
-    → mapOf (c .before .before .before .before .pair-of .result) (drop (c .before .before .before .before .before .before .before .before .ends .given .0 .1 .1 .0 .at) (c .before .before .before .before .before .before .before .before .before .before .before .before .before .before .before .args .s .now))
-    ≡ value (c .before .third .given .0 .0) (drop (c .before .third .given .0 .1 .0 .at) (c .before .before .before .before .before .before .before .before .before .before .before .before .before .before .before .args .s .now))
-mapped c = sym (c .before .before .before .read-map .ensures .0) ∙ ap (asByte (c .before .before .before .before .before .before .before .before .before .before .before .before .before .before .before .args .s .now)) (c .before .third .given .1)
+    → mapOf (c .before .before .before .before .pair-of .result) (drop
+    (c .before .before .before .before .before .before .before .before .ends .given .0 .1 .1 .0 .at)
+    (c .before .before .before .before .before .before .before .before .before .before .before .before .before .before .before .args .s .now))
+    ≡ value (c .before .third .given .0 .0) (drop (c .before .third .given .0 .1 .0 .at)
+    (c .before .before .before .before .before .before .before .before .before .before .before .before .before .before .before .args .s .now))
+mapped c =
+    sym (c .before .before .before .read-map .ensures .0)
+    ∙ ap
+    (asByte (c .before .before .before .before .before .before .before .before .before .before .before .before .before .before .before .args .s .now))
+    (c .before .third .given .1)
 
 returns-3 : tie.Need-returns-3 Inv-loop μ-loop
 returns-3 c = λ es done en el n h.
-    let a = c .before .before .before .before .before .before .before .before .before .before .before .before .before .before .before .before .before in
+    let a =
+    c .before .before .before .before .before .before .before .before .before .before .before .before .before .before .before .before .before in
     let g : Given a = record { es = es; done = done; n-is = en; lines-are = el; count = n; holds = h } in
     let t = c .before .enum-told3 .given in
     rw (c .refusal3 .ensures ∙ ap (λ (r : SizeRead). ruleOf (asSize [] r)) (t .1))
     (stopped (turn a g) (c .before .before .before .before .before .before .before .before .before .before .before .before .before .before .before .before .loop-test .taken)
-    (size-refused _ _ _ _ _ _ _ (ended (c .before .before .before .before .before .before .before .before) g) _ _ (mapped (c .before .before .before .before)) (sym (c .before .before .before .read-size .ensures) ∙ ap (asSize (a .before .before .args .s .now)) (t .1))))
+    (size-refused _ _ _ _ _ _ _ (ended (c .before .before .before .before .before .before .before .before) g) _ _
+    (mapped (c .before .before .before .before))
+    (sym (c .before .before .before .read-size .ensures) ∙ ap (asSize (a .before .before .args .s .now)) (t .1))))
 
 -- the size
 sized : (c : tie.After-known-told3 Inv-loop μ-loop)
@@ -121,10 +143,15 @@ returns-4 c = λ es done en el n h.
     let t = c .before .enum-told4 .given in
     rw (c .refusal4 .ensures ∙ ap (λ (r : TagRead). ruleOf (asTag [] r)) (t .1))
     (stopped (turn a g) (c .before .before .before .before .before .before .before .before .before .before .before .before .before .before .before .before .before .before .before .before .loop-test .taken)
-    (tag-refused _ _ _ _ _ _ _ (ended (c .before .before .before .before .before .before .before .before .before .before .before .before) g) _ _ (mapped (c .before .before .before .before .before .before .before .before)) _ _ (sized (c .before .before .before .before)) (sym (c .before .before .before .skip-tag .ensures) ∙ ap (asTag (a .before .before .args .s .now)) (t .1))))
+    (tag-refused _ _ _ _ _ _ _ (ended (c .before .before .before .before .before .before .before .before .before .before .before .before) g) _ _
+    (mapped (c .before .before .before .before .before .before .before .before)) _ _ (sized (c .before .before .before .before))
+    (sym (c .before .before .before .skip-tag .ensures) ∙ ap (asTag (a .before .before .args .s .now)) (t .1))))
 
 skip-tag-requires : tie.Need-skip-tag-requires Inv-loop μ-loop
-skip-tag-requires c κs = let l = c .before .before .before .before .before .before .before .read-map .ensures .1 .below _ _ (c .before .before .before .before .before .third .given .1) in omega arith
+skip-tag-requires c κs =
+    let l = c .before .before .before .before .before .before .before .read-map .ensures .1 .below _ _
+    (c .before .before .before .before .before .third .given .1) in
+    omega arith
 
 note-requires : tie.Need-note-requires Inv-loop μ-loop
 note-requires c κs = let o = below (c .before .before .before .before .before .before .before .before .before .before .before .before .before .before .before .before .before .before) in (omega (arith, c .before .before .before .before .before .before .before .before .before .before .before .before .before .before .before .before .before .before .before .before .before .before .before .loop-test .taken, c .before .before .before .before .before .before .before .before .before .before .before .before .before .before .before .before .before .before .before .before .before .before .before .before .before .before .pre .2), o .0, o .1)
@@ -136,9 +163,15 @@ loop-again c =
       λ es done en el n h.
           let g : Given a = record { es = es; done = done; n-is = en; lines-are = el; count = n; holds = h } in
           let k = c .before .before .before .before in
-          let w = whole _ _ _ _ _ _ _ (ended (k .before .before .before .before .before .before .before .before .before .before .before .before) g) _ _ (mapped (k .before .before .before .before .before .before .before .before)) _ _ (sized (k .before .before .before .before)) (sym (k .before .before .before .skip-tag .ensures) ∙ ap (asTag (a .before .before .args .s .now)) (k .before .tagged .given .1)) in
+          let w = whole _ _ _ _ _ _ _ (ended (k .before .before .before .before .before .before .before .before .before .before .before .before) g) _
+          _ (mapped (k .before .before .before .before .before .before .before .before)) _ _ (sized (k .before .before .before .before))
+          (sym (k .before .before .before .skip-tag .ensures) ∙ ap (asTag (a .before .before .args .s .now)) (k .before .tagged .given .1)) in
           one-more (turn a g) (c .before .before .before .before .before .before .before .before .before .before .before .before .before .before .before .before .before .before .before .before .before .before .before .before .loop-test .taken) (w .1) (c .note .ensures (turn a g .read) (w .0) (turn a g .count)
-          (record { first-is = w .2 .first-is; second-is = w .2 .second-is; size-is = w .2 .size-is ∙ sym (toZ-ofZ {w = w32} {z = k .before .before .before .before .before .sized .given .0 .0} (search needs)) })
+          (record {
+            first-is = w .2 .first-is;
+            second-is = w .2 .second-is;
+            size-is = w .2 .size-is ∙ sym (toZ-ofZ {w = w32} {z = k .before .before .before .before .before .sized .given .0 .0} (search needs));
+          })
           (turn a g .holds)),
     )
 
@@ -155,8 +188,10 @@ returns-6 c = λ es done en el n h.
 pub read-constraints-spec : {M : Type 1} → statement M
 read-constraints-spec =
     tie.close
-    (tie.spec Inv-loop μ-loop loop-holds (λ c κs. c .before .before .before .before .pre .0) (λ c. search needs) (λ c. search needs) (λ c κs. search needs) returns
+    (tie.spec Inv-loop μ-loop loop-holds (λ c κs. c .before .before .before .before .pre .0) (λ c. search needs) (λ c. search needs)
+    (λ c κs. search needs) returns
     (λ c κs. omega (arith, below c)) (λ c κs. omega (arith, below (c .before))) (λ c κs. search needs) (λ c κs. search needs) (λ c. search needs)
-    (λ c. search needs) (λ c κs. search needs) returns-2 (λ c κs. search needs) (λ c. search needs) (λ c. search needs) (λ c κs. search needs) returns-3
+    (λ c. search needs) (λ c κs. search needs) returns-2 (λ c κs. search needs) (λ c. search needs)
+    (λ c. search needs) (λ c κs. search needs) returns-3
     skip-tag-requires (λ c. search needs) (λ c. search needs) (λ c κs. search needs) returns-4 note-requires
     (λ c. omega (arith, c .before .before .before .before .before .before .before .before .before .before .before .before .before .before .before .before .before .before .before .before .before .before .before .before .loop-test .taken, c .before .before .before .before .before .before .before .before .before .before .before .before .before .before .before .before .before .before .before .before .before .before .before .before .before .before .before .pre .2)) (λ c. omega (arith, c .before .before .before .before .before .before .before .before .before .before .before .before .before .before .before .before .before .before .before .before .before .before .before .before .loop-test .taken)) loop-again returns-5 returns-6)

@@ -1,5 +1,5 @@
 -- `reader::read_graph` meets its contract: the head, and then the constraints from none on. Assumes nothing.
-use Prim.Native.Nat.{ℕ, _-_, _^_, _<_, _≤_}
+use Prim.Native.Nat.{ℕ, _^_, _<_, _≤_}
 use native.Mathlib.Nat.{sub-zero}
 use native.Mathlib.Omega.{arith}
 use mathlib.Core.Path.{_≡_, refl, sym, ap, _∙_}
@@ -23,12 +23,14 @@ returns : tie.Need-returns
 returns c =
     let t = c .before .enum-told .given in
     let x : readSheet (c .before .before .before .before .before .args .s .now) ≡ refused (c .refusal .result) =
-    sym (c .before .before .before .read-head .ensures .0) ∙ ap (asHead (c .before .before .before .before .before .args .s .now)) (t .1) ∙ ap refused (sym (c .refusal .ensures ∙ ap headRule (t .1))) in
+    sym (c .before .before .before .read-head .ensures .0) ∙ ap (asHead (c .before .before .before .before .before .args .s .now)) (t .1)
+    ∙ ap refused (sym (c .refusal .ensures ∙ ap headRule (t .1))) in
     record { answers = rw x; holds = λ f u v. refused-value (sym x ∙ v) }
 
 read-constraints-requires : tie.Need-read-constraints-requires
 read-constraints-requires c κs =
-    let w = c .before .before .before .before .before .before .read-head .ensures .1 .within _ _ (c .before .before .before .before .front .given .1) in
+    let w = c .before .before .before .before .before .before .read-head .ensures .1 .within _ _
+    (c .before .before .before .before .front .given .1) in
     (w .0, omega arith, w .2)
 
 -- the constraints after the head
@@ -37,18 +39,27 @@ module _ (c : tie.After-read-constraints) where
   head = c .before .before .before .before .before .front .given .0 .0
 
   abbrev rest : List ℕ
-  rest = drop (c .before .before .before .before .before .front .given .0 .1 .0 .at) (c .before .before .before .before .before .before .before .before .before .args .s .now)
+  rest =
+      drop (c .before .before .before .before .before .front .given .0 .1 .0 .at)
+      (c .before .before .before .before .before .before .before .before .before .args .s .now)
 
   abbrev list : Field (List Constraint)
   list = constraints (elementsOf (head .n) (head .lines)) (head .e) [] rest
 
   within : (head .n ≤ 64) × (head .lines < 2 ^ head .n) × (head .e ≤ 200)
-  within = c .before .before .before .before .before .before .before .read-head .ensures .1 .within _ _ (c .before .before .before .before .before .front .given .1)
+  within =
+      c .before .before .before .before .before .before .before .read-head .ensures .1 .within _ _
+      (c .before .before .before .before .before .front .given .1)
 
-  sheet-is : readSheet (c .before .before .before .before .before .before .before .before .before .args .s .now) ≡ factsWith (elementsOf (head .n) (head .lines)) list
-  sheet-is = sym (c .before .before .before .before .before .before .before .read-head .ensures .0) ∙ ap (asHead (c .before .before .before .before .before .before .before .before .before .args .s .now)) (c .before .before .before .before .before .front .given .1)
+  sheet-is : readSheet (c .before .before .before .before .before .before .before .before .before .args .s .now)
+      ≡ factsWith (elementsOf (head .n) (head .lines)) list
+  sheet-is =
+      sym (c .before .before .before .before .before .before .before .read-head .ensures .0)
+      ∙ ap (asHead (c .before .before .before .before .before .before .before .before .before .args .s .now))
+      (c .before .before .before .before .before .front .given .1)
 
-  read : ListRead list (c .read-constraints .result) (c .read-constraints .last .1 .1 .1 .1 .1 .1 .0) (c .read-constraints .last .1 .1 .1 .1 .1 .1 .1 .0)
+  read : ListRead list (c .read-constraints .result) (c .read-constraints .last .1 .1 .1 .1 .1 .1 .0)
+      (c .read-constraints .last .1 .1 .1 .1 .1 .1 .1 .0)
       (c .read-constraints .last .1 .1 .1 .1 .1 .1 .1 .1 .0)
   read =
       let start = c .before .before .before .before .before .before .before .before .before .pre in
@@ -60,7 +71,8 @@ returns-2 : tie.Need-returns-2
 returns-2 c =
     let k = c .before .before .before in
     let t = c .before .enum-told3 .given in
-    rw (sheet-is k, c .refusal2 .ensures ∙ ap outcomeNumber (t .1)) (list-refused (list k) (read k) (elementsOf (head k .n) (head k .lines)) (t .0 .0) (t .1))
+    rw (sheet-is k, c .refusal2 .ensures ∙ ap outcomeNumber (t .1))
+    (list-refused (list k) (read k) (elementsOf (head k .n) (head k .lines)) (t .0 .0) (t .1))
 
 returns-3 : tie.Need-returns-3
 returns-3 c =
@@ -70,6 +82,5 @@ returns-3 c =
 pub read-graph-spec : {M : Type 1} → statement M
 read-graph-spec =
     tie.close
-    (tie.spec
-    (λ c κs. search needs) (λ c. search needs) (λ c. search needs) (λ c κs. search needs) returns read-constraints-requires (λ c. search needs)
-    (λ c. search needs) (λ c κs. search needs) returns-2 returns-3)
+    (tie.spec (λ c κs. search needs) (λ c. search needs) (λ c. search needs) (λ c κs. search needs) returns
+    read-constraints-requires (λ c. search needs) (λ c. search needs) (λ c κs. search needs) returns-2 returns-3)

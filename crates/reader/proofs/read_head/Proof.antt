@@ -1,5 +1,5 @@
 -- `reader::read_head` meets its contract. Assumes nothing.
-use Prim.Native.Nat.{ℕ, _^_, _<_, _≤_}
+use Prim.Native.Nat.{_^_, _<_, _≤_}
 use native.Mathlib.Omega.{arith}
 use mathlib.Core.Bool.{true}
 use mathlib.Core.Path.{_≡_, sym, ap, _∙_}
@@ -13,32 +13,43 @@ use Rattle.sheet.specs.Rules.{elementCount, constraintCount}
 use Rattle.sheet.specs.Rules.Laws.{and-true}
 use Rattle.sheet.specs.Decode.{opening, readConstraints, readSheet}
 use Rattle.sheet.specs.RoundTrip.Blocks.{elements-most, constraints-most}
-use Rattle.graph.specs.declared.Head.{Head}
 use Rattle.reader.specs.Answers.{asOpening, asByte, asKinds}
-use Rattle.reader.proofs.Sheets.{no-head, no-opening, no-element-count, elements-outside, no-kinds, kinds-read, no-constraint-count, many-constraints, constraints-counted}
+use Rattle.reader.proofs.Sheets.{no-head, no-opening, no-element-count, elements-outside, no-kinds, kinds-read, no-constraint-count}
+use Rattle.reader.proofs.Sheets.{many-constraints, constraints-counted}
 use Rattle.reader.proofs.read_head.Statement.{statement}
 use Rattle.reader.proofs.read_head.Tie as tie
 
 returns : tie.Need-returns
-returns c = (sym (no-opening _ (rw (← c .before .before .before .read-opening .ensures, c .refusal .ensures, c .before .enum-told .given .1))), no-head)
+returns c =
+    (sym (no-opening _ (rw (← c .before .before .before .read-opening .ensures, c .refusal .ensures, c .before .enum-told .given .1))), no-head)
 
 opened : (c : tie.After-known-told)
-    → opening (c .before .before .before .before .before .args .s .now) ≡ value openingBytes (drop (c .before .front .given .0 .0 .at) (c .before .before .before .before .before .args .s .now))
-opened c = sym (c .before .before .before .read-opening .ensures) ∙ ap (asOpening (c .before .before .before .before .before .args .s .now)) (c .before .front .given .1)
+    → opening (c .before .before .before .before .before .args .s .now)
+    ≡ value openingBytes (drop (c .before .front .given .0 .0 .at) (c .before .before .before .before .before .args .s .now))
+opened c =
+    sym (c .before .before .before .read-opening .ensures)
+    ∙ ap (asOpening (c .before .before .before .before .before .args .s .now)) (c .before .front .given .1)
 
 returns-2 : tie.Need-returns-2
 returns-2 c = (
-  sym (no-element-count _ (opened (c .before .before .before .before)) (rw (← c .before .before .before .read-byte .ensures, c .refusal2 .ensures, c .before .enum-told2 .given .1))),
+  sym (no-element-count _ (opened (c .before .before .before .before))
+      (rw (← c .before .before .before .read-byte .ensures, c .refusal2 .ensures, c .before .enum-told2 .given .1))),
   no-head,
 )
 
 counted : (c : tie.After-known-told2)
-    → byte (drop (c .before .before .before .before .before .front .given .0 .0 .at) (c .before .before .before .before .before .before .before .before .before .args .s .now)) ≡ value (c .before .count .given .0 .0) (drop (c .before .count .given .0 .1 .0 .at) (c .before .before .before .before .before .before .before .before .before .args .s .now))
-counted c = sym (c .before .before .before .read-byte .ensures) ∙ ap (asByte (c .before .before .before .before .before .before .before .before .before .args .s .now)) (c .before .count .given .1)
+    → byte (drop (c .before .before .before .before .before .front .given .0 .0 .at)
+    (c .before .before .before .before .before .before .before .before .before .args .s .now))
+    ≡ value (c .before .count .given .0 .0)
+    (drop (c .before .count .given .0 .1 .0 .at) (c .before .before .before .before .before .before .before .before .before .args .s .now))
+counted c =
+    sym (c .before .before .before .read-byte .ensures)
+    ∙ ap (asByte (c .before .before .before .before .before .before .before .before .before .args .s .now)) (c .before .count .given .1)
 
 returns-3 : tie.Need-returns-3
 returns-3 c = (
-  sym (elements-outside _ (opened (c .before .before .before .before .before .before)) (counted (c .before .before)) (sym (c .before .element-count .ensures) ∙ not-true (c .before .element-count .result) (c .if1 .taken))),
+  sym (elements-outside _ (opened (c .before .before .before .before .before .before)) (counted (c .before .before))
+      (sym (c .before .element-count .ensures) ∙ not-true (c .before .element-count .result) (c .if1 .taken))),
   no-head,
 )
 
@@ -54,21 +65,31 @@ read-kinds-requires c κs =
 returns-4 : tie.Need-returns-4
 returns-4 c = (
   sym
-      (no-kinds _ (opened (c .before .before .before .before .before .before .before .before .before .before)) (counted (c .before .before .before .before .before .before)) (enough (c .before .before .before .before)) (rw (← c .before .before .before .read-kinds .ensures .0, c .refusal3 .ensures, c .before .enum-told3 .given .1))),
+      (no-kinds _ (opened (c .before .before .before .before .before .before .before .before .before .before))
+      (counted (c .before .before .before .before .before .before)) (enough (c .before .before .before .before))
+      (rw (← c .before .before .before .read-kinds .ensures .0, c .refusal3 .ensures, c .before .enum-told3 .given .1))),
   no-head,
 )
 
 -- what follows the kinds
 module _ (c : tie.After-known-told3) where
-  rest : readSheet (c .before .before .before .before .before .before .before .before .before .before .before .before .before .before .before .args .s .now)
-      ≡ readConstraints (elementsOf (c .before .before .before .before .before .before .before .count .given .0 .0) (c .before .kinds .given .0 .0)) (drop (c .before .kinds .given .0 .1 .0 .at) (c .before .before .before .before .before .before .before .before .before .before .before .before .before .before .before .args .s .now))
+  rest : readSheet
+      (c .before .before .before .before .before .before .before .before .before .before .before .before .before .before .before .args .s .now)
+      ≡ readConstraints (elementsOf (c .before .before .before .before .before .before .before .count .given .0 .0) (c .before .kinds .given .0 .0))
+      (drop (c .before .kinds .given .0 .1 .0 .at)
+      (c .before .before .before .before .before .before .before .before .before .before .before .before .before .before .before .args .s .now))
   rest =
-      kinds-read _ (opened (c .before .before .before .before .before .before .before .before .before .before)) (counted (c .before .before .before .before .before .before)) (enough (c .before .before .before .before))
-      (sym (c .before .before .before .read-kinds .ensures .0) ∙ ap (asKinds (c .before .before .before .before .before .before .before .count .given .0 .0) (c .before .before .before .before .before .before .before .before .before .before .before .before .before .before .before .args .s .now)) (c .before .kinds .given .1))
+      kinds-read _ (opened (c .before .before .before .before .before .before .before .before .before .before))
+      (counted (c .before .before .before .before .before .before)) (enough (c .before .before .before .before))
+      (sym (c .before .before .before .read-kinds .ensures .0)
+      ∙ ap (asKinds (c .before .before .before .before .before .before .before .count .given .0 .0)
+      (c .before .before .before .before .before .before .before .before .before .before .before .before .before .before .before .args .s .now))
+      (c .before .kinds .given .1))
 
 returns-5 : tie.Need-returns-5
 returns-5 c = (
-  sym (rest (c .before .before .before .before) ∙ no-constraint-count _ _ (rw (← c .before .before .before .read-byte2 .ensures, c .refusal4 .ensures, c .before .enum-told4 .given .1))),
+  sym (rest (c .before .before .before .before)
+      ∙ no-constraint-count _ _ (rw (← c .before .before .before .read-byte2 .ensures, c .refusal4 .ensures, c .before .enum-told4 .given .1))),
   no-head,
 )
 
@@ -80,7 +101,8 @@ returns-6 : tie.Need-returns-6
 returns-6 c = (
   sym
       (rest (c .before .before .before .before .before .before)
-      ∙ many-constraints _ _ (listed (c .before .before)) (sym (c .before .constraint-count .ensures) ∙ not-true (c .before .constraint-count .result) (c .if2 .taken))),
+      ∙ many-constraints _ _ (listed (c .before .before))
+      (sym (c .before .constraint-count .ensures) ∙ not-true (c .before .constraint-count .result) (c .if2 .taken))),
   no-head,
 )
 
@@ -91,8 +113,12 @@ returns-7 c =
     let n = c .before .before .before .before .before .before .before .before .before .before .before .before .before .count .given .0 .0 in
     let m = c .before .before .before .before .before .before .before .kinds .given .0 .0 in
     let e = c .before .before .before .listed .given .0 .0 in
-    let all : (n ≤ 64) × (m < 2 ^ n) × (e ≤ 200) =
-    (elements-most n (enough (c .before .before .before .before .before .before .before .before .before .before)), c .before .before .before .before .before .before .before .before .before .read-kinds .ensures .1 .below _ _ (c .before .before .before .before .before .before .before .kinds .given .1), constraints-most e few) in (
+    let all : (n ≤ 64) × (m < 2 ^ n) × (e ≤ 200) = (
+      elements-most n (enough (c .before .before .before .before .before .before .before .before .before .before)),
+      c .before .before .before .before .before .before .before .before .before .read-kinds .ensures .1 .below _ _
+          (c .before .before .before .before .before .before .before .kinds .given .1),
+      constraints-most e few,
+    ) in (
       sym (rest (c .before .before .before .before .before .before) ∙ constraints-counted _ _ (listed (c .before .before)) few),
       record { within = λ h d is. let same : record { n = n; e = e; lines = m } ≡ h = cc in rw (← same) all },
     )
@@ -100,8 +126,8 @@ returns-7 c =
 pub read-head-spec : {M : Type 1} → statement M
 read-head-spec =
     tie.close
-    (tie.spec
-    (λ c κs. search needs) (λ c. search needs) (λ c. search needs) (λ c κs. search needs) returns (λ c κs. search needs) (λ c. search needs)
-    (λ c. search needs) (λ c κs. search needs) returns-2 (λ c. search needs) (λ c κs. search needs) returns-3 read-kinds-requires (λ c. search needs)
-    (λ c. search needs) (λ c κs. search needs) returns-4 (λ c κs. search needs) (λ c. search needs) (λ c. search needs) (λ c κs. search needs) returns-5
+    (tie.spec (λ c κs. search needs) (λ c. search needs) (λ c. search needs) (λ c κs. search needs) returns
+    (λ c κs. search needs) (λ c. search needs) (λ c. search needs) (λ c κs. search needs) returns-2 (λ c. search needs)
+    (λ c κs. search needs) returns-3 read-kinds-requires (λ c. search needs) (λ c. search needs) (λ c κs. search needs)
+    returns-4 (λ c κs. search needs) (λ c. search needs) (λ c. search needs) (λ c κs. search needs) returns-5
     (λ c. search needs) (λ c κs. search needs) returns-6 returns-7)

@@ -8,21 +8,6 @@ use Rattle.sheet.specs.Decode.{readKinds}
 use Rattle.reader.proofs.read_kinds.Statement.{statement}
 use Rattle.reader.proofs.read_kinds.Tie as tie
 
-add-read-number : tie.Need-add-read-number
-add-read-number c = search needs
-
-read-number-requires : tie.Need-read-number-requires
-read-number-requires c κs = search needs
-
-enum-known-number : tie.Need-enum-known-number
-enum-known-number c = search needs
-
-enum-told : tie.Need-enum-told
-enum-told c = search needs
-
-refusal-requires : tie.Need-refusal-requires
-refusal-requires c κs = search needs
-
 returns : tie.Need-returns
 unfolding readKinds
 returns c = (
@@ -30,13 +15,15 @@ returns c = (
   record { below = λ v d e. let z : _≡_ {A = ℕ} 0 1 = cc in omega arith },
 )
 
-kind-bits-requires : tie.Need-kind-bits-requires
-kind-bits-requires c κs = search needs
-
 returns-2 : tie.Need-returns-2
 unfolding readKinds
 returns-2 c = (
-  rw (← c .before .before .before .before .before .read-number .ensures .0, c .before .before .before .number .given .1, ← c .before .kind-bits .ensures, not-true (c .before .kind-bits .result) (c .if1 .taken)),
+  rw (
+    ← c .before .before .before .before .before .read-number .ensures .0,
+    c .before .before .before .number .given .1,
+    ← c .before .kind-bits .ensures,
+    not-true (c .before .kind-bits .result) (c .if1 .taken),
+  ),
   record { below = λ v d e. let z : _≡_ {A = ℕ} 0 1 = cc in omega arith },
 )
 
@@ -44,20 +31,20 @@ returns-3 : tie.Need-returns-3
 unfolding readKinds
 returns-3 c =
     let h = not-false (c .before .kind-bits .result) (c .if1 .left) in (
-      rw (← c .before .before .before .before .before .read-number .ensures .0, c .before .before .before .number .given .1, ← c .before .kind-bits .ensures, h),
-      record { below = λ v d e. let q : c .before .before .before .number .given .0 .0 ≡ v = cc in rw (← q) (ltb-true _ _ (sym (c .before .kind-bits .ensures) ∙ h)) },
+      rw (
+        ← c .before .before .before .before .before .read-number .ensures .0,
+        c .before .before .before .number .given .1,
+        ← c .before .kind-bits .ensures,
+        h,
+      ),
+      record {
+        below = λ v d e. let q : c .before .before .before .number .given .0 .0 ≡ v = cc in
+            rw (← q) (ltb-true _ _ (sym (c .before .kind-bits .ensures) ∙ h));
+      },
     )
 
 pub read-kinds-spec : {M : Type 1} → statement M
 read-kinds-spec =
     tie.close
-    (tie.spec
-    add-read-number
-    read-number-requires
-    enum-known-number
-    enum-told
-    refusal-requires
-    returns
-    kind-bits-requires
-    returns-2
-    returns-3)
+    (tie.spec (λ c. search needs) (λ c κs. search needs) (λ c. search needs) (λ c. search needs) (λ c κs. search needs)
+    returns (λ c κs. search needs) returns-2 returns-3)

@@ -1,6 +1,5 @@
 -- `reader::read_map` meets its contract. Assumes nothing.
-use Prim.Native.Nat.{ℕ, _<_}
-use native.Mathlib.Omega.{arith}
+use Prim.Native.Nat.{_<_}
 use mathlib.Core.Path.{_≡_, sym, _∙_}
 use borrow.Author.Tests.{ltb-true, not-true, not-false}
 use borrow.Author.Needs.{needs}
@@ -18,7 +17,12 @@ returns c =
 returns-2 : tie.Need-returns-2
 returns-2 c =
     let r = c .before .before .before .before .before .read-byte in (
-      rw (← r .ensures, c .before .before .before .third .given .1, ← c .before .bit-map .ensures, not-true (c .before .bit-map .result) (c .if1 .taken)),
+      rw (
+        ← r .ensures,
+        c .before .before .before .third .given .1,
+        ← c .before .bit-map .ensures,
+        not-true (c .before .bit-map .result) (c .if1 .taken),
+      ),
       no-map,
     )
 

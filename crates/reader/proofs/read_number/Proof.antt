@@ -25,24 +25,40 @@ returns c =
       record { below = λ v d e. let z : _≡_ {A = ℕ} 0 1 = cc in omega arith },
     )
 
-room : (c : tie.Else1 Inv-loop μ-loop) → c .before .before .before .args .k ≤ length (c .before .before .before .args .s .now) - c .before .before .before .args .c .at
+room : (c : tie.Else1 Inv-loop μ-loop)
+    → c .before .before .before .args .k ≤ length (c .before .before .before .args .s .now) - c .before .before .before .args .c .at
 room c =
     let b = c .before .before .before in
-    omega (arith, leb-true (b .args .c .at + b .args .k) (length (b .args .s .now)) (sym (c .before .enough .ensures) ∙ not-false (c .before .enough .result) (c .if1 .left)))
+    omega (
+      arith,
+      leb-true (b .args .c .at + b .args .k) (length (b .args .s .now))
+          (sym (c .before .enough .ensures) ∙ not-false (c .before .enough .result) (c .if1 .left)),
+    )
 
 loop-holds : tie.Need-loop-holds Inv-loop μ-loop
-loop-holds c = (omega arith, sym (number-none (c .before .before .before .args .s .now) (c .before .before .before .args .c .at) (c .before .before .before .args .k) (room c)), omega (arith, sub-self (c .before .before .before .args .k), ap (λ (m : ℕ). 256 ^ m) (sub-self (c .before .before .before .args .k))))
-
-sub-i : tie.Need-sub-i Inv-loop μ-loop
-sub-i c = search needs
+loop-holds c = (
+  omega arith,
+  sym (number-none (c .before .before .before .args .s .now) (c .before .before .before .args .c .at) (c .before .before .before .args .k)
+      (room c)),
+  omega (arith, sub-self (c .before .before .before .args .k), ap (λ (m : ℕ). 256 ^ m) (sub-self (c .before .before .before .args .k))),
+)
 
 byte-below : (c : tie.After-wide Inv-loop μ-loop) → c .wide .result < 256
-byte-below c = omega (arith, c .before .shared-slice-known2 .given (c .before .before .before .before .before .before .before .args .c .at + (c .before .before .before .loop .i - 1)))
+byte-below c =
+    omega (
+      arith,
+      c .before .shared-slice-known2 .given
+          (c .before .before .before .before .before .before .before .args .c .at + (c .before .before .before .loop .i - 1)),
+    )
 
 mul-u : tie.Need-mul-u Inv-loop μ-loop
 mul-u c =
     let a = c .before .loop in
-    omega (arith, below-most (c .before .before .before .before .before .args .k) (a .i) (a .u) 0 (c .loop-test .taken) (a .inv .0) (a .inv .2) (omega arith) (c .before .before .before .before .before .pre .1))
+    omega (
+      arith,
+      below-most (c .before .before .before .before .before .args .k) (a .i) (a .u) 0 (c .loop-test .taken) (a .inv .0) (a .inv .2) (omega arith)
+          (c .before .before .before .before .before .pre .1),
+    )
 
 add-wide : tie.Need-add-wide Inv-loop μ-loop
 add-wide c = omega (arith, room (c .before .before))
@@ -50,24 +66,26 @@ add-wide c = omega (arith, room (c .before .before))
 shared-slice-read-wide : tie.Need-shared-slice-read-wide Inv-loop μ-loop
 shared-slice-read-wide c = omega (arith, room (c .before .before .before))
 
-wide-requires : tie.Need-wide-requires Inv-loop μ-loop
-wide-requires c κs = search needs
-
 add-u : tie.Need-add-u Inv-loop μ-loop
 add-u c =
     let a = c .before .before .before .loop in
-    omega (arith, below-most (c .before .before .before .before .before .before .before .args .k) (a .i) (a .u) (c .wide .result) (c .before .before .loop-test .taken) (a .inv .0) (a .inv .2) (byte-below c) (c .before .before .before .before .before .before .before .pre .1))
-
-loop-less : tie.Need-loop-less Inv-loop μ-loop
-loop-less c = search needs
+    omega (
+      arith,
+      below-most (c .before .before .before .before .before .before .before .args .k) (a .i) (a .u) (c .wide .result)
+          (c .before .before .loop-test .taken) (a .inv .0) (a .inv .2) (byte-below c)
+          (c .before .before .before .before .before .before .before .pre .1),
+    )
 
 loop-again : tie.Need-loop-again Inv-loop μ-loop
 loop-again c =
     let a = c .before .before .before .loop in
     let b = c .before .before .before .before in (
       omega arith,
-      rw (a .inv .1, c .wide .ensures) refl ∙ sym (number-more (b .before .before .before .args .s .now) (b .before .before .before .args .c .at) (b .before .before .before .args .k) (a .i) (c .before .before .loop-test .taken) (a .inv .0) (room b)),
-      below-more (b .before .before .before .args .k) (a .i) (a .u) (c .wide .result) (c .before .before .loop-test .taken) (a .inv .0) (a .inv .2) (byte-below c),
+      rw (a .inv .1, c .wide .ensures) refl
+          ∙ sym (number-more (b .before .before .before .args .s .now) (b .before .before .before .args .c .at) (b .before .before .before .args .k)
+          (a .i) (c .before .before .loop-test .taken) (a .inv .0) (room b)),
+      below-more (b .before .before .before .args .k) (a .i) (a .u) (c .wide .result)
+          (c .before .before .loop-test .taken) (a .inv .0) (a .inv .2) (byte-below c),
     )
 
 add-t8 : tie.Need-add-t8 Inv-loop μ-loop
@@ -80,7 +98,8 @@ returns-2 c =
     let g = c .before .before .before .before .before .args in
     let z : a .i ≡ 0 = omega arith in
     let w : g .k - a .i ≡ g .k = omega arith in (
-      ap (λ (m : ℕ). value m (drop (g .c .at + g .k) (g .s .now))) (a .inv .1 ∙ ap (λ (m : ℕ). number (drop m (take (g .k) (drop (g .c .at) (g .s .now))))) z)
+      ap (λ (m : ℕ). value m (drop (g .c .at + g .k) (g .s .now)))
+          (a .inv .1 ∙ ap (λ (m : ℕ). number (drop m (take (g .k) (drop (g .c .at) (g .s .now))))) z)
           ∙ sym (field-whole (g .s .now) (g .c .at) (g .k) (room b)),
       record { below = λ v d e. let q : a .u ≡ v = cc in omega (arith, ap (λ (m : ℕ). 256 ^ m) w) },
     )
@@ -88,19 +107,5 @@ returns-2 c =
 pub read-number-spec : {M : Type 1} → statement M
 read-number-spec =
     tie.close
-    (tie.spec
-    Inv-loop
-    μ-loop
-    (λ c κs. search needs)
-    returns
-    loop-holds
-    sub-i
-    mul-u
-    add-wide
-    shared-slice-read-wide
-    wide-requires
-    add-u
-    loop-less
-    loop-again
-    add-t8
-    returns-2)
+    (tie.spec Inv-loop μ-loop (λ c κs. search needs) returns loop-holds (λ c. search needs) mul-u add-wide
+    shared-slice-read-wide (λ c κs. search needs) add-u (λ c. search needs) loop-again add-t8 returns-2)

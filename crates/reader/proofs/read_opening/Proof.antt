@@ -4,9 +4,6 @@ use borrow.Author.Tests.{not-true, not-false}
 use Rattle.reader.proofs.read_opening.Statement.{statement}
 use Rattle.reader.proofs.read_opening.Tie as tie
 
-opens-requires : tie.Need-opens-requires
-opens-requires c κs = search needs
-
 returns : tie.Need-returns
 returns c = rw (← c .before .opens .ensures, not-true (c .before .opens .result) (c .if1 .taken))
 
@@ -14,4 +11,4 @@ returns-2 : tie.Need-returns-2
 returns-2 c = rw (← c .before .opens .ensures, not-false (c .before .opens .result) (c .if1 .left))
 
 pub read-opening-spec : {M : Type 1} → statement M
-read-opening-spec = tie.close (tie.spec opens-requires returns returns-2)
+read-opening-spec = tie.close (tie.spec (λ c κs. search needs) returns returns-2)

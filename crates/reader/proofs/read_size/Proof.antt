@@ -34,15 +34,21 @@ signed-requires c κs = c .before .before .before .read-number .ensures .1 .belo
 -- the size that is read, and whether it lies in its range
 module _ (c : tie.After-size-range) where
   stands : c .before .before .before .before .before .before .before .before .args .stands ≡ true
-  stands = not-false (c .before .before .before .before .before .before .before .before .args .stands) (c .before .before .before .before .before .before .if1 .left)
+  stands =
+      not-false (c .before .before .before .before .before .before .before .before .args .stands)
+      (c .before .before .before .before .before .before .if1 .left)
 
-  number-is : field 4 (drop (c .before .before .before .before .before .before .before .before .args .c .at) (c .before .before .before .before .before .before .before .before .args .s .now))
-      ≡ value (c .before .before .before .number .given .0 .0) (drop (c .before .before .before .number .given .0 .1 .0 .at) (c .before .before .before .before .before .before .before .before .args .s .now))
+  number-is : field 4 (drop (c .before .before .before .before .before .before .before .before .args .c .at)
+      (c .before .before .before .before .before .before .before .before .args .s .now))
+      ≡ value (c .before .before .before .number .given .0 .0)
+      (drop (c .before .before .before .number .given .0 .1 .0 .at) (c .before .before .before .before .before .before .before .before .args .s .now))
   number-is =
       sym (c .before .before .before .before .before .read-number .ensures .0)
       ∙ ap (asNumber (c .before .before .before .before .before .before .before .before .args .s .now)) (c .before .before .before .number .given .1)
 
-  range : c .size-range .result ≡ sizeRange (c .before .before .before .before .before .before .before .before .args .p) (signed32 (c .before .before .before .number .given .0 .0))
+  range : c .size-range .result
+      ≡ sizeRange (c .before .before .before .before .before .before .before .before .args .p)
+      (signed32 (c .before .before .before .number .given .0 .0))
   range =
       rw (toZ-ofZ {w = w32} {z = c .before .signed .result} (search needs), c .before .signed .ensures) at (c .size-range .ensures)
 
@@ -66,6 +72,5 @@ returns-4 c =
 pub read-size-spec : {M : Type 1} → statement M
 read-size-spec =
     tie.close
-    (tie.spec
-    returns (λ c κs. search needs) (λ c. search needs) (λ c. search needs) (λ c κs. search needs) returns-2 signed-requires (λ c κs. search needs)
-    returns-3 returns-4)
+    (tie.spec returns (λ c κs. search needs) (λ c. search needs) (λ c. search needs) (λ c κs. search needs) returns-2
+    signed-requires (λ c κs. search needs) returns-3 returns-4)

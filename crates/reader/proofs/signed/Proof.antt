@@ -19,12 +19,6 @@ negative u a b =
 fits : (u : ℕ) → 2 ^ 31 ≤ u → u < 2 ^ 32 → SFits w32 (negsuc (2 ^ 32 - suc u))
 fits u a b = record { sfits = omega arith }
 
-cast-result : tie.Need-cast-result
-cast-result c = search needs
-
-cast-result-2 : tie.Need-cast-result-2
-cast-result-2 c = search needs
-
 add-result : tie.Need-add-result
 add-result c =
     rw (negative (c .before .args .u) (c .if1 .left) (c .before .pre)) (fits (c .before .args .u) (c .if1 .left) (c .before .pre))
@@ -34,7 +28,11 @@ returns c = rw (lt-ltb _ _ (c .if1 .taken))
 
 returns-2 : tie.Need-returns-2
 returns-2 c =
-    rw (negative (c .before .args .u) (c .if1 .left) (c .before .pre), toZ-ofZ (fits (c .before .args .u) (c .if1 .left) (c .before .pre)), le-ltb _ _ (c .if1 .left))
+    rw (
+      negative (c .before .args .u) (c .if1 .left) (c .before .pre),
+      toZ-ofZ (fits (c .before .args .u) (c .if1 .left) (c .before .pre)),
+      le-ltb _ _ (c .if1 .left),
+    )
 
 pub signed-spec : {M : Type 1} → statement M
-signed-spec = tie.close (tie.spec cast-result cast-result-2 add-result returns returns-2)
+signed-spec = tie.close (tie.spec (λ c. search needs) (λ c. search needs) add-result returns returns-2)

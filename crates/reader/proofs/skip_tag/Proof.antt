@@ -26,19 +26,10 @@ module _ (s : List ℕ) (at : ℕ) where
   whole (suc zero) b h = rw (field-whole s at 2 h)
   whole (suc (suc bit)) b h = absurd (omega arith)
 
-mul-width : tie.Need-mul-width
-mul-width c = search needs
-
-bytes-left-requires : tie.Need-bytes-left-requires
-bytes-left-requires c κs = search needs
-
 returns : tie.Need-returns
 returns c =
     let g = c .before .before .before in
     sym (cut (g .args .s .now) (g .args .c .at) (g .args .bit) (g .pre) (omega arith))
-
-add-t6 : tie.Need-add-t6
-add-t6 c = search needs
 
 returns-2 : tie.Need-returns-2
 returns-2 c =
@@ -46,4 +37,4 @@ returns-2 c =
     sym (whole (g .args .s .now) (g .args .c .at) (g .args .bit) (g .pre) (omega arith))
 
 pub skip-tag-spec : {M : Type 1} → statement M
-skip-tag-spec = tie.close (tie.spec mul-width bytes-left-requires returns add-t6 returns-2)
+skip-tag-spec = tie.close (tie.spec (λ c. search needs) (λ c κs. search needs) returns (λ c. search needs) returns-2)

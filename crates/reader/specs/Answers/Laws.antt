@@ -3,7 +3,6 @@ use Prim.Native.Nat.{ℕ}
 use native.Mathlib.Omega.{arith}
 use mathlib.Core.Path.{_≡_, refl, sym, ap, _∙_}
 use mathlib.Core.List.{List}
-use lib.IntN.{ℤ}
 use Rattle.sheet.specs.Facts.{Facts}
 use Rattle.sheet.specs.Field.{Field, value, refused}
 use Rattle.graph.specs.declared.Head.{Head}
@@ -14,7 +13,8 @@ use Rattle.reader.specs.Answers.{asGraph}
 
 -- one that is refused has the number of the rule
 pub graph-refused : (x : Field Facts) (r : GraphRead) (k : ℕ) → r ≡ asGraph x → r ≡ graph.Refused k → x ≡ refused k
-graph-refused (value f s) r k e o = let never : graph.Value (headOf f) ≡ graph.Refused k = sym e ∙ o in let z : _≡_ {A = ℕ} 0 1 = cc in absurd (omega arith)
+graph-refused (value f s) r k e o =
+    let never : graph.Value (headOf f) ≡ graph.Refused k = sym e ∙ o in let z : _≡_ {A = ℕ} 0 1 = cc in absurd (omega arith)
 graph-refused (refused j) r k e o =
     let same : graph.Refused j ≡ graph.Refused k = sym e ∙ o in
     let is : j ≡ k = cc in ap refused is

@@ -21,38 +21,30 @@ long c = omega (arith, c .pre)
 loop-holds : tie.Need-loop-holds Inv-loop μ-loop
 loop-holds c = (omega arith, start _)
 
-mul-put-slot-line : tie.Need-mul-put-slot-line Inv-loop μ-loop
-mul-put-slot-line c = omega arith
-
-element-copy-out-put-slot-line : tie.Need-element-copy-out-put-slot-line Inv-loop μ-loop
-element-copy-out-put-slot-line c = omega arith
-
 put-slot-line-requires : tie.Need-put-slot-line-requires Inv-loop μ-loop
 put-slot-line-requires c κs =
     let s = c .before .before .before .before .before in
     let l = c .before .before .before .loop in (
       omega arith,
-      fits (slotLine _ _) _ (as-rest (clusters-next (s .args .slots .now) (s .args .used) (l .c) (long s) (c .before .before .loop-test .taken)) (l .inv .1)) (s .pre .2),
+      fits (slotLine _ _) _
+          (as-rest (clusters-next (s .args .slots .now) (s .args .used) (l .c) (long s) (c .before .before .loop-test .taken)) (l .inv .1))
+          (s .pre .2),
     )
-
-add-c : tie.Need-add-c Inv-loop μ-loop
-add-c c = omega arith
-
-loop-less : tie.Need-loop-less Inv-loop μ-loop
-loop-less c = omega arith
 
 loop-again : tie.Need-loop-again Inv-loop μ-loop
 loop-again c =
     let s = c .before .before .before .before .before .before .before .before in
     let l = c .before .before .before .before .before .before .loop in (
       omega arith,
-      as-rest (clusters-next (s .args .slots .now) (s .args .used) (l .c) (long s) (c .before .before .before .before .before .loop-test .taken)) (l .inv .1) step c .before .before .put-slot-line .ensures,
+      as-rest (clusters-next (s .args .slots .now) (s .args .used) (l .c) (long s) (c .before .before .before .before .before .loop-test .taken))
+          (l .inv .1) step c .before .before .put-slot-line .ensures,
     )
 
 same-length : tie.Need-same-length Inv-loop μ-loop
 same-length c =
     let entry = c .before .before .before in
-    done (as-rest (clusters-none (entry .args .slots .now) (entry .args .used) (c .before .loop .c) (c .loop-test .left)) (c .before .loop .inv .1)) .length-is
+    done (as-rest (clusters-none (entry .args .slots .now) (entry .args .used) (c .before .loop .c) (c .loop-test .left))
+    (c .before .loop .inv .1)) .length-is
 
 returns : tie.Need-returns Inv-loop μ-loop
 returns c =
@@ -62,15 +54,5 @@ returns c =
 pub put-clusters-spec : {M : Type 1} → statement M
 put-clusters-spec =
     tie.close
-    (tie.spec
-    Inv-loop
-    μ-loop
-    loop-holds
-    mul-put-slot-line
-    element-copy-out-put-slot-line
-    put-slot-line-requires
-    add-c
-    loop-less
-    loop-again
-    same-length
-    returns)
+    (tie.spec Inv-loop μ-loop loop-holds (λ c. omega arith) (λ c. omega arith) put-slot-line-requires (λ c. omega arith)
+    (λ c. omega arith) loop-again same-length returns)

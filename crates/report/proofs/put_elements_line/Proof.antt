@@ -7,20 +7,11 @@ use Rattle.report.proofs.Going.{start, _step_, done, fits}
 use Rattle.report.proofs.put_elements_line.Statement.{statement}
 use Rattle.report.proofs.put_elements_line.Tie as tie
 
-slice-aggregate-put-text : tie.Need-slice-aggregate-put-text
-slice-aggregate-put-text c = search needs
-
-put-text-requires : tie.Need-put-text-requires
-put-text-requires c κs = search needs
-
 put-number-requires : tie.Need-put-number-requires
 put-number-requires c κs =
     let at-text = c .before .before .before in
     let entry = at-text .before .before .before .before in
     (entry .pre .0, fits (32 ∷ decimal _) _ (start (elementsLine _ _) step at-text .put-text .ensures) (entry .pre .2))
-
-slice-aggregate-put-text-2 : tie.Need-slice-aggregate-put-text-2
-slice-aggregate-put-text-2 c = search needs
 
 put-text-requires-2 : tie.Need-put-text-requires-2
 put-text-requires-2 c κs =
@@ -34,8 +25,12 @@ put-number-requires-2 c κs =
     let at-text2 = c .before .before .before in
     let at-number = at-text2 .before .before .before .before .before in
     let at-text = at-number .before .before .before .before in
-    let entry = at-text .before .before .before .before in
-    (entry .pre .1, fits (32 ∷ decimal _) _ (start (elementsLine _ _) step at-text .put-text .ensures step at-number .put-number .ensures step at-text2 .put-text2 .ensures) (entry .pre .2))
+    let entry = at-text .before .before .before .before in (
+      entry .pre .1,
+      fits (32 ∷ decimal _) _
+          (start (elementsLine _ _) step at-text .put-text .ensures step at-number .put-number .ensures step at-text2 .put-text2 .ensures)
+          (entry .pre .2),
+    )
 
 put-byte-requires : tie.Need-put-byte-requires
 put-byte-requires c κs =
@@ -44,10 +39,8 @@ put-byte-requires c κs =
     let at-number = at-text2 .before .before .before .before .before in
     let at-text = at-number .before .before .before .before in
     let entry = at-text .before .before .before .before in
-    fits (10 ∷ []) _ (start (elementsLine _ _) step at-text .put-text .ensures step at-number .put-number .ensures step at-text2 .put-text2 .ensures step at-number2 .put-number2 .ensures) (entry .pre .2)
-
-same-length : tie.Need-same-length
-same-length c = search needs
+    fits (10 ∷ []) _ (start (elementsLine _ _) step at-text .put-text .ensures step at-number .put-number .ensures step at-text2 .put-text2 .ensures
+    step at-number2 .put-number2 .ensures) (entry .pre .2)
 
 returns : tie.Need-returns
 returns c =
@@ -56,18 +49,11 @@ returns c =
     let at-text2 = at-number2 .before .before .before .before in
     let at-number = at-text2 .before .before .before .before .before in
     let at-text = at-number .before .before .before .before in
-    done (start (elementsLine _ _) step at-text .put-text .ensures step at-number .put-number .ensures step at-text2 .put-text2 .ensures step at-number2 .put-number2 .ensures step at-byte .put-byte .ensures)
+    done (start (elementsLine _ _) step at-text .put-text .ensures step at-number .put-number .ensures step at-text2 .put-text2 .ensures
+    step at-number2 .put-number2 .ensures step at-byte .put-byte .ensures)
 
 pub put-elements-line-spec : {M : Type 1} → statement M
 put-elements-line-spec =
     tie.close
-    (tie.spec
-    slice-aggregate-put-text
-    put-text-requires
-    put-number-requires
-    slice-aggregate-put-text-2
-    put-text-requires-2
-    put-number-requires-2
-    put-byte-requires
-    same-length
-    returns)
+    (tie.spec (λ c. search needs) (λ c κs. search needs) put-number-requires (λ c. search needs) put-text-requires-2
+    put-number-requires-2 put-byte-requires (λ c. search needs) returns)

@@ -8,44 +8,17 @@ use Rattle.report.specs.Pieces.{kindWords}
 use Rattle.report.proofs.put_kind.Statement.{statement}
 use Rattle.report.proofs.put_kind.Tie as tie
 
-enum-told : tie.Need-enum-told
-enum-told c = search needs
-
-slice-aggregate-put-text : tie.Need-slice-aggregate-put-text
-slice-aggregate-put-text c = search needs
-
 put-text-requires : tie.Need-put-text-requires
 put-text-requires c κs = omega (arith, ap length (ap kindWords (c .before .before .enum-told .given .1)))
-
-enum-told-2 : tie.Need-enum-told-2
-enum-told-2 c = search needs
-
-slice-aggregate-put-text-2 : tie.Need-slice-aggregate-put-text-2
-slice-aggregate-put-text-2 c = search needs
 
 put-text-requires-2 : tie.Need-put-text-requires-2
 put-text-requires-2 c κs = omega (arith, ap length (ap kindWords (c .before .before .enum-told2 .given .1)))
 
-enum-told-3 : tie.Need-enum-told-3
-enum-told-3 c = search needs
-
-slice-aggregate-put-text-3 : tie.Need-slice-aggregate-put-text-3
-slice-aggregate-put-text-3 c = search needs
-
 put-text-requires-3 : tie.Need-put-text-requires-3
 put-text-requires-3 c κs = omega (arith, ap length (ap kindWords (c .before .before .enum-told3 .given .1)))
 
-enum-told-4 : tie.Need-enum-told-4
-enum-told-4 c = search needs
-
-slice-aggregate-put-text-4 : tie.Need-slice-aggregate-put-text-4
-slice-aggregate-put-text-4 c = search needs
-
 put-text-requires-4 : tie.Need-put-text-requires-4
 put-text-requires-4 c κs = omega (arith, ap length (ap kindWords (c .before .before .enum-told4 .given .1)))
-
-same-length : tie.Need-same-length
-same-length c = search needs
 
 returns : tie.Need-returns
 returns c =
@@ -53,26 +26,17 @@ returns c =
     let at-enum-told = at-text .before .before .before in
     put-as (sym (ap kindWords (at-enum-told .enum-told .given .1))) (at-text .put-text .ensures)
 
-same-length-2 : tie.Need-same-length-2
-same-length-2 c = search needs
-
 returns-2 : tie.Need-returns-2
 returns-2 c =
     let at-text2 = c .before .before in
     let at-enum-told2 = at-text2 .before .before .before in
     put-as (sym (ap kindWords (at-enum-told2 .enum-told2 .given .1))) (at-text2 .put-text2 .ensures)
 
-same-length-3 : tie.Need-same-length-3
-same-length-3 c = search needs
-
 returns-3 : tie.Need-returns-3
 returns-3 c =
     let at-text3 = c .before .before in
     let at-enum-told3 = at-text3 .before .before .before in
     put-as (sym (ap kindWords (at-enum-told3 .enum-told3 .given .1))) (at-text3 .put-text3 .ensures)
-
-same-length-4 : tie.Need-same-length-4
-same-length-4 c = search needs
 
 returns-4 : tie.Need-returns-4
 returns-4 c =
@@ -83,24 +47,7 @@ returns-4 c =
 pub put-kind-spec : {M : Type 1} → statement M
 put-kind-spec =
     tie.close
-    (tie.spec
-    enum-told
-    slice-aggregate-put-text
-    put-text-requires
-    enum-told-2
-    slice-aggregate-put-text-2
-    put-text-requires-2
-    enum-told-3
-    slice-aggregate-put-text-3
-    put-text-requires-3
-    enum-told-4
-    slice-aggregate-put-text-4
-    put-text-requires-4
-    same-length
-    returns
-    same-length-2
-    returns-2
-    same-length-3
-    returns-3
-    same-length-4
-    returns-4)
+    (tie.spec (λ c. search needs) (λ c. search needs) put-text-requires (λ c. search needs) (λ c. search needs)
+    put-text-requires-2 (λ c. search needs) (λ c. search needs) put-text-requires-3 (λ c. search needs)
+    (λ c. search needs) put-text-requires-4 (λ c. search needs) returns (λ c. search needs) returns-2
+    (λ c. search needs) returns-3 (λ c. search needs) returns-4)

@@ -4,15 +4,6 @@ use Rattle.space.specs.Space.Laws.{_then_}
 use Rattle.report.proofs.put_number.Statement.{statement}
 use Rattle.report.proofs.put_number.Tie as tie
 
-put-byte-requires : tie.Need-put-byte-requires
-put-byte-requires c κs = search needs
-
-put-decimal-requires : tie.Need-put-decimal-requires
-put-decimal-requires c κs = search needs
-
-same-length : tie.Need-same-length
-same-length c = search needs
-
 returns : tie.Need-returns
 returns c =
     let at-decimal = c .before .before in
@@ -20,4 +11,4 @@ returns c =
     at-byte .put-byte .ensures then at-decimal .put-decimal .ensures
 
 pub put-number-spec : {M : Type 1} → statement M
-put-number-spec = tie.close (tie.spec put-byte-requires put-decimal-requires same-length returns)
+put-number-spec = tie.close (tie.spec (λ c κs. search needs) (λ c κs. search needs) (λ c. search needs) returns)

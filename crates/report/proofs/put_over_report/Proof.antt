@@ -17,35 +17,34 @@ use Rattle.report.proofs.put_over_report.Tie as tie
 short : (c : tie.Start) → 0 + length (overReport (c .args .n) (c .args .e) (c .args .first) (c .args .set)) < 2 ^ 64
 short c = omega (arith, over-long (c .args .n) (c .args .e) (c .args .first) (c .args .set))
 
-put-verdict-line-requires : tie.Need-put-verdict-line-requires
-put-verdict-line-requires c κs = search needs
-
 put-elements-line-requires : tie.Need-put-elements-line-requires
 put-elements-line-requires c κs =
     let at-verdict = c .before .before .before in
-    let entry = at-verdict .before .before .before in
-    (entry .pre .0, entry .pre .1, fits (elementsLine _ _) _ (as-rest (over-pieces (entry .args .n) (entry .args .e) (entry .args .first) (entry .args .set)) (start _) step at-verdict .put-verdict-line .ensures) (short entry))
-
-slice-aggregate-put-text : tie.Need-slice-aggregate-put-text
-slice-aggregate-put-text c = search needs
+    let entry = at-verdict .before .before .before in (
+      entry .pre .0,
+      entry .pre .1,
+      fits (elementsLine _ _) _ (as-rest (over-pieces (entry .args .n) (entry .args .e) (entry .args .first) (entry .args .set)) (start _)
+          step at-verdict .put-verdict-line .ensures) (short entry),
+    )
 
 put-text-requires : tie.Need-put-text-requires
 put-text-requires c κs =
     let at-elements = c .before .before .before .before in
     let at-verdict = at-elements .before .before .before .before in
     let entry = at-verdict .before .before .before in
-    fits (ascii "first") _ (as-rest (over-pieces (entry .args .n) (entry .args .e) (entry .args .first) (entry .args .set)) (start _) step at-verdict .put-verdict-line .ensures step at-elements .put-elements-line .ensures) (short entry)
+    fits (ascii "first") _ (as-rest (over-pieces (entry .args .n) (entry .args .e) (entry .args .first) (entry .args .set)) (start _)
+    step at-verdict .put-verdict-line .ensures step at-elements .put-elements-line .ensures) (short entry)
 
 put-number-requires : tie.Need-put-number-requires
 put-number-requires c κs =
     let at-text = c .before .before .before in
     let at-elements = at-text .before .before .before .before .before in
     let at-verdict = at-elements .before .before .before .before in
-    let entry = at-verdict .before .before .before in
-    (entry .pre .2, fits (32 ∷ decimal _) _ (as-rest (over-pieces (entry .args .n) (entry .args .e) (entry .args .first) (entry .args .set)) (start _) step at-verdict .put-verdict-line .ensures step at-elements .put-elements-line .ensures step at-text .put-text .ensures) (short entry))
-
-slice-aggregate-put-text-2 : tie.Need-slice-aggregate-put-text-2
-slice-aggregate-put-text-2 c = search needs
+    let entry = at-verdict .before .before .before in (
+      entry .pre .2,
+      fits (32 ∷ decimal _) _ (as-rest (over-pieces (entry .args .n) (entry .args .e) (entry .args .first) (entry .args .set)) (start _)
+          step at-verdict .put-verdict-line .ensures step at-elements .put-elements-line .ensures step at-text .put-text .ensures) (short entry),
+    )
 
 put-text-requires-2 : tie.Need-put-text-requires-2
 put-text-requires-2 c κs =
@@ -54,7 +53,9 @@ put-text-requires-2 c κs =
     let at-elements = at-text .before .before .before .before .before in
     let at-verdict = at-elements .before .before .before .before in
     let entry = at-verdict .before .before .before in
-    fits (ascii "\nset") _ (as-rest (over-pieces (entry .args .n) (entry .args .e) (entry .args .first) (entry .args .set)) (start _) step at-verdict .put-verdict-line .ensures step at-elements .put-elements-line .ensures step at-text .put-text .ensures step at-number .put-number .ensures) (short entry)
+    fits (ascii "\nset") _ (as-rest (over-pieces (entry .args .n) (entry .args .e) (entry .args .first) (entry .args .set)) (start _)
+    step at-verdict .put-verdict-line .ensures step at-elements .put-elements-line .ensures step at-text .put-text .ensures
+    step at-number .put-number .ensures) (short entry)
 
 put-set-requires : tie.Need-put-set-requires
 put-set-requires c κs =
@@ -64,7 +65,9 @@ put-set-requires c κs =
     let at-elements = at-text .before .before .before .before .before in
     let at-verdict = at-elements .before .before .before .before in
     let entry = at-verdict .before .before .before in
-    fits (numbers (elements _)) _ (as-rest (over-pieces (entry .args .n) (entry .args .e) (entry .args .first) (entry .args .set)) (start _) step at-verdict .put-verdict-line .ensures step at-elements .put-elements-line .ensures step at-text .put-text .ensures step at-number .put-number .ensures step at-text2 .put-text2 .ensures) (short entry)
+    fits (numbers (elements _)) _ (as-rest (over-pieces (entry .args .n) (entry .args .e) (entry .args .first) (entry .args .set)) (start _)
+    step at-verdict .put-verdict-line .ensures step at-elements .put-elements-line .ensures step at-text .put-text .ensures
+    step at-number .put-number .ensures step at-text2 .put-text2 .ensures) (short entry)
 
 put-byte-requires : tie.Need-put-byte-requires
 put-byte-requires c κs =
@@ -75,10 +78,9 @@ put-byte-requires c κs =
     let at-elements = at-text .before .before .before .before .before in
     let at-verdict = at-elements .before .before .before .before in
     let entry = at-verdict .before .before .before in
-    ends (as-rest (over-pieces (entry .args .n) (entry .args .e) (entry .args .first) (entry .args .set)) (start _) step at-verdict .put-verdict-line .ensures step at-elements .put-elements-line .ensures step at-text .put-text .ensures step at-number .put-number .ensures step at-text2 .put-text2 .ensures step at-set .put-set .ensures) (short entry)
-
-same-length : tie.Need-same-length
-same-length c = search needs
+    ends (as-rest (over-pieces (entry .args .n) (entry .args .e) (entry .args .first) (entry .args .set)) (start _)
+    step at-verdict .put-verdict-line .ensures step at-elements .put-elements-line .ensures step at-text .put-text .ensures
+    step at-number .put-number .ensures step at-text2 .put-text2 .ensures step at-set .put-set .ensures) (short entry)
 
 returns : tie.Need-returns
 returns c =
@@ -90,20 +92,13 @@ returns c =
     let at-elements = at-text .before .before .before .before .before in
     let at-verdict = at-elements .before .before .before .before in
     let entry = at-verdict .before .before .before in
-    (as-rest (over-pieces (entry .args .n) (entry .args .e) (entry .args .first) (entry .args .set)) (start _) step at-verdict .put-verdict-line .ensures step at-elements .put-elements-line .ensures step at-text .put-text .ensures step at-number .put-number .ensures step at-text2 .put-text2 .ensures step at-set .put-set .ensures) .last (at-byte .put-byte .ensures)
+    (as-rest (over-pieces (entry .args .n) (entry .args .e) (entry .args .first) (entry .args .set)) (start _)
+    step at-verdict .put-verdict-line .ensures step at-elements .put-elements-line .ensures step at-text .put-text .ensures
+    step at-number .put-number .ensures step at-text2 .put-text2 .ensures step at-set .put-set .ensures) .last (at-byte .put-byte .ensures)
 
 pub put-over-report-spec : {M : Type 1} → statement M
 put-over-report-spec =
     tie.close
-    (tie.spec
-    put-verdict-line-requires
-    put-elements-line-requires
-    slice-aggregate-put-text
-    put-text-requires
-    put-number-requires
-    slice-aggregate-put-text-2
-    put-text-requires-2
-    put-set-requires
-    put-byte-requires
-    same-length
+    (tie.spec (λ c κs. search needs) put-elements-line-requires (λ c. search needs) put-text-requires
+    put-number-requires (λ c. search needs) put-text-requires-2 put-set-requires put-byte-requires (λ c. search needs)
     returns)

@@ -7,20 +7,11 @@ use Rattle.report.proofs.Going.{start, _step_, fits, ends}
 use Rattle.report.proofs.put_parts.Statement.{statement}
 use Rattle.report.proofs.put_parts.Tie as tie
 
-slice-aggregate-put-text : tie.Need-slice-aggregate-put-text
-slice-aggregate-put-text c = search needs
-
-put-text-requires : tie.Need-put-text-requires
-put-text-requires c κs = search needs
-
 put-number-requires : tie.Need-put-number-requires
 put-number-requires c κs =
     let at-text = c .before .before .before in
     let entry = at-text .before .before .before .before in
     (entry .pre .0, fits (32 ∷ decimal _) _ (start (partsWords _ _ _ _) step at-text .put-text .ensures) (entry .pre .4))
-
-slice-aggregate-put-text-2 : tie.Need-slice-aggregate-put-text-2
-slice-aggregate-put-text-2 c = search needs
 
 put-text-requires-2 : tie.Need-put-text-requires-2
 put-text-requires-2 c κs =
@@ -34,8 +25,12 @@ put-number-requires-2 c κs =
     let at-text2 = c .before .before .before in
     let at-number = at-text2 .before .before .before .before .before in
     let at-text = at-number .before .before .before .before in
-    let entry = at-text .before .before .before .before in
-    (entry .pre .1, fits (32 ∷ decimal _) _ (start (partsWords _ _ _ _) step at-text .put-text .ensures step at-number .put-number .ensures step at-text2 .put-text2 .ensures) (entry .pre .4))
+    let entry = at-text .before .before .before .before in (
+      entry .pre .1,
+      fits (32 ∷ decimal _) _
+          (start (partsWords _ _ _ _) step at-text .put-text .ensures step at-number .put-number .ensures step at-text2 .put-text2 .ensures)
+          (entry .pre .4),
+    )
 
 put-number-requires-3 : tie.Need-put-number-requires-3
 put-number-requires-3 c κs =
@@ -43,8 +38,11 @@ put-number-requires-3 c κs =
     let at-text2 = at-number2 .before .before .before .before in
     let at-number = at-text2 .before .before .before .before .before in
     let at-text = at-number .before .before .before .before in
-    let entry = at-text .before .before .before .before in
-    (entry .pre .2, fits (32 ∷ decimal _) _ (start (partsWords _ _ _ _) step at-text .put-text .ensures step at-number .put-number .ensures step at-text2 .put-text2 .ensures step at-number2 .put-number2 .ensures) (entry .pre .4))
+    let entry = at-text .before .before .before .before in (
+      entry .pre .2,
+      fits (32 ∷ decimal _) _ (start (partsWords _ _ _ _) step at-text .put-text .ensures step at-number .put-number .ensures
+          step at-text2 .put-text2 .ensures step at-number2 .put-number2 .ensures) (entry .pre .4),
+    )
 
 put-number-requires-4 : tie.Need-put-number-requires-4
 put-number-requires-4 c κs =
@@ -53,11 +51,11 @@ put-number-requires-4 c κs =
     let at-text2 = at-number2 .before .before .before .before in
     let at-number = at-text2 .before .before .before .before .before in
     let at-text = at-number .before .before .before .before in
-    let entry = at-text .before .before .before .before in
-    (entry .pre .3, ends (start (partsWords _ _ _ _) step at-text .put-text .ensures step at-number .put-number .ensures step at-text2 .put-text2 .ensures step at-number2 .put-number2 .ensures step at-number3 .put-number3 .ensures) (entry .pre .4))
-
-same-length : tie.Need-same-length
-same-length c = search needs
+    let entry = at-text .before .before .before .before in (
+      entry .pre .3,
+      ends (start (partsWords _ _ _ _) step at-text .put-text .ensures step at-number .put-number .ensures step at-text2 .put-text2 .ensures
+          step at-number2 .put-number2 .ensures step at-number3 .put-number3 .ensures) (entry .pre .4),
+    )
 
 returns : tie.Need-returns
 returns c =
@@ -67,19 +65,11 @@ returns c =
     let at-text2 = at-number2 .before .before .before .before in
     let at-number = at-text2 .before .before .before .before .before in
     let at-text = at-number .before .before .before .before in
-    (start (partsWords _ _ _ _) step at-text .put-text .ensures step at-number .put-number .ensures step at-text2 .put-text2 .ensures step at-number2 .put-number2 .ensures step at-number3 .put-number3 .ensures) .last (at-number4 .put-number4 .ensures)
+    (start (partsWords _ _ _ _) step at-text .put-text .ensures step at-number .put-number .ensures step at-text2 .put-text2 .ensures
+    step at-number2 .put-number2 .ensures step at-number3 .put-number3 .ensures) .last (at-number4 .put-number4 .ensures)
 
 pub put-parts-spec : {M : Type 1} → statement M
 put-parts-spec =
     tie.close
-    (tie.spec
-    slice-aggregate-put-text
-    put-text-requires
-    put-number-requires
-    slice-aggregate-put-text-2
-    put-text-requires-2
-    put-number-requires-2
-    put-number-requires-3
-    put-number-requires-4
-    same-length
-    returns)
+    (tie.spec (λ c. search needs) (λ c κs. search needs) put-number-requires (λ c. search needs) put-text-requires-2
+    put-number-requires-2 put-number-requires-3 put-number-requires-4 (λ c. search needs) returns)

@@ -39,8 +39,12 @@ unfolding report
 put-steps-requires c κs =
     let at-elements = c .before .before .before in
     let at-verdict = at-elements .before .before .before .before in
-    let entry = at-verdict .before .before .before in
-    (entry .pre .2, entry .pre .5, fits (stepLines _) _ (start (whole entry) step at-verdict .put-verdict-line .ensures step at-elements .put-elements-line .ensures) (short entry))
+    let entry = at-verdict .before .before .before in (
+      entry .pre .2,
+      entry .pre .5,
+      fits (stepLines _) _ (start (whole entry) step at-verdict .put-verdict-line .ensures step at-elements .put-elements-line .ensures)
+          (short entry),
+    )
 
 put-clusters-requires : tie.Need-put-clusters-requires
 unfolding report
@@ -48,11 +52,12 @@ put-clusters-requires c κs =
     let at-steps = c .before .before .before in
     let at-elements = at-steps .before .before .before .before in
     let at-verdict = at-elements .before .before .before .before in
-    let entry = at-verdict .before .before .before in
-    (entry .pre .3, entry .pre .4, ends (start (whole entry) step at-verdict .put-verdict-line .ensures step at-elements .put-elements-line .ensures step at-steps .put-steps .ensures) (short entry))
-
-same-length : tie.Need-same-length
-same-length c = search needs
+    let entry = at-verdict .before .before .before in (
+      entry .pre .3,
+      entry .pre .4,
+      ends (start (whole entry) step at-verdict .put-verdict-line .ensures step at-elements .put-elements-line .ensures
+          step at-steps .put-steps .ensures) (short entry),
+    )
 
 returns : tie.Need-returns
 unfolding report
@@ -62,15 +67,11 @@ returns c =
     let at-elements = at-steps .before .before .before .before in
     let at-verdict = at-elements .before .before .before .before in
     let entry = at-verdict .before .before .before in
-    (start (whole entry) step at-verdict .put-verdict-line .ensures step at-elements .put-elements-line .ensures step at-steps .put-steps .ensures) .last (at-clusters .put-clusters .ensures)
+    (start (whole entry) step at-verdict .put-verdict-line .ensures step at-elements .put-elements-line .ensures
+    step at-steps .put-steps .ensures) .last (at-clusters .put-clusters .ensures)
 
 pub put-report-spec : {M : Type 1} → statement M
 put-report-spec =
     tie.close
-    (tie.spec
-    put-verdict-line-requires
-    put-elements-line-requires
-    put-steps-requires
-    put-clusters-requires
-    same-length
-    returns)
+    (tie.spec put-verdict-line-requires put-elements-line-requires put-steps-requires put-clusters-requires
+    (λ c. search needs) returns)

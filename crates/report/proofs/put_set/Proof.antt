@@ -31,11 +31,9 @@ put-number-requires : tie.Need-put-number-requires Inv-loop μ-loop
 put-number-requires c κs =
     let l = c .before .before .loop in (
       omega (arith, trailing-le 64 (l .rest)),
-      fits (32 ∷ decimal _) _ (as-rest (numbers-lowest (l .rest) (l .inv .0) (c .before .loop-test .taken)) (l .inv .1)) (c .before .before .before .before .pre),
+      fits (32 ∷ decimal _) _ (as-rest (numbers-lowest (l .rest) (l .inv .0) (c .before .loop-test .taken)) (l .inv .1))
+          (c .before .before .before .before .pre),
     )
-
-sub-rest : tie.Need-sub-rest Inv-loop μ-loop
-sub-rest c = omega arith
 
 loop-less : tie.Need-loop-less Inv-loop μ-loop
 loop-less c =
@@ -46,7 +44,8 @@ loop-again : tie.Need-loop-again Inv-loop μ-loop
 loop-again c =
     let l = c .before .before .before .before .before .loop in (
       omega (arith, and-le-l (l .rest) (l .rest - 1)),
-      as-rest (numbers-lowest (l .rest) (l .inv .0) (c .before .before .before .before .loop-test .taken)) (l .inv .1) step c .before .before .put-number .ensures,
+      as-rest (numbers-lowest (l .rest) (l .inv .0) (c .before .before .before .before .loop-test .taken)) (l .inv .1)
+          step c .before .before .put-number .ensures,
     )
 
 same-length : tie.Need-same-length Inv-loop μ-loop
@@ -58,14 +57,5 @@ returns c = done (as-rest (ap (λ (a : ℕ). numbers (elements a)) (search needs
 pub put-set-spec : {M : Type 1} → statement M
 put-set-spec =
     tie.close
-    (tie.spec
-    Inv-loop
-    μ-loop
-    loop-holds
-    cast-x
-    put-number-requires
-    sub-rest
-    loop-less
-    loop-again
-    same-length
+    (tie.spec Inv-loop μ-loop loop-holds cast-x put-number-requires (λ c. omega arith) loop-less loop-again same-length
     returns)

@@ -18,9 +18,6 @@ returns c =
     let entry = c .before .before in
     put-as (sym (slot-dead (entry .args .c) (entry .args .a) (c .if1 .taken))) (put-none _ _)
 
-slice-aggregate-put-text : tie.Need-slice-aggregate-put-text
-slice-aggregate-put-text c = search needs
-
 put-text-requires : tie.Need-put-text-requires
 put-text-requires c κs =
     let at-if1 = c .before .before in
@@ -31,11 +28,11 @@ put-number-requires : tie.Need-put-number-requires
 put-number-requires c κs =
     let at-text = c .before .before .before in
     let at-if1 = at-text .before .before .before in
-    let entry = at-if1 .before .before in
-    (entry .pre .0, fits (32 ∷ decimal _) _ (as-rest (slot-living (entry .args .c) (entry .args .a) (at-if1 .if1 .left)) (start _) step at-text .put-text .ensures) (entry .pre .1))
-
-slice-aggregate-put-text-2 : tie.Need-slice-aggregate-put-text-2
-slice-aggregate-put-text-2 c = search needs
+    let entry = at-if1 .before .before in (
+      entry .pre .0,
+      fits (32 ∷ decimal _) _ (as-rest (slot-living (entry .args .c) (entry .args .a) (at-if1 .if1 .left)) (start _) step at-text .put-text .ensures)
+          (entry .pre .1),
+    )
 
 put-text-requires-2 : tie.Need-put-text-requires-2
 put-text-requires-2 c κs =
@@ -43,7 +40,8 @@ put-text-requires-2 c κs =
     let at-text = at-number .before .before .before .before in
     let at-if1 = at-text .before .before .before in
     let entry = at-if1 .before .before in
-    fits (ascii " holds") _ (as-rest (slot-living (entry .args .c) (entry .args .a) (at-if1 .if1 .left)) (start _) step at-text .put-text .ensures step at-number .put-number .ensures) (entry .pre .1)
+    fits (ascii " holds") _ (as-rest (slot-living (entry .args .c) (entry .args .a) (at-if1 .if1 .left)) (start _) step at-text .put-text .ensures
+    step at-number .put-number .ensures) (entry .pre .1)
 
 put-set-requires : tie.Need-put-set-requires
 put-set-requires c κs =
@@ -52,7 +50,8 @@ put-set-requires c κs =
     let at-text = at-number .before .before .before .before in
     let at-if1 = at-text .before .before .before in
     let entry = at-if1 .before .before in
-    fits (numbers (elements _)) _ (as-rest (slot-living (entry .args .c) (entry .args .a) (at-if1 .if1 .left)) (start _) step at-text .put-text .ensures step at-number .put-number .ensures step at-text2 .put-text2 .ensures) (entry .pre .1)
+    fits (numbers (elements _)) _ (as-rest (slot-living (entry .args .c) (entry .args .a) (at-if1 .if1 .left)) (start _)
+    step at-text .put-text .ensures step at-number .put-number .ensures step at-text2 .put-text2 .ensures) (entry .pre .1)
 
 put-byte-requires : tie.Need-put-byte-requires
 put-byte-requires c κs =
@@ -62,10 +61,8 @@ put-byte-requires c κs =
     let at-text = at-number .before .before .before .before in
     let at-if1 = at-text .before .before .before in
     let entry = at-if1 .before .before in
-    ends (as-rest (slot-living (entry .args .c) (entry .args .a) (at-if1 .if1 .left)) (start _) step at-text .put-text .ensures step at-number .put-number .ensures step at-text2 .put-text2 .ensures step at-set .put-set .ensures) (entry .pre .1)
-
-same-length : tie.Need-same-length
-same-length c = search needs
+    ends (as-rest (slot-living (entry .args .c) (entry .args .a) (at-if1 .if1 .left)) (start _) step at-text .put-text .ensures
+    step at-number .put-number .ensures step at-text2 .put-text2 .ensures step at-set .put-set .ensures) (entry .pre .1)
 
 returns-2 : tie.Need-returns-2
 returns-2 c =
@@ -76,19 +73,11 @@ returns-2 c =
     let at-text = at-number .before .before .before .before in
     let at-if1 = at-text .before .before .before in
     let entry = at-if1 .before .before in
-    (as-rest (slot-living (entry .args .c) (entry .args .a) (at-if1 .if1 .left)) (start _) step at-text .put-text .ensures step at-number .put-number .ensures step at-text2 .put-text2 .ensures step at-set .put-set .ensures) .last (at-byte .put-byte .ensures)
+    (as-rest (slot-living (entry .args .c) (entry .args .a) (at-if1 .if1 .left)) (start _) step at-text .put-text .ensures
+    step at-number .put-number .ensures step at-text2 .put-text2 .ensures step at-set .put-set .ensures) .last (at-byte .put-byte .ensures)
 
 pub put-slot-line-spec : {M : Type 1} → statement M
 put-slot-line-spec =
     tie.close
-    (tie.spec
-    returns
-    slice-aggregate-put-text
-    put-text-requires
-    put-number-requires
-    slice-aggregate-put-text-2
-    put-text-requires-2
-    put-set-requires
-    put-byte-requires
-    same-length
-    returns-2)
+    (tie.spec returns (λ c. search needs) put-text-requires put-number-requires (λ c. search needs) put-text-requires-2
+    put-set-requires put-byte-requires (λ c. search needs) returns-2)

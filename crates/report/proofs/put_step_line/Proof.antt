@@ -14,9 +14,6 @@ put-parts-requires c κs =
     let p = c .before .before .pre in
     (p .0 .made-small, p .0 .i-small, p .0 .j-small, p .0 .k-small, omega (arith, step-front (c .before .before .args .s)))
 
-slice-aggregate-put-text : tie.Need-slice-aggregate-put-text
-slice-aggregate-put-text c = search needs
-
 put-text-requires : tie.Need-put-text-requires
 put-text-requires c κs =
     let at-parts = c .before .before .before .before in
@@ -28,7 +25,8 @@ put-set-requires c κs =
     let at-text = c .before .before .before in
     let at-parts = at-text .before .before .before .before .before in
     let entry = at-parts .before .before .before in
-    fits (numbers (elements _)) _ (as-rest (step-pieces (entry .args .s)) (start _) step at-parts .put-parts .ensures step at-text .put-text .ensures) (entry .pre .1)
+    fits (numbers (elements _)) _
+    (as-rest (step-pieces (entry .args .s)) (start _) step at-parts .put-parts .ensures step at-text .put-text .ensures) (entry .pre .1)
 
 put-kind-requires : tie.Need-put-kind-requires
 put-kind-requires c κs =
@@ -36,7 +34,9 @@ put-kind-requires c κs =
     let at-text = at-set .before .before .before .before in
     let at-parts = at-text .before .before .before .before .before in
     let entry = at-parts .before .before .before in
-    fits (kindWords (entry .args .s .kind)) (waysWords (entry .args .s .ways)) (as-rest (step-pieces (entry .args .s)) (start _) step at-parts .put-parts .ensures step at-text .put-text .ensures step at-set .put-set .ensures) (entry .pre .1)
+    fits (kindWords (entry .args .s .kind)) (waysWords (entry .args .s .ways))
+    (as-rest (step-pieces (entry .args .s)) (start _) step at-parts .put-parts .ensures step at-text .put-text .ensures step at-set .put-set .ensures)
+    (entry .pre .1)
 
 put-ways-requires : tie.Need-put-ways-requires
 put-ways-requires c κs =
@@ -45,10 +45,8 @@ put-ways-requires c κs =
     let at-text = at-set .before .before .before .before in
     let at-parts = at-text .before .before .before .before .before in
     let entry = at-parts .before .before .before in
-    ends (as-rest (step-pieces (entry .args .s)) (start _) step at-parts .put-parts .ensures step at-text .put-text .ensures step at-set .put-set .ensures step at-kind .put-kind .ensures) (entry .pre .1)
-
-same-length : tie.Need-same-length
-same-length c = search needs
+    ends (as-rest (step-pieces (entry .args .s)) (start _) step at-parts .put-parts .ensures step at-text .put-text .ensures
+    step at-set .put-set .ensures step at-kind .put-kind .ensures) (entry .pre .1)
 
 returns : tie.Need-returns
 returns c =
@@ -58,17 +56,11 @@ returns c =
     let at-text = at-set .before .before .before .before in
     let at-parts = at-text .before .before .before .before .before in
     let entry = at-parts .before .before .before in
-    (as-rest (step-pieces (entry .args .s)) (start _) step at-parts .put-parts .ensures step at-text .put-text .ensures step at-set .put-set .ensures step at-kind .put-kind .ensures) .last (at-ways .put-ways .ensures)
+    (as-rest (step-pieces (entry .args .s)) (start _) step at-parts .put-parts .ensures step at-text .put-text .ensures step at-set .put-set .ensures
+    step at-kind .put-kind .ensures) .last (at-ways .put-ways .ensures)
 
 pub put-step-line-spec : {M : Type 1} → statement M
 put-step-line-spec =
     tie.close
-    (tie.spec
-    put-parts-requires
-    slice-aggregate-put-text
-    put-text-requires
-    put-set-requires
-    put-kind-requires
-    put-ways-requires
-    same-length
-    returns)
+    (tie.spec put-parts-requires (λ c. search needs) put-text-requires put-set-requires put-kind-requires
+    put-ways-requires (λ c. search needs) returns)

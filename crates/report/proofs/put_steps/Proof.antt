@@ -22,12 +22,6 @@ long c = omega (arith, c .good .1 .1 .0 .1 .0 .1, c .pre)
 loop-holds : tie.Need-loop-holds Inv-loop μ-loop
 loop-holds c = (omega arith, start _)
 
-mul-s : tie.Need-mul-s Inv-loop μ-loop
-mul-s c = omega arith
-
-array-copy-out-s : tie.Need-array-copy-out-s Inv-loop μ-loop
-array-copy-out-s c = omega arith
-
 put-step-line-requires : tie.Need-put-step-line-requires Inv-loop μ-loop
 put-step-line-requires c κs =
     let s = c .before .before .before .before .before in
@@ -37,18 +31,13 @@ put-step-line-requires c κs =
       fits (stepLine _) _ (as-rest (steps-next (s .args .t3) (s .args .count) (l .i) _ (long s) h) (l .inv .1)) (s .pre .2),
     )
 
-add-i : tie.Need-add-i Inv-loop μ-loop
-add-i c = omega arith
-
-loop-less : tie.Need-loop-less Inv-loop μ-loop
-loop-less c = omega arith
-
 loop-again : tie.Need-loop-again Inv-loop μ-loop
 loop-again c =
     let s = c .before .before .before .before .before .before .before .before in
     let l = c .before .before .before .before .before .before .loop in (
       omega arith,
-      as-rest (steps-next (s .args .t3) (s .args .count) (l .i) _ (long s) (c .before .before .before .before .before .loop-test .taken)) (l .inv .1) step c .before .before .put-step-line .ensures,
+      as-rest (steps-next (s .args .t3) (s .args .count) (l .i) _ (long s) (c .before .before .before .before .before .loop-test .taken)) (l .inv .1)
+          step c .before .before .put-step-line .ensures,
     )
 
 same-length : tie.Need-same-length Inv-loop μ-loop
@@ -64,15 +53,5 @@ returns c =
 pub put-steps-spec : {M : Type 1} → statement M
 put-steps-spec =
     tie.close
-    (tie.spec
-    Inv-loop
-    μ-loop
-    loop-holds
-    mul-s
-    array-copy-out-s
-    put-step-line-requires
-    add-i
-    loop-less
-    loop-again
-    same-length
-    returns)
+    (tie.spec Inv-loop μ-loop loop-holds (λ c. omega arith) (λ c. omega arith) put-step-line-requires (λ c. omega arith)
+    (λ c. omega arith) loop-again same-length returns)

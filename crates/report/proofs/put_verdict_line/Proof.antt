@@ -8,53 +8,20 @@ use Rattle.report.specs.Report.{verdictLine}
 use Rattle.report.proofs.put_verdict_line.Statement.{statement}
 use Rattle.report.proofs.put_verdict_line.Tie as tie
 
-enum-told : tie.Need-enum-told
-enum-told c = search needs
-
-slice-aggregate-put-text : tie.Need-slice-aggregate-put-text
-slice-aggregate-put-text c = search needs
-
 put-text-requires : tie.Need-put-text-requires
 put-text-requires c κs = omega (arith, ap length (ap verdictLine (c .before .before .enum-told .given .1)))
-
-enum-told-2 : tie.Need-enum-told-2
-enum-told-2 c = search needs
-
-slice-aggregate-put-text-2 : tie.Need-slice-aggregate-put-text-2
-slice-aggregate-put-text-2 c = search needs
 
 put-text-requires-2 : tie.Need-put-text-requires-2
 put-text-requires-2 c κs = omega (arith, ap length (ap verdictLine (c .before .before .enum-told2 .given .1)))
 
-enum-told-3 : tie.Need-enum-told-3
-enum-told-3 c = search needs
-
-slice-aggregate-put-text-3 : tie.Need-slice-aggregate-put-text-3
-slice-aggregate-put-text-3 c = search needs
-
 put-text-requires-3 : tie.Need-put-text-requires-3
 put-text-requires-3 c κs = omega (arith, ap length (ap verdictLine (c .before .before .enum-told3 .given .1)))
-
-enum-told-4 : tie.Need-enum-told-4
-enum-told-4 c = search needs
-
-slice-aggregate-put-text-4 : tie.Need-slice-aggregate-put-text-4
-slice-aggregate-put-text-4 c = search needs
 
 put-text-requires-4 : tie.Need-put-text-requires-4
 put-text-requires-4 c κs = omega (arith, ap length (ap verdictLine (c .before .before .enum-told4 .given .1)))
 
-enum-told-5 : tie.Need-enum-told-5
-enum-told-5 c = search needs
-
-slice-aggregate-put-text-5 : tie.Need-slice-aggregate-put-text-5
-slice-aggregate-put-text-5 c = search needs
-
 put-text-requires-5 : tie.Need-put-text-requires-5
 put-text-requires-5 c κs = omega (arith, ap length (ap verdictLine (c .before .before .enum-told5 .given .1)))
-
-same-length : tie.Need-same-length
-same-length c = search needs
 
 returns : tie.Need-returns
 returns c =
@@ -62,17 +29,11 @@ returns c =
     let at-enum-told = at-text .before .before .before in
     put-as (sym (ap verdictLine (at-enum-told .enum-told .given .1))) (at-text .put-text .ensures)
 
-same-length-2 : tie.Need-same-length-2
-same-length-2 c = search needs
-
 returns-2 : tie.Need-returns-2
 returns-2 c =
     let at-text2 = c .before .before in
     let at-enum-told2 = at-text2 .before .before .before in
     put-as (sym (ap verdictLine (at-enum-told2 .enum-told2 .given .1))) (at-text2 .put-text2 .ensures)
-
-same-length-3 : tie.Need-same-length-3
-same-length-3 c = search needs
 
 returns-3 : tie.Need-returns-3
 returns-3 c =
@@ -80,17 +41,11 @@ returns-3 c =
     let at-enum-told3 = at-text3 .before .before .before in
     put-as (sym (ap verdictLine (at-enum-told3 .enum-told3 .given .1))) (at-text3 .put-text3 .ensures)
 
-same-length-4 : tie.Need-same-length-4
-same-length-4 c = search needs
-
 returns-4 : tie.Need-returns-4
 returns-4 c =
     let at-text4 = c .before .before in
     let at-enum-told4 = at-text4 .before .before .before in
     put-as (sym (ap verdictLine (at-enum-told4 .enum-told4 .given .1))) (at-text4 .put-text4 .ensures)
-
-same-length-5 : tie.Need-same-length-5
-same-length-5 c = search needs
 
 returns-5 : tie.Need-returns-5
 returns-5 c =
@@ -101,29 +56,8 @@ returns-5 c =
 pub put-verdict-line-spec : {M : Type 1} → statement M
 put-verdict-line-spec =
     tie.close
-    (tie.spec
-    enum-told
-    slice-aggregate-put-text
-    put-text-requires
-    enum-told-2
-    slice-aggregate-put-text-2
-    put-text-requires-2
-    enum-told-3
-    slice-aggregate-put-text-3
-    put-text-requires-3
-    enum-told-4
-    slice-aggregate-put-text-4
-    put-text-requires-4
-    enum-told-5
-    slice-aggregate-put-text-5
-    put-text-requires-5
-    same-length
-    returns
-    same-length-2
-    returns-2
-    same-length-3
-    returns-3
-    same-length-4
-    returns-4
-    same-length-5
-    returns-5)
+    (tie.spec (λ c. search needs) (λ c. search needs) put-text-requires (λ c. search needs) (λ c. search needs)
+    put-text-requires-2 (λ c. search needs) (λ c. search needs) put-text-requires-3 (λ c. search needs)
+    (λ c. search needs) put-text-requires-4 (λ c. search needs) (λ c. search needs) put-text-requires-5
+    (λ c. search needs) returns (λ c. search needs) returns-2 (λ c. search needs) returns-3 (λ c. search needs)
+    returns-4 (λ c. search needs) returns-5)

@@ -1,4 +1,5 @@
--- Laws of a set's elements, listed: the lowest comes first, and those of the set without it follow; they are not more than the set's size, and not more than 64. Assumes nothing.
+-- Laws of a set's elements, listed: the lowest comes first, and those of the set without it follow; they are not more than the set's size,
+-- and not more than 64. Assumes nothing.
 use Prim.Native.Nat.{ℕ, zero, suc, _+_, _-_, _/_, _%_, _^_, _≤_, _<_}
 use native.Mathlib.Omega.{arith}
 use mathlib.Core.Path.{_≡_, refl, sym, ap, _∙_}
@@ -47,7 +48,8 @@ lowest (suc k) a l n = go (a % 2) refl (lowest k (a / 2))
         let h : (a - 1) / 2 ≡ a / 2 = omega arith in
         let f = and-step a (a - 1) in
         among-digit k a 1 (a / 2) (omega arith) refl
-        ∙ ap (λ (xs : List ℕ). 0 ∷ xs) (sym (among-digit k (bitAnd a (a - 1)) 0 (a / 2) (omega arith) (omega (arith, ap (bitAnd (a / 2)) h, and-self (a / 2)))))
+        ∙ ap (λ (xs : List ℕ). 0 ∷ xs)
+        (sym (among-digit k (bitAnd a (a - 1)) 0 (a / 2) (omega arith) (omega (arith, ap (bitAnd (a / 2)) h, and-self (a / 2)))))
 
 pub elements-lowest : (a : ℕ) → a < 2 ^ 64 → a ≢ 0 → elements a ≡ trailingZeros 64 a ∷ elements (bitAnd a (a - 1))
 unfolding elements
@@ -74,7 +76,13 @@ unfolding among
 size zero a = omega arith
 size (suc k) a =
     rw (among-digit k a (a % 2) (a / 2) refl refl)
-    (omega (arith, length-member (a % 2) 0 (map suc (among k 0 (a / 2))) (omega arith), length-map (among k 0 (a / 2)) suc, size k (a / 2), ones-step a))
+    (omega (
+      arith,
+      length-member (a % 2) 0 (map suc (among k 0 (a / 2))) (omega arith),
+      length-map (among k 0 (a / 2)) suc,
+      size k (a / 2),
+      ones-step a,
+    ))
 
 pub elements-size : (a : ℕ) → length (elements a) ≤ ones a
 unfolding elements

@@ -49,7 +49,15 @@ steps-short : (steps : List Step) → AllModest steps → length (stepLines step
 unfolding stepLines
 steps-short [] h = omega arith
 steps-short (s ∷ steps) h =
-    omega (arith, length-append (stepLine s) (stepLines steps), step-length s, elements-size (s .joint), h .0 .joint-three, h .0 .ways-one, steps-short steps (h .1))
+    omega (
+      arith,
+      length-append (stepLine s) (stepLines steps),
+      step-length s,
+      elements-size (s .joint),
+      h .0 .joint-three,
+      h .0 .ways-one,
+      steps-short steps (h .1),
+    )
 
 -- ---- cluster lines
 
@@ -125,11 +133,14 @@ ways-one-digit lines e sizes s m = go (initial e m)
     go : (b : Bool)
         → length (waysName (elim b [
           | true ↦
-              placed lines (jointKind lines (joint (three s m))) (slot s (m .i)) (slot s (m .j)) (sizeAt sizes (m .i)) (sizeAt sizes (m .j)) (sizeAt sizes (m .k))
+              placed lines (jointKind lines (joint (three s m))) (slot s (m .i)) (slot s (m .j)) (sizeAt sizes (m .i))
+              (sizeAt sizes (m .j)) (sizeAt sizes (m .k))
           | false ↦ Unknown
         ]))
         ≤ 1
-    go true = placed-one lines (jointKind lines (joint (three s m))) (slot s (m .i)) (slot s (m .j)) (sizeAt sizes (m .i)) (sizeAt sizes (m .j)) (sizeAt sizes (m .k))
+    go true =
+        placed-one lines (jointKind lines (joint (three s m))) (slot s (m .i)) (slot s (m .j)) (sizeAt sizes (m .i))
+        (sizeAt sizes (m .j)) (sizeAt sizes (m .k))
     go false = omega arith
 
 modest-step : (g : Graph) (s : List ℕ) (m : Merge) → OpenAt s m → Modest (stepOf g s m)
@@ -165,7 +176,8 @@ small-steps g s (m ∷ p) v h = (small-step g s m (v .0) (omega arith), small-st
 -- ---- every list of merges
 
 module _ (g : Graph) (pairs : Pairs (g .clusters)) (p : List Merge) (valid : Valid (g .clusters) p) (v : Verdict) where
-  pub report-bound : g .n < 100 → length (report (g .n) (length (g .clusters)) v (stepsOf g p) (final (g .clusters) p)) ≤ 42 + 12 * length p + 24 * length (g .clusters)
+  pub report-bound : g .n < 100
+      → length (report (g .n) (length (g .clusters)) v (stepsOf g p) (final (g .clusters) p)) ≤ 42 + 12 * length p + 24 * length (g .clusters)
   report-bound small =
       omega (
         arith,

@@ -18,12 +18,14 @@ use Rattle.theory.specs.declared.Ways.{Ways}
 use Rattle.theory.specs.declared.Step.{Step}
 use Rattle.report.specs.Elements.{elements}
 use Rattle.report.specs.Elements.Laws.{elements-lowest, elements-none}
-use Rattle.report.specs.Report.{others, line, kindName, waysName, listed, verdictLine, elementsLine, stepLine, stepLines, clusterLine, slotLine, clusterLines, overReport}
+use Rattle.report.specs.Report.{others, line, kindName, waysName, listed, verdictLine, elementsLine, stepLine, stepLines, clusterLine, slotLine}
+use Rattle.report.specs.Report.{clusterLines, overReport}
 use Rattle.report.specs.Pieces.{numbers, partsWords, kindWords, waysWords, Small, AllSmall}
 
 -- ---- a set's elements in a line
 
-pub numbers-lowest : (a : ℕ) → a < 2 ^ 64 → a ≢ 0 → numbers (elements a) ≡ (32 ∷ decimal (trailingZeros 64 a)) ++ numbers (elements (bitAnd a (a - 1)))
+pub numbers-lowest : (a : ℕ) → a < 2 ^ 64 → a ≢ 0
+    → numbers (elements a) ≡ (32 ∷ decimal (trailingZeros 64 a)) ++ numbers (elements (bitAnd a (a - 1)))
 unfolding numbers
 numbers-lowest a l n = ap numbers (elements-lowest a l n)
 
@@ -60,7 +62,12 @@ unfolding stepLine
 step-pieces s = rw (others-numbers, kind-ways) (parts-then (s .made) (s .i) (s .j) (s .k) _)
 
 pub step-front : (s : Step) → length (partsWords (s .made) (s .i) (s .j) (s .k)) ≤ length (stepLine s)
-step-front s = rw (step-pieces s) (omega (arith, length-append (partsWords (s .made) (s .i) (s .j) (s .k)) (ascii " joint" ++ (numbers (elements (s .joint)) ++ (kindWords (s .kind) ++ waysWords (s .ways))))))
+step-front s =
+    rw (step-pieces s) (omega (
+      arith,
+      length-append (partsWords (s .made) (s .i) (s .j) (s .k))
+          (ascii " joint" ++ (numbers (elements (s .joint)) ++ (kindWords (s .kind) ++ waysWords (s .ways)))),
+    ))
 
 pub slot-dead : (c a : ℕ) → a ≡ 0 → slotLine c a ≡ []
 unfolding slotLine
@@ -74,7 +81,8 @@ slot-living c a n = rw (ne-eqb a 0 n, others-listed)
 last-lines : (first set : ℕ)
     → line (ascii "first" ∷ decimal first ∷ []) ++ line (ascii "set" ∷ listed set)
     ≡ ascii "first" ++ ((32 ∷ decimal first) ++ (ascii "\nset" ++ (numbers (elements set) ++ (10 ∷ []))))
-last-lines first set = rw others-listed (append-assoc (ascii "first" ++ (32 ∷ decimal first)) (10 ∷ []) (ascii "set" ++ (numbers (elements set) ++ (10 ∷ []))))
+last-lines first set =
+    rw others-listed (append-assoc (ascii "first" ++ (32 ∷ decimal first)) (10 ∷ []) (ascii "set" ++ (numbers (elements set) ++ (10 ∷ []))))
 
 pub over-pieces : (n e first set : ℕ)
     → overReport n e first set

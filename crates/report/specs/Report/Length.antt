@@ -1,5 +1,5 @@
 -- How long a report is. Document 01, "Refused", rule 17, asks for space of that length. Assumes nothing.
-use Prim.Native.Nat.{ℕ, zero, suc, _+_, _*_, _-_, _/_, _%_, _≤_, _<_}
+use Prim.Native.Nat.{ℕ, zero, suc, _+_, _*_, _/_, _%_, _≤_, _<_}
 use native.Mathlib.Omega.{arith}
 use borrow.Author.Tests.{lt-ltb}
 use mathlib.Core.Path.{_≡_, refl}
@@ -29,7 +29,8 @@ pub decimal-length : (n : ℕ) → length (decimal n) ≤ 3
 unfolding decimal
 decimal-length n = go (ltb n 10) (ltb n 100)
   where
-    go : (a b : Bool) → length (cond a (digit n ∷ []) (cond b (digit (n / 10) ∷ digit (n % 10) ∷ []) (digit (n / 100) ∷ digit (n / 10 % 10) ∷ digit (n % 10) ∷ []))) ≤ 3
+    go : (a b : Bool) → length
+        (cond a (digit n ∷ []) (cond b (digit (n / 10) ∷ digit (n % 10) ∷ []) (digit (n / 100) ∷ digit (n / 10 % 10) ∷ digit (n % 10) ∷ []))) ≤ 3
     go true b = omega arith
     go false true = omega arith
     go false false = omega arith
@@ -83,7 +84,15 @@ pub step-length : (s : Step) → length (stepLine s) ≤ 47 + (length (waysName 
 step-length s =
     rw step-pieces
     (simp length-append
-    (omega (arith, decimal-length (s .made), decimal-length (s .i), decimal-length (s .j), decimal-length (s .k), set-length (s .joint), kind-length (s .kind))))
+    (omega (
+      arith,
+      decimal-length (s .made),
+      decimal-length (s .i),
+      decimal-length (s .j),
+      decimal-length (s .k),
+      set-length (s .joint),
+      kind-length (s .kind),
+    )))
 
 pub slot-length : (c a : ℕ) → length (slotLine c a) ≤ living a * (18 + 3 * length (elements a))
 slot-length c zero = rw (slot-dead c zero refl) (omega arith)
@@ -127,4 +136,5 @@ report-long n e v steps slots =
     )
 
 pub over-long : (n e first set : ℕ) → length (overReport n e first set) ≤ 249
-over-long n e first set = rw over-pieces (simp length-append (omega (arith, decimal-length n, decimal-length e, decimal-length first, set-length set, elements-most set)))
+over-long n e first set =
+    rw over-pieces (simp length-append (omega (arith, decimal-length n, decimal-length e, decimal-length first, set-length set, elements-most set)))

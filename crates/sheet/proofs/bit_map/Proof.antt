@@ -3,9 +3,6 @@ use borrow.Author.Tests.{lt-ltb, le-ltb, eq-eqb, ne-eqb}
 use Rattle.sheet.proofs.bit_map.Statement.{statement}
 use Rattle.sheet.proofs.bit_map.Tie as tie
 
-size-optional-requires : tie.Need-size-optional-requires
-size-optional-requires c κs = search needs
-
 returns : tie.Need-returns
 returns c = rw (lt-ltb _ _ (c .before .if1 .taken), eq-eqb _ _ (c .if2 .taken))
 
@@ -17,4 +14,4 @@ returns-3 : tie.Need-returns-3
 returns-3 c = rw (le-ltb _ _ (c .if1 .left))
 
 pub bit-map-spec : {M : Type 1} → statement M
-bit-map-spec = tie.close (tie.spec size-optional-requires returns returns-2 returns-3)
+bit-map-spec = tie.close (tie.spec (λ c κs. search needs) returns returns-2 returns-3)

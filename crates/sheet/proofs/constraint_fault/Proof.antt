@@ -2,15 +2,12 @@ use borrow.Author.Needs.{needs}
 use borrow.Author.Tests.{not-true, not-false}
 use Prim.Native.Nat.{_<_}
 use native.Mathlib.Omega.{arith}
-use mathlib.Core.Path.{_≡_, sym, ap, _∙_}
+use mathlib.Core.Path.{_≡_, sym, _∙_}
 use mathlib.Core.Bool.{true}
-use Rattle.sheet.specs.Rules.{ends, sizeFault}
+use Rattle.sheet.specs.Rules.{ends}
 use Rattle.sheet.specs.Rules.Laws.{ends-true, fault-ends, fault-stands, fault-size, pair-shift}
 use Rattle.sheet.proofs.constraint_fault.Statement.{statement}
 use Rattle.sheet.proofs.constraint_fault.Tie as tie
-
-ends-ascend-requires : tie.Need-ends-ascend-requires
-ends-ascend-requires c κs = search needs
 
 returns : tie.Need-returns
 returns c = λ es cs en el h.
@@ -32,7 +29,8 @@ pair-stands-requires c κs = both c
 
 returns-2 : tie.Need-returns-2
 returns-2 c = λ es cs en el h.
-    sym (fault-stands es cs (c .before .before .before .before .args .c) (rw en at (fine (c .before .before))) (sym (c .before .pair-stands .ensures cs h) ∙ c .if2 .taken))
+    sym (fault-stands es cs (c .before .before .before .before .args .c) (rw en at (fine (c .before .before)))
+    (sym (c .before .pair-stands .ensures cs h) ∙ c .if2 .taken))
 
 kind-at-requires : tie.Need-kind-at-requires
 kind-at-requires c κs = omega (arith, both (c .before .before))
@@ -40,29 +38,22 @@ kind-at-requires c κs = omega (arith, both (c .before .before))
 kind-at-requires-2 : tie.Need-kind-at-requires-2
 kind-at-requires-2 c κs = both (c .before .before .before) .1
 
-pair-of-requires : tie.Need-pair-of-requires
-pair-of-requires c κs = search needs
-
-size-fault-requires : tie.Need-size-fault-requires
-size-fault-requires c κs = search needs
-
 returns-3 : tie.Need-returns-3
 returns-3 c = λ es cs en el h.
     let k = c .before .before .before .before .before .before .before .before .args .c in
     c .size-fault .ensures
-    ∙ rw (c .before .pair-of .ensures, c .before .before .kind-at2 .ensures, c .before .before .before .kind-at .ensures, el, pair-shift es (k .first) (k .second))
-    (sym (fault-size es cs k (rw en at (fine (c .before .before .before .before .before .before))) (sym (c .before .before .before .before .before .pair-stands .ensures cs h) ∙ c .before .before .before .before .if2 .left)))
+    ∙ rw (
+      c .before .pair-of .ensures,
+      c .before .before .kind-at2 .ensures,
+      c .before .before .before .kind-at .ensures,
+      el,
+      pair-shift es (k .first) (k .second),
+    )
+    (sym (fault-size es cs k (rw en at (fine (c .before .before .before .before .before .before)))
+    (sym (c .before .before .before .before .before .pair-stands .ensures cs h) ∙ c .before .before .before .before .if2 .left)))
 
 pub constraint-fault-spec : {M : Type 1} → statement M
 constraint-fault-spec =
     tie.close
-    (tie.spec
-    ends-ascend-requires
-    returns
-    pair-stands-requires
-    returns-2
-    kind-at-requires
-    kind-at-requires-2
-    pair-of-requires
-    size-fault-requires
-    returns-3)
+    (tie.spec (λ c κs. search needs) returns pair-stands-requires returns-2 kind-at-requires kind-at-requires-2
+    (λ c κs. search needs) (λ c κs. search needs) returns-3)

@@ -6,36 +6,25 @@ use mathlib.Core.Path.{_≡_, refl, sym, ap, _∙_}
 use mathlib.Core.List.{List, [], _∷_, _++_, append-nil, append-assoc}
 use borrow.Author.Needs.{needs}
 use lib.ListN.{length, take, drop, set, replicate, length-set}
-use lib.Seq.{take-suc-set, length-take-le}
+use lib.Seq.{take-suc-set}
 use Rattle.sheet.specs.declared.Kind.{Kind}
 use Rattle.sheet.specs.declared.Element.{Element}
 use Rattle.theory.specs.Block.{block}
 use Rattle.sheet.specs.Facts.{elementOf, elementsOf, blankElement}
-use Rattle.sheet.specs.Facts.Laws.{still-blank, filled, elementsOf-length}
+use Rattle.sheet.specs.Facts.Laws.{still-blank, filled}
 use Rattle.sheet.proofs.elements_of.Statement.{statement}
 use Rattle.sheet.proofs.elements_of.Tie as tie
 
 abbrev Inv-loop : tie.InvT-loop
 Inv-loop n lines elements₀ left₀ i₀ elements left i =
-    (i ≤ n) × (length elements ≡ 64) × (elementsOf n lines ≡ take i elements ++ elementsOf (n - i) left) × (drop i elements ≡ replicate (64 - i) blankElement)
+    (i ≤ n) × (length elements ≡ 64) × (elementsOf n lines ≡ take i elements ++ elementsOf (n - i) left)
+    × (drop i elements ≡ replicate (64 - i) blankElement)
 
 abbrev μ-loop : tie.MeasureT-loop
 μ-loop n lines elements₀ left₀ i₀ elements left i = n - i
 
 loop-holds : tie.Need-loop-holds Inv-loop μ-loop
 loop-holds c = (search needs, refl, rw sub-zero, refl)
-
-kind-at-requires : tie.Need-kind-at-requires Inv-loop μ-loop
-kind-at-requires c κs = omega arith
-
-array-set-from-elements : tie.Need-array-set-from-elements Inv-loop μ-loop
-array-set-from-elements c = search needs
-
-add-i : tie.Need-add-i Inv-loop μ-loop
-add-i c = search needs
-
-loop-less : tie.Need-loop-less Inv-loop μ-loop
-loop-less c = omega arith
 
 -- one element more is taken from the number
 module _ (n i left : ℕ) (elements : List Element) (below : i < n) (room : i < length elements) where
@@ -63,7 +52,8 @@ loop-again c =
     )
 
 -- at the end all elements are taken
-all : (n lines i left : ℕ) (elements : List Element) → i ≡ n → elementsOf n lines ≡ take i elements ++ elementsOf (n - i) left → take i elements ≡ elementsOf n lines
+all : (n lines i left : ℕ) (elements : List Element) → i ≡ n → elementsOf n lines ≡ take i elements ++ elementsOf (n - i) left
+    → take i elements ≡ elementsOf n lines
 unfolding elementsOf
 all n lines i left elements e h =
     let z : n - i ≡ 0 = omega arith in
@@ -75,18 +65,11 @@ returns c =
     let n = c .before .before .args .n in
     let i : a .i ≡ n = omega arith in
     let l : a .i ≤ length (a .elements) = rw (a .inv .1) (omega arith) in
-    filled (a .elements) 64 (a .i) blankElement l (a .inv .3) ∙ ap (block 64 blankElement) (all n (c .before .before .args .lines) (a .i) (a .left) (a .elements) i (a .inv .2))
+    filled (a .elements) 64 (a .i) blankElement l (a .inv .3)
+    ∙ ap (block 64 blankElement) (all n (c .before .before .args .lines) (a .i) (a .left) (a .elements) i (a .inv .2))
 
 pub elements-of-spec : {M : Type 1} → statement M
 elements-of-spec =
     tie.close
-    (tie.spec
-    Inv-loop
-    μ-loop
-    loop-holds
-    kind-at-requires
-    array-set-from-elements
-    add-i
-    loop-less
-    loop-again
-    returns)
+    (tie.spec Inv-loop μ-loop loop-holds (λ c κs. omega arith) (λ c. search needs) (λ c. search needs)
+    (λ c. omega arith) loop-again returns)

@@ -1,4 +1,3 @@
-use borrow.Author.Needs.{needs}
 use borrow.Author.Tests.{lt-ltb, le-ltb}
 use Rattle.sheet.proofs.ends_ascend.Statement.{statement}
 use Rattle.sheet.proofs.ends_ascend.Tie as tie

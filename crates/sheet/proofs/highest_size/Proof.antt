@@ -4,15 +4,6 @@ use Rattle.sheet.specs.Range.{highestSize}
 use Rattle.sheet.proofs.highest_size.Statement.{statement}
 use Rattle.sheet.proofs.highest_size.Tie as tie
 
-enum-told : tie.Need-enum-told
-enum-told c = search needs
-
-enum-told-2 : tie.Need-enum-told-2
-enum-told-2 c = search needs
-
-enum-told-3 : tie.Need-enum-told-3
-enum-told-3 c = search needs
-
 returns : tie.Need-returns
 returns c = sym (ap highestSize (c .enum-told .given .1))
 
@@ -24,4 +15,4 @@ returns-3 c = sym (ap highestSize (c .enum-told3 .given .1))
 
 pub highest-size-spec : {M : Type 1} → statement M
 highest-size-spec =
-    tie.close (tie.spec enum-told enum-told-2 enum-told-3 returns returns-2 returns-3)
+    tie.close (tie.spec (λ c. search needs) (λ c. search needs) (λ c. search needs) returns returns-2 returns-3)

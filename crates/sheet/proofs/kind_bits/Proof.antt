@@ -8,9 +8,6 @@ use lib.Pow.{pow-lt}
 use Rattle.sheet.proofs.kind_bits.Statement.{statement}
 use Rattle.sheet.proofs.kind_bits.Tie as tie
 
-shl-result : tie.Need-shl-result
-shl-result c = search needs
-
 returns : tie.Need-returns
 returns c =
     let h : 2 ^ c .before .args .n < 2 ^ 64 = pow-lt (c .if1 .taken) in rw (one-mul, mod-eq-of-lt h)
@@ -24,4 +21,4 @@ returns-2 c =
     sym (lt-ltb _ _ (all (c .before .args .n) (c .before .args .m) (c .before .pre) (c .if1 .left) (c .before .fits .m .fits)))
 
 pub kind-bits-spec : {M : Type 1} → statement M
-kind-bits-spec = tie.close (tie.spec shl-result returns returns-2)
+kind-bits-spec = tie.close (tie.spec (λ c. search needs) returns returns-2)

@@ -1,7 +1,7 @@
-use Prim.Native.Nat.{ℕ, suc, _+_, _*_, _-_, _<_, _≤_, _^_}
+use Prim.Native.Nat.{ℕ, _+_, _*_, _-_, _<_, _≤_, _^_}
 use native.Mathlib.Nat.{pow-le-pow-right}
 use native.Mathlib.Omega.{arith}
-use mathlib.Core.Path.{_≡_, refl, sym, ap, _∙_}
+use mathlib.Core.Path.{_≡_, sym, ap}
 use borrow.Author.Needs.{needs}
 use lib.ListN.{length, take, drop, getD, length-drop}
 use lib.Seq.{length-take-le}
@@ -41,36 +41,31 @@ loop-holds : tie.Need-loop-holds Inv-loop μ-loop
 unfolding linesOf
 loop-holds c = (omega arith, sym (ap linesOf (spent (c .args .t1) (c .args .n) (c .args .n) (omega arith) (room c))))
 
-sub-i : tie.Need-sub-i Inv-loop μ-loop
-sub-i c = search needs
-
-array-copy-out-x : tie.Need-array-copy-out-x Inv-loop μ-loop
-array-copy-out-x c = search needs
-
 mul-lines : tie.Need-mul-lines Inv-loop μ-loop
 mul-lines c =
     let a = c .before .before .loop in
     let s = c .before .before .before in
     omega (arith, small (s .args .t1) (s .args .n) (a .i) (c .before .loop-test .taken) (a .inv .0) (room s) (s .pre), a .inv .1)
 
-line-bit-requires : tie.Need-line-bit-requires Inv-loop μ-loop
-line-bit-requires c κs = search needs
-
 add-lines : tie.Need-add-lines Inv-loop μ-loop
 add-lines c =
     let a = c .before .before .before .loop in
     let s = c .before .before .before .before in
-    omega (arith, small (s .args .t1) (s .args .n) (a .i) (c .before .before .loop-test .taken) (a .inv .0) (room s) (s .pre), a .inv .1, c .line-bit .ensures, lineBit-le (getD (s .args .t1) (a .i - 1) blankElement .kind))
-
-loop-less : tie.Need-loop-less Inv-loop μ-loop
-loop-less c = search needs
+    omega (
+      arith,
+      small (s .args .t1) (s .args .n) (a .i) (c .before .before .loop-test .taken) (a .inv .0) (room s) (s .pre),
+      a .inv .1,
+      c .line-bit .ensures,
+      lineBit-le (getD (s .args .t1) (a .i - 1) blankElement .kind),
+    )
 
 loop-again : tie.Need-loop-again Inv-loop μ-loop
 loop-again c =
     let a = c .before .before .before .loop in
     let s = c .before .before .before .before in (
       omega arith,
-      rw (c .line-bit .ensures, a .inv .1) (sym (one-more (s .args .t1) (s .args .n) (a .i) (c .before .before .loop-test .taken) (a .inv .0) (room s))),
+      rw (c .line-bit .ensures, a .inv .1)
+          (sym (one-more (s .args .t1) (s .args .n) (a .i) (c .before .before .loop-test .taken) (a .inv .0) (room s))),
     )
 
 returns : tie.Need-returns Inv-loop μ-loop
@@ -82,15 +77,5 @@ returns c =
 pub lines-of-spec : {M : Type 1} → statement M
 lines-of-spec =
     tie.close
-    (tie.spec
-    Inv-loop
-    μ-loop
-    loop-holds
-    sub-i
-    array-copy-out-x
-    mul-lines
-    line-bit-requires
-    add-lines
-    loop-less
-    loop-again
-    returns)
+    (tie.spec Inv-loop μ-loop loop-holds (λ c. search needs) (λ c. search needs) mul-lines (λ c κs. search needs)
+    add-lines (λ c. search needs) loop-again returns)

@@ -17,7 +17,8 @@ use Rattle.sheet.specs.declared.Constraint.{Constraint}
 use Rattle.sheet.specs.declared.Sheet.{Sheet}
 use Rattle.sheet.specs.Facts.{linesOf, factsOf}
 use Rattle.sheet.specs.Rules.{elementCount, constraintCount, constraintFault, constraintsFault, or-else, sheetFault}
-use Rattle.sheet.specs.Rules.Laws.{and-true, ends-true, fault-none, or-else-some, faults-turn, faults-spent, sheet-few-elements, sheet-many-constraints, sheet-counted}
+use Rattle.sheet.specs.Rules.Laws.{and-true, ends-true, fault-none, or-else-some, faults-turn, faults-spent, sheet-few-elements}
+use Rattle.sheet.specs.Rules.Laws.{sheet-many-constraints, sheet-counted}
 use Rattle.sheet.specs.Noted.{Noted}
 use Rattle.sheet.specs.Noted.Laws.{noted-none}
 use Rattle.sheet.proofs.sheet_fault.Statement.{statement}
@@ -30,13 +31,11 @@ zeros = record { first = 0; second = 0; size = Given (pos 0) }
 abbrev Inv-loop : tie.InvT-loop
 Inv-loop n e cs lines near₀ i₀ near i =
     (i ≤ e) × (e ≤ 200) × (length cs ≡ 200) × Noted near (take i cs)
-    × ((es : List Element) → n ≡ length es → lines ≡ linesOf es → constraintsFault es [] (take e cs) ≡ constraintsFault es (take i cs) (drop i (take e cs)))
+    × ((es : List Element) → n ≡ length es → lines ≡ linesOf es
+    → constraintsFault es [] (take e cs) ≡ constraintsFault es (take i cs) (drop i (take e cs)))
 
 abbrev μ-loop : tie.MeasureT-loop
 μ-loop n e cs lines near₀ i₀ near i = e - i
-
-element-count-requires : tie.Need-element-count-requires Inv-loop μ-loop
-element-count-requires c κs = search needs
 
 returns : tie.Need-returns Inv-loop μ-loop
 returns c = sym (sheet-few-elements (c .before .before .args .s) (sym (c .before .element-count .ensures) ∙ not-true _ (c .if1 .taken)))
@@ -47,12 +46,10 @@ counted c = sym (c .before .element-count .ensures) ∙ not-false _ (c .if1 .lef
 few-elements : (c : tie.Else1 Inv-loop μ-loop) → c .before .before .args .s .n ≤ 64
 few-elements c = leb-true _ _ (and-true (leb 2 (c .before .before .args .s .n)) (leb (c .before .before .args .s .n) 64) (counted c) .1)
 
-constraint-count-requires : tie.Need-constraint-count-requires Inv-loop μ-loop
-constraint-count-requires c κs = search needs
-
 returns-2 : tie.Need-returns-2 Inv-loop μ-loop
 returns-2 c =
-    sym (sheet-many-constraints (c .before .before .before .before .args .s) (counted (c .before .before)) (sym (c .before .constraint-count .ensures) ∙ not-true _ (c .if2 .taken)))
+    sym (sheet-many-constraints (c .before .before .before .before .args .s) (counted (c .before .before))
+    (sym (c .before .constraint-count .ensures) ∙ not-true _ (c .if2 .taken)))
 
 listed : (c : tie.Else2 Inv-loop μ-loop) → constraintCount (c .before .before .before .before .args .s .e) ≡ true
 listed c = sym (c .before .constraint-count .ensures) ∙ not-false _ (c .if2 .left)
@@ -67,8 +64,13 @@ long-elements : (c : tie.Start Inv-loop μ-loop) → length (c .args .s .element
 long-elements c = elements-long (c .args .s) (c .good .0)
 
 loop-holds : tie.Need-loop-holds Inv-loop μ-loop
-loop-holds c =
-    (search needs, leb-true _ _ (listed (c .before .before .before)), long (c .before .before .before .before .before .before .before), noted-none, λ es a b. refl)
+loop-holds c = (
+  search needs,
+  leb-true _ _ (listed (c .before .before .before)),
+  long (c .before .before .before .before .before .before .before),
+  noted-none,
+  λ es a b. refl,
+)
 
 abbrev start : tie.After-lines-of Inv-loop μ-loop → tie.Start Inv-loop μ-loop
 start c = c .before .before .before .before .before .before .before
@@ -79,12 +81,6 @@ sized c = sym (length-take-le _ _ (rw (long-elements (start c)) (few-elements (c
 whole : (c : tie.After-lines-of Inv-loop μ-loop)
     → sheetFault (start c .args .s) ≡ constraintsFault (factsOf (start c .args .s) .elements) [] (factsOf (start c .args .s) .constraints)
 whole c = sheet-counted (start c .args .s) (counted (c .before .before .before .before .before)) (listed (c .before .before .before))
-
-mul-c : tie.Need-mul-c Inv-loop μ-loop
-mul-c c = search needs
-
-array-copy-out-c : tie.Need-array-copy-out-c Inv-loop μ-loop
-array-copy-out-c c = search needs
 
 constraint-fault-requires : tie.Need-constraint-fault-requires Inv-loop μ-loop
 constraint-fault-requires c κs = few-elements (c .before .before .before .before .before .before .before .before .before)
@@ -97,17 +93,21 @@ module _ (c : tie.After-constraint-fault Inv-loop μ-loop) where
   abbrev sheet : Sheet
   sheet = start (at-loop .before) .args .s
 
-  fault : c .constraint-fault .result ≡ constraintFault (factsOf sheet .elements) (take (at-loop .loop .i) (sheet .constraints)) (getD (sheet .constraints) (at-loop .loop .i) zeros)
+  fault : c .constraint-fault .result
+      ≡ constraintFault (factsOf sheet .elements) (take (at-loop .loop .i) (sheet .constraints)) (getD (sheet .constraints) (at-loop .loop .i) zeros)
   fault =
-      c .constraint-fault .ensures (factsOf sheet .elements) (take (at-loop .loop .i) (sheet .constraints)) (sized (at-loop .before)) (at-loop .before .lines-of .ensures)
+      c .constraint-fault .ensures (factsOf sheet .elements) (take (at-loop .loop .i) (sheet .constraints)) (sized (at-loop .before))
+      (at-loop .before .lines-of .ensures)
       (at-loop .loop .inv .3)
 
   -- the ends of one that has none ascend, below 64
   below : c .constraint-fault .result ≡ 0
-      → (getD (sheet .constraints) (at-loop .loop .i) zeros .first < getD (sheet .constraints) (at-loop .loop .i) zeros .second) × (getD (sheet .constraints) (at-loop .loop .i) zeros .second < 64)
+      → (getD (sheet .constraints) (at-loop .loop .i) zeros .first < getD (sheet .constraints) (at-loop .loop .i) zeros .second)
+      × (getD (sheet .constraints) (at-loop .loop .i) zeros .second < 64)
   below e =
       let k = getD (sheet .constraints) (at-loop .loop .i) zeros in
-      let h = ends-true (length (factsOf sheet .elements)) (k .first) (k .second) (fault-none (factsOf sheet .elements) (take (at-loop .loop .i) (sheet .constraints)) k (sym fault ∙ e)) in
+      let h = ends-true (length (factsOf sheet .elements)) (k .first) (k .second)
+      (fault-none (factsOf sheet .elements) (take (at-loop .loop .i) (sheet .constraints)) k (sym fault ∙ e)) in
       let n = few-elements (at-loop .before .before .before .before .before .before) in
       (h .0, omega (arith, h, n, sized (at-loop .before)))
 
@@ -117,17 +117,12 @@ returns-3 c =
     let a = at-loop f in
     let s = sheet f in
     sym (whole (a .before) ∙ a .loop .inv .4 (factsOf s .elements) (sized (a .before)) (a .before .lines-of .ensures)
-    ∙ faults-turn (factsOf s .elements) (s .constraints) (s .e) (a .loop .i) zeros (f .before .before .before .loop-test .taken) (rw (a .loop .inv .2) (a .loop .inv .1))
+    ∙ faults-turn (factsOf s .elements) (s .constraints) (s .e) (a .loop .i) zeros (f .before .before .before .loop-test .taken)
+    (rw (a .loop .inv .2) (a .loop .inv .1))
     ∙ rw (← fault f) (or-else-some _ _ (c .if3 .taken)))
 
 note-pair-requires : tie.Need-note-pair-requires Inv-loop μ-loop
 note-pair-requires c κs = below (c .before .before) (c .before .if3 .left)
-
-add-i : tie.Need-add-i Inv-loop μ-loop
-add-i c = search needs
-
-loop-less : tie.Need-loop-less Inv-loop μ-loop
-loop-less c = search needs
 
 loop-again : tie.Need-loop-again Inv-loop μ-loop
 loop-again c =
@@ -157,21 +152,6 @@ returns-4 c =
 pub sheet-fault-spec : {M : Type 1} → statement M
 sheet-fault-spec =
     tie.close
-    (tie.spec
-    Inv-loop
-    μ-loop
-    element-count-requires
-    returns
-    constraint-count-requires
-    returns-2
-    lines-of-requires
-    loop-holds
-    mul-c
-    array-copy-out-c
-    constraint-fault-requires
-    returns-3
-    note-pair-requires
-    add-i
-    loop-less
-    loop-again
-    returns-4)
+    (tie.spec Inv-loop μ-loop (λ c κs. search needs) returns (λ c κs. search needs) returns-2 lines-of-requires
+    loop-holds (λ c. search needs) (λ c. search needs) constraint-fault-requires returns-3 note-pair-requires
+    (λ c. search needs) (λ c. search needs) loop-again returns-4)

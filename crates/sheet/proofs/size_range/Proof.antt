@@ -15,24 +15,15 @@ returns c =
     let zero : g .z ≡ pos 0 = sym (toZ-ofZ (c .before .fits .z)) ∙ ap (toZ w32) (c .if1 .taken) in
     sym (ap (sizeRange (g .p)) zero ∙ no-zero (g .p))
 
-lowest-size-requires : tie.Need-lowest-size-requires
-lowest-size-requires c κs = search needs
-
-highest-size-requires : tie.Need-highest-size-requires
-highest-size-requires c κs = search needs
-
-within-requires : tie.Need-within-requires
-within-requires c κs = search needs
-
 returns-2 : tie.Need-returns-2
 returns-2 c =
     let g = c .before .before .before .before .args in
     let l = toZ-ofZ {w = w32} {z = c .before .before .lowest-size .result} (search needs) in
     let h = toZ-ofZ {w = w32} {z = c .before .highest-size .result} (search needs) in
-    rw (l, h, toZ-ofZ (c .before .before .before .before .fits .z), c .before .before .lowest-size .ensures, c .before .highest-size .ensures) at (c .within .ensures)
+    rw (l, h, toZ-ofZ (c .before .before .before .before .fits .z), c .before .before .lowest-size .ensures, c .before .highest-size .ensures) at
+    (c .within .ensures)
     ∙ sym (range-without-zero (g .p) (g .z) (λ e. c .before .before .before .if1 .left (ap (ofZ w32) e)))
 
 pub size-range-spec : {M : Type 1} → statement M
 size-range-spec =
-    tie.close
-    (tie.spec returns lowest-size-requires highest-size-requires within-requires returns-2)
+    tie.close (tie.spec returns (λ c κs. search needs) (λ c κs. search needs) (λ c κs. search needs) returns-2)

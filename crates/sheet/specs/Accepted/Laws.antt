@@ -60,7 +60,11 @@ module _ (es : List Element) where
   unfolding constraintsFault constraintFault
   faults-same [] d e h = refl
   faults-same (c ∷ cs) d e h =
-      rw (h (c .first) (c .second), faults-same cs (d ++ c ∷ []) (e ++ c ∷ []) (λ a b. stands-more d c a b ∙ ap (λ (t : Bool). t || (eqb (c .first) a && eqb (c .second) b)) (h a b) ∙ sym (stands-more e c a b)))
+      rw (
+        h (c .first) (c .second),
+        faults-same cs (d ++ c ∷ []) (e ++ c ∷ [])
+            (λ a b. stands-more d c a b ∙ ap (λ (t : Bool). t || (eqb (c .first) a && eqb (c .second) b)) (h a b) ∙ sym (stands-more e c a b)),
+      )
 
   or-swap : (x y z : Bool) → (x || y) || z ≡ (x || z) || y
   or-swap true y z = refl
@@ -83,9 +87,12 @@ module _ (es : List Element) where
       let g = none-else (constraintFault es dx y) (constraintsFault es (dx ++ y ∷ []) l) (h .1) in
       let tx = taken done x (h .0) in
       let ty = taken dx y (g .0) in
-      let ny = or-none (stands done (y .first) (y .second)) (eqb (x .first) (y .first) && eqb (x .second) (y .second)) (sym (stands-more done x (y .first) (y .second)) ∙ ty .is-new) in
-      let fy : constraintFault es done y ≡ 0 = not-refused done y (record { ends-ascend = ty .ends-ascend; is-new = ny .0; size-fits = ty .size-fits }) in
-      let apart : (eqb (y .first) (x .first) && eqb (y .second) (x .second)) ≡ false = ap₂ _&&_ (eqb-sym (y .first) (x .first)) (eqb-sym (y .second) (x .second)) ∙ ny .1 in
+      let ny = or-none (stands done (y .first) (y .second)) (eqb (x .first) (y .first) && eqb (x .second) (y .second))
+      (sym (stands-more done x (y .first) (y .second)) ∙ ty .is-new) in
+      let fy : constraintFault es done y ≡ 0 =
+      not-refused done y (record { ends-ascend = ty .ends-ascend; is-new = ny .0; size-fits = ty .size-fits }) in
+      let apart : (eqb (y .first) (x .first) && eqb (y .second) (x .second)) ≡ false =
+      ap₂ _&&_ (eqb-sym (y .first) (x .first)) (eqb-sym (y .second) (x .second)) ∙ ny .1 in
       let fx : constraintFault es dy x ≡ 0 = not-refused dy x (record {
         ends-ascend = tx .ends-ascend;
         is-new = stands-more done y (x .first) (x .second) ∙ ap₂ _||_ (tx .is-new) apart;

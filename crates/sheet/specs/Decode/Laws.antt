@@ -2,13 +2,12 @@
 use Prim.Native.Nat.{ℕ, zero, suc, _+_, _*_, _-_, _/_, _%_, _<_}
 use native.Mathlib.Decide.{decLt}
 use native.Mathlib.Omega.{arith}
-use mathlib.Core.Path.{_≡_, refl, sym, ap, ap₂, _∙_}
+use mathlib.Core.Path.{_≡_, refl, sym, ap, _∙_}
 use mathlib.Core.List.{List, [], _∷_}
 use lib.Dec.{eqb}
 use lib.ListN.{getD}
 use Rattle.theory.specs.Set.{at}
 use Rattle.theory.specs.Set.Laws.{at-zero}
-use Rattle.sheet.specs.declared.Element.{Element}
 use Rattle.sheet.specs.Facts.{kindOf, elementsOf, blankElement}
 use Rattle.sheet.specs.Field.{number, Bytes}
 use Rattle.sheet.specs.Field.Laws.{bytes-front, bytes-rest}
@@ -51,13 +50,15 @@ unfolding number
 number-digit [] h i = none i
 number-digit (b ∷ s) h i = go (number-digit s (bytes-rest h)) i (decLt i 8)
   where
-    above : ((j : ℕ) → at j (number s) ≡ at (j % 8) (getD s (j / 8) 0)) → (j : ℕ) → at (8 + j) (b + 256 * number s) ≡ at ((8 + j) % 8) (getD (b ∷ s) ((8 + j) / 8) 0)
+    above : ((j : ℕ) → at j (number s) ≡ at (j % 8) (getD s (j / 8) 0)) → (j : ℕ)
+        → at (8 + j) (b + 256 * number s) ≡ at ((8 + j) % 8) (getD (b ∷ s) ((8 + j) / 8) 0)
     above ih j =
         let q : (8 + j) / 8 ≡ suc (j / 8) = omega arith in
         let r : (8 + j) % 8 ≡ j % 8 = omega arith in
         rw (q, r) (ap (λ (x : ℕ). at x (b + 256 * number s)) (eight j) ∙ high b (number s) (bytes-front h) j ∙ ih j)
 
-    go : ((j : ℕ) → at j (number s) ≡ at (j % 8) (getD s (j / 8) 0)) → (i : ℕ) → Dec (i < 8) → at i (number (b ∷ s)) ≡ at (i % 8) (getD (b ∷ s) (i / 8) 0)
+    go : ((j : ℕ) → at j (number s) ≡ at (j % 8) (getD s (j / 8) 0)) → (i : ℕ) → Dec (i < 8)
+        → at i (number (b ∷ s)) ≡ at (i % 8) (getD (b ∷ s) (i / 8) 0)
     go ih i (yes l) =
         let q : i / 8 ≡ 0 = omega arith in
         let r : i % 8 ≡ i = omega arith in
@@ -67,5 +68,6 @@ number-digit (b ∷ s) h i = go (number-digit s (bytes-rest h)) i (decLt i 8)
         rw e at (above ih (i - 8))
 
 -- the kind of element i
-pub kind-byte : (s : List ℕ) → Bytes s → (n i : ℕ) → i < n → getD (elementsOf n (number s)) i blankElement .kind ≡ kindOf (eqb (at (i % 8) (getD s (i / 8) 0)) 1)
+pub kind-byte : (s : List ℕ) → Bytes s → (n i : ℕ) → i < n
+    → getD (elementsOf n (number s)) i blankElement .kind ≡ kindOf (eqb (at (i % 8) (getD s (i / 8) 0)) 1)
 kind-byte s h n i l = kind-of n (number s) i l ∙ ap (λ (r : ℕ). kindOf (eqb r 1)) (number-digit s h i)

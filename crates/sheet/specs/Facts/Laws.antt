@@ -1,20 +1,19 @@
 -- Laws of the elements as one number, and of a block that is filled from the front. Assumes nothing.
 use Prim.Native.Nat.{ℕ, zero, suc, _+_, _*_, _-_, _/_, _%_, _^_, _≤_, _<_}
-use native.Mathlib.Nat.{zero-div, pow-succ'}
+use native.Mathlib.Nat.{pow-succ'}
 use native.Mathlib.Numerals.{add-one}
 use native.Mathlib.Omega.{arith}
 use mathlib.Core.Path.{_≡_, refl, sym, ap, _∙_, subst}
-use mathlib.Core.List.{List, [], _∷_, _++_}
-use borrow.Author.Tests.{eq-eqb, ne-eqb}
+use mathlib.Core.List.{List, [], _∷_}
 use lib.Dec.{eqb}
-use lib.ListN.{length, take, drop, getD, set, replicate, length-set, take-append-drop, drop-of-length-le}
+use lib.ListN.{length, take, drop, getD, set, replicate, take-append-drop, drop-of-length-le}
 use lib.Seq.{drop-set-lt, drop-drop, drop-cons, getD-take, length-take-le}
 use Rattle.theory.specs.Set.{at}
 use Rattle.sheet.specs.declared.Kind.{Kind}
 use Rattle.sheet.specs.declared.Kind.the-variants.{Point, Line}
 use Rattle.sheet.specs.declared.Element.{Element}
 use Rattle.theory.specs.Block.{block}
-use Rattle.sheet.specs.Facts.{kindOf, lineBit, elementOf, elementsOf, linesOf, blankElement}
+use Rattle.sheet.specs.Facts.{kindOf, lineBit, elementsOf, linesOf, blankElement}
 
 -- ---- a walk over the first n places
 

@@ -86,7 +86,8 @@ module _ {A : Type 0} where
   next-value (refused k) f e then = refused-value e
 
   -- and the rule took what it demands
-  pub demand-value : {C : Type 0} (q : Bool) (k : ℕ) (x : Field A) {a : A} {s : List ℕ} → demand q k x ≡ value a s → (q ≡ true → x ≡ value a s → C) → C
+  pub demand-value : {C : Type 0} (q : Bool) (k : ℕ) (x : Field A) {a : A} {s : List ℕ}
+      → demand q k x ≡ value a s → (q ≡ true → x ≡ value a s → C) → C
   demand-value true k x e then = then refl e
   demand-value false k x e then = refused-value e
 
@@ -97,7 +98,8 @@ module _ {A : Type 0} where
       let left : s ≡ t = cc in
       rw (← same, ← left) h
 
-  pick-went : (q : Bool) (k : ℕ) (a : A) (s : List ℕ) {b : A} {t : List ℕ} → pick q (refused k) (value a s) ≡ value b t → (q ≡ false) × (a ≡ b) × (s ≡ t)
+  pick-went : (q : Bool) (k : ℕ) (a : A) (s : List ℕ) {b : A} {t : List ℕ} → pick q (refused k) (value a s) ≡ value b t
+      → (q ≡ false) × (a ≡ b) × (s ≡ t)
   pick-went true k a s e = refused-value e
   pick-went false k a s e = (refl, cc, cc)
 

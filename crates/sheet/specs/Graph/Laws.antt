@@ -38,8 +38,10 @@ unfolding constraintsFault
 clusters-sound es [] done e x i = absurd i
 clusters-sound es (c ∷ cs) done e x (inl q) =
     let h = none-else es (constraintFault es done c) (constraintsFault es (done ++ c ∷ []) cs) e in
-    let l = ends-true (length es) (c .first) (c .second) (taken es done c (h .0) .ends-ascend) in
-    (ap ones q ∙ size-pair (c .first) (c .second) (l .0), subst (λ (z : ℕ). z < 2 ^ length es) (sym q) (pair-below (length es) (c .first) (c .second) (omega arith) (l .1)))
+    let l = ends-true (length es) (c .first) (c .second) (taken es done c (h .0) .ends-ascend) in (
+      ap ones q ∙ size-pair (c .first) (c .second) (l .0),
+      subst (λ (z : ℕ). z < 2 ^ length es) (sym q) (pair-below (length es) (c .first) (c .second) (omega arith) (l .1)),
+    )
 clusters-sound es (c ∷ cs) done e x (inr i) =
     clusters-sound es cs (done ++ c ∷ []) (none-else es (constraintFault es done c) (constraintsFault es (done ++ c ∷ []) cs) e .1) x i
 

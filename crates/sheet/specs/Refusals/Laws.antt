@@ -16,13 +16,15 @@ use Rattle.sheet.specs.declared.Sheet.{Sheet}
 use Rattle.sheet.specs.Facts.{factsOf, pick}
 use Rattle.sheet.specs.Field.{Field, refused, next, demand, field, byte, signed32, kindBytes, openingBytes, begins}
 use Rattle.sheet.specs.Decode.{size, tag, dimension, constraint, constraints, readConstraints, readKinds, readSheet}
-use Rattle.sheet.specs.Rules.{elementCount, kindBits, constraintCount, ends, stands, pairAt, optional, bitMap, sizeRange, sizeFault, or-else, constraintFault, constraintsFault, sheetFault}
+use Rattle.sheet.specs.Rules.{elementCount, kindBits, constraintCount, ends, stands, pairAt, optional, bitMap, sizeRange, sizeFault, or-else}
+use Rattle.sheet.specs.Rules.{constraintFault, constraintsFault, sheetFault}
 use Rattle.sheet.specs.Refusals.{Rule, By, given, ruled, Fault}
 
 module _ {low high : ℕ} where
   -- ---- fields one after another, and what a rule demands of them
 
-  pub by-next : {A B : Type 0} {f : Field A} {g : A → List ℕ → Field B} → By low high f → ((a : A) (s : List ℕ) → By low high (g a s)) → By low high (next f g)
+  pub by-next : {A B : Type 0} {f : Field A} {g : A → List ℕ → Field B} → By low high f
+      → ((a : A) (s : List ℕ) → By low high (g a s)) → By low high (next f g)
   by-next (given {a} {s}) k = k a s
   by-next (ruled h) k = ruled h
 
@@ -131,21 +133,25 @@ fault-size p (Given z) = fault-pick 3 9 (sizeRange p z) 0 9 tt (between 3 9 9 tt
 pub fault-constraint : (es : List Element) (done : List Constraint) (c : Constraint) → Fault 3 9 (constraintFault es done c)
 unfolding constraintFault
 fault-constraint es done c =
-    fault-pick 3 9 (ends (length es) (c .first) (c .second)) (pick (stands done (c .first) (c .second)) 7 (sizeFault (pairAt es (c .first) (c .second)) (c .size))) 6
-    (fault-pick 3 9 (stands done (c .first) (c .second)) 7 (sizeFault (pairAt es (c .first) (c .second)) (c .size)) (between 3 9 7 tt) (fault-size (pairAt es (c .first) (c .second)) (c .size)))
+    fault-pick 3 9 (ends (length es) (c .first) (c .second))
+    (pick (stands done (c .first) (c .second)) 7 (sizeFault (pairAt es (c .first) (c .second)) (c .size))) 6
+    (fault-pick 3 9 (stands done (c .first) (c .second)) 7 (sizeFault (pairAt es (c .first) (c .second)) (c .size)) (between 3 9 7 tt)
+    (fault-size (pairAt es (c .first) (c .second)) (c .size)))
     (between 3 9 6 tt)
 
 fault-constraints : (es : List Element) (cs done : List Constraint) → Fault 3 9 (constraintsFault es done cs)
 unfolding constraintsFault
 fault-constraints es [] done = tt
 fault-constraints es (c ∷ cs) done =
-    fault-else 3 9 (constraintFault es done c) (constraintsFault es (done ++ c ∷ []) cs) (fault-constraint es done c) (fault-constraints es cs (done ++ c ∷ []))
+    fault-else 3 9 (constraintFault es done c) (constraintsFault es (done ++ c ∷ []) cs) (fault-constraint es done c)
+    (fault-constraints es cs (done ++ c ∷ []))
 
 pub fault-sheet : (s : Sheet) → Fault 3 9 (sheetFault s)
 unfolding sheetFault
 fault-sheet s =
     fault-pick 3 9 (elementCount (s .n)) (pick (constraintCount (s .e)) (constraintsFault (factsOf s .elements) [] (factsOf s .constraints)) 5) 3
-    (fault-pick 3 9 (constraintCount (s .e)) (constraintsFault (factsOf s .elements) [] (factsOf s .constraints)) 5 (fault-constraints (factsOf s .elements) (factsOf s .constraints) []) (between 3 9 5 tt))
+    (fault-pick 3 9 (constraintCount (s .e)) (constraintsFault (factsOf s .elements) [] (factsOf s .constraints)) 5
+    (fault-constraints (factsOf s .elements) (factsOf s .constraints) []) (between 3 9 5 tt))
     (between 3 9 3 tt)
 
 pub fault-wider : (low high more k : ℕ) → high ≤ more → Fault low high k → Fault low more k

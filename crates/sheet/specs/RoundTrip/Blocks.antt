@@ -54,7 +54,8 @@ module _ (s : Sheet) (elements : length (s .elements) ≡ 64) (constraints : len
   factsOf-accepted h =
       let f = sheetFault-none s h in
       let n-is : length (take (s .n) (s .elements)) ≡ s .n = length-take-le (s .n) (s .elements) (omega (arith, elements-most (s .n) (f .0))) in
-      let e-is : length (take (s .e) (s .constraints)) ≡ s .e = length-take-le (s .e) (s .constraints) (omega (arith, constraints-most (s .e) (f .1))) in
+      let e-is : length (take (s .e) (s .constraints)) ≡ s .e =
+      length-take-le (s .e) (s .constraints) (omega (arith, constraints-most (s .e) (f .1))) in
       record { element-count = rw n-is (f .0); constraint-count = rw e-is (f .1); no-fault = f .2 }
 
 -- ---- length

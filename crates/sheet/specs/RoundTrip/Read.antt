@@ -14,9 +14,11 @@ use Rattle.sheet.specs.declared.Constraint.{Constraint}
 use Rattle.sheet.specs.Facts.{Facts, pick, linesOf}
 use Rattle.sheet.specs.Facts.Laws.{elementsOf-length, linesOf-elementsOf}
 use Rattle.sheet.specs.Field.{value, refused, digits, field, byte, signed32, kindBytes, openingBytes, begins, Bytes}
-use Rattle.sheet.specs.Field.Laws.{length-digits, next-value, demand-value, value-with, refused-value, field-front, byte-front, begins-front, bytes-drop, unsigned32-signed32}
+use Rattle.sheet.specs.Field.Laws.{length-digits, next-value, demand-value, value-with, refused-value, field-front, byte-front, begins-front}
+use Rattle.sheet.specs.Field.Laws.{bytes-drop, unsigned32-signed32}
 use Rattle.sheet.specs.Rules.Laws.{and-true}
-use Rattle.sheet.specs.Rules.{elementCount, kindBits, constraintCount, ends, stands, pairAt, optional, bitMap, sizeRange, sizeFault, constraintFault, constraintsFault}
+use Rattle.sheet.specs.Rules.{elementCount, kindBits, constraintCount, ends, stands, pairAt, optional, bitMap, sizeRange, sizeFault}
+use Rattle.sheet.specs.Rules.{constraintFault, constraintsFault}
 use Rattle.sheet.specs.Decode.{opening, size, tag, dimension, constraint, constraints, readConstraints, readKinds, readSheet}
 use Rattle.sheet.specs.Encode.{sizeBit, sizeBytes, constraintBytes, constraintsBytes, sheetBytes}
 use Rattle.sheet.specs.Encode.Laws.{size-length}
@@ -37,7 +39,8 @@ record SizeFront (p : PairKind) (q : Bool) (s : List ℕ) (z : Size) (t : List �
   taken : sizeFault p z ≡ 0
   rest : Bytes t
 
-size-front : (p : PairKind) (q : Bool) (s : List ℕ) {z : Size} {t : List ℕ} → Bytes s → q || optional p ≡ true → size p q s ≡ value z t → SizeFront p q s z t
+size-front : (p : PairKind) (q : Bool) (s : List ℕ) {z : Size} {t : List ℕ} → Bytes s → q || optional p ≡ true
+    → size p q s ≡ value z t → SizeFront p q s z t
 unfolding size sizeBytes
 size-front p false s {z} {t} h o e =
     value-with (SizeFront p false s) e (record { front = refl; given = refl; taken = rw o; rest = h })
@@ -84,7 +87,8 @@ record DimensionFront (a b : ℕ) (p : PairKind) (s : List ℕ) (c : Constraint)
   taken : sizeFault p (c .size) ≡ 0
   rest : Bytes t
 
-dimension-front : (a b : ℕ) (p : PairKind) (s : List ℕ) {c : Constraint} {t : List ℕ} → Bytes s → dimension a b p s ≡ value c t → DimensionFront a b p s c t
+dimension-front : (a b : ℕ) (p : PairKind) (s : List ℕ) {c : Constraint} {t : List ℕ} → Bytes s → dimension a b p s ≡ value c t
+    → DimensionFront a b p s c t
 unfolding dimension
 dimension-front a b p s h e =
     next-value (byte s) _ e (λ map s1 was e1.
@@ -188,7 +192,8 @@ kinds-front n s h e =
 opening-front : (s : List ℕ) {o t : List ℕ} → opening s ≡ value o t → s ≡ openingBytes ++ t
 opening-front s e = go (begins openingBytes s) refl e
   where
-    go : (q : Bool) → begins openingBytes s ≡ q → {o t : List ℕ} → pick q (value openingBytes (drop 4 s)) (refused 1) ≡ value o t → s ≡ openingBytes ++ t
+    go : (q : Bool) → begins openingBytes s ≡ q → {o t : List ℕ}
+        → pick q (value openingBytes (drop 4 s)) (refused 1) ≡ value o t → s ≡ openingBytes ++ t
     go true b e = value-with (λ o t. s ≡ openingBytes ++ t) e (begins-front openingBytes s b)
     go false b e = refused-value e
 

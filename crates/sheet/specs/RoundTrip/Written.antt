@@ -87,7 +87,8 @@ bits (Given z) = (refl, refl)
 
 module _ (elements : List Element) (done : List Constraint) (c : Constraint) where
   fault : constraintFault elements done c ≡ 0
-      → (ends (length elements) (c .first) (c .second) ≡ true) × (stands done (c .first) (c .second) ≡ false) × (sizeFault (pairAt elements (c .first) (c .second)) (c .size) ≡ 0)
+      → (ends (length elements) (c .first) (c .second) ≡ true) × (stands done (c .first) (c .second) ≡ false)
+      × (sizeFault (pairAt elements (c .first) (c .second)) (c .size) ≡ 0)
   unfolding constraintFault
   fault e = fault-none _ _ _ e
 

@@ -10,13 +10,13 @@ use lib.Dec.{T, eqb, ltb}
 use lib.ListN.{length, getD, take, drop}
 use lib.Seq.{take-suc}
 use Rattle.theory.specs.Set.Laws.{at-div}
-use Rattle.sheet.specs.declared.Kind.{Kind}
 use Rattle.sheet.specs.declared.Element.{Element}
 use Rattle.sheet.specs.declared.Constraint.{Constraint}
 use Rattle.sheet.specs.declared.Sheet.{Sheet}
 use Rattle.sheet.specs.Facts.{kindOf, linesOf, blankElement, pick, factsOf}
 use Rattle.sheet.specs.Facts.Laws.{kind-bit, turn, spent}
-use Rattle.sheet.specs.Rules.{elementCount, constraintCount, ends, stands, pairOf, pairAt, sizeFault, constraintFault, constraintsFault, or-else, sheetFault}
+use Rattle.sheet.specs.Rules.{elementCount, constraintCount, ends, stands, pairOf, pairAt, sizeFault, constraintFault, constraintsFault}
+use Rattle.sheet.specs.Rules.{or-else, sheetFault}
 
 pub and-true : (x y : Bool) → x && y ≡ true → (x ≡ true) × (y ≡ true)
 and-true true y e = (refl, e)
@@ -90,7 +90,8 @@ module _ (es : List Element) (cs : List Constraint) (e i : ℕ) (d : Constraint)
       let h : i < length cs = omega arith in
       rw (turn cs e i d below room, add-one, take-suc cs i d h)
 
-pub faults-spent : (es : List Element) (cs done : List Constraint) (e i : ℕ) → e ≤ i → e ≤ length cs → constraintsFault es done (drop i (take e cs)) ≡ 0
+pub faults-spent : (es : List Element) (cs done : List Constraint) (e i : ℕ) → e ≤ i → e ≤ length cs
+    → constraintsFault es done (drop i (take e cs)) ≡ 0
 unfolding constraintsFault
 faults-spent es cs done e i all room = rw (spent cs e i all room)
 

@@ -19,29 +19,26 @@ use Rattle.sketch.specs.declared.Taken.{Taken}
 use Rattle.sketch.specs.declared.Taken.the-variants.{Is, Refused}
 use Rattle.sketch.specs.declared.Added.{Added}
 use Rattle.sketch.specs.Sketch.{holdFault, extended, addFault, addedOf}
-use Rattle.sketch.specs.Sketch.Laws.{blocks-sound, few-held, hold-none, stored-facts, stored-fault, extended-sound, judged-verdict, add-unheld, add-refused, add-last, refused-added, taken-added}
+use Rattle.sketch.specs.Sketch.Laws.{blocks-sound, few-held, hold-none, stored-facts, stored-fault, extended-sound, judged-verdict, add-unheld}
+use Rattle.sketch.specs.Sketch.Laws.{add-refused, add-last, refused-added, taken-added}
 use Rattle.sketch.proofs.add.Statement.{statement}
 use Rattle.sketch.proofs.add.Tie as tie
-
-hold-fault-requires : tie.Need-hold-fault-requires
-hold-fault-requires c κs = search needs
 
 -- an answer and a sketch that are the definition's
 both : {r t : Added} → r .answer ≡ t .answer → r .sketch ≡ t .sketch → r ≡ t
 both {r} {t} e f = ap₂ {C = Added} (λ (a : Taken) (s : Sheet). record { answer = a; sketch = s }) e f
 
-refusal : (r : Added) (s : Sheet) (c : Constraint) (k : ℕ) → (r .answer ≡ Refused k) × (r .sketch ≡ s) → (k ≡ 0 → ⊥) → addFault s c ≡ k → r ≡ addedOf s c
+refusal : (r : Added) (s : Sheet) (c : Constraint) (k : ℕ) → (r .answer ≡ Refused k) × (r .sketch ≡ s)
+    → (k ≡ 0 → ⊥) → addFault s c ≡ k → r ≡ addedOf s c
 refusal r s c k e n f = let g = refused-added s c k n f in both (e .0 ∙ g .0) (e .1 ∙ g .1)
-
-refused-requires : tie.Need-refused-requires
-refused-requires c κs = search needs
 
 returns : tie.Need-returns
 returns c =
     let h = c .before .before .hold-fault in
     let a = c .before .before .before .args in
     let n : holdFault (a .s) ≡ 0 → ⊥ = λ e. c .before .if1 .taken (h .ensures ∙ e) in
-    refusal (c .refused .result) (a .s) (a .c) (h .result) (c .refused .ensures) (c .before .if1 .taken) (add-unheld (a .s) (a .c) n ∙ sym (h .ensures))
+    refusal (c .refused .result) (a .s) (a .c) (h .result) (c .refused .ensures) (c .before .if1 .taken)
+    (add-unheld (a .s) (a .c) n ∙ sym (h .ensures))
 
 -- the sketch may be held
 module _ (c : tie.Else1) where
@@ -60,13 +57,14 @@ module _ (c : tie.Else1) where
 
   room : start .args .s .e < 200
   room =
-      omega (arith, in-blocks .count, few-held (factsOf (start .args .s)) (blocks-sound (start .args .s) in-blocks) (hold-none (start .args .s) held .1))
+      omega (
+        arith,
+        in-blocks .count,
+        few-held (factsOf (start .args .s)) (blocks-sound (start .args .s) in-blocks) (hold-none (start .args .s) held .1),
+      )
 
 last-fault-requires : tie.Need-last-fault-requires
 last-fault-requires c κs = hold-none (start c .args .s) (held c) .0
-
-refused-requires-2 : tie.Need-refused-requires-2
-refused-requires-2 c κs = search needs
 
 returns-2 : tie.Need-returns-2
 returns-2 c =
@@ -74,7 +72,8 @@ returns-2 c =
     let l = c .before .before .last-fault in
     let a = start o .args in
     let n : constraintFault (factsOf (a .s) .elements) (factsOf (a .s) .constraints) (a .c) ≡ 0 → ⊥ = λ e. c .before .if2 .taken (l .ensures ∙ e) in
-    refusal (c .refused2 .result) (a .s) (a .c) (l .result) (c .refused2 .ensures) (c .before .if2 .taken) (add-refused (a .s) (a .c) (held o) n ∙ sym (l .ensures))
+    refusal (c .refused2 .result) (a .s) (a .c) (l .result) (c .refused2 .ensures) (c .before .if2 .taken)
+    (add-refused (a .s) (a .c) (held o) n ∙ sym (l .ensures))
 
 store-requires : tie.Need-store-requires
 store-requires c κs = room (c .before .before)
@@ -91,7 +90,8 @@ judge-requires : tie.Need-judge-requires
 judge-requires c κs =
     let o = c .before in
     let a = start (o .before .before) .args in
-    ap sheetFault (c .store .ensures) ∙ stored-fault (a .s) (a .c) (long (o .before .before)) (room (o .before .before)) (hold-none (a .s) (held (o .before .before)) .0) (none o)
+    ap sheetFault (c .store .ensures)
+    ∙ stored-fault (a .s) (a .c) (long (o .before .before)) (room (o .before .before)) (hold-none (a .s) (held (o .before .before)) .0) (none o)
 
 -- the verdict of the sketch with the constraint
 module _ (c : tie.After-judge) where
@@ -110,18 +110,13 @@ module _ (c : tie.After-judge) where
       let h = extended-sound (factsOf s) k (blocks-sound s (in-blocks o)) (hold-none s (held o) .1) (none taking) in
       ap (λ (j : Judged). j .verdict) (c .judge .ensures ∙ ap (λ (x : Facts). judgedOf (graphOf x)) f) ∙ judged-verdict more h
 
-number-requires : tie.Need-number-requires
-number-requires c κs = search needs
-
-refused-requires-3 : tie.Need-refused-requires-3
-refused-requires-3 c κs = search needs
-
 returns-3 : tie.Need-returns-3
 returns-3 c =
     let j = c .before .before .before in
     let o = taking j in
     let a = start (o .before .before) .args in
-    let e : verdictNumber (verdictOf (graphOf (more j))) ≡ 0 = sym (c .before .before .number .ensures ∙ ap verdictNumber (verdict-is j)) ∙ c .before .if3 .taken in
+    let e : verdictNumber (verdictOf (graphOf (more j))) ≡ 0 =
+    sym (c .before .before .number .ensures ∙ ap verdictNumber (verdict-is j)) ∙ c .before .if3 .taken in
     refusal (c .refused3 .result) (a .s) (a .c) 11 (c .refused3 .ensures) (λ z. omega arith)
     (add-last (a .s) (a .c) (held (o .before .before)) (none o) ∙ over-numbered (graphOf (more j)) e)
 
@@ -130,23 +125,13 @@ returns-4 c =
     let j = c .before .before in
     let o = taking j in
     let a = start (o .before .before) .args in
-    let n : verdictNumber (verdictOf (graphOf (more j))) ≡ 0 → ⊥ = λ e. c .if3 .left (c .before .number .ensures ∙ ap verdictNumber (verdict-is j) ∙ e) in
+    let n : verdictNumber (verdictOf (graphOf (more j))) ≡ 0 → ⊥ =
+    λ e. c .if3 .left (c .before .number .ensures ∙ ap verdictNumber (verdict-is j) ∙ e) in
     let t = taken-added (a .s) (a .c) (add-last (a .s) (a .c) (held (o .before .before)) (none o) ∙ other-numbered (graphOf (more j)) n) in
     both (ap Is (verdict-is j) ∙ t .0) (j .before .store .ensures ∙ t .1)
 
 pub add-spec : {M : Type 1} → statement M
 add-spec =
     tie.close
-    (tie.spec
-    hold-fault-requires
-    refused-requires
-    returns
-    last-fault-requires
-    refused-requires-2
-    returns-2
-    store-requires
-    judge-requires
-    number-requires
-    refused-requires-3
-    returns-3
-    returns-4)
+    (tie.spec (λ c κs. search needs) (λ c κs. search needs) returns last-fault-requires (λ c κs. search needs) returns-2
+    store-requires judge-requires (λ c κs. search needs) (λ c κs. search needs) returns-3 returns-4)

@@ -5,9 +5,6 @@ use Rattle.sketch.specs.Sketch.{holdFault}
 use Rattle.sketch.proofs.hold_fault.Statement.{statement}
 use Rattle.sketch.proofs.hold_fault.Tie as tie
 
-sheet-fault-requires : tie.Need-sheet-fault-requires
-sheet-fault-requires c κs = search needs
-
 returns : tie.Need-returns
 unfolding holdFault
 returns c = rw (← c .before .sheet-fault .ensures) (sym (or-else-some _ _ (c .if1 .taken)))
@@ -22,4 +19,4 @@ returns-2 c =
     rw e (c .over-fault .ensures)
 
 pub hold-fault-spec : {M : Type 1} → statement M
-hold-fault-spec = tie.close (tie.spec sheet-fault-requires returns over-fault-requires returns-2)
+hold-fault-spec = tie.close (tie.spec (λ c κs. search needs) returns over-fault-requires returns-2)

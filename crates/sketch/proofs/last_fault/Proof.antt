@@ -1,7 +1,5 @@
 -- `sketch::last_fault` meets its contract: the constraints of the sheet are noted, and the last one is tried. Assumes nothing.
-use borrow.Author.Needs.{needs}
-use Prim.Native.Nat.{_≤_}
-use mathlib.Core.Path.{_≡_, refl, ap}
+use mathlib.Core.Path.{refl, ap}
 use Rattle.sheet.specs.Facts.{factsOf}
 use Rattle.graph.specs.declared.Head.{Head}
 use Rattle.judge.specs.Listing.Blocks.{passed-blocks}

@@ -53,7 +53,8 @@ next-rule : (f : Facts) (c : Constraint) → Rule (nextFault f c)
 unfolding nextFault constraintFault overFault
 next-rule f c =
     else-rule (constraintFault (f .elements) (f .constraints) c) (overFault (graphOf (extended f c)))
-    (pick-rule (ends (length (f .elements)) (c .first) (c .second)) (pick-rule (stands (f .constraints) (c .first) (c .second)) (inr (inr (inl refl))) (size-rule (pairAt (f .elements) (c .first) (c .second)) (c .size))) (inr (inl refl)))
+    (pick-rule (ends (length (f .elements)) (c .first) (c .second)) (pick-rule (stands (f .constraints) (c .first) (c .second)) (inr (inr (inl refl)))
+    (size-rule (pairAt (f .elements) (c .first) (c .second)) (c .size))) (inr (inl refl)))
     (over-rule (findingOf (graphOf (extended f c))))
 
 named : (k : ℕ) → Rule (suc k) → Among (suc k) (6 ∷ 7 ∷ 8 ∷ 9 ∷ 11 ∷ [])
@@ -87,7 +88,8 @@ module _ (s : Sheet) (h : Held s) where
   stored-held : (c : Constraint) → nextFault (factsOf s) c ≡ 0 → Held (stored s c)
   unfolding stored holdFault nextFault
   stored-held c e =
-      let k = none-else (factsOf s .elements) (constraintFault (factsOf s .elements) (factsOf s .constraints) c) (overFault (graphOf (extended (factsOf s) c))) e in
+      let k = none-else (factsOf s .elements) (constraintFault (factsOf s .elements) (factsOf s .constraints) c)
+      (overFault (graphOf (extended (factsOf s) c))) e in
       record {
         elements-long = h .elements-long;
         constraints-long = rw length-set (h .constraints-long);
@@ -115,7 +117,8 @@ module _ (s : Sheet) (c : Constraint) where
   next-elements (takes e a f) = ap (λ (x : Facts). x .elements) f
   next-elements (refuses k r e a f) = ap (λ (x : Sheet). factsOf x .elements) f
 
-  next-constraints : (later : List Constraint) → Next s c → factsOf (addAfter s c) .constraints ++ later ≡ factsOf s .constraints ++ (takenBy (addAnswer s c) c ++ later)
+  next-constraints : (later : List Constraint) → Next s c
+      → factsOf (addAfter s c) .constraints ++ later ≡ factsOf s .constraints ++ (takenBy (addAnswer s c) c ++ later)
   next-constraints later (takes e a f) =
       ap (λ (x : Facts). x .constraints ++ later) f ∙ rw (a, append-assoc)
   next-constraints later (refuses k r e a f) = ap (λ (x : Sheet). factsOf x .constraints ++ later) f ∙ rw a

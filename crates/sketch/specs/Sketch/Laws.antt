@@ -79,7 +79,8 @@ faults-more es [] done c = or-else-zero (constraintFault es done c) ∙ rw appen
 faults-more es (d ∷ cs) done c =
     rw (faults-more es cs (done ++ d ∷ []) c, or-else-assoc (constraintFault es done d) (constraintsFault es (done ++ d ∷ []) cs), append-assoc)
 
-pub extended-none : (f : Facts) (c : Constraint) → constraintsFault (f .elements) [] (f .constraints) ≡ 0 → constraintFault (f .elements) (f .constraints) c ≡ 0
+pub extended-none : (f : Facts) (c : Constraint) → constraintsFault (f .elements) [] (f .constraints) ≡ 0
+    → constraintFault (f .elements) (f .constraints) c ≡ 0
     → constraintsFault (f .elements) [] (f .constraints ++ c ∷ []) ≡ 0
 extended-none f c e k = rw (faults-more (f .elements) (f .constraints) [] c, e, k)
 
@@ -99,7 +100,8 @@ module _ (s : Sheet) (c : Constraint) (long : length (s .constraints) ≡ 200) (
       let m : constraintCount (s .e + 1) ≡ true = le-leb (s .e + 1) 200 (omega arith) in
       rw (h .0, m, add-one, take-suc-set (s .constraints) (s .e) c q) (extended-none (factsOf s) c (h .2) k)
 
-pub extended-sound : (f : Facts) (c : Constraint) → Sound f → overFault (graphOf f) ≡ 0 → constraintFault (f .elements) (f .constraints) c ≡ 0 → Sound (extended f c)
+pub extended-sound : (f : Facts) (c : Constraint) → Sound f → overFault (graphOf f) ≡ 0
+    → constraintFault (f .elements) (f .constraints) c ≡ 0 → Sound (extended f c)
 extended-sound f c h o k = record {
   two = h .two;
   elements = h .elements;

@@ -10,12 +10,6 @@ use Rattle.space.specs.Space.Laws.{put-one}
 use Rattle.space.proofs.put_byte.Statement.{statement}
 use Rattle.space.proofs.put_byte.Tie as tie
 
-slice-write-out : tie.Need-slice-write-out
-slice-write-out c = search needs
-
-add-result : tie.Need-add-result
-add-result c = search needs
-
 put : (c : tie.Joined1) → Put (c .before .args .out .now) (c .before .args .at) (c .before .args .b ∷ []) (c .before .args .at + 1) (c .if1 .out)
 put c = put-one (⊎-elim (λ w. cc) (λ w. w .1 ∙ sym (set-out _ _ _ (w .0 .left))) (c .if1 .came))
 
@@ -26,4 +20,4 @@ returns : tie.Need-returns
 returns c = put c
 
 pub put-byte-spec : {M : Type 1} → statement M
-put-byte-spec = tie.close (tie.spec slice-write-out add-result same-length returns)
+put-byte-spec = tie.close (tie.spec (λ c. search needs) (λ c. search needs) same-length returns)

@@ -16,91 +16,68 @@ one : (c : tie.Then1) → decimal (c .before .before .args .n) ≡ digit (c .bef
 one c = decimal-1 (c .before .before .args .n) (c .if1 .taken)
 
 two : (c : tie.Then2)
-    → decimal (c .before .before .before .args .n) ≡ digit (c .before .before .before .args .n / 10) ∷ digit (c .before .before .before .args .n % 10) ∷ []
+    → decimal (c .before .before .before .args .n)
+    ≡ digit (c .before .before .before .args .n / 10) ∷ digit (c .before .before .before .args .n % 10) ∷ []
 two c = decimal-2 (c .before .before .before .args .n) (c .before .if1 .left) (c .if2 .taken)
 
 three : (c : tie.Else2)
     → decimal (c .before .before .before .args .n)
-    ≡ digit (c .before .before .before .args .n / 100) ∷ digit (c .before .before .before .args .n / 10 % 10) ∷ digit (c .before .before .before .args .n % 10) ∷ []
+    ≡ digit (c .before .before .before .args .n / 100) ∷ digit (c .before .before .before .args .n / 10 % 10)
+    ∷ digit (c .before .before .before .args .n % 10) ∷ []
 three c = decimal-3 (c .before .before .before .args .n) (c .before .if1 .left) (c .if2 .left)
-
-digit-requires : tie.Need-digit-requires
-digit-requires c κs = search needs
 
 put-byte-requires : tie.Need-put-byte-requires
 put-byte-requires c κs = omega (arith, ap length (one (c .before .before)))
 
-same-length : tie.Need-same-length
-same-length c = search needs
-
 returns : tie.Need-returns
 returns c = put-as (cc (one (c .before .before .before .before .before))) (c .before .before .put-byte .ensures)
-
-digit-requires-2 : tie.Need-digit-requires-2
-digit-requires-2 c κs = search needs
 
 put-byte-requires-2 : tie.Need-put-byte-requires-2
 put-byte-requires-2 c κs = omega (arith, ap length (two (c .before .before)))
 
-digit-requires-3 : tie.Need-digit-requires-3
-digit-requires-3 c κs = search needs
-
 put-byte-requires-3 : tie.Need-put-byte-requires-3
-put-byte-requires-3 c κs = omega (arith, c .before .before .before .before .put-byte2 .ensures .next-is, ap length (two (c .before .before .before .before .before .before .before)))
-
-same-length-2 : tie.Need-same-length-2
-same-length-2 c = search needs
+put-byte-requires-3 c κs =
+    omega (
+      arith,
+      c .before .before .before .before .put-byte2 .ensures .next-is,
+      ap length (two (c .before .before .before .before .before .before .before)),
+    )
 
 returns-2 : tie.Need-returns-2
 returns-2 c =
     put-as (cc (two (c .before .before .before .before .before .before .before .before .before .before)))
     (c .before .before .before .before .before .before .before .put-byte2 .ensures then c .before .before .put-byte3 .ensures)
 
-digit-requires-4 : tie.Need-digit-requires-4
-digit-requires-4 c κs = search needs
-
 put-byte-requires-4 : tie.Need-put-byte-requires-4
 put-byte-requires-4 c κs = omega (arith, ap length (three (c .before .before)))
 
-digit-requires-5 : tie.Need-digit-requires-5
-digit-requires-5 c κs = search needs
-
 put-byte-requires-5 : tie.Need-put-byte-requires-5
-put-byte-requires-5 c κs = omega (arith, c .before .before .before .before .put-byte4 .ensures .next-is, ap length (three (c .before .before .before .before .before .before .before)))
-
-digit-requires-6 : tie.Need-digit-requires-6
-digit-requires-6 c κs = search needs
+put-byte-requires-5 c κs =
+    omega (
+      arith,
+      c .before .before .before .before .put-byte4 .ensures .next-is,
+      ap length (three (c .before .before .before .before .before .before .before)),
+    )
 
 put-byte-requires-6 : tie.Need-put-byte-requires-6
-put-byte-requires-6 c κs = omega (arith, c .before .before .before .before .put-byte5 .ensures .next-is, c .before .before .before .before .before .before .before .before .before .put-byte4 .ensures .next-is, ap length (three (c .before .before .before .before .before .before .before .before .before .before .before .before)))
-
-same-length-3 : tie.Need-same-length-3
-same-length-3 c = search needs
+put-byte-requires-6 c κs =
+    omega (
+      arith,
+      c .before .before .before .before .put-byte5 .ensures .next-is,
+      c .before .before .before .before .before .before .before .before .before .put-byte4 .ensures .next-is,
+      ap length (three (c .before .before .before .before .before .before .before .before .before .before .before .before)),
+    )
 
 returns-3 : tie.Need-returns-3
 returns-3 c =
     put-as (cc (three (c .before .before .before .before .before .before .before .before .before .before .before .before .before .before .before)))
-    (c .before .before .before .before .before .before .before .before .before .before .before .before .put-byte4 .ensures then c .before .before .before .before .before .before .before .put-byte5 .ensures then c .before .before .put-byte6 .ensures)
+    (c .before .before .before .before .before .before .before .before .before .before .before .before .put-byte4 .ensures
+    then c .before .before .before .before .before .before .before .put-byte5 .ensures then c .before .before .put-byte6 .ensures)
 
 pub put-decimal-spec : {M : Type 1} → statement M
 put-decimal-spec =
     tie.close
-    (tie.spec
-    digit-requires
-    put-byte-requires
-    same-length
-    returns
-    digit-requires-2
-    put-byte-requires-2
-    digit-requires-3
-    put-byte-requires-3
-    same-length-2
-    returns-2
-    digit-requires-4
-    put-byte-requires-4
-    digit-requires-5
-    put-byte-requires-5
-    digit-requires-6
-    put-byte-requires-6
-    same-length-3
-    returns-3)
+    (tie.spec (λ c κs. search needs) put-byte-requires (λ c. search needs) returns (λ c κs. search needs)
+    put-byte-requires-2 (λ c κs. search needs) put-byte-requires-3 (λ c. search needs) returns-2 (λ c κs. search needs)
+    put-byte-requires-4 (λ c κs. search needs) put-byte-requires-5 (λ c κs. search needs) put-byte-requires-6
+    (λ c. search needs) returns-3)

@@ -10,15 +10,6 @@ use Rattle.space.specs.Space.Laws.{put-one}
 use Rattle.space.proofs.put_number16.Statement.{statement}
 use Rattle.space.proofs.put_number16.Tie as tie
 
-mul-out : tie.Need-mul-out
-mul-out c = search needs
-
-slice-write-out : tie.Need-slice-write-out
-slice-write-out c = search needs
-
-add-result : tie.Need-add-result
-add-result c = search needs
-
 put : (c : tie.Joined1) → Put (c .before .args .out .now) (c .before .args .at) (c .before .args .x ∷ []) (c .before .args .at + 1) (c .if1 .out)
 put c = put-one (⊎-elim (λ w. cc) (λ w. w .1 ∙ sym (set-out _ _ _ (w .0 .left))) (c .if1 .came))
 
@@ -29,4 +20,4 @@ returns : tie.Need-returns
 returns c = put c
 
 pub put-number16-spec : {M : Type 1} → statement M
-put-number16-spec = tie.close (tie.spec mul-out slice-write-out add-result same-length returns)
+put-number16-spec = tie.close (tie.spec (λ c. search needs) (λ c. search needs) (λ c. search needs) same-length returns)

@@ -8,9 +8,6 @@ use borrow.Author.Needs.{needs}
 use Rattle.sparsity.proofs.find_over.Statement.{statement}
 use Rattle.sparsity.proofs.find_over.Tie as tie
 
-core-of-requires : tie.Need-core-of-requires
-core-of-requires c κs = search needs
-
 returns : tie.Need-returns
 returns c =
     let s = c .before .before in
@@ -24,8 +21,5 @@ search-requires c κs =
     let s = c .before .before in
     (s .pre .0, c .before .core-of .ensures (take (s .args .e) (s .args .start .now)) (s .pre .0 .simple) (s .pre .1))
 
-returns-2 : tie.Need-returns-2
-returns-2 c = search needs
-
 pub find-over-spec : {M : Type 1} → statement M
-find-over-spec = tie.close (tie.spec core-of-requires returns search-requires returns-2)
+find-over-spec = tie.close (tie.spec (λ c κs. search needs) returns search-requires (λ c. search needs))

@@ -34,13 +34,20 @@ returns c =
     (record { again = l .inv .0; most = inr (found-stuck f (c .if2 .taken)) }, f .reached .lent)
 
 release-requires : tie.Need-release-requires Inv-loop μ-loop
-release-requires c κs = way-of (c .before .before .before .before .before .before .before .before .before .loop .inv .0 .table) (c .before .before .before .before .seek .ensures) (c .before .before .if2 .left)
+release-requires c κs =
+    way-of (c .before .before .before .before .before .before .before .before .before .loop .inv .0 .table)
+    (c .before .before .before .before .seek .ensures) (c .before .before .if2 .left)
 
 loop-less : tie.Need-loop-less Inv-loop μ-loop
 loop-less c =
     let l = c .before .before .before .before .before .before .before .before .before .before .loop in
     let r = c .before .before .before .before .before .seek .ensures .reached in
-    omega (arith, gained-ends (r .start) (r .start′) (c .release .ensures) .gain, c .before .before .before .before .before .before .before .before .before .free-ends .ensures, c .before .before .before .before .before .before .before .before .if1 .taken)
+    omega (
+      arith,
+      gained-ends (r .start) (r .start′) (c .release .ensures) .gain,
+      c .before .before .before .before .before .before .before .before .before .free-ends .ensures,
+      c .before .before .before .before .before .before .before .before .if1 .taken,
+    )
 
 loop-again : tie.Need-loop-again Inv-loop μ-loop
 loop-again c =
@@ -56,14 +63,5 @@ returns-2 c =
 pub gather-spec : {M : Type 1} → statement M
 gather-spec =
     tie.close
-    (tie.spec
-    Inv-loop
-    μ-loop
-    loop-holds
-    free-ends-requires
-    seek-requires
-    returns
-    release-requires
-    loop-less
-    loop-again
+    (tie.spec Inv-loop μ-loop loop-holds free-ends-requires seek-requires returns release-requires loop-less loop-again
     returns-2)

@@ -8,9 +8,6 @@ use borrow.Author.Needs.{needs}
 use Rattle.sparsity.proofs.other_end.Statement.{statement}
 use Rattle.sparsity.proofs.other_end.Tie as tie
 
-single-requires : tie.Need-single-requires
-single-requires c κs = search needs
-
 sub-lowest : tie.Need-sub-lowest
 sub-lowest c = omega (arith, at-room (c .before .args .a) (c .before .args .pair) (c .before .pre .2))
 
@@ -30,4 +27,4 @@ returns c =
     (l .ensures .0, o .0, o .1)
 
 pub other-end-spec : {M : Type 1} → statement M
-other-end-spec = tie.close (tie.spec single-requires sub-lowest lowest-requires returns)
+other-end-spec = tie.close (tie.spec (λ c κs. search needs) sub-lowest lowest-requires returns)

@@ -25,9 +25,6 @@ element-copy-out-wide c =
     let s = c .before .before in
     omega (arith, l .inv .inside, s .pre .room)
 
-wide-requires : tie.Need-wide-requires Inv-loop μ-loop
-wide-requires c κs = search needs
-
 element-copy-out-bx : tie.Need-element-copy-out-bx Inv-loop μ-loop
 element-copy-out-bx c =
     let l = c .before .before .before .loop in
@@ -40,47 +37,32 @@ element-copy-out-by c =
     let s = c .before .before .before .before .before in
     omega (arith, l .inv .inside, s .pre .room)
 
-wide-requires-2 : tie.Need-wide-requires-2 Inv-loop μ-loop
-wide-requires-2 c κs = search needs
-
-wide-requires-3 : tie.Need-wide-requires-3 Inv-loop μ-loop
-wide-requires-3 c κs = search needs
-
 index-1-one-if-same : tie.Need-index-1-one-if-same Inv-loop μ-loop
 index-1-one-if-same c =
     let l = c .before .before .before .before .before .before .before .loop in
     let s = c .before .before .before .before .before .before .before .before in
-    x-fits (s .pre) (l .inv) (c .before .before .before .before .before .before .loop-test .taken) (c .before .before .before .before .wide .ensures) (c .before .wide2 .ensures)
+    x-fits (s .pre) (l .inv) (c .before .before .before .before .before .before .loop-test .taken) (c .before .before .before .before .wide .ensures)
+    (c .before .wide2 .ensures)
 
 mul-one-if-same : tie.Need-mul-one-if-same Inv-loop μ-loop
 mul-one-if-same c = omega (arith, index-1-one-if-same c)
-
-index-2-one-if-same : tie.Need-index-2-one-if-same Inv-loop μ-loop
-index-2-one-if-same c = omega arith
-
-one-if-same-requires : tie.Need-one-if-same-requires Inv-loop μ-loop
-one-if-same-requires c κs = search needs
 
 index-1-one-if-same-2 : tie.Need-index-1-one-if-same-2 Inv-loop μ-loop
 index-1-one-if-same-2 c =
     let l = c .before .before .before .before .before .before .before .before .before .loop in
     let s = c .before .before .before .before .before .before .before .before .before .before in
-    y-fits (s .pre) (l .inv) (c .before .before .before .before .before .before .before .before .loop-test .taken) (c .before .before .before .before .before .before .wide .ensures) (c .before .before .wide3 .ensures)
+    y-fits (s .pre) (l .inv) (c .before .before .before .before .before .before .before .before .loop-test .taken)
+    (c .before .before .before .before .before .before .wide .ensures) (c .before .before .wide3 .ensures)
 
 mul-one-if-same-2 : tie.Need-mul-one-if-same-2 Inv-loop μ-loop
 mul-one-if-same-2 c = omega (arith, index-1-one-if-same-2 c)
-
-index-2-one-if-same-2 : tie.Need-index-2-one-if-same-2 Inv-loop μ-loop
-index-2-one-if-same-2 c = omega arith
-
-one-if-same-requires-2 : tie.Need-one-if-same-requires-2 Inv-loop μ-loop
-one-if-same-requires-2 c κs = search needs
 
 index-1-t : tie.Need-index-1-t Inv-loop μ-loop
 index-1-t c =
     let l = c .before .before .before .before .before .before .before .before .before .before .before .loop in
     let s = c .before .before .before .before .before .before .before .before .before .before .before .before in
-    x-fits (s .pre) (l .inv) (c .before .before .before .before .before .before .before .before .before .before .loop-test .taken) (c .before .before .before .before .before .before .before .before .wide .ensures) (c .before .before .before .before .before .wide2 .ensures)
+    x-fits (s .pre) (l .inv) (c .before .before .before .before .before .before .before .before .before .before .loop-test .taken)
+    (c .before .before .before .before .before .before .before .before .wide .ensures) (c .before .before .before .before .before .wide2 .ensures)
 
 mul-t : tie.Need-mul-t Inv-loop μ-loop
 mul-t c = omega (arith, index-1-t c)
@@ -92,7 +74,8 @@ index-1-t-2 : tie.Need-index-1-t-2 Inv-loop μ-loop
 index-1-t-2 c =
     let l = c .before .before .before .before .before .before .before .before .before .before .before .loop in
     let s = c .before .before .before .before .before .before .before .before .before .before .before .before in
-    y-fits (s .pre) (l .inv) (c .before .before .before .before .before .before .before .before .before .before .loop-test .taken) (c .before .before .before .before .before .before .before .before .wide .ensures) (c .before .before .before .before .wide3 .ensures)
+    y-fits (s .pre) (l .inv) (c .before .before .before .before .before .before .before .before .before .before .loop-test .taken)
+    (c .before .before .before .before .before .before .before .before .wide .ensures) (c .before .before .before .before .wide3 .ensures)
 
 mul-t-2 : tie.Need-mul-t-2 Inv-loop μ-loop
 mul-t-2 c = omega (arith, index-1-t-2 c)
@@ -104,7 +87,8 @@ loop-less : tie.Need-loop-less Inv-loop μ-loop
 loop-less c =
     let l = c .before .before .before .before .before .before .before .before .before .before .before .loop in
     let s = c .before .before .before .before .before .before .before .before .before .before .before .before in
-    j-less (s .pre) (l .inv) (c .before .before .before .before .before .before .before .before .before .before .loop-test .taken) (c .before .before .before .before .before .before .before .before .wide .ensures)
+    j-less (s .pre) (l .inv) (c .before .before .before .before .before .before .before .before .before .before .loop-test .taken)
+    (c .before .before .before .before .before .before .before .before .wide .ensures)
 
 loop-again : tie.Need-loop-again Inv-loop μ-loop
 loop-again c =
@@ -115,10 +99,14 @@ loop-again c =
     let sx = c .before .before .one-if-same in
     let sy = c .one-if-same2 in
     subst
-    (λ (z : ℕ). Walked (s .args .own) (s .args .queue .now) (s .args .p) (c .before .before .before .before .before .before .before .before .wide .result)
-    (stored (stored (l .t) (c .before .before .before .before .before .wide2 .result) (sx .result) z) (c .before .before .before .before .wide3 .result) (sy .result) z)) ex
-    (walk-step (s .pre) (l .inv) (c .before .before .before .before .before .before .before .before .before .before .loop-test .taken) (c .before .before .before .before .before .before .before .before .wide .ensures) ex ey
-    (sx .ensures ∙ ap (same (entry (l .t) (c .before .before .before .before .before .wide2 .result) 1)) (sym ey)) (sy .ensures ∙ ap (same (entry (l .t) (c .before .before .before .before .wide3 .result) 1)) (sym ey)))
+    (λ (z : ℕ). Walked (s .args .own) (s .args .queue .now) (s .args .p)
+    (c .before .before .before .before .before .before .before .before .wide .result)
+    (stored (stored (l .t) (c .before .before .before .before .before .wide2 .result) (sx .result) z)
+    (c .before .before .before .before .wide3 .result) (sy .result) z)) ex
+    (walk-step (s .pre) (l .inv) (c .before .before .before .before .before .before .before .before .before .before .loop-test .taken)
+    (c .before .before .before .before .before .before .before .before .wide .ensures) ex ey
+    (sx .ensures ∙ ap (same (entry (l .t) (c .before .before .before .before .before .wide2 .result) 1)) (sym ey))
+    (sy .ensures ∙ ap (same (entry (l .t) (c .before .before .before .before .wide3 .result) 1)) (sym ey)))
 
 returns : tie.Need-returns Inv-loop μ-loop
 returns c = walk-end (c .before .loop .inv) (c .loop-test .left)
@@ -126,30 +114,7 @@ returns c = walk-end (c .before .loop .inv) (c .loop-test .left)
 pub release-spec : {M : Type 1} → statement M
 release-spec =
     tie.close
-    (tie.spec
-    Inv-loop
-    μ-loop
-    loop-holds
-    element-copy-out-wide
-    wide-requires
-    element-copy-out-bx
-    element-copy-out-by
-    wide-requires-2
-    wide-requires-3
-    mul-one-if-same
-    index-1-one-if-same
-    index-2-one-if-same
-    one-if-same-requires
-    mul-one-if-same-2
-    index-1-one-if-same-2
-    index-2-one-if-same-2
-    one-if-same-requires-2
-    mul-t
-    index-1-t
-    index-2-t
-    mul-t-2
-    index-1-t-2
-    index-2-t-2
-    loop-less
-    loop-again
-    returns)
+    (tie.spec Inv-loop μ-loop loop-holds element-copy-out-wide (λ c κs. search needs) element-copy-out-bx
+    element-copy-out-by (λ c κs. search needs) (λ c κs. search needs) mul-one-if-same index-1-one-if-same
+    (λ c. omega arith) (λ c κs. search needs) mul-one-if-same-2 index-1-one-if-same-2 (λ c. omega arith)
+    (λ c κs. search needs) mul-t index-1-t index-2-t mul-t-2 index-1-t-2 index-2-t-2 loop-less loop-again returns)

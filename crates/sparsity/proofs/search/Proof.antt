@@ -11,7 +11,8 @@ use Rattle.theory.specs.Constraints.{NotOver}
 use Rattle.sparsity.specs.Reach.{Lent}
 use Rattle.sparsity.specs.Reach.Visits.{lent-by}
 use Rattle.sparsity.specs.Answer.{Kept, Ready}
-use Rattle.sparsity.specs.Answer.Laws.{kept-start, told-in, told-out, ready-lone, ready-four, over-here, kept-by, kept-marks, kept-skip, kept-placed, in-list, two-ends, two-pos, ends-at, answer-not, answer-first}
+use Rattle.sparsity.specs.Answer.Laws.{kept-start, told-in, told-out, ready-lone, ready-four, over-here, kept-by, kept-marks, kept-skip}
+use Rattle.sparsity.specs.Answer.Laws.{kept-placed, in-list, two-ends, two-pos, ends-at, answer-not, answer-first}
 use Rattle.sparsity.proofs.search.Statement.{statement}
 use Rattle.sparsity.proofs.search.Tie as tie
 
@@ -20,9 +21,6 @@ Inv-loop start e core own₀ queue₀ from₀ once₀ twice₀ c₀ own queue fr
 
 abbrev μ-loop : tie.MeasureT-loop
 μ-loop start e core own₀ queue₀ from₀ once₀ twice₀ c₀ own queue from once twice c = e - c
-
-all-free-requires : tie.Need-all-free-requires Inv-loop μ-loop
-all-free-requires c κs = search needs
 
 loop-holds : tie.Need-loop-holds Inv-loop μ-loop
 loop-holds c =
@@ -154,21 +152,6 @@ returns-2 c =
 pub search-spec : {M : Type 1} → statement M
 search-spec =
     tie.close
-    (tie.spec
-    Inv-loop
-    μ-loop
-    all-free-requires
-    loop-holds
-    mul-pair
-    element-copy-out-pair
-    lowest-requires
-    other-end-requires
-    gather-requires
-    free-ends-requires
-    seek-requires
-    returns
-    place-requires
-    add-c
-    loop-less
-    loop-again
-    returns-2)
+    (tie.spec Inv-loop μ-loop (λ c κs. search needs) loop-holds mul-pair element-copy-out-pair lowest-requires
+    other-end-requires gather-requires free-ends-requires seek-requires returns place-requires add-c loop-less
+    loop-again returns-2)

@@ -5,7 +5,8 @@ use Prim.Native.Nat.{_-_, _≤_}
 use native.Mathlib.Nat.{zero-lt-suc, le-refl}
 use native.Mathlib.Omega.{arith}
 use Rattle.sparsity.specs.Reach.{Reached, Scanned}
-use Rattle.sparsity.specs.Reach.Laws.{begun-with, scanned-none, reached-most, scan-fits, scan-low, mid-size, scan-reached, scan-next, scan-below, found-here, found-all}
+use Rattle.sparsity.specs.Reach.Laws.{begun-with, scanned-none, reached-most, scan-fits, scan-low, mid-size, scan-reached, scan-next}
+use Rattle.sparsity.specs.Reach.Laws.{scan-below, found-here, found-all}
 use Rattle.sparsity.proofs.seek.Statement.{statement}
 use Rattle.sparsity.proofs.seek.Tie as tie
 
@@ -14,18 +15,6 @@ Inv-loop queue₀ from₀ a b own f₀ p₀ queue from f p = Reached own a b que
 
 abbrev μ-loop : tie.MeasureT-loop
 μ-loop queue₀ from₀ a b own f₀ p₀ queue from f p = 64 - p
-
-element-write-queue : tie.Need-element-write-queue Inv-loop μ-loop
-element-write-queue c = omega arith
-
-element-write-queue-2 : tie.Need-element-write-queue-2 Inv-loop μ-loop
-element-write-queue-2 c = omega arith
-
-single-requires : tie.Need-single-requires Inv-loop μ-loop
-single-requires c κs = search needs
-
-single-requires-2 : tie.Need-single-requires-2 Inv-loop μ-loop
-single-requires-2 c κs = search needs
 
 loop-holds : tie.Need-loop-holds Inv-loop μ-loop
 loop-holds c =
@@ -39,9 +28,6 @@ loop-holds c =
 element-copy-out-x : tie.Need-element-copy-out-x Inv-loop μ-loop
 element-copy-out-x c = omega (arith, reached-most (c .before .before .loop .inv .0))
 
-wide-requires : tie.Need-wide-requires Inv-loop μ-loop
-wide-requires c κs = search needs
-
 index-1-y : tie.Need-index-1-y Inv-loop μ-loop
 index-1-y c =
     let l = c .before .before .before .before .loop in
@@ -50,9 +36,6 @@ index-1-y c =
 
 mul-y : tie.Need-mul-y Inv-loop μ-loop
 mul-y c = omega (arith, index-1-y c)
-
-index-2-y : tie.Need-index-2-y Inv-loop μ-loop
-index-2-y c = omega arith
 
 index-1-z : tie.Need-index-1-z Inv-loop μ-loop
 index-1-z c =
@@ -63,20 +46,20 @@ index-1-z c =
 mul-z : tie.Need-mul-z Inv-loop μ-loop
 mul-z c = omega (arith, index-1-z c)
 
-index-2-z : tie.Need-index-2-z Inv-loop μ-loop
-index-2-z c = omega arith
-
-opens-requires : tie.Need-opens-requires Inv-loop μ-loop
-opens-requires c κs = search needs
-
 returns : tie.Need-returns Inv-loop μ-loop
 returns c =
     let l = c .before .before .before .before .before .before .before .before .loop in
     let s = c .before .before .before .before .before .before .before .before .before .before .before in
-    found-here (s .pre .0) (l .inv .0) (l .p) (c .before .before .before .before .before .before .if1 .taken) (c .before .before .before .before .wide .ensures) (l .inv .1) (c .before .opens .result) (c .if2 .taken) (c .before .opens .ensures)
+    found-here (s .pre .0) (l .inv .0) (l .p) (c .before .before .before .before .before .before .if1 .taken)
+    (c .before .before .before .before .wide .ensures) (l .inv .1) (c .before .opens .result) (c .if2 .taken) (c .before .opens .ensures)
 
 cast-visit : tie.Need-cast-visit Inv-loop μ-loop
-cast-visit c = omega (arith, reached-most (c .before .before .before .before .before .before .before .before .before .before .loop .inv .0), c .before .before .before .before .before .before .before .before .if1 .taken)
+cast-visit c =
+    omega (
+      arith,
+      reached-most (c .before .before .before .before .before .before .before .before .before .before .loop .inv .0),
+      c .before .before .before .before .before .before .before .before .if1 .taken,
+    )
 
 visit-requires : tie.Need-visit-requires Inv-loop μ-loop
 visit-requires c κs =
@@ -87,7 +70,12 @@ visit-requires c κs =
     (scan-low (s .pre .0) (l .inv .0) (l .p) h e 0 (zero-lt-suc 1), l .inv .0 .size)
 
 cast-visit-2 : tie.Need-cast-visit-2 Inv-loop μ-loop
-cast-visit-2 c = omega (arith, reached-most (c .before .before .before .before .before .before .before .before .before .before .before .before .before .loop .inv .0), c .before .before .before .before .before .before .before .before .before .before .before .if1 .taken)
+cast-visit-2 c =
+    omega (
+      arith,
+      reached-most (c .before .before .before .before .before .before .before .before .before .before .before .before .before .loop .inv .0),
+      c .before .before .before .before .before .before .before .before .before .before .before .if1 .taken,
+    )
 
 visit-requires-2 : tie.Need-visit-requires-2 Inv-loop μ-loop
 visit-requires-2 c κs =
@@ -98,21 +86,33 @@ visit-requires-2 c κs =
     (scan-low (s .pre .0) (l .inv .0) (l .p) h e 1 (le-refl 2), mid-size (s .pre .0) (l .inv .0) (l .p) h e (c .before .before .visit .ensures))
 
 add-p : tie.Need-add-p Inv-loop μ-loop
-add-p c = omega (arith, reached-most (c .before .before .before .before .before .before .before .before .before .before .before .before .before .before .loop .inv .0), c .before .before .before .before .before .before .before .before .before .before .before .before .if1 .taken)
+add-p c =
+    omega (
+      arith,
+      reached-most (c .before .before .before .before .before .before .before .before .before .before .before .before .before .before .loop .inv .0),
+      c .before .before .before .before .before .before .before .before .before .before .before .before .if1 .taken,
+    )
 
 loop-less : tie.Need-loop-less Inv-loop μ-loop
-loop-less c = omega (arith, reached-most (c .before .before .before .before .before .before .before .before .before .before .before .before .before .before .loop .inv .0), c .before .before .before .before .before .before .before .before .before .before .before .before .if1 .taken)
+loop-less c =
+    omega (
+      arith,
+      reached-most (c .before .before .before .before .before .before .before .before .before .before .before .before .before .before .loop .inv .0),
+      c .before .before .before .before .before .before .before .before .before .before .before .before .if1 .taken,
+    )
 
 loop-again : tie.Need-loop-again Inv-loop μ-loop
 loop-again c =
     let l = c .before .before .before .before .before .before .before .before .before .before .before .before .before .before .loop in
-    let s = c .before .before .before .before .before .before .before .before .before .before .before .before .before .before .before .before .before in
+    let s =
+    c .before .before .before .before .before .before .before .before .before .before .before .before .before .before .before .before .before in
     let h = c .before .before .before .before .before .before .before .before .before .before .before .before .if1 .taken in
     let e = c .before .before .before .before .before .before .before .before .before .before .wide .ensures in
     let one = c .before .before .before .visit .ensures in
     let two = c .visit2 .ensures in (
       scan-reached (s .pre .0) (l .inv .0) (l .p) h e one two,
-      scan-next (s .pre .0) (l .inv .0) (l .p) h e one two (l .inv .1) (λ k. sym (c .before .before .before .before .before .before .if2 .left) ∙ c .before .before .before .before .before .before .before .opens .ensures .0 k),
+      scan-next (s .pre .0) (l .inv .0) (l .p) h e one two (l .inv .1) (λ k. sym (c .before .before .before .before .before .before .if2 .left)
+          ∙ c .before .before .before .before .before .before .before .opens .ensures .0 k),
       scan-below (s .pre .0) (l .inv .0) (l .p) h e one two,
     )
 
@@ -124,29 +124,7 @@ returns-2 c =
 pub seek-spec : {M : Type 1} → statement M
 seek-spec =
     tie.close
-    (tie.spec
-    Inv-loop
-    μ-loop
-    element-write-queue
-    element-write-queue-2
-    single-requires
-    single-requires-2
-    loop-holds
-    element-copy-out-x
-    wide-requires
-    mul-y
-    index-1-y
-    index-2-y
-    mul-z
-    index-1-z
-    index-2-z
-    opens-requires
-    returns
-    cast-visit
-    visit-requires
-    cast-visit-2
-    visit-requires-2
-    add-p
-    loop-less
-    loop-again
-    returns-2)
+    (tie.spec Inv-loop μ-loop (λ c. omega arith) (λ c. omega arith) (λ c κs. search needs) (λ c κs. search needs)
+    loop-holds element-copy-out-x (λ c κs. search needs) mul-y index-1-y (λ c. omega arith) mul-z index-1-z
+    (λ c. omega arith) (λ c κs. search needs) returns cast-visit visit-requires cast-visit-2 visit-requires-2 add-p
+    loop-less loop-again returns-2)

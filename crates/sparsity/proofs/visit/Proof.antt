@@ -12,9 +12,6 @@ use Rattle.sparsity.specs.Reach.Visits.{visit-room}
 use Rattle.sparsity.proofs.visit.Statement.{statement}
 use Rattle.sparsity.proofs.visit.Tie as tie
 
-single-requires : tie.Need-single-requires
-single-requires c κs = search needs
-
 returns : tie.Need-returns
 returns c =
     let a = c .before .before .before .args in
@@ -37,10 +34,10 @@ unfolding _∪_
 returns-2 c =
     let a = c .before .before .before .before .args in
     let b = c .before .before .before .single in
-    subst (λ (b : ℕ). Visit (a .queue .now) (a .from .now) (a .f .seen) (a .f .count) (a .y) (a .p) (set (a .queue .now) (a .f .count) (a .y)) (set (a .from .now) (a .f .count) (a .p)) (bitOr (a .f .seen) b) (a .f .count + 1))
+    subst (λ (b : ℕ). Visit (a .queue .now) (a .from .now) (a .f .seen) (a .f .count) (a .y) (a .p) (set (a .queue .now) (a .f .count) (a .y))
+    (set (a .from .now) (a .f .count) (a .p)) (bitOr (a .f .seen) b) (a .f .count + 1))
     (sym (b .ensures)) (fresh (misses-at (a .y) (a .f .seen) (b .result) (b .ensures) (c .before .if1 .left)))
 
 pub visit-spec : {M : Type 1} → statement M
 visit-spec =
-    tie.close
-    (tie.spec single-requires returns element-write-queue element-write-from add-t14 returns-2)
+    tie.close (tie.spec (λ c κs. search needs) returns element-write-queue element-write-from add-t14 returns-2)

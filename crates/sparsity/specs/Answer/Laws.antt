@@ -1,6 +1,6 @@
 -- Laws of the answer: the search from its start, a constraint that does not lie in u, one that uses a freedom, and one that finds none.
 -- Assumes nothing.
-use mathlib.Core.Path.{_≡_, refl, sym, ap, ap₂, _∙_, subst}
+use mathlib.Core.Path.{_≡_, sym, ap, ap₂, _∙_, subst}
 use mathlib.Core.Logic.{_≢_, _⊎_, inl, inr, ⊎-elim}
 use mathlib.Core.List.{List}
 use Prim.Native.Nat.{ℕ, zero, suc, _+_, _*_, _-_, _^_, _≤_, _<_}
@@ -21,7 +21,8 @@ use Rattle.theory.specs.Near.{Simple, Standing}
 use Rattle.theory.specs.Near.Laws.{simple-take, standing-count, standing-item, standing-two, pair-is, carried-one}
 use Rattle.theory.specs.declared.Finding.the-variants.{Fine, First}
 use Rattle.sparsity.specs.Freedoms.{free, frees, Table, Balanced, Closed, FreeBelow}
-use Rattle.sparsity.specs.Freedoms.Laws.{free-table, free-closed, free-balanced, kept-le, closed-kept, kept-closed, frees-two, frees-less, frees-only}
+use Rattle.sparsity.specs.Freedoms.Laws.{free-table, free-closed, free-balanced, kept-le, closed-kept, kept-closed, frees-two, frees-less}
+use Rattle.sparsity.specs.Freedoms.Laws.{frees-only}
 use Rattle.sparsity.specs.Freedoms.Stores.{balanced-outside, balanced-placed, stored-table, stored-closed}
 use Rattle.sparsity.specs.Reach.{Found, Gathered, Placed}
 use Rattle.sparsity.specs.Reach.Laws.{found-first, found-second, found-closed, found-none, stuck-none, seen-within}
@@ -138,7 +139,9 @@ module _ {cs : List ℕ} {u : ℕ} (simple : Simple cs) (core : Core cs u) (c : 
               (λ x z. has-not m x (p .from) (ap (at (p .from)) (o .0) ∙ at-end (p .from) (p .to) .0) z)
               (λ x z. ap (λ (i : ℕ). has i x) (o .0) ∙ has-other (p .from) (p .to) x z) (p .slot) (p .two) (p .was-free);
           fine = right;
-          never = λ x z. few-other old new m more u x 0 (never x (omega (arith, at-or x once m, at-le x m))) (omega (arith, at-or x once m, at-le x once));
+          never =
+              λ x z. few-other old new m more u x 0 (never x (omega (arith, at-or x once m, at-le x m)))
+              (omega (arith, at-or x once m, at-le x once));
           lone = λ x z. two x z (bit (at x m) (at-le x m));
         })
       where
@@ -226,7 +229,8 @@ module _ {cs : List ℕ} {u : ℕ} (simple : Simple cs) (core : Core cs u) (c : 
       reached-tight = record { holds = pair-in a b r ra rb; exact = exact .0 }
 
       pub reached-smallest : Smallest old m r
-      reached-smallest = within-smallest old m r reached-tight (λ y t. sub-trans (least (y ∩ u) (first-in y t) (second-in y t) (closed-in y t)) (and-l y u))
+      reached-smallest =
+          within-smallest old m r reached-tight (λ y t. sub-trans (least (y ∩ u) (first-in y t) (second-in y t) (closed-in y t)) (and-l y u))
         where
           first-in : (y : ℕ) → Tight old m y → at a (y ∩ u) ≡ 1
           first-in y t =
@@ -310,7 +314,8 @@ module _ {cs : List ℕ} {u : ℕ} (simple : Simple cs) (core : Core cs u) (c : 
       pub over-here : free t a + free t b < 4 → {queue from : List ℕ} {seen count place : ℕ} → Found t a b queue from seen count place
           → FirstOver cs c seen
       over-here h {queue} {from} {seen} {count} {place} f =
-          first-over t t-closed t-balanced (k .fine) inside-u (omega arith) seen (found-first f done) (found-second f done) (found-closed f done) (found-none f done)
+          first-over t t-closed t-balanced (k .fine) inside-u (omega arith) seen (found-first f done) (found-second f done)
+          (found-closed f done) (found-none f done)
           (λ w wa wb wc. seen-within (f .reached) w wa wb wc)
         where
           done : count ≤ place

@@ -118,10 +118,13 @@ module _ {own : List (List ℕ)} {queue from : List ℕ} {p : ℕ} (way : Way ow
       again = record {
         table = turned-table t (w .again .table) x y (x-fits ex) x≢y (y-fits ey) s r (holds .0) (opens .0) (holds .1) (opens .1);
         balanced = λ cs u b.
-            turned-balanced t (w .again .table) x y (x-fits ex) x≢y (y-fits ey) s r (holds .0) (opens .0) (holds .1) (opens .1) cs u (w .again .balanced cs u b);
+            turned-balanced t (w .again .table) x y (x-fits ex) x≢y (y-fits ey) s r (holds .0) (opens .0) (holds .1) (opens .1) cs u
+            (w .again .balanced cs u b);
         closed = λ u ea eb c.
             turned-closed t (w .again .table) x y (x-fits ex) x≢y (y-fits ey) s r (holds .0) (opens .0) (holds .1) (opens .1) u
-            (ap (λ (z : ℕ). at z u) ex ∙ linked-within own queue from (suc p) (λ k h l. way .back k h (le-of-suc-le-suc l)) (λ k h l. way .link k h (le-of-suc-le-suc l)) u ea eb c j
+            (ap (λ (z : ℕ). at z u) ex
+            ∙ linked-within own queue from (suc p) (λ k h l. way .back k h (le-of-suc-le-suc l))
+            (λ k h l. way .link k h (le-of-suc-le-suc l)) u ea eb c j
             (omega (arith, j-less, w .inside)))
             (w .again .closed u ea eb c);
       };
@@ -141,9 +144,17 @@ module _ {own : List (List ℕ)} {queue from : List ℕ} {p : ℕ} (way : Way ow
         gain : j < 2 → free new (item queue 0) + free new (item queue 1) ≡ free own (item queue 0) + free own (item queue 1) + 1
         gain l = ⊎-elim
             (λ (e : j ≡ 0).
-            omega (arith, start 1 (lt-suc-self 1) (λ q. omega arith), subst (λ (k : ℕ). free new (item queue k) ≡ free own (item queue k) + 1) e here))
+            omega (
+              arith,
+              start 1 (lt-suc-self 1) (λ q. omega arith),
+              subst (λ (k : ℕ). free new (item queue k) ≡ free own (item queue k) + 1) e here,
+            ))
             (λ (e : j ≡ 1).
-            omega (arith, start 0 (zero-lt-suc 1) (λ q. omega arith), subst (λ (k : ℕ). free new (item queue k) ≡ free own (item queue k) + 1) e here))
+            omega (
+              arith,
+              start 0 (zero-lt-suc 1) (λ q. omega arith),
+              subst (λ (k : ℕ). free new (item queue k) ≡ free own (item queue k) + 1) e here,
+            ))
             (bit j (le-of-suc-le-suc l))
 
 pub walk-end : {own : List (List ℕ)} {queue : List ℕ} {p i : ℕ} {t : List (List ℕ)} → Walked own queue p i t → i < 2
@@ -178,7 +189,8 @@ placed-second own a {b} {j} s ej l e =
     record { from = j; to = a; slot = s; ends = inr (ej, refl); two = l; was-free = e ∙ sym ej; stores = refl }
 
 -- the last of four entries, where the others are in use
-pub last-free : (own : List (List ℕ)) {a b i j : ℕ} → 0 < free own a + free own b → i ≡ a → j ≡ b → entry own i 0 ≢ a → entry own i 1 ≢ a → entry own j 0 ≢ b
+pub last-free : (own : List (List ℕ)) {a b i j : ℕ} → 0 < free own a + free own b → i ≡ a → j ≡ b
+    → entry own i 0 ≢ a → entry own i 1 ≢ a → entry own j 0 ≢ b
     → entry own j 1 ≡ b
 unfolding free
 last-free own {a} {b} {i} {j} h ei ej n0 n1 m0 =

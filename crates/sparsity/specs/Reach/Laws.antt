@@ -98,7 +98,8 @@ scanned-next own queue seen count p lp sc shut queue′ seen′ count′ g here 
         ∙ ⊎-elim (λ (e : i ≡ p). ap (λ (j : ℕ). free own (item queue j)) e ∙ shut (omega arith)) (λ (m : i < p). sc .none i h m)
         (eq-or-lt-of-le (omega arith))
 
-pub longer-trans : (q : List ℕ) (v n : ℕ) (q′ : List ℕ) (v′ n′ : ℕ) (q″ : List ℕ) (v″ n″ : ℕ) → Longer q v n q′ v′ n′ → Longer q′ v′ n′ q″ v″ n″ → Longer q v n q″ v″ n″
+pub longer-trans : (q : List ℕ) (v n : ℕ) (q′ : List ℕ) (v′ n′ : ℕ) (q″ : List ℕ) (v″ n″ : ℕ) → Longer q v n q′ v′ n′
+    → Longer q′ v′ n′ q″ v″ n″ → Longer q v n q″ v″ n″
 longer-trans q v n q′ v′ n′ q″ v″ n″ g h = record {
   more = omega (arith, g .more, h .more);
   places = λ i l. h .places i (lt-of-lt-of-le l (g .more)) ∙ g .places i l;
@@ -146,7 +147,8 @@ module _ {own : List (List ℕ)} {a b : ℕ} {queue from : List ℕ} {seen count
       pub scan-below : p + 1 ≤ n′
       scan-below = omega (arith, lp′, longer′ .more)
 
-      pub scan-next : Scanned own queue seen p → (2 ≤ p → 0 ≡ same (entry own i 0) (item queue p) + same (entry own i 1) (item queue p)) → Scanned own q′ v′ (p + 1)
+      pub scan-next : Scanned own queue seen p → (2 ≤ p → 0 ≡ same (entry own i 0) (item queue p) + same (entry own i 1) (item queue p))
+          → Scanned own q′ v′ (p + 1)
       unfolding free
       scan-next sc shut =
           scanned-next own queue seen count p lp sc
@@ -154,7 +156,8 @@ module _ {own : List (List ℕ)} {a b : ℕ} {queue from : List ℕ} {seen count
           (longer-trans queue seen count q v n q′ v′ n′ longer longer′)
           (λ s l. ⊎-elim
           (λ (e : s ≡ 0). ap (λ (k : ℕ). at (entry own (item queue p) k) v′) e ∙ ap (λ (y : ℕ). at y v′) (sym (entry-is 0))
-          ∙ longer′ .marks (entry own i 0) (visit-seen own t a b queue from seen count r p 0 (entry own i 0) lp (zero-lt-suc 1) (entry-is 0) q f v n one))
+          ∙ longer′ .marks (entry own i 0)
+          (visit-seen own t a b queue from seen count r p 0 (entry own i 0) lp (zero-lt-suc 1) (entry-is 0) q f v n one))
           (λ (e : s ≡ 1). ap (λ (k : ℕ). at (entry own (item queue p) k) v′) e ∙ ap (λ (y : ℕ). at y v′) (sym (entry-is 1))
           ∙ visit-seen own t a b q f v n mid p 1 (entry own i 1) lp′ (le-refl 2) entry-is′ q′ f′ v′ n′ two)
           (bit s (le-of-suc-le-suc l)))

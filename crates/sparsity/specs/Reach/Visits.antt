@@ -84,7 +84,9 @@ module _ (own : List (List ℕ)) (t : Table own) (a b : ℕ) (queue from : List 
       start′ = q-old 1 (omega (arith, r .low)) ∙ r .start′;
       inside = split (λ i. item q i < 64) (omega (arith, q-new, ly)) (λ i l. omega (arith, q-old i l, r .inside i l));
       back = λ i h l. split (λ i. 2 ≤ i → item f i < i) (λ h. omega (arith, f-new, lp)) (λ i l h. omega (arith, f-old i l, r .back i h l)) i l h;
-      link = λ i h l. split Link (λ h. (s, ls, ap (λ (j : ℕ). entry own (item q j) s) f-new ∙ ap (λ (x : ℕ). entry own x s) (q-old p lp) ∙ sym ey ∙ sym q-new))
+      link =
+          λ i h l. split Link
+          (λ h. (s, ls, ap (λ (j : ℕ). entry own (item q j) s) f-new ∙ ap (λ (x : ℕ). entry own x s) (q-old p lp) ∙ sym ey ∙ sym q-new))
           (λ i l h.
           let o = r .link i h l in (
             o .0,

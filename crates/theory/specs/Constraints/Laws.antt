@@ -13,7 +13,8 @@ use lib.Count.{ones}
 use lib.ListN.{length}
 use lib.Pow.{pow-lt}
 use Rattle.theory.specs.Set.{_∩_, _∪_, at, _⊑_, full}
-use Rattle.theory.specs.Set.Laws.{at-or, at-le, bit, size-le, size-eq, sub-refl, sub-trans, or-l, or-r, and-l, and-r, and-most, sub-and, and-sub, or-comm, singles-or, at-same, at-other, size-pow, pow-ne, below-full, cut-below}
+use Rattle.theory.specs.Set.Laws.{at-or, at-le, bit, size-le, size-eq, sub-refl, sub-trans, or-l, or-r, and-l, and-r, and-most, sub-and}
+use Rattle.theory.specs.Set.Laws.{and-sub, or-comm, singles-or, at-same, at-other, size-pow, pow-ne, below-full, cut-below}
 use Rattle.theory.specs.Constraints.{pair, Among, Pairs, Below, Perm, same, skip, swap, then, one-if, has, carried, NotOver, NotOverIn}
 
 -- ---- whether a constraint lies in a set
@@ -107,7 +108,8 @@ carried-two (m ∷ cs) x y = omega (arith, has-two m x y, carried-two cs x y)
 
 pub carried-four : (cs : List ℕ) (a b c d : ℕ)
     → carried cs a + carried cs b + carried cs c + carried cs ((a ∪ b ∪ c) ∩ d)
-    ≤ carried cs (a ∪ b ∪ c) + carried cs (a ∩ b) + carried cs (b ∩ c) + carried cs (a ∩ c) + carried cs (a ∩ d) + carried cs (b ∩ d) + carried cs (c ∩ d)
+    ≤ carried cs (a ∪ b ∪ c) + carried cs (a ∩ b) + carried cs (b ∩ c) + carried cs (a ∩ c) + carried cs (a ∩ d)
+    + carried cs (b ∩ d) + carried cs (c ∩ d)
 unfolding carried
 carried-four [] a b c d = omega arith
 carried-four (m ∷ cs) a b c d = omega (arith, has-four m a b c d, carried-four cs a b c d)

@@ -47,7 +47,8 @@ module _ {g : Graph} (a : Accepted g) where
   -- more constraints, never a smaller part: every cluster of any list of merges of a sheet with some of the constraints lies inside a final
   -- cluster of any maximal list of the whole
   pub grows : {h : Graph} → Accepted h → ((x : ℕ) → Among x (h .clusters) → Among x (g .clusters)) → (q p : List Merge)
-      → Valid (h .clusters) q → Maximal (g .clusters) p → (x : ℕ) → live (final (h .clusters) q) x → (y : ℕ) × live (final (g .clusters) p) y × (x ⊑ y)
+      → Valid (h .clusters) q → Maximal (g .clusters) p → (x : ℕ) → live (final (h .clusters) q) x
+      → (y : ℕ) × live (final (g .clusters) p) y × (x ⊑ y)
   grows {h} b sub q p w m x l =
       let r =
       never-smaller (g .clusters) (a .pairs) (accepted-fine a) (h .clusters) sub (threes (g .clusters) p) (threes (h .clusters) q)

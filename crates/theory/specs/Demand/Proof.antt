@@ -50,7 +50,8 @@ counted {g} a p v =
 pub demand3 : (g : Graph) → Accepted g → Demand3 g
 demand3 g a = record {
   orders = λ h r.
-      fine-accepted h (rw (r .count) (a .two)) (pairs-perm (r .constraints) (a .pairs)) (rw (r .count) (below-perm (g .n) (r .constraints) (a .below)))
+      fine-accepted h (rw (r .count) (a .two)) (pairs-perm (r .constraints) (a .pairs))
+      (rw (r .count) (below-perm (g .n) (r .constraints) (a .below)))
       (fine-perm (r .constraints) (accepted-fine a));
   every = λ h r p q v w.
       let u = every-order (g .clusters) (a .pairs) (accepted-fine a) (h .clusters) (r .constraints) p q v w in

@@ -33,7 +33,8 @@ pub same-verdict : (g h : Graph) → h .n ≡ g .n → h .lines ≡ g .lines →
     → (p q : List Merge) → Maximal (g .clusters) p → Maximal (h .clusters) q → listVerdict g p ≡ listVerdict h q
 unfolding listVerdict
 same-verdict g h n l r pairs f p q v w =
-    judged-same (g .lines) (g .n) (length (g .clusters)) (joints (g .clusters) p) (joints (h .clusters) q) (final (g .clusters) p) (final (h .clusters) q)
+    judged-same (g .lines) (g .n) (length (g .clusters)) (joints (g .clusters) p) (joints (h .clusters) q)
+    (final (g .clusters) p) (final (h .clusters) q)
     (angled-same (g .lines) (joints (g .clusters) p) (joints (h .clusters) q) (every-order (g .clusters) pairs f (h .clusters) r p q v w .knots))
     (same-left (g .clusters) pairs f (h .clusters) r p q v w)
     ∙ rw (n, l, ← length-perm r)

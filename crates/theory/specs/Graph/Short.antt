@@ -54,7 +54,8 @@ module _ (g : Graph) where
     verdict-angle e =
         let l = eqb (left (final cs (planOf cs))) 1 in
         fine-verdict g fine
-        ∙ ap (λ (a : Bool). elim a [ true ↦ Angle | false ↦ elim (eqb (length cs + 3) (2 * g .n)) [ true ↦ elim l [ true ↦ Well | false ↦ Stuck ] | false ↦ Under ] ]) e
+        ∙ ap (λ (a : Bool). elim a
+        [ true ↦ Angle | false ↦ elim (eqb (length cs + 3) (2 * g .n)) [ true ↦ elim l [ true ↦ Well | false ↦ Stuck ] | false ↦ Under ] ]) e
 
     -- none is
     module _ (none : angled (g .lines) (joints cs (planOf cs)) ≡ false) where
@@ -65,7 +66,8 @@ module _ (g : Graph) where
       counted b e =
           let l = eqb (left (final cs (planOf cs))) 1 in
           fine-verdict g fine
-          ∙ ap (λ (a : Bool). elim a [ true ↦ Angle | false ↦ elim (eqb (length cs + 3) (2 * g .n)) [ true ↦ elim l [ true ↦ Well | false ↦ Stuck ] | false ↦ Under ] ]) none
+          ∙ ap (λ (a : Bool). elim a
+          [ true ↦ Angle | false ↦ elim (eqb (length cs + 3) (2 * g .n)) [ true ↦ elim l [ true ↦ Well | false ↦ Stuck ] | false ↦ Under ] ]) none
           ∙ ap (λ (a : Bool). elim a [ true ↦ elim l [ true ↦ Well | false ↦ Stuck ] | false ↦ Under ]) e
 
       -- fewer constraints than 2n-3
@@ -79,7 +81,8 @@ module _ (g : Graph) where
       -- 2n-3 constraints, and one cluster is left
       pub verdict-one : length cs + 3 ≡ 2 * g .n → left (final cs (planOf cs)) ≡ 1 → verdictOf g ≡ Well
       verdict-one full one =
-          counted true (holds (length cs + 3) (2 * g .n) full) ∙ ap (λ (l : Bool). elim l [ true ↦ Well | false ↦ Stuck ]) (holds (left (final cs (planOf cs))) 1 one)
+          counted true (holds (length cs + 3) (2 * g .n) full)
+          ∙ ap (λ (l : Bool). elim l [ true ↦ Well | false ↦ Stuck ]) (holds (left (final cs (planOf cs))) 1 one)
         where
           holds : (x y : ℕ) → x ≡ y → eqb x y ≡ true
           holds x y e = go (eqb x y) (eq-test x y e)

@@ -1,4 +1,5 @@
--- Either way round, by number: once one of two open merges is made, the other is open, the union standing in for a cluster in common. Assumes nothing.
+-- Either way round, by number: once one of two open merges is made, the other is open, the union standing in for a cluster in common.
+-- Assumes nothing.
 use mathlib.Core.Path.{_≡_, refl, sym, ap, _∙_, subst}
 use mathlib.Core.Logic.{_≢_, _↔_, inl, inr, Iff·trans, Iff·symm}
 use mathlib.Core.Bool.{Bool, true, false, _||_}
@@ -8,11 +9,13 @@ use Prim.Native.Nat.{ℕ}
 use lib.ListN.{length}
 use Rattle.theory.specs.Tests.{eq-test}
 use Rattle.theory.specs.Constraints.{NotOver, Pairs}
-use Rattle.theory.specs.Merge.{Three, union, joint, Merge, slot, three, OpenAt, put, live, Part, Valid, final, isPart, stand, moved, Differ, EitherWay}
+use Rattle.theory.specs.Merge.{Three, union, joint, Merge, slot, three, OpenAt, put, live, Part, Valid, final, isPart, stand, moved, Differ}
+use Rattle.theory.specs.Merge.{EitherWay}
 use Rattle.theory.specs.Merge.Family.{absorb, movedIn, Meeting, coincide, commute, In, Same, OpenIn, after, Good, Distinct}
 use Rattle.theory.specs.Merge.Family.Diamond.{absorb-part, absorb-other, three-by, meeting}
 use Rattle.theory.specs.Merge.Family.Outcome.{open-same, after-same}
-use Rattle.theory.specs.Merge.Numbered.{in-part, part-in, alive-lt, put-new, put-old, cleared-other, merge-at, put-live, put-good, put-distinct, at-numbers, good-final, start-good, start-distinct}
+use Rattle.theory.specs.Merge.Numbered.{in-part, part-in, alive-lt, put-new, put-old, cleared-other, merge-at, put-live, put-good, put-distinct}
+use Rattle.theory.specs.Merge.Numbered.{at-numbers, good-final, start-good, start-distinct}
 
 -- ---- what stands for a cluster
 
@@ -64,7 +67,8 @@ module _ (cs : List ℕ) (fine : NotOver cs) (s : List ℕ) (g : Good cs (live s
       three-by (three (put s m) (moved s m r)) (movedIn (three s m) (three s r)) (stand-slot m o (r .i) (u .livei)) (stand-slot m o (r .j) (u .livej))
       (stand-slot m o (r .k) (u .livek))
 
-  still-open : (m r : Merge) → OpenAt s m → OpenAt s r → OpenIn (after (live s) (three s m)) (movedIn (three s m) (three s r)) → OpenAt (put s m) (moved s m r)
+  still-open : (m r : Merge) → OpenAt s m → OpenAt s r → OpenIn (after (live s) (three s m)) (movedIn (three s m) (three s r))
+      → OpenAt (put s m) (moved s m r)
   still-open m r o u h =
       at-numbers cs fine (put s m) (put-good cs fine s g d m o) (moved s m r) (movedIn (three s m) (three s r)) (moved-three m r o u)
       (open-same (λ x. Iff·symm (put-live cs fine s g d m o x)) (movedIn (three s m) (three s r)) h)

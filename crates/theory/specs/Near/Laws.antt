@@ -10,10 +10,12 @@ use lib.Count.{ones}
 use lib.ListN.{length, take, getD, set, length-set, replicate, length-replicate}
 use lib.Seq.{getD-set-same, getD-set-other, getD-take, length-take-le}
 use Rattle.theory.specs.Set.{_∩_, _∪_, _⊑_, at}
-use Rattle.theory.specs.Set.Laws.{at-or, at-le, at-zero, at-same, at-other, bit, size-eq, size-pow, size-add, sub-refl, sub-or, or-left, or-right, other, both}
+use Rattle.theory.specs.Set.Laws.{at-or, at-le, at-zero, at-same, at-other, bit, size-eq, size-pow, size-add, sub-refl, sub-or, or-left}
+use Rattle.theory.specs.Set.Laws.{or-right, other, both}
 use Rattle.theory.specs.Set.Less.{at-below, less-other, less-and, size-less, sub-less}
 use Rattle.theory.specs.Constraints.{pair, has, carried, Among, Pairs, Below}
-use Rattle.theory.specs.Constraints.Laws.{Has, inside, outside, has-dec, has-in, size-pair, pair-below, at-pair, at-end, pair-in, pair-ends, pair-comm}
+use Rattle.theory.specs.Constraints.Laws.{Has, inside, outside, has-dec, has-in, size-pair, pair-below, at-pair, at-end, pair-in, pair-ends}
+use Rattle.theory.specs.Constraints.Laws.{pair-comm}
 use Rattle.theory.specs.Over.Laws.{among-take, among-at, pairs-take, below-take}
 use Rattle.theory.specs.Near.{Once, Simple, Standing, Near}
 

@@ -1,7 +1,7 @@
 -- Laws of "over". Among the sets that hold both ends of a constraint and carry exactly 2m-3 there is exactly one smallest, which lies within every
 -- other; what is found is determined; the tests find it; elements that no constraint names change nothing. Assumes nothing.
 use mathlib.Core.Path.{_≡_, refl, sym, ap, ap₂, _∙_, subst}
-use mathlib.Core.Logic.{_⊎_, inl, inr}
+use mathlib.Core.Logic.{inl, inr}
 use mathlib.Core.Bool.{Bool, true, false}
 use mathlib.Core.List.{List, [], _∷_, _++_}
 use Prim.Native.Nat.{ℕ, zero, suc, _+_, _*_, _^_, _≤_, _<_}
@@ -17,7 +17,8 @@ use Rattle.theory.specs.Set.{_∩_, _∪_, _⊑_, full}
 use Rattle.theory.specs.Set.Laws.{size-zero, size-or, size-le, size-eq, size-full, and-l, and-r, and-most, or-l, cut-below, below-full}
 use Rattle.theory.specs.Constraints.{has, carried, NotOver, NotOverIn, Among, Pairs, Below}
 use Rattle.theory.specs.Constraints.Laws.{inside, Has, outside, has-dec, has-in, carried-two, carried-full, carried-cut, not-over-in}
-use Rattle.theory.specs.Over.{IsOver, Tight, Smallest, FirstOver, Finds, heavy, anyBelow, isOver, isTight, smaller, fewestBelow, smallestSet, next, overUpTo, overOf}
+use Rattle.theory.specs.Over.{IsOver, Tight, Smallest, FirstOver, Finds, heavy, anyBelow, isOver, isTight, smaller, fewestBelow, smallestSet}
+use Rattle.theory.specs.Over.{next, overUpTo, overOf}
 use Rattle.theory.specs.declared.Finding.{Finding}
 use Rattle.theory.specs.declared.Finding.the-variants.{Fine, First}
 
@@ -256,7 +257,8 @@ fewest-of t z (suc k) = go (t k) refl (fewestBelow k t) (fewest-of t z k)
         low (no l) = omega arith
 
     go : (b : Bool) → t k ≡ b → (s : ℕ) → Fewest k t s → Fewest (suc k) t (elim b [ true ↦ smaller s k | false ↦ s ])
-    go true e s (none f) = alone k (subst T (sym e) tt) (split {P = λ (x : ℕ). T (t x) → ones k ≤ ones x} (λ h. le-refl (ones k)) (λ x m h. absurd (f x m h)))
+    go true e s (none f) =
+        alone k (subst T (sym e) tt) (split {P = λ (x : ℕ). T (t x) → ones k ≤ ones x} (λ h. le-refl (ones k)) (λ x m h. absurd (f x m h)))
     go true e r (some s p f) = pick (subst T (sym e) tt) s p f (ltb (ones k) (ones (suc s))) refl
     go false e s (none f) = none (split {P = λ (x : ℕ). T (t x) → ⊥} (λ h. subst T e h) f)
     go false e r (some s p f) = some s p (split {P = λ (x : ℕ). T (t x) → ones (suc s) ≤ ones x} (λ h. absurd (subst T e h)) f)
@@ -344,8 +346,10 @@ module _ (n : ℕ) (cs : List ℕ) (pairs : Pairs cs) (below : Below n cs) where
   -- and there is only one to find
   pub finds-one : (r s : Finding) → Finds cs r → Finds cs s → r ≡ s
   finds-one Fine Fine h k = refl
-  finds-one Fine (First c x) h k = absurd (over-not-fine (k .over) (fine-shorter cs (suc c) (length cs) (k .listed) (subst NotOver (sym (take-length cs)) h)))
-  finds-one (First c x) Fine h k = absurd (over-not-fine (h .over) (fine-shorter cs (suc c) (length cs) (h .listed) (subst NotOver (sym (take-length cs)) k)))
+  finds-one Fine (First c x) h k =
+      absurd (over-not-fine (k .over) (fine-shorter cs (suc c) (length cs) (k .listed) (subst NotOver (sym (take-length cs)) h)))
+  finds-one (First c x) Fine h k =
+      absurd (over-not-fine (h .over) (fine-shorter cs (suc c) (length cs) (h .listed) (subst NotOver (sym (take-length cs)) k)))
   finds-one (First c x) (First d y) h k =
       let same : c ≡ d = le-antisymm (not-after c d (h .earlier) (k .over)) (not-after d c (k .earlier) (h .over)) in
       ap₂ First same

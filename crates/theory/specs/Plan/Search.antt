@@ -74,7 +74,8 @@ third (c ∷ s) a b k = go (openTest a b c) refl (thirdOf a b (suc k) s) (third 
 
 data Second (a i k : ℕ) (s : List ℕ) : Option Merge → Type 0 where
   found : (p q : ℕ) (r : Merge) → r ≡ merge i (k + p) (k + q) → p < q → Open a (slot s p) (slot s q)
-      → ((x y : ℕ) → x < y → Open a (slot s x) (slot s y) → p ≤ x) → ((y : ℕ) → p < y → Open a (slot s p) (slot s y) → q ≤ y) → Second a i k s (some r)
+      → ((x y : ℕ) → x < y → Open a (slot s x) (slot s y) → p ≤ x) → ((y : ℕ) → p < y → Open a (slot s p) (slot s y) → q ≤ y)
+      → Second a i k s (some r)
   nothing : ((x y : ℕ) → x < y → Open a (slot s x) (slot s y) → ⊥) → Second a i k s none
 
 second : (s : List ℕ) (a i k : ℕ) → Second a i k s (secondOf a i k s)
@@ -124,7 +125,8 @@ unfolding firstOf
 whole [] k = nothing (λ x y z l m o. open-living 0 0 0 o .0 refl)
 whole (a ∷ s) k = go (secondOf a k (suc k) s) (second s a k (suc k)) (firstOf (suc k) s) (whole s (suc k))
   where
-    go : (t : Option Merge) → Second a k (suc k) s t → (o : Option Merge) → Whole (suc k) s o → Whole k (a ∷ s) (elim t [ some m ↦ some m | none ↦ o ])
+    go : (t : Option Merge) → Second a k (suc k) s t → (o : Option Merge) → Whole (suc k) s o
+        → Whole k (a ∷ s) (elim t [ some m ↦ some m | none ↦ o ])
     go t (found p q r e l h f g) w v =
         found 0 (suc p) (suc q) r (e ∙ shift) (omega arith) (omega arith) h (λ x y z b c d. omega arith) (λ y. middle y) (λ z. after z)
       where
@@ -139,7 +141,8 @@ whole (a ∷ s) k = go (secondOf a k (suc k) s) (second s a k (suc k)) (firstOf 
         after : (z : ℕ) → suc p < z → Open a (slot s p) (slot (a ∷ s) z) → suc q ≤ z
         after zero b d = absurd (omega arith)
         after (suc z) b d = omega (arith, g z (omega arith) d)
-    go t (nothing l) w (found o p q r e b c h f g d) = found (suc o) (suc p) (suc q) r (e ∙ shift) (omega arith) (omega arith) h (λ x. front x) (λ y. middle y) (λ z. after z)
+    go t (nothing l) w (found o p q r e b c h f g d) =
+        found (suc o) (suc p) (suc q) r (e ∙ shift) (omega arith) (omega arith) h (λ x. front x) (λ y. middle y) (λ z. after z)
       where
         shift : merge (suc k + o) (suc k + p) (suc k + q) ≡ merge (k + suc o) (k + suc p) (k + suc q)
         shift = merge-by (omega arith) (omega arith) (omega arith)
@@ -181,7 +184,8 @@ first-found s = go (firstOf 0 s) (whole s 0)
       i<j = b;
       j<k = c;
       isopen = open-at s (merge x y z) h;
-      least = λ q u. let v = up q u in place (ascending q) (v .0) (v .1) (v .2 .open3) (ℕ-discrete (ascending q .i) x) (ℕ-discrete (ascending q .j) y);
+      least =
+          λ q u. let v = up q u in place (ascending q) (v .0) (v .1) (v .2 .open3) (ℕ-discrete (ascending q .i) x) (ℕ-discrete (ascending q .j) y);
     }))
       where
         plain : merge (0 + x) (0 + y) (0 + z) ≡ merge x y z

@@ -271,7 +271,12 @@ size-add a x e = omega (arith, size-or (2 ^ x) a, size-pow x, ap ones apart, siz
 -- two different elements make two or more
 pub two-in : (a x y : ℕ) → at x a ≡ 1 → at y a ≡ 1 → x ≢ y → 2 ≤ ones a
 two-in a x y p q n =
-    omega (arith, size-le a (2 ^ x ∪ 2 ^ y) (record { le = λ z. digit z (ℕ-discrete z x) (ℕ-discrete z y) }), size-add (2 ^ y) x (at-other x y n), size-pow y)
+    omega (
+      arith,
+      size-le a (2 ^ x ∪ 2 ^ y) (record { le = λ z. digit z (ℕ-discrete z x) (ℕ-discrete z y) }),
+      size-add (2 ^ y) x (at-other x y n),
+      size-pow y,
+    )
   where
     digit : (z : ℕ) → Dec (z ≡ x) → Dec (z ≡ y) → at z (2 ^ x ∪ 2 ^ y) ≤ at z a
     digit z (yes e) d = omega (arith, ap (λ (w : ℕ). at w a) e, at-le z (2 ^ x ∪ 2 ^ y))

@@ -25,7 +25,8 @@ unfolding angled
 angled-some lines [] t = absurd t
 angled-some lines (j ∷ js) t = go (allLines lines j) refl t (angled-some lines js)
   where
-    go : (b : Bool) → allLines lines j ≡ b → T (b || angled lines js) → (T (angled lines js) → (x : ℕ) × Among x js × T (allLines lines x)) → (x : ℕ) × Among x (j ∷ js) × T (allLines lines x)
+    go : (b : Bool) → allLines lines j ≡ b → T (b || angled lines js) → (T (angled lines js) → (x : ℕ) × Among x js × T (allLines lines x))
+        → (x : ℕ) × Among x (j ∷ js) × T (allLines lines x)
     go true e t ih = (j, inl refl, subst T (sym e) tt)
     go false e t ih = let r = ih t in (r .0, inr (r .1), r .2)
 
@@ -83,7 +84,8 @@ pub judged-same : (lines n e : ℕ) (js ks s t : List ℕ) → angled lines js �
     → judged lines n e js s ≡ judged lines n e ks t
 unfolding judged
 judged-same lines n e js ks s t a l =
-    ap₂ (λ (b : Bool) (k : ℕ). elim b [ true ↦ Angle | false ↦ elim (eqb (e + 3) (2 * n)) [ true ↦ elim (eqb k 1) [ true ↦ Well | false ↦ Stuck ] | false ↦ Under ] ]) a l
+    ap₂ (λ (b : Bool) (k : ℕ). elim b
+    [ true ↦ Angle | false ↦ elim (eqb (e + 3) (2 * n)) [ true ↦ elim (eqb k 1) [ true ↦ Well | false ↦ Stuck ] | false ↦ Under ] ]) a l
 
 -- ---- none of them is over
 

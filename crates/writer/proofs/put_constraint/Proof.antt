@@ -5,18 +5,6 @@ use Rattle.space.specs.Space.Laws.{put-as, _then_}
 use Rattle.writer.proofs.put_constraint.Statement.{statement}
 use Rattle.writer.proofs.put_constraint.Tie as tie
 
-size-bit-requires : tie.Need-size-bit-requires
-size-bit-requires c κs = search needs
-
-put-head-requires : tie.Need-put-head-requires
-put-head-requires c κs = search needs
-
-put-size-requires : tie.Need-put-size-requires
-put-size-requires c κs = search needs
-
-same-length : tie.Need-same-length
-same-length c = search needs
-
 returns : tie.Need-returns
 unfolding constraintBytes
 returns c =
@@ -25,4 +13,5 @@ returns c =
 
 pub put-constraint-spec : {M : Type 1} → statement M
 put-constraint-spec =
-    tie.close (tie.spec size-bit-requires put-head-requires put-size-requires same-length returns)
+    tie.close
+    (tie.spec (λ c κs. search needs) (λ c κs. search needs) (λ c κs. search needs) (λ c. search needs) returns)

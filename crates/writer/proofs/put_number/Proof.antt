@@ -20,9 +20,6 @@ Inv-loop out₀ at k u next left₀ i₀ out left i =
 abbrev μ-loop : tie.MeasureT-loop
 μ-loop out₀ at k u next left₀ i₀ out left i = next - i
 
-add-next : tie.Need-add-next Inv-loop μ-loop
-add-next c = search needs
-
 returns : tie.Need-returns Inv-loop μ-loop
 returns c = put-short (rw length-digits) (c .if1 .taken)
 
@@ -31,18 +28,6 @@ loop-holds c =
     let a = c .before .args in
     let all : a .at + a .k - a .at ≡ a .k = omega arith in
     (omega arith, omega arith, refl, rw all)
-
-cast-out : tie.Need-cast-out Inv-loop μ-loop
-cast-out c = search needs
-
-slice-write-out : tie.Need-slice-write-out Inv-loop μ-loop
-slice-write-out c = search needs
-
-add-i : tie.Need-add-i Inv-loop μ-loop
-add-i c = search needs
-
-loop-less : tie.Need-loop-less Inv-loop μ-loop
-loop-less c = search needs
 
 loop-again : tie.Need-loop-again Inv-loop μ-loop
 unfolding digits
@@ -66,16 +51,5 @@ returns-2 c =
 pub put-number-spec : {M : Type 1} → statement M
 put-number-spec =
     tie.close
-    (tie.spec
-    Inv-loop
-    μ-loop
-    add-next
-    returns
-    loop-holds
-    cast-out
-    slice-write-out
-    add-i
-    loop-less
-    loop-again
-    same-length
-    returns-2)
+    (tie.spec Inv-loop μ-loop (λ c. search needs) returns loop-holds (λ c. search needs) (λ c. search needs)
+    (λ c. search needs) (λ c. search needs) loop-again same-length returns-2)

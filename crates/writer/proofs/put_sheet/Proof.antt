@@ -1,4 +1,5 @@
--- `writer::put_sheet` meets its contract. The loop's invariant: the bytes of the constraints passed are put, after what precedes them. Assumes nothing.
+-- `writer::put_sheet` meets its contract. The loop's invariant: the bytes of the constraints passed are put, after what precedes them.
+-- Assumes nothing.
 use borrow.Author.Needs.{needs}
 use Prim.Native.Nat.{_+_, _-_, _/_, _≤_}
 use native.Mathlib.Omega.{arith}
@@ -21,27 +22,6 @@ Inv-loop out₀ lines s n e a1 a2 a3 at₀ i₀ out at i = (i ≤ e) × Put out�
 abbrev μ-loop : tie.MeasureT-loop
 μ-loop out₀ lines s n e a1 a2 a3 at₀ i₀ out at i = e - i
 
-slice-aggregate-put-text : tie.Need-slice-aggregate-put-text Inv-loop μ-loop
-slice-aggregate-put-text c = search needs
-
-put-text-requires : tie.Need-put-text-requires Inv-loop μ-loop
-put-text-requires c κs = search needs
-
-cast-put-byte : tie.Need-cast-put-byte Inv-loop μ-loop
-cast-put-byte c = search needs
-
-put-byte-requires : tie.Need-put-byte-requires Inv-loop μ-loop
-put-byte-requires c κs = search needs
-
-add-put-number : tie.Need-add-put-number Inv-loop μ-loop
-add-put-number c = search needs
-
-put-number-requires : tie.Need-put-number-requires Inv-loop μ-loop
-put-number-requires c κs = search needs
-
-cast-put-byte-2 : tie.Need-cast-put-byte-2 Inv-loop μ-loop
-cast-put-byte-2 c = search needs
-
 put-byte-requires-2 : tie.Need-put-byte-requires-2 Inv-loop μ-loop
 put-byte-requires-2 c κs =
     omega (arith, c .before .before .before .put-number .ensures .next-is, length-digits ((c .before .before .before .before .before .before .before .before .before .before .before .before .before .before .before .args .t2 .n + 7) / 8) (c .before .before .before .before .before .before .before .before .before .before .before .before .before .before .before .args .lines), c .before .before .before .before .before .before .before .put-byte .ensures .next-is, c .before .before .before .before .before .before .before .before .before .before .before .put-text .ensures .next-is, c .before .before .before .before .before .before .before .before .before .before .before .before .before .before .before .pre .0)
@@ -62,31 +42,27 @@ loop-holds : tie.Need-loop-holds Inv-loop μ-loop
 unfolding constraintsBytes
 loop-holds c = (search needs, put-none _ _)
 
-mul-c : tie.Need-mul-c Inv-loop μ-loop
-mul-c c = search needs
-
-element-copy-out-c : tie.Need-element-copy-out-c Inv-loop μ-loop
-element-copy-out-c c = search needs
-
 put-constraint-requires : tie.Need-put-constraint-requires Inv-loop μ-loop
 put-constraint-requires c κs =
     let a = c .before .before .before .loop in
     let s = c .before .before .before .before .before .before .before .before .before .before .before .before .before .before .before .before .before .before .before .before .before .before in
     let cs = s .args .t2 .constraints in
     let short : a .i ≤ length cs = omega (arith, long-constraints s, s .pre .1, c .before .before .loop-test .taken) in
-    omega (arith, few (c .before .before .before .before), a .inv .1 .next-is, constraints-length (take (a .i) cs), length-take-le (a .i) cs short, s .pre .1)
-
-add-i : tie.Need-add-i Inv-loop μ-loop
-add-i c = search needs
-
-loop-less : tie.Need-loop-less Inv-loop μ-loop
-loop-less c = search needs
+    omega (
+      arith,
+      few (c .before .before .before .before),
+      a .inv .1 .next-is,
+      constraints-length (take (a .i) cs),
+      length-take-le (a .i) cs short,
+      s .pre .1,
+    )
 
 loop-again : tie.Need-loop-again Inv-loop μ-loop
 loop-again c =
     let a = c .before .before .before .before .before .before .loop in
     let s = c .before .before .before .before .before .before .before .before .before .before .before .before .before .before .before .before .before .before .before .before .before .before .before .before .before in
-    let h : a .i + 1 ≤ length (s .args .t2 .constraints) = omega (arith, long-constraints s, s .pre .1, c .before .before .before .before .before .loop-test .taken) in
+    let h : a .i + 1 ≤ length (s .args .t2 .constraints) =
+    omega (arith, long-constraints s, s .pre .1, c .before .before .before .before .before .loop-test .taken) in
     (omega arith, put-as (sym (constraints-more (s .args .t2 .constraints) (a .i) _ h)) (a .inv .1 then c .before .before .put-constraint .ensures))
 
 all : (c : tie.After-loop Inv-loop μ-loop) → Put (c .before .before .before .before .before .before .before .before .before .before .before .before .before .before .before .before .before .before .before .before .args .out .now) 0 (sheetBytes (factsOf (c .before .before .before .before .before .before .before .before .before .before .before .before .before .before .before .before .before .before .before .before .args .t2))) (c .before .loop .at) (c .before .loop .out)
@@ -94,8 +70,10 @@ all c =
     let s = c .before .before .before .before .before .before .before .before .before .before .before .before .before .before .before .before .before .before .before .before in
     let a = c .before .loop in
     let last : a .i ≡ s .args .t2 .e = omega arith in
-    let n-is : length (take (s .args .t2 .n) (s .args .t2 .elements)) ≡ s .args .t2 .n = length-take-le _ _ (omega (arith, long-elements s, s .pre .0)) in
-    let e-is : length (take (s .args .t2 .e) (s .args .t2 .constraints)) ≡ s .args .t2 .e = length-take-le _ _ (omega (arith, long-constraints s, s .pre .1)) in
+    let n-is : length (take (s .args .t2 .n) (s .args .t2 .elements)) ≡ s .args .t2 .n =
+    length-take-le _ _ (omega (arith, long-elements s, s .pre .0)) in
+    let e-is : length (take (s .args .t2 .e) (s .args .t2 .constraints)) ≡ s .args .t2 .e =
+    length-take-le _ _ (omega (arith, long-constraints s, s .pre .1)) in
     put-as (sheet-pieces (factsOf (s .args .t2)) n-is e-is (s .pre .2))
     (c .before .before .before .before .before .before .before .before .before .before .before .before .before .before .before .before .put-text .ensures then c .before .before .before .before .before .before .before .before .before .before .before .before .put-byte .ensures then c .before .before .before .before .before .before .before .before .put-number .ensures then c .before .before .before .before .put-byte2 .ensures then (rw last at (a .inv .1)))
 
@@ -108,23 +86,6 @@ returns c = all c
 pub put-sheet-spec : {M : Type 1} → statement M
 put-sheet-spec =
     tie.close
-    (tie.spec
-    Inv-loop
-    μ-loop
-    slice-aggregate-put-text
-    put-text-requires
-    cast-put-byte
-    put-byte-requires
-    add-put-number
-    put-number-requires
-    cast-put-byte-2
-    put-byte-requires-2
-    loop-holds
-    mul-c
-    element-copy-out-c
-    put-constraint-requires
-    add-i
-    loop-less
-    loop-again
-    same-length
-    returns)
+    (tie.spec Inv-loop μ-loop (λ c. search needs) (λ c κs. search needs) (λ c. search needs) (λ c κs. search needs)
+    (λ c. search needs) (λ c κs. search needs) (λ c. search needs) put-byte-requires-2 loop-holds (λ c. search needs)
+    (λ c. search needs) put-constraint-requires (λ c. search needs) (λ c. search needs) loop-again same-length returns)

@@ -8,24 +8,6 @@ use Rattle.space.specs.Space.Laws.{put-as, put-none}
 use Rattle.writer.proofs.put_size.Statement.{statement}
 use Rattle.writer.proofs.put_size.Tie as tie
 
-enum-known-size : tie.Need-enum-known-size
-enum-known-size c = search needs
-
-unsigned-requires : tie.Need-unsigned-requires
-unsigned-requires c κs = search needs
-
-cast-put-number : tie.Need-cast-put-number
-cast-put-number c = search needs
-
-put-number-requires : tie.Need-put-number-requires
-put-number-requires c κs = search needs
-
-enum-told : tie.Need-enum-told
-enum-told c = search needs
-
-same-length : tie.Need-same-length
-same-length c = search needs
-
 returns : tie.Need-returns
 unfolding sizeBytes
 returns c =
@@ -39,12 +21,5 @@ returns-2 c = rw (ap sizeBytes (c .enum-told .given .1)) (put-none _ _)
 pub put-size-spec : {M : Type 1} → statement M
 put-size-spec =
     tie.close
-    (tie.spec
-    enum-known-size
-    unsigned-requires
-    cast-put-number
-    put-number-requires
-    enum-told
-    same-length
-    returns
-    returns-2)
+    (tie.spec (λ c. search needs) (λ c κs. search needs) (λ c. search needs) (λ c κs. search needs) (λ c. search needs)
+    (λ c. search needs) returns returns-2)

@@ -10,15 +10,19 @@ use Rattle.writer.proofs.put_tagged.Tie as tie
 
 returns : tie.Need-returns
 returns c =
-    let least = c .before .before .before .before .before .before .before .before .before .before .before .before .before .before .before .least .ensures in
-    let s = c .before .before .before .before .before .before .before .before .before .before .before .before .before .before .before .before .before .before in
+    let least =
+    c .before .before .before .before .before .before .before .before .before .before .before .before .before .before .before .least .ensures in
+    let s =
+    c .before .before .before .before .before .before .before .before .before .before .before .before .before .before .before .before .before .before
+    in
     put-as (rw (least, take-least (s .args .s .now) (s .args .at + 3) (s .args .size) (omega (arith, s .pre .2))) (rw append-assoc))
-    (c .before .before .before .before .before .before .before .before .before .before .before .before .put-text .ensures then c .before .before .before .before .before .before .before .put-byte .ensures then c .before .before .put-text2 .ensures)
+    (c .before .before .before .before .before .before .before .before .before .before .before .before .put-text .ensures
+    then c .before .before .before .before .before .before .before .put-byte .ensures then c .before .before .put-text2 .ensures)
 
 pub put-tagged-spec : {M : Type 1} → statement M
 put-tagged-spec =
     tie.close
-    (tie.spec
-    (λ c. search needs) (λ c. search needs) (λ c. search needs) (λ c κs. search needs) (λ c. search needs) (λ c. search needs) (λ c. search needs)
-    (λ c κs. search needs) (λ c. search needs) (λ c. search needs) (λ c κs. search needs) (λ c. search needs) (λ c. search needs) (λ c. search needs)
-    (λ c κs. search needs) (λ c. search needs) returns)
+    (tie.spec (λ c. search needs) (λ c. search needs) (λ c. search needs) (λ c κs. search needs) (λ c. search needs)
+    (λ c. search needs) (λ c. search needs) (λ c κs. search needs) (λ c. search needs) (λ c. search needs)
+    (λ c κs. search needs) (λ c. search needs) (λ c. search needs) (λ c. search needs) (λ c κs. search needs)
+    (λ c. search needs) returns)

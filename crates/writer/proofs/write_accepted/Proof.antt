@@ -23,31 +23,28 @@ lines-of-requires : tie.Need-lines-of-requires
 lines-of-requires c κs = few-elements (c .before .before)
 
 put-sheet-requires : tie.Need-put-sheet-requires
-put-sheet-requires c κs = (few-elements (c .before .before .before .before .before), few-constraints (c .before .before .before .before .before), c .before .before .lines-of .ensures)
-
-same-length : tie.Need-same-length
-same-length c = search needs
+put-sheet-requires c κs = (
+  few-elements (c .before .before .before .before .before),
+  few-constraints (c .before .before .before .before .before),
+  c .before .before .lines-of .ensures,
+)
 
 returns : tie.Need-returns
 returns c =
     let a = c .before .before .before .before .before .before .before .before in
-    put-done (le-trans (sheetFault-length (a .args .s) (a .pre)) (c .before .before .before .before .if1 .taken)) (c .before .before .put-sheet .ensures)
-
-slice-relend-prefix-put-sheet : tie.Need-slice-relend-prefix-put-sheet
-slice-relend-prefix-put-sheet c = search needs
-
-slice-aggregate-put-sheet : tie.Need-slice-aggregate-put-sheet
-slice-aggregate-put-sheet c = search needs
+    put-done (le-trans (sheetFault-length (a .args .s) (a .pre)) (c .before .before .before .before .if1 .taken))
+    (c .before .before .put-sheet .ensures)
 
 put-sheet-requires-2 : tie.Need-put-sheet-requires-2
-put-sheet-requires-2 c κs = (few-elements (c .before .before .before .before .before), few-constraints (c .before .before .before .before .before), c .before .before .lines-of .ensures)
+put-sheet-requires-2 c κs = (
+  few-elements (c .before .before .before .before .before),
+  few-constraints (c .before .before .before .before .before),
+  c .before .before .lines-of .ensures,
+)
 
 -- the run that measures leaves no space
 none : (c : tie.After-put-sheet2) → c .put-sheet2 .last .0 ≡ []
 none c = none-left (c .put-sheet2 .ensures)
-
-same-length-2 : tie.Need-same-length-2
-same-length-2 c = search needs
 
 returns-2 : tie.Need-returns-2
 returns-2 c =
@@ -57,31 +54,22 @@ returns-2 c =
     rw (none p) (put-refused (sheetBytes (factsOf (a .s))) (a .out .now) h)
 
 put-sheet-requires-3 : tie.Need-put-sheet-requires-3
-put-sheet-requires-3 c κs = (few-elements (c .before .before .before .before .before .before .before .before .before .before), few-constraints (c .before .before .before .before .before .before .before .before .before .before), c .before .before .before .before .before .before .before .lines-of .ensures)
-
-same-length-3 : tie.Need-same-length-3
-same-length-3 c = search needs
+put-sheet-requires-3 c κs = (
+  few-elements (c .before .before .before .before .before .before .before .before .before .before),
+  few-constraints (c .before .before .before .before .before .before .before .before .before .before),
+  c .before .before .before .before .before .before .before .lines-of .ensures,
+)
 
 returns-3 : tie.Need-returns-3
 returns-3 c =
     let a = c .before .before .before .before .before .before .before .before .before .before .before .before .before .args in
     let p = c .before .before .before .before .before .before .before in
-    let h : length (sheetBytes (factsOf (a .s))) ≤ length (a .out .now) = rw (none p, p .put-sheet2 .ensures .next-is, zero-add) at (c .before .before .before .before .if2 .left) in
+    let h : length (sheetBytes (factsOf (a .s))) ≤ length (a .out .now) =
+    rw (none p, p .put-sheet2 .ensures .next-is, zero-add) at (c .before .before .before .before .if2 .left) in
     put-done h (rw (none p) at (c .before .before .put-sheet3 .ensures))
 
 pub write-accepted-spec : {M : Type 1} → statement M
 write-accepted-spec =
     tie.close
-    (tie.spec
-    lines-of-requires
-    put-sheet-requires
-    same-length
-    returns
-    slice-relend-prefix-put-sheet
-    slice-aggregate-put-sheet
-    put-sheet-requires-2
-    same-length-2
-    returns-2
-    put-sheet-requires-3
-    same-length-3
-    returns-3)
+    (tie.spec lines-of-requires put-sheet-requires (λ c. search needs) returns (λ c. search needs) (λ c. search needs)
+    put-sheet-requires-2 (λ c. search needs) returns-2 put-sheet-requires-3 (λ c. search needs) returns-3)

@@ -6,26 +6,19 @@ use Rattle.writer.specs.Write.Laws.{write-refused, write-accepted}
 use Rattle.writer.proofs.write_sheet.Statement.{statement}
 use Rattle.writer.proofs.write_sheet.Tie as tie
 
-sheet-fault-requires : tie.Need-sheet-fault-requires
-sheet-fault-requires c κs = search needs
-
 returns : tie.Need-returns
 returns c =
     let is = c .before .sheet-fault .ensures in
     let w = write-refused (c .before .before .before .args .s) (c .before .before .before .args .out .now) (λ none. c .if1 .taken (is ∙ none)) in
     (ap Refused is ∙ w .0, w .1)
 
-write-accepted-requires : tie.Need-write-accepted-requires
-write-accepted-requires c κs = search needs
-
-same-length : tie.Need-same-length
-same-length c = search needs
-
 returns-2 : tie.Need-returns-2
 returns-2 c =
-    let w = write-accepted (c .before .before .before .before .before .before .before .args .s) (c .before .before .before .before .before .before .before .args .out .now) (sym (c .before .before .before .before .before .sheet-fault .ensures) ∙ c .before .before .before .before .if1 .left) in
+    let w = write-accepted (c .before .before .before .before .before .before .before .args .s)
+    (c .before .before .before .before .before .before .before .args .out .now)
+    (sym (c .before .before .before .before .before .sheet-fault .ensures) ∙ c .before .before .before .before .if1 .left) in
     (c .before .before .write-accepted .ensures .0 ∙ w .0, c .before .before .write-accepted .ensures .1 ∙ w .1)
 
 pub write-sheet-spec : {M : Type 1} → statement M
 write-sheet-spec =
-    tie.close (tie.spec sheet-fault-requires returns write-accepted-requires same-length returns-2)
+    tie.close (tie.spec (λ c κs. search needs) returns (λ c κs. search needs) (λ c. search needs) returns-2)

@@ -13,7 +13,9 @@ use Rattle.writer.proofs.write_untagged.Statement.{statement}
 use Rattle.writer.proofs.write_untagged.Tie as tie
 
 returns : tie.Need-returns
-returns c = put-done (le-trans (withoutTags-length (c .before .before .before .before .before .before .before .args .s .now)) (c .before .before .before .before .if1 .taken)) (c .before .before .put-untagged .ensures)
+returns c =
+    put-done (le-trans (withoutTags-length (c .before .before .before .before .before .before .before .args .s .now))
+    (c .before .before .before .before .if1 .taken)) (c .before .before .put-untagged .ensures)
 
 -- the run that measures leaves no space
 none : (c : tie.After-put-untagged2) → c .put-untagged2 .last .0 ≡ []
@@ -30,12 +32,12 @@ returns-3 : tie.Need-returns-3
 returns-3 c =
     let a = c .before .before .before .before .before .before .before .before .before .before .before .before .args in
     let p = c .before .before .before .before .before .before .before in
-    let h : length (withoutTags (a .s .now)) ≤ length (a .out .now) = rw (none p, p .put-untagged2 .ensures .next-is, zero-add) at (c .before .before .before .before .if2 .left) in
+    let h : length (withoutTags (a .s .now)) ≤ length (a .out .now) =
+    rw (none p, p .put-untagged2 .ensures .next-is, zero-add) at (c .before .before .before .before .if2 .left) in
     put-done h (rw (none p) at (c .before .before .put-untagged3 .ensures))
 
 pub write-untagged-spec : {M : Type 1} → statement M
 write-untagged-spec =
     tie.close
-    (tie.spec
-    (λ c κs. search needs) (λ c. search needs) returns (λ c. search needs) (λ c. search needs) (λ c κs. search needs) (λ c κs. search needs)
-    (λ c. search needs) returns-2 (λ c. search needs) returns-3)
+    (tie.spec (λ c κs. search needs) (λ c. search needs) returns (λ c. search needs) (λ c. search needs)
+    (λ c κs. search needs) (λ c κs. search needs) (λ c. search needs) returns-2 (λ c. search needs) returns-3)

@@ -16,6 +16,7 @@ module _ (s : Sheet) (space : List ℕ) where
   unfolding writeAnswer writeAfter
   write-refused h = rw (ne-eqb _ _ h) (refl, refl)
 
-  pub write-accepted : sheetFault s ≡ 0 → (answer (sheetBytes (factsOf s)) space ≡ writeAnswer s space) × (after (sheetBytes (factsOf s)) space ≡ writeAfter s space)
+  pub write-accepted : sheetFault s ≡ 0
+      → (answer (sheetBytes (factsOf s)) space ≡ writeAnswer s space) × (after (sheetBytes (factsOf s)) space ≡ writeAfter s space)
   unfolding writeAnswer writeAfter
   write-accepted h = rw (eq-eqb _ _ h) (refl, refl)

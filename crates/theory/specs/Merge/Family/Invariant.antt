@@ -12,7 +12,8 @@ use Rattle.theory.specs.Merge.{Three, union}
 use Rattle.theory.specs.Set.{_∩_, _∪_, _⊑_}
 use Rattle.theory.specs.Set.Laws.{size-or, size-le, or-l, and-r, and-comm, sub-and, size-eq, and-l}
 use Rattle.theory.specs.Constraints.{carried, NotOver, Among, Pairs}
-use Rattle.theory.specs.Constraints.Laws.{carried-mono, carried-two, carried-four, inside, Has, outside, has-dec, carried-pos, carried-small, pairs-share}
+use Rattle.theory.specs.Constraints.Laws.{carried-mono, carried-two, carried-four, inside, Has, outside, has-dec, carried-pos, carried-small}
+use Rattle.theory.specs.Constraints.Laws.{pairs-share}
 use Rattle.theory.specs.Merge.Threes.{part-a, part-b, part-c, size-union}
 use Rattle.theory.specs.Merge.Family.{In, after, start, Fam, Same, OpenIn, Good}
 
@@ -139,4 +140,9 @@ inherit cs pairs fine g t m c i h = go (has-dec c (t .a)) (has-dec c (t .b)) (ha
     go (outside n e) (inside p f) r = inr (inl p)
     go (outside n e) (outside k f) (inside p z) = inr (inr p)
     go (outside n e) (outside k f) (outside l z) =
-        absurd (omega (arith, union-tight cs fine g t m c (none (t .a) n) (none (t .b) k) (none (t .c) l) .1, ap (carried cs) (and-comm (union t) c ∙ sub-and c (union t) h), carried-pos cs c i))
+        absurd (omega (
+          arith,
+          union-tight cs fine g t m c (none (t .a) n) (none (t .b) k) (none (t .c) l) .1,
+          ap (carried cs) (and-comm (union t) c ∙ sub-and c (union t) h),
+          carried-pos cs c i,
+        ))

@@ -10,7 +10,8 @@ use Rattle.theory.specs.Set.Laws.{sub-refl, sub-trans}
 use Rattle.theory.specs.Constraints.{NotOver, Among, Pairs, Perm}
 use Rattle.theory.specs.Constraints.Laws.{among-perm}
 use Rattle.theory.specs.Merge.{Three, union, joint}
-use Rattle.theory.specs.Merge.Family.{start, jointsIn, Meeting, Fam, Same, OpenIn, Good, ValidIn, finalIn, EndedIn, AlikeIn, movedIn, coincide, commute, In, after}
+use Rattle.theory.specs.Merge.Family.{start, jointsIn, Meeting, Fam, Same, OpenIn, Good, ValidIn, finalIn, EndedIn, AlikeIn, movedIn, coincide}
+use Rattle.theory.specs.Merge.Family.{commute, In, after}
 use Rattle.theory.specs.Merge.Family.Diamond.{meeting, Lift, together, opened, open-by, lift, union-least}
 use Rattle.theory.specs.Merge.Family.Invariant.{share, in-dec, in-union, good-after, among-good}
 use lib.ListN.{length}
