@@ -96,8 +96,7 @@ pub fn add(s: Sheet, c: Constraint) -> Added
         return refused(s, last);
     }
     let more = store(s, c);
-    let judged = judge::judge(more);
-    let verdict = judged.verdict;
+    let verdict = judge::verdict_of(more);
     if verdict.number() == 0 {
         return refused(s, 11);
     }

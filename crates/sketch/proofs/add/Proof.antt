@@ -1,3 +1,4 @@
+-- `sketch::add` meets its contract: each refusal in its turn, and else the verdict of the sketch with the constraint. Assumes nothing.
 use borrow.Author.Needs.{needs}
 use Prim.Native.Nat.{ℕ, _<_}
 use native.Mathlib.Omega.{arith}
@@ -12,14 +13,12 @@ use Rattle.sheet.specs.Graph.{graphOf}
 use Rattle.sheet.specs.Graph.Laws.{over-numbered, other-numbered}
 use Rattle.theory.specs.Verdict.{verdictNumber}
 use Rattle.theory.specs.Graph.{verdictOf}
-use Rattle.judge.specs.declared.Judged.{Judged}
 use Rattle.judge.specs.Listing.Blocks.{Blocks, passed-blocks}
-use Rattle.judge.specs.Judged.{judgedOf}
 use Rattle.sketch.specs.declared.Taken.{Taken}
 use Rattle.sketch.specs.declared.Taken.the-variants.{Is, Refused}
 use Rattle.sketch.specs.declared.Added.{Added}
 use Rattle.sketch.specs.Sketch.{holdFault, extended, addFault, addedOf}
-use Rattle.sketch.specs.Sketch.Laws.{blocks-sound, few-held, hold-none, stored-facts, stored-fault, extended-sound, judged-verdict, add-unheld}
+use Rattle.sketch.specs.Sketch.Laws.{blocks-sound, few-held, hold-none, stored-facts, stored-fault, add-unheld}
 use Rattle.sketch.specs.Sketch.Laws.{add-refused, add-last, refused-added, taken-added}
 use Rattle.sketch.proofs.add.Statement.{statement}
 use Rattle.sketch.proofs.add.Tie as tie
@@ -86,29 +85,28 @@ module _ (c : tie.Else2) where
   none : constraintFault (factsOf sketch .elements) (factsOf sketch .constraints) (start (c .before .before) .args .c) ≡ 0
   none = sym (c .before .last-fault .ensures) ∙ c .if2 .left
 
-judge-requires : tie.Need-judge-requires
-judge-requires c κs =
+verdict-of-requires : tie.Need-verdict-of-requires
+verdict-of-requires c κs =
     let o = c .before in
     let a = start (o .before .before) .args in
     ap sheetFault (c .store .ensures)
     ∙ stored-fault (a .s) (a .c) (long (o .before .before)) (room (o .before .before)) (hold-none (a .s) (held (o .before .before)) .0) (none o)
 
 -- the verdict of the sketch with the constraint
-module _ (c : tie.After-judge) where
+module _ (c : tie.After-verdict-of) where
   abbrev taking : tie.Else2
   taking = c .before .before
 
   abbrev more : Facts
   more = extended (factsOf (sketch taking)) (start (taking .before .before) .args .c)
 
-  verdict-is : c .judge .result .verdict ≡ verdictOf (graphOf more)
+  verdict-is : c .verdict-of .result ≡ verdictOf (graphOf more)
   verdict-is =
       let o = taking .before .before in
       let s = start o .args .s in
       let k = start o .args .c in
       let f : factsOf (c .before .store .result) ≡ more = ap factsOf (c .before .store .ensures) ∙ stored-facts s k (long o) (room o) in
-      let h = extended-sound (factsOf s) k (blocks-sound s (in-blocks o)) (hold-none s (held o) .1) (none taking) in
-      ap (λ (j : Judged). j .verdict) (c .judge .ensures ∙ ap (λ (x : Facts). judgedOf (graphOf x)) f) ∙ judged-verdict more h
+      c .verdict-of .ensures ∙ ap (λ (x : Facts). verdictOf (graphOf x)) f
 
 returns-3 : tie.Need-returns-3
 returns-3 c =
@@ -134,4 +132,4 @@ pub add-spec : {M : Type 1} → statement M
 add-spec =
     tie.close
     (tie.spec (λ c κs. search needs) (λ c κs. search needs) returns last-fault-requires (λ c κs. search needs) returns-2
-    store-requires judge-requires (λ c κs. search needs) (λ c κs. search needs) returns-3 returns-4)
+    store-requires verdict-of-requires (λ c κs. search needs) (λ c κs. search needs) returns-3 returns-4)

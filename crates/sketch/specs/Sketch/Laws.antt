@@ -6,7 +6,7 @@ use mathlib.Core.Path.{_≡_, refl, _∙_}
 use mathlib.Core.Bool.{true}
 use mathlib.Core.List.{List, [], _∷_, _++_, append-nil, append-assoc}
 use borrow.Author.Tests.{le-leb}
-use lib.ListN.{length, length-append}
+use lib.ListN.{length}
 use lib.Seq.{take-suc-set}
 use Rattle.theory.specs.Constraints.{Pairs, Below, NotOver}
 use Rattle.theory.specs.Over.Laws.{overOf-fine}
@@ -19,12 +19,10 @@ use Rattle.sheet.specs.Rules.Laws.{or-else-some}
 use Rattle.sheet.specs.Accepted.Laws.{none-else}
 use Rattle.sheet.specs.RoundTrip.Blocks.{sheetFault-none}
 use Rattle.sheet.specs.Graph.{graphOf, overFault}
-use Rattle.sheet.specs.Graph.Laws.{length-clusters, clusters-pairs, clusters-below, fault-none}
+use Rattle.sheet.specs.Graph.Laws.{clusters-pairs, clusters-below, fault-none}
 use Rattle.theory.specs.Graph.{verdictOf}
 use Rattle.judge.specs.Listing.Blocks.{Blocks}
-use Rattle.judge.specs.Judged.{judgedOf}
 use Rattle.judge.specs.Judged.Laws.{few}
-use Rattle.judge.specs.Judged.Lists.{judged-held}
 use Rattle.sketch.specs.declared.Taken.the-variants.{Is, Refused}
 use Rattle.sketch.specs.Sketch.{holdFault, extended, nextFault, addFault, addAnswer, stored, addAfter}
 
@@ -54,9 +52,6 @@ module _ (f : Facts) (h : Sound f) where
   -- facts that are not over have few constraints
   few-fine : NotOver (graphOf f .clusters) → length (f .constraints) ≤ 125
   few-fine = few f (h .elements) (h .two) (h .constraints) (h .none)
-
-  pub judged-verdict : judgedOf (graphOf f) .verdict ≡ verdictOf (graphOf f)
-  judged-verdict = judged-held (graphOf f) paired below (λ fine. rw length-clusters (few-fine fine)) .verdict-is
 
   pub few-held : overFault (graphOf f) ≡ 0 → length (f .constraints) ≤ 125
   few-held e = few-fine (overOf-fine (graphOf f .n) (graphOf f .clusters) paired below (fault-none (graphOf f) e))
@@ -99,15 +94,6 @@ module _ (s : Sheet) (c : Constraint) (long : length (s .constraints) ≡ 200) (
       let q : s .e < length (s .constraints) = rw long room in
       let m : constraintCount (s .e + 1) ≡ true = le-leb (s .e + 1) 200 (omega arith) in
       rw (h .0, m, add-one, take-suc-set (s .constraints) (s .e) c q) (extended-none (factsOf s) c (h .2) k)
-
-pub extended-sound : (f : Facts) (c : Constraint) → Sound f → overFault (graphOf f) ≡ 0
-    → constraintFault (f .elements) (f .constraints) c ≡ 0 → Sound (extended f c)
-extended-sound f c h o k = record {
-  two = h .two;
-  elements = h .elements;
-  constraints = rw length-append (omega (arith, few-held f h o));
-  none = extended-none f c (h .none) k;
-}
 
 -- ---- the rules in their order
 
