@@ -22,7 +22,7 @@ pub mod Proof
 
 -- the report of a list of merges has the list's own joints and number of steps
 pub record ReportsOwn (g : Graph) (p : List Merge) : Type 0 where
-  pub knots : map (λ (s : Step). s .joint) (stepsOf g p) ≡ joints (g .clusters) p
+  pub same-joints : map (λ (s : Step). s .joint) (stepsOf g p) ≡ joints (g .clusters) p
   pub steps : length (stepsOf g p) ≡ length p
 
 -- one maximal list of merges stands behind all that the engine answers of a sheet

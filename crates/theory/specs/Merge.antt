@@ -154,6 +154,6 @@ Differ m r = ((n : ℕ) → Part n m ↔ Part n r) → ⊥
 pub record EitherWay (s : List ℕ) (m r : Merge) : Type 0 where
   pub still : OpenAt (put s m) (moved s m r)
   pub still′ : OpenAt (put s r) (moved s r m)
-  pub knot : joint (three (put s m) (moved s m r)) ≡ joint (three s r)
-  pub knot′ : joint (three (put s r) (moved s r m)) ≡ joint (three s m)
+  pub same-joint : joint (three (put s m) (moved s m r)) ≡ joint (three s r)
+  pub same-joint′ : joint (three (put s r) (moved s r m)) ≡ joint (three s m)
   pub ends : (x : ℕ) → live (put (put s m) (moved s m r)) x ↔ live (put (put s r) (moved s r m)) x

@@ -29,7 +29,7 @@ use Rattle.account.specs.Account.{reportBy, reportOf, savedFault}
 use Rattle.account.specs.Own.{ReportsOwn, EngineList, SavedList, OwnLists}
 
 reports-own : (g : Graph) (p : List Merge) → ReportsOwn g p
-reports-own g p = record { knots = joints-steps g (g .clusters) p; steps = length-steps g (g .clusters) p }
+reports-own g p = record { same-joints = joints-steps g (g .clusters) p; steps = length-steps g (g .clusters) p }
 
 -- ---- the engine's plan lists its numbers ascending
 

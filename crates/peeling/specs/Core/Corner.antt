@@ -162,9 +162,9 @@ module _ (cs near : List ℕ) (simple : Simple cs) (is-near : Near cs near) wher
               subst (λ (w : ℕ). at w a ≤ at w (b ∪ m ∪ k)) (sym r) (omega (arith, at-le x a, or-left x (b ∪ m) k (or-right x b m (e .x-in))))
           go z (no r) = omega (arith, at-or z (b ∪ m) k, at-or z b m, less-other x z a xa r)
 
-      pub knot-is : joint t ≡ corner near v x
+      pub joint-is : joint t ≡ corner near v x
       unfolding joint
-      knot-is =
+      joint-is =
           size-eq (corner near v x) (joint t) (record { le = λ z. go z (bit (at z (joint t)) (at-le z (joint t))) })
           (omega (arith, size-joint t isopen, size-or (2 ^ x) (getD near x 0 ∩ v), size-pow x, two))
         where

@@ -28,7 +28,7 @@ use Rattle.theory.specs.Near.Laws.{near-counts}
 use Rattle.peeling.specs.Core.{Peeled, whole, less, corner, corners}
 use Rattle.peeling.specs.Core.Peeling.{peeled-small}
 use Rattle.peeling.specs.Core.Merging.{one-between, two-between}
-use Rattle.peeling.specs.Core.Corner.{Parted, end, t, isopen, knot-is, merged}
+use Rattle.peeling.specs.Core.Corner.{Parted, end, t, isopen, joint-is, merged}
 
 -- a step that takes away no corner of three, and one that does
 corners-few : {near : List ℕ} {v : ℕ} (x : ℕ) (p : Peeled near v) (q : at x v ≡ 1) (h : ones (getD near x 0 ∩ v) ≤ 2) → ones (corner near v x) ≢ 3
@@ -163,7 +163,7 @@ module _ (cs near : List ℕ) (simple : Simple cs) (is-near : Near cs near) (n :
         let t′ = t cs near simple is-near v (v ∩ full n) x small (and-l v (full n)) z two (w .m) (w .k) em ek m≢k in
         let s′ : Same G (Parted cs b′) = subst (λ (c : ℕ). Same G (Parted cs c)) e s in
         let i = ih (after G t′) (merged cs near simple is-near v (v ∩ full n) x small (and-l v (full n)) z two (w .m) (w .k) em ek m≢k G s′) in
-        let kn = knot-is cs near simple is-near v (v ∩ full n) x small (and-l v (full n)) z two (w .m) (w .k) em ek m≢k in
+        let kn = joint-is cs near simple is-near v (v ∩ full n) x small (and-l v (full n)) z two (w .m) (w .k) em ek m≢k in
         let o = isopen cs near simple is-near v (v ∩ full n) x small (and-l v (full n)) z two (w .m) (w .k) em ek m≢k in (
           t′ ∷ i .0,
           (
@@ -248,7 +248,7 @@ module _ (cs near : List ℕ) (simple : Simple cs) (is-near : Near cs near) (n :
       every-order-in cs pairs fine cs same (threes cs p) (g .0) (as-start cs pairs fine p (m .valid))
       (ended-there cs pairs fine p (m .valid) (m .ended)) (g .1)
       (ended-same (λ z. Iff·symm (g .2 z)) ended-one) in
-      rw (joints-threes cs p, f .3) (Iff·trans (w .knots y) (g .3 y))
+      rw (joints-threes cs p, f .3) (Iff·trans (w .same-joints y) (g .3 y))
     where
       first : (c : ℕ) → ones c ≡ 2 → Among c cs → Same (start cs) (Parted cs c)
       first c e i z = (λ h. go h (ℕ-discrete z c), ⊎-elim (λ q. subst (λ (k : ℕ). Among k cs) (sym q) i) (λ h. h .0))

@@ -57,7 +57,7 @@ demand3 g a = record {
       let u = every-order (g .clusters) (a .pairs) (accepted-fine a) (h .clusters) (r .constraints) p q v w in
       record {
         finals = u .finals;
-        knots = u .knots;
+        same-joints = u .same-joints;
         verdicts = same-verdict g h (r .count) (r .kinds) (r .constraints) (a .pairs) (accepted-fine a) p q v w;
         steps = u .steps;
         lefts = same-left (g .clusters) (a .pairs) (accepted-fine a) (h .clusters) (r .constraints) p q v w;

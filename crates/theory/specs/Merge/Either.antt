@@ -99,8 +99,8 @@ module _ (cs : List ℕ) (fine : NotOver cs) (s : List ℕ) (g : Good cs (live s
           record {
             still = p;
             still′ = q;
-            knot = ap joint (moved-three m r o u) ∙ js;
-            knot′ = ap joint (moved-three r m u o) ∙ jt;
+            same-joint = ap joint (moved-three m r o u) ∙ js;
+            same-joint′ = ap joint (moved-three r m u o) ∙ jt;
             ends = λ x. Iff·trans (two-on m r o u p x) (Iff·trans (same x) (Iff·symm (two-on r m u o q x)));
           }
 

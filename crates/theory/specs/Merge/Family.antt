@@ -64,7 +64,7 @@ jointsIn (t ∷ p) = joint t ∷ jointsIn p
 pub record AlikeIn (F G : Fam) (p q : List Three) : Type 0 where
   pub finals : Same (finalIn F p) (finalIn G q)
   pub steps : length p ≡ length q
-  pub knots : (x : ℕ) → Among x (jointsIn p) ↔ Among x (jointsIn q)
+  pub same-joints : (x : ℕ) → Among x (jointsIn p) ↔ Among x (jointsIn q)
 
 -- the initial clusters
 abbrev pub start : List ℕ → Fam
@@ -85,7 +85,7 @@ threes s (m ∷ p) = three s m ∷ threes (put s m) p
 pub record Alike (s r : List ℕ) (p q : List Merge) : Type 0 where
   pub finals : Same (live (final s p)) (live (final r q))
   pub steps : length p ≡ length q
-  pub knots : (x : ℕ) → Among x (joints s p) ↔ Among x (joints r q)
+  pub same-joints : (x : ℕ) → Among x (joints s p) ↔ Among x (joints r q)
 
 -- ---- what becomes of a set when u is made: it is swallowed if it shares two elements with u
 

@@ -56,7 +56,7 @@ pub record Rest (F : Fam) (p : List Three) (s : Three) : Type 0 where
   pub valid : ValidIn (after F s) plan
   pub ends : Same (finalIn F p) (finalIn (after F s) plan)
   pub steps : length p ≡ suc (length plan)
-  pub knots : (x : ℕ) → Among x (jointsIn p) ↔ ((x ≡ joint s) ⊎ Among x (jointsIn plan))
+  pub same-joints : (x : ℕ) → Among x (jointsIn p) ↔ ((x ≡ joint s) ⊎ Among x (jointsIn plan))
 
 module _ (cs : List ℕ) (fine : NotOver cs) where
   rest : (p : List Three) {F : Fam} → Good cs F → ValidIn F p → EndedIn (finalIn F p) → (s : Three) → OpenIn F s → Rest F p s
@@ -70,7 +70,7 @@ module _ (cs : List ℕ) (fine : NotOver cs) where
         valid = valid-same same p (v .1);
         ends = final-same same p;
         steps = refl;
-        knots = λ x. (⊎-elim (λ e. inl (e ∙ sym j)) inr, ⊎-elim (λ e. inl (e ∙ j)) inr);
+        same-joints = λ x. (⊎-elim (λ e. inl (e ∙ sym j)) inr, ⊎-elim (λ e. inl (e ∙ j)) inr);
       }
       go ih (commute n o js jt same) =
           let r = ih n in record {
@@ -78,15 +78,15 @@ module _ (cs : List ℕ) (fine : NotOver cs) where
             valid = (o, valid-same same (r .plan) (r .valid));
             ends = λ x. Iff·trans (r .ends x) (final-same same (r .plan) x);
             steps = ap suc (r .steps);
-            knots = λ x. (
-              ⊎-elim (λ e. inr (inl (e ∙ sym jt))) (λ h. ⊎-elim (λ e. inl (e ∙ js)) (λ i. inr (inr i)) (r .knots x .0 h)),
-              ⊎-elim (λ e. inr (r .knots x .1 (inl (e ∙ sym js)))) (⊎-elim (λ e. inl (e ∙ jt)) (λ i. inr (r .knots x .1 (inr i)))),
+            same-joints = λ x. (
+              ⊎-elim (λ e. inr (inl (e ∙ sym jt))) (λ h. ⊎-elim (λ e. inl (e ∙ js)) (λ i. inr (inr i)) (r .same-joints x .0 h)),
+              ⊎-elim (λ e. inr (r .same-joints x .1 (inl (e ∙ sym js)))) (⊎-elim (λ e. inl (e ∙ jt)) (λ i. inr (r .same-joints x .1 (inr i)))),
             );
           }
 
   pub unique : (q p : List Three) {F : Fam} → Good cs F → ValidIn F p → EndedIn (finalIn F p) → ValidIn F q → EndedIn (finalIn F q) → AlikeIn F F p q
   unfolding EndedIn
-  unique [] [] g v e w f = record { finals = λ x. Iff·rfl; steps = refl; knots = λ x. Iff·rfl }
+  unique [] [] g v e w f = record { finals = λ x. Iff·rfl; steps = refl; same-joints = λ x. Iff·rfl }
   unique [] (t ∷ p) g v e w f = absurd (f t (v .0))
   unique (s ∷ q) p {F} g v e w f =
       let r = rest p g v e s (w .0) in
@@ -94,7 +94,7 @@ module _ (cs : List ℕ) (fine : NotOver cs) where
       record {
         finals = λ x. Iff·trans (r .ends x) (u .finals x);
         steps = r .steps ∙ ap suc (u .steps);
-        knots = λ x. Iff·trans (r .knots x) (⊎-elim inl (λ i. inr (u .knots x .0 i)), ⊎-elim inl (λ i. inr (u .knots x .1 i)));
+        same-joints = λ x. Iff·trans (r .same-joints x) (⊎-elim inl (λ i. inr (u .same-joints x .0 i)), ⊎-elim inl (λ i. inr (u .same-joints x .1 i)));
       }
 
   -- whatever merges came before, the family is good
@@ -152,7 +152,7 @@ module _ (cs : List ℕ) (pairs : Pairs cs) (fine : NotOver cs) where
       record {
         finals = λ x. Iff·trans (u .finals x) (final-same (among-perm r) q x);
         steps = u .steps;
-        knots = u .knots;
+        same-joints = u .same-joints;
       }
 
   -- either way round: after any number of merges two open merges are one three, or each is open once the other is made, the union standing in
