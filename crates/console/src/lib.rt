@@ -1,16 +1,33 @@
-// What the programs share: printing an answer, opening a file that an argument names, and the numbers of a saved plan.
+// What the programs share: reading the input, printing an answer, and the numbers of a saved plan.
 ghost use mathlib.Core.Path.{_≡_};
-ghost use Prim.Native.Nat.{_+_, _*_, _≤_};
-ghost use lib.ListN.{length, take};
+ghost use Prim.Native.Nat.{_+_, _*_};
+ghost use mathlib.Core.List.{_++_};
+ghost use lib.ListN.{length, drop};
 ghost use Rattle.io.specs.Counts.{Counts};
-ghost use Rattle.console.specs.Numbers.{numbersIn};
+ghost use Rattle.console.specs.Numbers.{numbersFor};
 use libc::STDOUT_FILENO;
 use space::Written;
 
+// Writes bytes to standard output; where that fails, says so on standard error.
+fn put(bytes: &[u8]) -> bool {
+    let whole = io::write_all(STDOUT_FILENO, bytes);
+    if !whole {
+        os::fail(b"standard output");
+    }
+    whole
+}
+
+// The line "refused" and the rule's number.
 fn refuse(rule: u8) {
-    io::write_all(STDOUT_FILENO, b"refused ");
-    io::print_decimal(STDOUT_FILENO, rule as u64);
-    io::write_all(STDOUT_FILENO, b"\n");
+    let mut digits = [0u8; 20];
+    let n = io::decimal(rule as u64, &mut digits);
+    if !put(b"refused ") {
+        return;
+    }
+    if !put(&digits[..n]) {
+        return;
+    }
+    put(b"\n");
 }
 
 // Prints what was written into lent space, or the line "refused" and the rule's number.
@@ -18,26 +35,64 @@ pub fn print(written: Written, out: &[u8]) {
     match written {
         Written::Done(n) => {
             if n <= out.len() {
-                io::write_all(STDOUT_FILENO, &out[0..n]);
+                put(&out[0..n]);
             }
         }
         Written::Refused(rule) => refuse(rule),
     }
 }
 
-// Opens the file that argument i names; where it cannot, says why and answers a number below 0.
-pub fn open(i: usize) -> i32 {
+// What was read: whether no reading failed, and how many bytes stand at the front of the buffer.
+pub struct Input {
+    pub whole: bool,
+    pub count: usize,
+}
+
+// Reads until the buffer is full or the input ends. Where a reading fails, it says so on standard error, with the input's name.
+pub fn read(fd: i32, name: &[u8], buffer: &mut [u8]) -> Input
+    ensures { λ r. ⌜ Counts (r .count) (now (buffer .exit)) ⌝ }
+{
+    let mut count: usize = 0;
+    while count < buffer.len() {
+        let got = libc::read(fd, &mut buffer[count..]);
+        if got < 0 {
+            os::fail(name);
+            return Input {
+                whole: false,
+                count,
+            };
+        }
+        let more = io::count(got, &buffer[count..]);
+        if more == 0 {
+            return Input { whole: true, count };
+        }
+        count += more;
+    }
+    Input { whole: true, count }
+}
+
+// Reads the file that argument i names, as `read` does. Where it cannot be opened, it says so in the same way.
+pub fn read_file(i: usize, buffer: &mut [u8]) -> Input
+    ensures { λ r. ⌜ Counts (r .count) (now (buffer .exit)) ⌝ }
+{
     let mut path = io::buffer();
     let n = os::arg(i, &mut path);
     if os::errno() != 0 {
         os::fail(b"argument");
-        return -1;
+        return Input {
+            whole: false,
+            count: 0,
+        };
     }
     let fd = os::open_read(&path[..n]);
     if fd < 0 {
         os::fail(&path[..n]);
+        return Input {
+            whole: false,
+            count: 0,
+        };
     }
-    fd
+    read(fd, &path[..n], buffer)
 }
 
 // A 16-bit number, lowest byte first.
@@ -47,10 +102,11 @@ fn number(low: u8, high: u8) -> u16
     low as u16 + 256 * (high as u16)
 }
 
-// The 16-bit numbers of a file, lowest byte first, to the front of a list; answers how many there are.
+// The 16-bit numbers of a file, lowest byte first, to the front of a list, as many as it takes; answers how many there are.
 pub fn numbers(bytes: &[u8], list: &mut [u16]) -> usize
     ensures { λ r. ⌜ Counts r (now (list .exit)) ⌝ }
-    ensures { λ r. ⌜ (length (now (bytes .entry)) ≤ 2 * length (now (list .entry)) → take r (now (list .exit)) ≡ numbersIn (now (bytes .entry))) ⌝ }
+    ensures { λ r. ⌜ r ≡ length (numbersFor (length (now (list .entry))) (now (bytes .entry))) ⌝ }
+    ensures { λ r. ⌜ now (list .exit) ≡ numbersFor (length (now (list .entry))) (now (bytes .entry)) ++ drop r (now (list .entry)) ⌝ }
 {
     let mut i: usize = 0;
     while i < list.len() {

@@ -6,7 +6,11 @@ const ROOM: usize = 3786;
 
 fn main() {
     let mut sheet = [0u8; 1815];
-    let n = io::read_full(STDIN_FILENO, &mut sheet);
+    let input = console::read(STDIN_FILENO, b"standard input", &mut sheet);
+    if !input.whole {
+        return;
+    }
+    let n = input.count;
     let mut out = [0u8; ROOM];
     let written = pattern::report(&sheet[..n], &mut out);
     console::print(written, &out);

@@ -4,7 +4,11 @@ use libc::STDIN_FILENO;
 
 fn main() {
     let mut sheet = [0u8; 1815];
-    let n = io::read_full(STDIN_FILENO, &mut sheet);
+    let input = console::read(STDIN_FILENO, b"standard input", &mut sheet);
+    if !input.whole {
+        return;
+    }
+    let n = input.count;
     let mut out = [0u8; 1414];
     let written = pattern::rewrite(&sheet[..n], &mut out);
     console::print(written, &out);

@@ -33,17 +33,17 @@ fn main() {
         io::write_all(STDERR_FILENO, b"usage: takeover_main SHEET PLAN\n");
         return;
     }
-    let first = console::open(1);
-    if first < 0 {
-        return;
-    }
-    let second = console::open(2);
-    if second < 0 {
-        return;
-    }
     let mut sheet = [0u8; 1815];
-    let n = io::read_full(first, &mut sheet);
+    let first = console::read_file(1, &mut sheet);
+    if !first.whole {
+        return;
+    }
     let mut file = io::large_buffer();
-    let m = io::read_full(second, &mut file);
+    let second = console::read_file(2, &mut file);
+    if !second.whole {
+        return;
+    }
+    let n = first.count;
+    let m = second.count;
     take_over(&sheet[..n], &file[..m]);
 }

@@ -1,23 +1,19 @@
+-- The first i places hold the first i numbers: `Filling`, which ends where the list has no place left or the file no number.
 use borrow.Author.Needs.{needs}
-use Prim.Native.Nat.{ℕ, _-_, _≤_}
+use Prim.Native.Nat.{_-_}
 use native.Mathlib.Omega.{arith}
-use mathlib.Core.Path.{sym}
-use mathlib.Core.List.{List}
+use mathlib.Core.Logic.{inl, inr}
 use lib.ListN.{length}
-use lib.Seq.{length-take-le}
-use Rattle.io.specs.Counts.{Counts}
-use Rattle.console.specs.Numbers.Laws.{Filling, filling-none, filling-more, filling-all}
+use Rattle.console.specs.Numbers.Laws.{Filling, filling-none, filling-more, filled}
+use Rattle.console.proofs.Counting.{counts}
 use Rattle.console.proofs.numbers.Statement.{statement}
 use Rattle.console.proofs.numbers.Tie as tie
 
 abbrev Inv-loop : tie.InvT-loop
-Inv-loop bytes list₀ i₀ list i = Filling bytes (length list₀) i list
+Inv-loop bytes list₀ i₀ list i = Filling bytes list₀ i list
 
 abbrev μ-loop : tie.MeasureT-loop
 μ-loop bytes list₀ i₀ list i = length list₀ - i
-
-counts : (i : ℕ) (list : List ℕ) → i ≤ length list → Counts i list
-counts i list h = (h, sym (length-take-le i list h))
 
 loop-holds : tie.Need-loop-holds Inv-loop μ-loop
 loop-holds c = filling-none (c .before .before .args .bytes .now) (c .before .before .args .list .now)
@@ -28,17 +24,12 @@ same-length c = c .before .before .loop .inv .long
 returns : tie.Need-returns Inv-loop μ-loop
 returns c =
     let l = c .before .before .loop in
-    let a = c .before .before .before .before .before .args in (
-      counts (l .i) (l .list) (rw (l .inv .long) (l .inv .within)),
-      λ room. filling-all (a .bytes .now) (length (a .list .now)) (l .i) (l .list) (l .inv) (c .if1 .taken),
-    )
+    (counts (l .i) (l .list) (rw (l .inv .long) (l .inv .within)), filled (l .inv) (inr (c .if1 .taken)))
 
 loop-again : tie.Need-loop-again Inv-loop μ-loop
 loop-again c =
-    let l = c .before .before .before .before .before .loop in
-    let a = c .before .before .before .before .before .before .before .before .args in
-    filling-more (a .bytes .now) (length (a .list .now)) (l .i) (l .list) (l .inv) (c .number .result) (omega arith)
-    (c .before .before .before .if1 .left) (c .number .ensures)
+    filling-more (c .before .before .before .before .before .loop .inv) (c .number .result) (omega arith) (c .before .before .before .if1 .left)
+    (c .number .ensures)
 
 same-length-2 : tie.Need-same-length-2 Inv-loop μ-loop
 same-length-2 c = c .before .loop .inv .long
@@ -46,11 +37,7 @@ same-length-2 c = c .before .loop .inv .long
 returns-2 : tie.Need-returns-2 Inv-loop μ-loop
 returns-2 c =
     let l = c .before .loop in
-    let a = c .before .before .before .before .args in (
-      counts (l .i) (l .list) (rw (l .inv .long) (l .inv .within)),
-      λ room. filling-all (a .bytes .now) (length (a .list .now)) (l .i) (l .list) (l .inv)
-          (omega (arith, c .loop-test .left, l .inv .within, l .inv .long)),
-    )
+    (counts (l .i) (l .list) (rw (l .inv .long) (l .inv .within)), filled (l .inv) (inl (omega (arith, c .loop-test .left, l .inv .long))))
 
 pub numbers-spec : {M : Type 1} → statement M
 numbers-spec =
