@@ -4,14 +4,36 @@
  * Link with libpattern_c.a; it needs nothing but the C library. Every function is proved: for every
  * input its answer and the lent space are what its definition says.
  *
- * Lists    A list is a pointer and a count of items. A pointer is never NULL, even where its count
- *          is 0, and is aligned for its type; `out` overlaps no other list. Nothing outside the
- *          lists is read or written.
+ * Lists    A list is a pointer and a count of items. Where the count is 0 the pointer may be anything,
+ *          NULL too; else it is aligned for its type. `out` overlaps no other list. Nothing outside
+ *          the lists is read or written.
  * Answers  0 or more: the count of items written to the front of `out`; the rest is unchanged.
  *          Below 0: minus the number of the rule that refuses the call (enum pattern_rule);
- *          all of `out` is unchanged.
+ *          all of `out` is unchanged. Test the sign before you use an answer as a count.
  * State    There is none. Nothing is allocated or kept between calls; any threads may call at once,
  *          each with an `out` of its own.
+ * Stack    A call takes at most PATTERN_MAX_STACK bytes of its thread's stack, as measured by
+ *          tests/stack/run on x86-64; pattern_check_plan takes the most.
+ *
+ * A sheet in bytes; docs/FORMAT.md says the same at length, with the report's lines:
+ *
+ *   50 46 30 31   the opening, PF01
+ *   1 byte        n, the count of elements, 2 to 64
+ *   n/8 rounded   the kinds: bit (i mod 8) of byte (i div 8) is 1 where element i is a line, 0 where
+ *   up bytes      it is a point; the bits from n on are 0
+ *   1 byte        e, the count of constraints, 0 to 200; then each constraint:
+ *     1 byte      the first end, an element
+ *     1 byte      the second end, a higher one
+ *     1 byte      the map: PATTERN_SIZED, PATTERN_TAGGED
+ *     4 bytes     where PATTERN_SIZED stands: the size, signed, lowest byte first
+ *     2 bytes     where PATTERN_TAGGED stands: the tag, any value
+ *
+ * The size of a constraint (rule 9):
+ *
+ *   two points      a distance, 1 to 40,000 tenths of a millimetre
+ *   point and line  a signed distance, -40,000 to 40,000 tenths of a millimetre, not 0; a missing size
+ *                   is the distance 0, the point on the line
+ *   two lines       a signed angle, -17,999 to 17,999 hundredths of a degree, not 0
  */
 #ifndef PATTERN_H
 #define PATTERN_H
@@ -28,6 +50,9 @@ extern "C" {
 #define PATTERN_MAX_SHEET       1814 /* bytes of a sheet that is read: it may carry tags */
 #define PATTERN_MAX_WRITTEN     1414 /* bytes of a written sheet: with this room no sheet is refused by 17 */
 #define PATTERN_MAX_REPORT      3786 /* bytes of a report: with this room no report is refused by 17 */
+#define PATTERN_MAX_PLAN        186  /* numbers of a plan, three a step: with this room no plan is refused by 17 */
+#define PATTERN_MAX_CLUSTERS    125  /* clusters that are left: with this room no list of them is refused by 17 */
+#define PATTERN_MAX_STACK       32768 /* bytes of stack that a call takes */
 
 /* The rules that refuse, in checking order. */
 enum pattern_rule {
@@ -39,7 +64,7 @@ enum pattern_rule {
     PATTERN_ENDS        = 6,  /* the ends are not first below second below the element count */
     PATTERN_PAIR        = 7,  /* an earlier constraint has the same two ends */
     PATTERN_MAP         = 8,  /* an unknown map bit, or no size for two points or two lines */
-    PATTERN_SIZE        = 9,  /* the size is outside its range, a written 0 included */
+    PATTERN_SIZE        = 9,  /* the size is outside its range above, a written 0 included */
     PATTERN_EXTRA       = 10, /* bytes follow the last constraint */
     PATTERN_IS_OVER     = 11, /* the sheet is over, or an added constraint would make it so */
     PATTERN_PLAN_COUNT  = 12, /* the count of numbers in a plan is not a multiple of three */
@@ -99,20 +124,28 @@ int32_t pattern_verdict(const uint8_t *sheet, size_t len);
 /*
  * The plan of a sheet: three cluster numbers a step, ascending. Constraint i is cluster i; step k,
  * from 0, merges its three clusters into cluster e + k. An over sheet has no plan and answers 0.
- * Tries rules 1 to 10, then 17. A plan has at most 62 steps.
+ * Tries rules 1 to 10, then 17. A plan has at most 62 steps, PATTERN_MAX_PLAN numbers.
  */
 int32_t pattern_plan(const uint8_t *sheet, size_t len, uint16_t *out, size_t room);
 
 /*
  * The clusters that are left when no merge is open, by number: bit i for element i. An over sheet
- * answers 0. Tries rules 1 to 10, then 17. There are at most 125.
+ * answers 0. Tries rules 1 to 10, then 17. There are at most PATTERN_MAX_CLUSTERS.
  */
 int32_t pattern_clusters(const uint8_t *sheet, size_t len, uint64_t *out, size_t room);
 
 /*
- * The report of a sheet in ASCII lines: verdict, counts, the steps of the plan and the clusters that
- * are left; of an over sheet the constraint and the part that pattern_over gives. Tries rules 1 to
- * 10, then 17. Answers the count of bytes; no zero byte is put at the end.
+ * The report of a sheet in ASCII lines, each ended by a newline; of an over sheet the first two and
+ * what pattern_over gives. Tries rules 1 to 10, then 17. Answers the count of bytes; no zero byte is
+ * put at the end. The lines, where numbers and names stand for those of the sheet:
+ *
+ *   verdict well                                    over, angle, well, stuck or under
+ *   elements 4 constraints 5
+ *   step 5 from 0 1 2 joint 0 1 2 kind ppp ways 2   the cluster made, its parts, the shared elements,
+ *                                                   ppp, ppl, pll or lll, and 0, 1, 2 or ?
+ *   cluster 6 holds 0 1 2 3                         a cluster that is left, and its elements
+ *   first 5                                         of an over sheet: the constraint too many
+ *   set 0 1 2 3                                     and the part that cannot take it
  */
 int32_t pattern_report(const uint8_t *sheet, size_t len, uint8_t *out, size_t room);
 

@@ -4,47 +4,8 @@
 
 use crate::facts::Columns;
 
-mod c {
-    unsafe extern "C" {
-        pub fn pattern_rewrite(sheet: *const u8, len: usize, out: *mut u8, room: usize) -> i32;
-        pub fn pattern_write(
-            n: usize,
-            e: usize,
-            lines: u64,
-            firsts: *const u8,
-            firsts_len: usize,
-            seconds: *const u8,
-            seconds_len: usize,
-            maps: *const u8,
-            maps_len: usize,
-            sizes: *const i32,
-            sizes_len: usize,
-            out: *mut u8,
-            room: usize,
-        ) -> i32;
-        pub fn pattern_over(sheet: *const u8, len: usize, out: *mut u64, room: usize) -> i32;
-        pub fn pattern_verdict(sheet: *const u8, len: usize) -> i32;
-        pub fn pattern_plan(sheet: *const u8, len: usize, out: *mut u16, room: usize) -> i32;
-        pub fn pattern_clusters(sheet: *const u8, len: usize, out: *mut u64, room: usize) -> i32;
-        pub fn pattern_report(sheet: *const u8, len: usize, out: *mut u8, room: usize) -> i32;
-        pub fn pattern_check_plan(
-            sheet: *const u8,
-            len: usize,
-            plan: *const u16,
-            count: usize,
-            out: *mut u8,
-            room: usize,
-        ) -> i32;
-        pub fn pattern_add(
-            sheet: *const u8,
-            len: usize,
-            constraint: *const u8,
-            clen: usize,
-            out: *mut u8,
-            room: usize,
-        ) -> i32;
-    }
-}
+#[path = "../../examples/rust/src/c.rs"]
+mod c;
 
 /// `pattern_rewrite`
 #[inline]
@@ -116,4 +77,41 @@ pub fn check_plan(sheet: &[u8], plan: &[u16], out: &mut [u8]) -> i32 {
 pub fn add(sheet: &[u8], constraint: &[u8], out: &mut [u8]) -> i32 {
     let (bytes, count) = (constraint.as_ptr(), constraint.len());
     unsafe { c::pattern_add(sheet.as_ptr(), sheet.len(), bytes, count, out.as_mut_ptr(), out.len()) }
+}
+
+#[cfg(test)]
+mod tests {
+    use super::c;
+    use std::ptr::{null, null_mut};
+
+    const LINE_AND_POINT: &[u8] = b"PF01\x02\x01\0";
+
+    /// Where a count is 0, its pointer may be null.
+    #[test]
+    fn null_lists() {
+        let (sheet, len) = (LINE_AND_POINT.as_ptr(), LINE_AND_POINT.len());
+        let mut bytes = [0; 64];
+        let (out, room) = (bytes.as_mut_ptr(), bytes.len());
+        unsafe {
+            assert_eq!(c::pattern_rewrite(null(), 0, out, room), -1);
+            assert_eq!(c::pattern_rewrite(sheet, len, null_mut(), 0), -17);
+            assert_eq!(c::pattern_write(2, 0, 1, null(), 0, null(), 0, null(), 0, null(), 0, out, room), 7);
+            assert_eq!(c::pattern_write(2, 0, 1, null(), 0, null(), 0, null(), 0, null(), 0, null_mut(), 0), -17);
+            assert_eq!(c::pattern_over(null(), 0, null_mut(), 0), -1);
+            assert_eq!(c::pattern_over(sheet, len, null_mut(), 0), 0);
+            assert_eq!(c::pattern_verdict(null(), 0), -1);
+            assert_eq!(c::pattern_plan(null(), 0, null_mut(), 0), -1);
+            assert_eq!(c::pattern_plan(sheet, len, null_mut(), 0), 0);
+            assert_eq!(c::pattern_clusters(null(), 0, null_mut(), 0), -1);
+            assert_eq!(c::pattern_clusters(sheet, len, null_mut(), 0), 0);
+            assert_eq!(c::pattern_report(null(), 0, out, room), -1);
+            assert_eq!(c::pattern_report(sheet, len, null_mut(), 0), -17);
+            assert_eq!(c::pattern_check_plan(null(), 0, null(), 0, null_mut(), 0), -1);
+            assert_eq!(c::pattern_check_plan(sheet, len, null(), 0, null_mut(), 0), -17);
+            assert_eq!(c::pattern_check_plan(sheet, len, null(), 0, out, room), 39);
+            assert_eq!(c::pattern_add(null(), 0, null(), 0, null_mut(), 0), -1);
+            assert_eq!(c::pattern_add(sheet, len, null(), 0, out, room), -2);
+            assert_eq!(c::pattern_add(sheet, len, b"\0\x01\0".as_ptr(), 3, null_mut(), 0), -17);
+        }
+    }
 }

@@ -1,0 +1,41 @@
+//! The functions of `include/pattern.h`, as Rust declares them: the wrapper, the tests and the bench share these lines.
+
+unsafe extern "C" {
+    pub fn pattern_rewrite(sheet: *const u8, len: usize, out: *mut u8, room: usize) -> i32;
+    pub fn pattern_write(
+        n: usize,
+        e: usize,
+        lines: u64,
+        firsts: *const u8,
+        firsts_len: usize,
+        seconds: *const u8,
+        seconds_len: usize,
+        maps: *const u8,
+        maps_len: usize,
+        sizes: *const i32,
+        sizes_len: usize,
+        out: *mut u8,
+        room: usize,
+    ) -> i32;
+    pub fn pattern_over(sheet: *const u8, len: usize, out: *mut u64, room: usize) -> i32;
+    pub fn pattern_verdict(sheet: *const u8, len: usize) -> i32;
+    pub fn pattern_plan(sheet: *const u8, len: usize, out: *mut u16, room: usize) -> i32;
+    pub fn pattern_clusters(sheet: *const u8, len: usize, out: *mut u64, room: usize) -> i32;
+    pub fn pattern_report(sheet: *const u8, len: usize, out: *mut u8, room: usize) -> i32;
+    pub fn pattern_check_plan(
+        sheet: *const u8,
+        len: usize,
+        plan: *const u16,
+        count: usize,
+        out: *mut u8,
+        room: usize,
+    ) -> i32;
+    pub fn pattern_add(
+        sheet: *const u8,
+        len: usize,
+        constraint: *const u8,
+        constraint_len: usize,
+        out: *mut u8,
+        room: usize,
+    ) -> i32;
+}

@@ -1,0 +1,113 @@
+/*
+ * Measures the stack that each function takes: it runs on a stack of our own that is filled with a mark, and what of it was
+ * written to is counted. A function that does nothing is measured first and taken off. Fails where one takes more than the
+ * header says. stack SHEET..
+ */
+#include <pthread.h>
+#include <stdio.h>
+#include <stdlib.h>
+#include <string.h>
+
+#include "pattern.h"
+
+#define STACK (1 << 18)
+#define MARK 0xa5
+
+static uint8_t sheet[PATTERN_MAX_SHEET + 1], bytes[PATTERN_MAX_REPORT];
+static size_t len;
+static uint16_t plan[PATTERN_MAX_PLAN];
+static uint64_t items[PATTERN_MAX_CLUSTERS];
+static uint8_t firsts[PATTERN_MAX_CONSTRAINTS], seconds[PATTERN_MAX_CONSTRAINTS], maps[PATTERN_MAX_CONSTRAINTS];
+static int32_t sizes[PATTERN_MAX_CONSTRAINTS];
+static size_t n, e;
+
+/* Facts in columns: the strip of 64 points. */
+static void facts(void)
+{
+    n = 64;
+    for (size_t k = 1; k < n; k++)
+        for (size_t back = 1; back <= 2 && back <= k; back++, e++) {
+            firsts[e] = (uint8_t)(k - back);
+            seconds[e] = (uint8_t)k;
+            maps[e] = PATTERN_SIZED;
+            sizes[e] = 300;
+        }
+}
+
+static void *nothing(void *u) { return u; }
+static void *rewrite(void *u) { pattern_rewrite(sheet, len, bytes, sizeof bytes); return u; }
+static void *write_(void *u)
+{
+    pattern_write(n, e, 0, firsts, e, seconds, e, maps, e, sizes, e, bytes, sizeof bytes);
+    return u;
+}
+static void *over(void *u) { pattern_over(sheet, len, items, PATTERN_MAX_CLUSTERS); return u; }
+static void *verdict(void *u) { pattern_verdict(sheet, len); return u; }
+static void *plan_(void *u) { pattern_plan(sheet, len, plan, PATTERN_MAX_PLAN); return u; }
+static void *clusters(void *u) { pattern_clusters(sheet, len, items, PATTERN_MAX_CLUSTERS); return u; }
+static void *report(void *u) { pattern_report(sheet, len, bytes, sizeof bytes); return u; }
+static void *check(void *u)
+{
+    int32_t count = pattern_plan(sheet, len, plan, PATTERN_MAX_PLAN);
+    pattern_check_plan(sheet, len, plan, count < 0 ? 0 : (size_t)count, bytes, sizeof bytes);
+    return u;
+}
+static void *add(void *u)
+{
+    static const uint8_t more[] = {0, 1, PATTERN_SIZED, 1, 0, 0, 0};
+    for (uint8_t k = 0; k < 64; k++) {
+        uint8_t one[sizeof more];
+        memcpy(one, more, sizeof more);
+        one[1] = k;
+        pattern_add(sheet, len, one, sizeof one, bytes, sizeof bytes);
+    }
+    return u;
+}
+
+static size_t used(void *(*call)(void *))
+{
+    static _Alignas(4096) uint8_t stack[STACK];
+    memset(stack, MARK, STACK);
+    pthread_attr_t attributes;
+    pthread_t thread;
+    if (pthread_attr_init(&attributes) || pthread_attr_setstack(&attributes, stack, STACK)
+        || pthread_create(&thread, &attributes, call, NULL) || pthread_join(thread, NULL)) {
+        perror("thread");
+        exit(2);
+    }
+    size_t free = 0;
+    while (free < STACK && stack[free] == MARK)
+        free++;
+    return STACK - free;
+}
+
+int main(int argc, char **argv)
+{
+    static const struct { const char *name; void *(*call)(void *); } calls[] = {
+        {"pattern_rewrite", rewrite}, {"pattern_write", write_}, {"pattern_over", over}, {"pattern_verdict", verdict}, {"pattern_plan", plan_},
+        {"pattern_clusters", clusters}, {"pattern_report", report}, {"pattern_check_plan", check}, {"pattern_add", add},
+    };
+    size_t most[sizeof calls / sizeof *calls] = {0};
+    facts();
+    size_t none = used(nothing);
+    for (int i = 1; i < argc; i++) {
+        FILE *file = fopen(argv[i], "rb");
+        if (!file) {
+            perror(argv[i]);
+            return 2;
+        }
+        len = fread(sheet, 1, sizeof sheet, file);
+        fclose(file);
+        for (size_t k = 0; k < sizeof calls / sizeof *calls; k++) {
+            size_t now = used(calls[k].call) - none;
+            if (now > most[k])
+                most[k] = now;
+        }
+    }
+    int more = 0;
+    for (size_t k = 0; k < sizeof calls / sizeof *calls; k++) {
+        printf("%s: %zu bytes of stack\n", calls[k].name, most[k]);
+        more |= most[k] > PATTERN_MAX_STACK;
+    }
+    return more;
+}
