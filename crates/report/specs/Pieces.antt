@@ -25,6 +25,10 @@ kindWords k = ascii " kind " ++ (kindName k ++ ascii " ways")
 abbrev pub waysWords : Ways → List ℕ
 waysWords w = others (waysName w ∷ [])
 
+-- the longest report of a sheet that is not over, in bytes
+abbrev pub longest : ℕ
+longest = 3786
+
 -- the numbers of a step, and of each of several, are below 1,000
 pub record Small (s : Step) : Type 0 where
   pub made-small : s .made < 1000

@@ -1,14 +1,14 @@
 // The report's bytes into lent space, line by line. Each function puts its bytes from a place on and answers the place after them; a call over no
 // space measures. Contracts cite specs/Report.antt.
 ghost use mathlib.Core.Path.{_≡_};
-ghost use mathlib.Core.List.{_∷_};
+ghost use mathlib.Core.List.{[], _∷_, _++_};
 ghost use Prim.Native.Nat.{_+_, _<_, _≤_, _^_};
 ghost use lib.ListN.{length, take};
 ghost use Rattle.space.specs.Space.{Put, answer, after};
 ghost use Rattle.space.specs.Text.{decimal};
 ghost use Rattle.report.specs.Elements.{elements};
 ghost use Rattle.report.specs.Report.{verdictLine, elementsLine, stepLine, stepLines, slotLine, clusterLines, report, overReport};
-ghost use Rattle.report.specs.Pieces.{numbers, partsWords, kindWords, waysWords, Small, AllSmall};
+ghost use Rattle.report.specs.Pieces.{numbers, partsWords, kindWords, waysWords, longest, Small, AllSmall};
 use space::Written;
 use space::put_byte;
 use space::put_decimal;
@@ -20,8 +20,8 @@ use theory::Ways;
 
 // A space and a number.
 fn put_number(out: &mut [u8], at: usize, n: usize) -> usize
-    requires { ⌜ (n < 1000) × (at + length (32 ∷ decimal n) < 2 ^ 64) ⌝ }
-    ensures { λ r. ⌜ Put (now (out .entry)) at (32 ∷ decimal n) r (now (out .exit)) ⌝ }
+    requires { ⌜ (n < 1000) × (at + 4 < 2 ^ 64) ⌝ }
+    ensures { λ r. ⌜ Put (now (out .entry)) at (32 ∷ decimal n) r (now (out .exit)) × (r ≤ at + 4) ⌝ }
 {
     let a1 = put_byte(out, at, b' ');
     put_decimal(out, a1, n)
@@ -29,8 +29,8 @@ fn put_number(out: &mut [u8], at: usize, n: usize) -> usize
 
 // A set's elements, a space before each.
 fn put_set(out: &mut [u8], at: usize, set: u64) -> usize
-    requires { ⌜ at + length (numbers (elements set)) < 2 ^ 64 ⌝ }
-    ensures { λ r. ⌜ Put (now (out .entry)) at (numbers (elements set)) r (now (out .exit)) ⌝ }
+    requires { ⌜ at + 196 < 2 ^ 64 ⌝ }
+    ensures { λ r. ⌜ Put (now (out .entry)) at (numbers (elements set)) r (now (out .exit)) × (r ≤ at + 192) ⌝ }
 {
     let mut next = at;
     let mut rest = set;
@@ -42,10 +42,30 @@ fn put_set(out: &mut [u8], at: usize, set: u64) -> usize
     next
 }
 
+// A word and a number.
+fn put_entry(out: &mut [u8], at: usize, word: &[u8], n: usize) -> usize
+    requires { ⌜ (n < 1000) × (at + length (now word) + 4 < 2 ^ 64) ⌝ }
+    ensures { λ r. ⌜ Put (now (out .entry)) at (now (word .entry) ++ 32 ∷ decimal n) r (now (out .exit)) × (r ≤ at + length (now (word .entry)) + 4) ⌝ }
+{
+    let a1 = put_text(out, at, word);
+    put_number(out, a1, n)
+}
+
+// A word and a set's elements, at the end of a line.
+fn put_elements(out: &mut [u8], at: usize, word: &[u8], set: u64) -> usize
+    requires { ⌜ at + length (now word) + 196 < 2 ^ 64 ⌝ }
+    ensures { λ r. ⌜ Put (now (out .entry)) at (now (word .entry) ++ (numbers (elements set) ++ 10 ∷ [])) r (now (out .exit))
+        × (r ≤ at + length (now (word .entry)) + 193) ⌝ }
+{
+    let a1 = put_text(out, at, word);
+    let a2 = put_set(out, a1, set);
+    put_byte(out, a2, b'\n')
+}
+
 // The verdict's line.
 fn put_verdict_line(out: &mut [u8], at: usize, verdict: Verdict) -> usize
-    requires { ⌜ at + length (verdictLine verdict) < 2 ^ 64 ⌝ }
-    ensures { λ r. ⌜ Put (now (out .entry)) at (verdictLine verdict) r (now (out .exit)) ⌝ }
+    requires { ⌜ at + 14 < 2 ^ 64 ⌝ }
+    ensures { λ r. ⌜ Put (now (out .entry)) at (verdictLine verdict) r (now (out .exit)) × (r ≤ at + 14) ⌝ }
 {
     match verdict {
         Verdict::Over => put_text(out, at, b"verdict over\n"),
@@ -58,33 +78,29 @@ fn put_verdict_line(out: &mut [u8], at: usize, verdict: Verdict) -> usize
 
 // The line of the element count n and the constraint count e.
 fn put_elements_line(out: &mut [u8], at: usize, n: usize, e: usize) -> usize
-    requires { ⌜ (n < 1000) × (e < 1000) × (at + length (elementsLine n e) < 2 ^ 64) ⌝ }
-    ensures { λ r. ⌜ Put (now (out .entry)) at (elementsLine n e) r (now (out .exit)) ⌝ }
+    requires { ⌜ (n < 1000) × (e < 1000) × (at + 29 < 2 ^ 64) ⌝ }
+    ensures { λ r. ⌜ Put (now (out .entry)) at (elementsLine n e) r (now (out .exit)) × (r ≤ at + 29) ⌝ }
 {
-    let a1 = put_text(out, at, b"elements");
-    let a2 = put_number(out, a1, n);
-    let a3 = put_text(out, a2, b" constraints");
-    let a4 = put_number(out, a3, e);
-    put_byte(out, a4, b'\n')
+    let a1 = put_entry(out, at, b"elements", n);
+    let a2 = put_entry(out, a1, b" constraints", e);
+    put_byte(out, a2, b'\n')
 }
 
 // A step line up to its parts.
 fn put_parts(out: &mut [u8], at: usize, made: usize, i: usize, j: usize, k: usize) -> usize
-    requires { ⌜ (made < 1000) × (i < 1000) × (j < 1000) × (k < 1000) × (at + length (partsWords made i j k) < 2 ^ 64) ⌝ }
-    ensures { λ r. ⌜ Put (now (out .entry)) at (partsWords made i j k) r (now (out .exit)) ⌝ }
+    requires { ⌜ (made < 1000) × (i < 1000) × (j < 1000) × (k < 1000) × (at + 25 < 2 ^ 64) ⌝ }
+    ensures { λ r. ⌜ Put (now (out .entry)) at (partsWords made i j k) r (now (out .exit)) × (r ≤ at + 25) ⌝ }
 {
-    let a1 = put_text(out, at, b"step");
-    let a2 = put_number(out, a1, made);
-    let a3 = put_text(out, a2, b" from");
-    let a4 = put_number(out, a3, i);
-    let a5 = put_number(out, a4, j);
-    put_number(out, a5, k)
+    let a1 = put_entry(out, at, b"step", made);
+    let a2 = put_entry(out, a1, b" from", i);
+    let a3 = put_number(out, a2, j);
+    put_number(out, a3, k)
 }
 
 // A step line from the kind to the word before the placements.
 fn put_kind(out: &mut [u8], at: usize, kind: JointKind) -> usize
-    requires { ⌜ at + length (kindWords kind) < 2 ^ 64 ⌝ }
-    ensures { λ r. ⌜ Put (now (out .entry)) at (kindWords kind) r (now (out .exit)) ⌝ }
+    requires { ⌜ at + 14 < 2 ^ 64 ⌝ }
+    ensures { λ r. ⌜ Put (now (out .entry)) at (kindWords kind) r (now (out .exit)) × (r ≤ at + 14) ⌝ }
 {
     match kind {
         JointKind::Ppp => put_text(out, at, b" kind ppp ways"),
@@ -96,7 +112,7 @@ fn put_kind(out: &mut [u8], at: usize, kind: JointKind) -> usize
 
 // The placements, at the end of a step line.
 fn put_ways(out: &mut [u8], at: usize, ways: Ways) -> usize
-    requires { ⌜ at + length (waysWords ways) < 2 ^ 64 ⌝ }
+    requires { ⌜ at + 5 < 2 ^ 64 ⌝ }
     ensures { λ r. ⌜ Put (now (out .entry)) at (waysWords ways) r (now (out .exit)) ⌝ }
 {
     match ways {
@@ -110,7 +126,7 @@ fn put_ways(out: &mut [u8], at: usize, ways: Ways) -> usize
 
 // A step's line.
 fn put_step_line(out: &mut [u8], at: usize, s: Step) -> usize
-    requires { ⌜ Small s × (at + length (stepLine s) < 2 ^ 64) ⌝ }
+    requires { ⌜ Small s × (at + 242 < 2 ^ 64) ⌝ }
     ensures { λ r. ⌜ Put (now (out .entry)) at (stepLine s) r (now (out .exit)) ⌝ }
 {
     let kind = s.kind;
@@ -124,22 +140,19 @@ fn put_step_line(out: &mut [u8], at: usize, s: Step) -> usize
 
 // The line of cluster c, which holds the elements of a; none for the empty set, since that cluster is dead.
 fn put_slot_line(out: &mut [u8], at: usize, c: usize, a: u64) -> usize
-    requires { ⌜ (c < 1000) × (at + length (slotLine c a) < 2 ^ 64) ⌝ }
+    requires { ⌜ (c < 1000) × (at + 213 < 2 ^ 64) ⌝ }
     ensures { λ r. ⌜ Put (now (out .entry)) at (slotLine c a) r (now (out .exit)) ⌝ }
 {
     if a == 0 {
         return at;
     }
-    let a1 = put_text(out, at, b"cluster");
-    let a2 = put_number(out, a1, c);
-    let a3 = put_text(out, a2, b" holds");
-    let a4 = put_set(out, a3, a);
-    put_byte(out, a4, b'\n')
+    let a1 = put_entry(out, at, b"cluster", c);
+    put_elements(out, a1, b" holds", a)
 }
 
 // The lines of the first `count` steps.
 fn put_steps(out: &mut [u8], at: usize, steps: [Step; 62], count: usize) -> usize
-    requires { ⌜ (count ≤ 62) × AllSmall (take count steps) × (at + length (stepLines (take count steps)) < 2 ^ 64) ⌝ }
+    requires { ⌜ (count ≤ 62) × AllSmall (take count steps) × (at + length (stepLines (take count steps)) ≤ longest) ⌝ }
     ensures { λ r. ⌜ Put (now (out .entry)) at (stepLines (take count steps)) r (now (out .exit)) ⌝ }
 {
     let mut next = at;
@@ -154,7 +167,7 @@ fn put_steps(out: &mut [u8], at: usize, steps: [Step; 62], count: usize) -> usiz
 
 // The lines of the living clusters among the first `used` slots.
 fn put_clusters(out: &mut [u8], at: usize, slots: &[u64; 192], used: usize) -> usize
-    requires { ⌜ (used ≤ 192) × (length (now slots) ≡ 192) × (at + length (clusterLines 0 (take used (now slots))) < 2 ^ 64) ⌝ }
+    requires { ⌜ (used ≤ 192) × (length (now slots) ≡ 192) × (at + length (clusterLines 0 (take used (now slots))) ≤ longest) ⌝ }
     ensures { λ r. ⌜ Put (now (out .entry)) at (clusterLines 0 (take used (now (slots .entry)))) r (now (out .exit)) ⌝ }
 {
     let mut next = at;
@@ -167,7 +180,7 @@ fn put_clusters(out: &mut [u8], at: usize, slots: &[u64; 192], used: usize) -> u
 }
 
 // The report of a sheet that is not over: its verdict, the first `count` of the steps, and the living clusters among the first `used` slots.
-pub fn put_report(
+fn put_report(
     out: &mut [u8],
     n: usize,
     e: usize,
@@ -178,6 +191,7 @@ pub fn put_report(
     used: usize,
 ) -> usize
     requires { ⌜ (n < 1000) × (e < 1000) × (count ≤ 62) × (used ≤ 192) × (length (now slots) ≡ 192) × AllSmall (take count steps) ⌝ }
+    requires { ⌜ length (report n e verdict (take count steps) (take used (now slots))) ≤ longest ⌝ }
     ensures { λ r. ⌜ Put (now (out .entry)) 0 (report n e verdict (take count steps) (take used (now (slots .entry)))) r (now (out .exit)) ⌝ }
 {
     let a1 = put_verdict_line(out, 0, verdict);
@@ -187,17 +201,14 @@ pub fn put_report(
 }
 
 // The report of an over sheet: the first constraint that makes those up to it over, and the smallest set.
-pub fn put_over_report(out: &mut [u8], n: usize, e: usize, first: usize, set: u64) -> usize
+fn put_over_report(out: &mut [u8], n: usize, e: usize, first: usize, set: u64) -> usize
     requires { ⌜ (n < 1000) × (e < 1000) × (first < 1000) ⌝ }
-    ensures { λ r. ⌜ Put (now (out .entry)) 0 (overReport n e first set) r (now (out .exit)) ⌝ }
+    ensures { λ r. ⌜ Put (now (out .entry)) 0 (overReport n e first set) r (now (out .exit)) × (r ≤ 249) ⌝ }
 {
     let a1 = put_verdict_line(out, 0, Verdict::Over);
     let a2 = put_elements_line(out, a1, n, e);
-    let a3 = put_text(out, a2, b"first");
-    let a4 = put_number(out, a3, first);
-    let a5 = put_text(out, a4, b"\nset");
-    let a6 = put_set(out, a5, set);
-    put_byte(out, a6, b'\n')
+    let a3 = put_entry(out, a2, b"first", first);
+    put_elements(out, a3, b"\nset", set)
 }
 
 // The longest report of a sheet that is not over.
@@ -215,7 +226,7 @@ pub fn write_report(
     used: usize,
 ) -> Written
     requires { ⌜ (n < 1000) × (e < 1000) × (count ≤ 62) × (used ≤ 192) × (length (now slots) ≡ 192) × AllSmall (take count steps) ⌝ }
-    requires { ⌜ length (report n e verdict (take count steps) (take used (now slots))) ≤ 3786 ⌝ }
+    requires { ⌜ length (report n e verdict (take count steps) (take used (now slots))) ≤ longest ⌝ }
     ensures answers { λ r. ⌜ r ≡ answer (report n e verdict (take count steps) (take used (now (slots .entry)))) (now (out .entry)) ⌝ }
     ensures leaves { λ r. ⌜ now (out .exit) ≡ after (report n e verdict (take count steps) (take used (now (slots .entry)))) (now (out .entry)) ⌝ }
 {

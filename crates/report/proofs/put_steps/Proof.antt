@@ -2,9 +2,9 @@
 use Prim.Native.Nat.{_-_, _≤_}
 use native.Mathlib.Omega.{arith}
 use lib.ListN.{length, take, drop}
-use Rattle.report.specs.Report.{stepLine, stepLines}
+use Rattle.report.specs.Report.{stepLines}
 use Rattle.report.specs.Report.Laws.{steps-next, steps-none, small-at}
-use Rattle.report.proofs.Going.{Going, start, _step_, as-rest, done, fits}
+use Rattle.report.proofs.Going.{Going, start, put-next, put-last, place}
 use Rattle.report.proofs.put_steps.Statement.{statement}
 use Rattle.report.proofs.put_steps.Tie as tie
 
@@ -19,16 +19,12 @@ abbrev μ-loop : tie.MeasureT-loop
 long : (c : tie.Start Inv-loop μ-loop) → c .args .count ≤ length (c .args .t3)
 long c = omega (arith, c .good .1 .1 .0 .1 .0 .1, c .pre)
 
-loop-holds : tie.Need-loop-holds Inv-loop μ-loop
-loop-holds c = (omega arith, start _)
-
 put-step-line-requires : tie.Need-put-step-line-requires Inv-loop μ-loop
 put-step-line-requires c κs =
     let s = c .before .before .before .before .before in
-    let l = c .before .before .before .loop in
-    let h = c .before .before .loop-test .taken in (
-      small-at (s .args .t3) (s .args .count) (l .i) _ (long s) (s .pre .1) h,
-      fits (stepLine _) _ (as-rest (steps-next (s .args .t3) (s .args .count) (l .i) _ (long s) h) (l .inv .1)) (s .pre .2),
+    let l = c .before .before .before .loop in (
+      small-at (s .args .t3) (s .args .count) (l .i) _ (long s) (s .pre .1) (c .before .before .loop-test .taken),
+      omega (arith, place (l .inv .1), s .pre .2),
     )
 
 loop-again : tie.Need-loop-again Inv-loop μ-loop
@@ -36,22 +32,17 @@ loop-again c =
     let s = c .before .before .before .before .before .before .before .before in
     let l = c .before .before .before .before .before .before .loop in (
       omega arith,
-      as-rest (steps-next (s .args .t3) (s .args .count) (l .i) _ (long s) (c .before .before .before .before .before .loop-test .taken)) (l .inv .1)
-          step c .before .before .put-step-line .ensures,
+      put-next (steps-next (s .args .t3) (s .args .count) (l .i) _ (long s) (c .before .before .before .before .before .loop-test .taken)) (l .inv .1)
+          (c .before .before .put-step-line .ensures),
     )
-
-same-length : tie.Need-same-length Inv-loop μ-loop
-same-length c =
-    let entry = c .before .before .before in
-    done (as-rest (steps-none (entry .args .t3) (entry .args .count) (c .before .loop .i) (c .loop-test .left)) (c .before .loop .inv .1)) .length-is
 
 returns : tie.Need-returns Inv-loop μ-loop
 returns c =
-    let entry = c .before .before .before in
-    done (as-rest (steps-none (entry .args .t3) (entry .args .count) (c .before .loop .i) (c .loop-test .left)) (c .before .loop .inv .1))
+    let a = c .before .before .before .args in
+    put-last (steps-none (a .t3) (a .count) (c .before .loop .i) (c .loop-test .left)) (c .before .loop .inv .1)
 
 pub put-steps-spec : {M : Type 1} → statement M
 put-steps-spec =
     tie.close
-    (tie.spec Inv-loop μ-loop loop-holds (λ c. omega arith) (λ c. omega arith) put-step-line-requires (λ c. omega arith)
-    (λ c. omega arith) loop-again same-length returns)
+    (tie.spec Inv-loop μ-loop (λ c. (omega arith, start _)) (λ c. omega arith) (λ c. omega arith) put-step-line-requires (λ c. omega arith)
+    (λ c. omega arith) loop-again (λ c. returns c .length-is) returns)

@@ -8,7 +8,7 @@ use mathlib.Core.List.{List, [], _∷_, _++_, map, append-assoc, append-nil}
 use borrow.Author.Tests.{eq-eqb, ne-eqb}
 use lib.Bits.{bitAnd}
 use lib.Count.{trailingZeros}
-use lib.ListN.{length, getD, take, drop, length-append, length-take, drop-of-length-le}
+use lib.ListN.{length, getD, take, drop, length-take, drop-of-length-le}
 use lib.Seq.{drop-cons, getD-take}
 use Rattle.space.specs.Text.{ascii, decimal}
 use Rattle.theory.specs.declared.Verdict.the-variants.{Over}
@@ -60,14 +60,6 @@ pub step-pieces : (s : Step)
     ≡ partsWords (s .made) (s .i) (s .j) (s .k) ++ (ascii " joint" ++ (numbers (elements (s .joint)) ++ (kindWords (s .kind) ++ waysWords (s .ways))))
 unfolding stepLine
 step-pieces s = rw (others-numbers, kind-ways) (parts-then (s .made) (s .i) (s .j) (s .k) _)
-
-pub step-front : (s : Step) → length (partsWords (s .made) (s .i) (s .j) (s .k)) ≤ length (stepLine s)
-step-front s =
-    rw (step-pieces s) (omega (
-      arith,
-      length-append (partsWords (s .made) (s .i) (s .j) (s .k))
-          (ascii " joint" ++ (numbers (elements (s .joint)) ++ (kindWords (s .kind) ++ waysWords (s .ways)))),
-    ))
 
 pub slot-dead : (c a : ℕ) → a ≡ 0 → slotLine c a ≡ []
 unfolding slotLine

@@ -2,7 +2,7 @@
 use Prim.Native.Nat.{ℕ, zero, suc, _+_, _*_, _/_, _%_, _≤_, _<_}
 use native.Mathlib.Omega.{arith}
 use borrow.Author.Tests.{lt-ltb}
-use mathlib.Core.Path.{_≡_, refl}
+use mathlib.Core.Path.{_≡_, refl, ap, _∙_}
 use mathlib.Core.Bool.{Bool, true, false, cond}
 use mathlib.Core.List.{List, [], _∷_, _++_}
 use lib.Dec.{ltb}
@@ -58,6 +58,9 @@ pub set-length : (a : ℕ) → length (numbers (elements a)) ≤ 3 * length (ele
 unfolding elements
 set-length a = among-length 64 0 a (omega arith)
 
+pub set-most : (a : ℕ) → length (numbers (elements a)) ≤ 192
+set-most a = omega (arith, set-length a, elements-most a)
+
 -- ---- lines
 
 pub verdict-length : (v : Verdict) → length (verdictLine v) ≤ 14
@@ -99,41 +102,15 @@ slot-length c zero = rw (slot-dead c zero refl) (omega arith)
 slot-length c (suc a) =
     rw (slot-living c (suc a) (λ e. omega arith)) (simp length-append (omega (arith, decimal-length c, set-length (suc a))))
 
--- ---- any report
+-- ---- the report
 
-steps-long : (steps : List Step) → length (stepLines steps) ≤ 242 * length steps
-unfolding stepLines
-steps-long [] = omega arith
-steps-long (s ∷ steps) =
-    omega (arith, length-append (stepLine s) (stepLines steps), step-length s, ways-length (s .ways), elements-most (s .joint), steps-long steps)
-
-clusters-long : (c : ℕ) (slots : List ℕ) → length (clusterLines c slots) ≤ 210 * length slots
-unfolding clusterLines
-clusters-long c [] = omega arith
-clusters-long c (a ∷ slots) =
-    omega (arith, length-append (slotLine c a) (clusterLines (suc c) slots), slot-long a, clusters-long (suc c) slots)
-  where
-    slot-long : (a : ℕ) → length (slotLine c a) ≤ 210
-    slot-long zero = omega (arith, slot-length c zero)
-    slot-long (suc a) = omega (arith, slot-length c (suc a), elements-most (suc a))
-
-pub report-long : (n e : ℕ) (v : Verdict) (steps : List Step) (slots : List ℕ)
-    → length (report n e v steps slots) ≤ 43 + 242 * length steps + 210 * length slots
+pub report-length : (n e : ℕ) (v : Verdict) (steps : List Step) (slots : List ℕ) → length (report n e v steps slots)
+    ≡ length (verdictLine v) + (length (elementsLine n e) + (length (stepLines steps) + length (clusterLines 0 slots)))
 unfolding report
-report-long n e v steps slots =
-    let rest = stepLines steps ++ clusterLines 0 slots in
-    omega (
-      arith,
-      length-append (verdictLine v) (elementsLine n e ++ rest),
-      length-append (elementsLine n e) rest,
-      length-append (stepLines steps) (clusterLines 0 slots),
-      verdict-length v,
-      elements-length n e,
-      decimal-length n,
-      decimal-length e,
-      steps-long steps,
-      clusters-long 0 slots,
-    )
+report-length n e v steps slots =
+    length-append (verdictLine v) (elementsLine n e ++ (stepLines steps ++ clusterLines 0 slots))
+    ∙ ap (λ (k : ℕ). length (verdictLine v) + k) (length-append (elementsLine n e) (stepLines steps ++ clusterLines 0 slots)
+    ∙ ap (λ (k : ℕ). length (elementsLine n e) + k) (length-append (stepLines steps) (clusterLines 0 slots)))
 
 pub over-long : (n e first set : ℕ) → length (overReport n e first set) ≤ 249
 over-long n e first set =
