@@ -211,6 +211,18 @@ fn put_over_report(out: &mut [u8], n: usize, e: usize, first: usize, set: u64) -
     put_elements(out, a3, b"\nset", set)
 }
 
+// Lines into space that takes them whole or not at all.
+fn put_whole(out: &mut [u8], lines: &[u8]) -> Written
+    ensures answers { λ r. ⌜ r ≡ answer (now (lines .entry)) (now (out .entry)) ⌝ }
+    ensures leaves { λ r. ⌜ now (out .exit) ≡ after (now (lines .entry)) (now (out .entry)) ⌝ }
+{
+    if out.len() < lines.len() {
+        return Written::Refused(17);
+    }
+    put_text(out, 0, lines);
+    Written::Done(lines.len())
+}
+
 // The longest report of a sheet that is not over.
 const LONGEST: usize = 3786;
 
@@ -232,11 +244,7 @@ pub fn write_report(
 {
     let mut whole: [u8; LONGEST] = [0; LONGEST];
     let length = put_report(&mut whole, n, e, verdict, steps, count, slots, used);
-    if out.len() < length {
-        return Written::Refused(17);
-    }
-    put_text(out, 0, &whole[0..length]);
-    Written::Done(length)
+    put_whole(out, &whole[0..length])
 }
 
 // The longest report of an over sheet.
@@ -250,9 +258,5 @@ pub fn write_over_report(out: &mut [u8], n: usize, e: usize, first: usize, set: 
 {
     let mut lines: [u8; LONGEST_OVER] = [0; LONGEST_OVER];
     let end = put_over_report(&mut lines, n, e, first, set);
-    if out.len() < end {
-        return Written::Refused(17);
-    }
-    put_text(out, 0, &lines[0..end]);
-    Written::Done(end)
+    put_whole(out, &lines[0..end])
 }
