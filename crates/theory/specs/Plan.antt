@@ -55,8 +55,7 @@ planOf cs = plan (length cs) cs
 
 -- the three numbers in ascending order
 unfoldable pub ascending : Merge → Merge
-ascending m =
-    merge (min (min (m .i) (m .j)) (m .k)) (max (min (m .i) (m .j)) (min (max (m .i) (m .j)) (m .k))) (max (max (m .i) (m .j)) (m .k))
+ascending m = merge (min (min (m .i) (m .j)) (m .k)) (max (min (m .i) (m .j)) (min (max (m .i) (m .j)) (m .k))) (max (max (m .i) (m .j)) (m .k))
 
 -- m is r or comes before it, compared place by place
 unfoldable pub NotAfter : Merge → Merge → Type 0

@@ -44,8 +44,7 @@ module _ (cs near : List ℕ) (simple : Simple cs) (is-near : Near cs near) wher
 
   -- a neighbour by a constraint
   has-near : (x p m : ℕ) → x < 64 → Among m cs → at x m ≡ 1 → at p m ≡ 1 → p ≢ x → at p (getD near x 0) ≡ 1
-  has-near x p m l i xm pm ne =
-      is-near .says x p l .1 (subst (λ (z : ℕ). Among z cs) (pair-is m x p (two-ends m i) xm pm (Ne·symm ne)) i)
+  has-near x p m l i xm pm ne = is-near .says x p l .1 (subst (λ (z : ℕ). Among z cs) (pair-is m x p (two-ends m i) xm pm (Ne·symm ne)) i)
 
   -- an element x of a put back on what a is without it
   module _ (v a x : ℕ) (small : x < 64) (within : a ⊑ v) (xa : at x a ≡ 1) (two : ones (getD near x 0 ∩ v) ≤ 2) where
@@ -126,8 +125,7 @@ module _ (cs near : List ℕ) (simple : Simple cs) (is-near : Near cs near) wher
       in-mk z i j = ⊎-elim (λ r. r) (λ r. ⊎-elim (λ s. s) (λ s. absurd (differ (sym r ∙ s))) (f .only z j)) (e .only z i)
 
       one-of : (s p : ℕ) → at p s ≡ 1 → ((z : ℕ) → at z s ≡ 1 → z ≡ p) → ones s ≡ 1
-      one-of s p i h =
-          ap ones (ext s (2 ^ p) (λ z. digit z (ℕ-discrete z p) (bit (at z s) (at-le z s)))) ∙ size-pow p
+      one-of s p i h = ap ones (ext s (2 ^ p) (λ z. digit z (ℕ-discrete z p) (bit (at z s) (at-le z s)))) ∙ size-pow p
         where
           digit : (z : ℕ) → Dec (z ≡ p) → (at z s ≡ 0) ⊎ (at z s ≡ 1) → at z s ≡ at z (2 ^ p)
           digit z (yes r) c = subst (λ (w : ℕ). at w s ≡ at w (2 ^ p)) (sym r) (omega (arith, i, at-same p))
@@ -154,8 +152,7 @@ module _ (cs near : List ℕ) (simple : Simple cs) (is-near : Near cs near) wher
 
       union-is : union t ≡ a
       unfolding union
-      union-is =
-          sub-antisymm (b ∪ m ∪ k) a (or-least (or-least b-in-a (e .in-a)) (f .in-a)) (record { le = λ z. go z (ℕ-discrete z x) })
+      union-is = sub-antisymm (b ∪ m ∪ k) a (or-least (or-least b-in-a (e .in-a)) (f .in-a)) (record { le = λ z. go z (ℕ-discrete z x) })
         where
           go : (z : ℕ) → Dec (z ≡ x) → at z a ≤ at z (b ∪ m ∪ k)
           go z (yes r) =

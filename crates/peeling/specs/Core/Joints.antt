@@ -189,9 +189,7 @@ module _ (cs near : List ℕ) (simple : Simple cs) (is-near : Near cs near) (n :
     where
       go : (at x (v ∩ full n) ≡ 0) ⊎ (at x (v ∩ full n) ≡ 1) → (2 ≤ ones (v ∩ full n) → (H : Fam) → Same H (Parted cs (v ∩ full n)) → Merges v p H)
           → Merges (v - 2 ^ x) (less x p q two) G
-      go (inl z) ih =
-          let e = cut-out v x q z in
-          step-out v x p q two z G (ih (rw e at h) G (subst (λ (c : ℕ). Same G (Parted cs c)) e s))
+      go (inl z) ih = let e = cut-out v x q z in step-out v x p q two z G (ih (rw e at h) G (subst (λ (c : ℕ). Same G (Parted cs c)) e s))
       go (inr z) ih =
           let k : 2 ≤ ones ((v ∩ full n) - 2 ^ x) = rw (cut-in v x q z) at h in
           step-in v x p q two z h G s (ih (omega (arith, size-less x (v ∩ full n) z)))
@@ -209,9 +207,7 @@ module _ (cs near : List ℕ) (simple : Simple cs) (is-near : Near cs near) (n :
           → (ones (v ∩ full n) ≤ 2 → (w : ℕ) × (c : Peeled near w) × (ones (w ∩ full n) ≡ 2) × (corners p ≡ corners c))
           → (w : ℕ) × (c : Peeled near w) × (ones (w ∩ full n) ≡ 2) × (corners (less x p q two) ≡ corners c)
       go (yes k) i ih = (v - 2 ^ x, less x p q two, omega (arith, h, k), refl)
-      go (no k) (inl z) ih =
-          let r = ih (rw (cut-out v x q z) at h) in
-          (r .0, r .1, r .2, corners-few x p q two (corner-few v x l q z) ∙ r .3)
+      go (no k) (inl z) ih = let r = ih (rw (cut-out v x q z) at h) in (r .0, r .1, r .2, corners-few x p q two (corner-few v x l q z) ∙ r .3)
       go (no k) (inr z) ih =
           let s : ones (v ∩ full n) ≤ 2 = omega (arith, size-less x (v ∩ full n) z, ap ones (cut-in v x q z), k) in
           let r = ih s in (

@@ -246,6 +246,4 @@ loose-one n cs two most pairs below fine loose count p m =
     (λ j h. big cs fine g (slot s j) (j, refl, h))
   where
     covered : (c : ℕ) → Among c cs → (y : ℕ) × live (final cs p) y × (c ⊑ y)
-    covered c i =
-        let r = kept (threes cs p) (start cs) c i in
-        (r .0, as-end cs pairs fine p (m .valid) (r .0) .1 (r .1), r .2)
+    covered c i = let r = kept (threes cs p) (start cs) c i in (r .0, as-end cs pairs fine p (m .valid) (r .0) .1 (r .1), r .2)

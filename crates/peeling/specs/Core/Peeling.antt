@@ -58,22 +58,13 @@ module _ (cs near : List ℕ) (simple : Simple cs) (is-near : Near cs near) wher
   few-part : (c v x : ℕ) → Peeled near v → at x v ≡ 1 → ones (getD near x 0 ∩ v) ≤ 2 → Few (take c cs) v x 2
   few-part c v x p q two = record {
     few = λ a i e.
-        omega (
-          arith,
-          near-counts-take x a e cs near simple is-near (at-below 64 x v (peeled-small v p) q) c,
-          near-sub (getD near x 0) a v i,
-        );
+        omega (arith, near-counts-take x a e cs near simple is-near (at-below 64 x v (peeled-small v p) q) c, near-sub (getD near x 0) a v i);
   }
 
   -- what a set loses
-  peeled-cut : (u : ℕ) → Peeled near u → (c a : ℕ)
-      → carried (take c cs) a + 2 * ones (a ∩ u) ≤ carried (take c cs) (a ∩ u) + 2 * ones a
+  peeled-cut : (u : ℕ) → Peeled near u → (c a : ℕ) → carried (take c cs) a + 2 * ones (a ∩ u) ≤ carried (take c cs) (a ∩ u) + 2 * ones a
   peeled-cut u whole c a =
-      omega (
-        arith,
-        carried-cut 64 (take c cs) (below-take 64 c cs (simple .below)) a,
-        size-le a (a ∩ full 64) (and-l a (full 64)),
-      )
+      omega (arith, carried-cut 64 (take c cs) (below-take 64 c cs (simple .below)) a, size-le a (a ∩ full 64) (and-l a (full 64)))
   peeled-cut u (less {u = v} x p q two) c a = go (bit (at x a) (at-le x a)) (peeled-cut v p c a)
     where
       outside-x : at x a ≡ 0 → a ∩ (v - 2 ^ x) ≡ a ∩ v
@@ -90,16 +81,10 @@ module _ (cs near : List ℕ) (simple : Simple cs) (is-near : Near cs near) wher
       go (inl z) ih = subst (λ (i : ℕ). carried (take c cs) a + 2 * ones i ≤ carried (take c cs) i + 2 * ones a) (sym (outside-x z)) ih
       go (inr z) ih =
           subst (λ (i : ℕ). carried (take c cs) a + 2 * ones i ≤ carried (take c cs) i + 2 * ones a) (sym (inside-x z))
-          (omega (
-            arith,
-            ih,
-            size-less x (a ∩ v) (there z),
-            few-part c v x p q two .few (a ∩ v) (and-r a v) (there z),
-          ))
+          (omega (arith, ih, size-less x (a ∩ v) (there z), few-part c v x p q two .few (a ∩ v) (and-r a v) (there z)))
 
   -- the sets within what is left tell whether the list is over
-  peeled-fine : (u : ℕ) → Peeled near u → (c : ℕ)
-      → ((a : ℕ) → a ⊑ u → 2 ≤ ones a → carried (take c cs) a + 3 ≤ 2 * ones a) → NotOver (take c cs)
+  peeled-fine : (u : ℕ) → Peeled near u → (c : ℕ) → ((a : ℕ) → a ⊑ u → 2 ≤ ones a → carried (take c cs) a + 3 ≤ 2 * ones a) → NotOver (take c cs)
   unfolding NotOverIn
   peeled-fine u whole c f =
       not-over-in 64 (take c cs) (pairs-take c cs (simple .pairs)) (below-take 64 c cs (simple .below)) (λ a la b. f a (below-full 64 a la) b)
@@ -113,18 +98,11 @@ module _ (cs near : List ℕ) (simple : Simple cs) (is-near : Near cs near) wher
           within = sub-less x v (a - 2 ^ x) q (sub-trans (less-sub x a z) i) (less-same x a z)
 
           pick : Dec (3 ≤ ones a) → carried (take c cs) a + 3 ≤ 2 * ones a
-          pick (yes k) =
-              let s = size-less x a z in
-              omega (
-                arith,
-                f (a - 2 ^ x) within (omega arith),
-                few-part c v x p q two .few a i z,
-              )
+          pick (yes k) = let s = size-less x a z in omega (arith, f (a - 2 ^ x) within (omega arith), few-part c v x p q two .few a i z)
           pick (no k) = omega (arith, carried-one (take c cs) (simple-take c cs simple) a (omega arith))
 
   -- a set that does not lie in what is left has an element with at most two constraints in it
-  peeled-loose : (u : ℕ) → Peeled near u → (a : ℕ) → a < 2 ^ 64
-      → (a ⊑ u) ⊎ ((x : ℕ) × (at x a ≡ 1) × (carried cs a ≤ carried cs (a - 2 ^ x) + 2))
+  peeled-loose : (u : ℕ) → Peeled near u → (a : ℕ) → a < 2 ^ 64 → (a ⊑ u) ⊎ ((x : ℕ) × (at x a ≡ 1) × (carried cs a ≤ carried cs (a - 2 ^ x) + 2))
   peeled-loose u whole a h = inl (below-full 64 a h)
   peeled-loose u (less {u = v} x p q two) a h = go (peeled-loose v p a h) (bit (at x a) (at-le x a))
     where

@@ -28,9 +28,7 @@ loop-again c =
     )
 
 returns : tie.Need-returns Inv-loop μ-loop
-returns c =
-    let l = c .before .loop in
-    subst (λ (n : ℕ). FreeBelow n (l .own)) (omega arith) (l .inv .1)
+returns c = let l = c .before .loop in subst (λ (n : ℕ). FreeBelow n (l .own)) (omega arith) (l .inv .1)
 
 pub all-free-spec : {M : Type 1} → statement M
 all-free-spec =

@@ -61,7 +61,4 @@ returns-2 c =
     (record { again = l .inv .0; most = inl (omega (arith, c .before .free-ends .ensures, c .if1 .left)) }, l .inv .1)
 
 pub gather-spec : {M : Type 1} → statement M
-gather-spec =
-    tie.close
-    (tie.spec Inv-loop μ-loop loop-holds free-ends-requires seek-requires returns release-requires loop-less loop-again
-    returns-2)
+gather-spec = tie.close (tie.spec Inv-loop μ-loop loop-holds free-ends-requires seek-requires returns release-requires loop-less loop-again returns-2)

@@ -20,10 +20,7 @@ loop-holds : tie.Need-loop-holds Inv-loop μ-loop
 loop-holds c = walk-start (c .pre)
 
 element-copy-out-wide : tie.Need-element-copy-out-wide Inv-loop μ-loop
-element-copy-out-wide c =
-    let l = c .before .loop in
-    let s = c .before .before in
-    omega (arith, l .inv .inside, s .pre .room)
+element-copy-out-wide c = let l = c .before .loop in let s = c .before .before in omega (arith, l .inv .inside, s .pre .room)
 
 element-copy-out-bx : tie.Need-element-copy-out-bx Inv-loop μ-loop
 element-copy-out-bx c =

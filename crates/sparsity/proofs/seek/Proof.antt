@@ -117,9 +117,7 @@ loop-again c =
     )
 
 returns-2 : tie.Need-returns-2 Inv-loop μ-loop
-returns-2 c =
-    let l = c .before .before .loop in
-    found-all (l .p) (l .inv .0) (l .inv .1) (l .inv .2) (c .if1 .left)
+returns-2 c = let l = c .before .before .loop in found-all (l .p) (l .inv .0) (l .inv .1) (l .inv .2) (c .if1 .left)
 
 pub seek-spec : {M : Type 1} → statement M
 seek-spec =

@@ -39,5 +39,4 @@ returns-2 c =
     (sym (b .ensures)) (fresh (misses-at (a .y) (a .f .seen) (b .result) (b .ensures) (c .before .if1 .left)))
 
 pub visit-spec : {M : Type 1} → statement M
-visit-spec =
-    tie.close (tie.spec (λ c κs. search needs) returns element-write-queue element-write-from add-t14 returns-2)
+visit-spec = tie.close (tie.spec (λ c κs. search needs) returns element-write-queue element-write-from add-t14 returns-2)

@@ -150,8 +150,7 @@ module _ {cs : List ℕ} {u : ℕ} (simple : Simple cs) (core : Core cs u) (c : 
 
         two : (x : ℕ) → at x (twice ∪ (once ∩ m)) ≡ 0 → (at x m ≡ 0) ⊎ (at x m ≡ 1) → Few new u x 1
         two x z (inl q) = few-other old new m more u x 1 (lone x (omega (arith, at-or x twice (once ∩ m)))) q
-        two x z (inr q) =
-            few-more old new m more u x 0 (never x (omega (arith, at-or x twice (once ∩ m), at-and x once m, at-le x once)))
+        two x z (inr q) = few-more old new m more u x 0 (never x (omega (arith, at-or x twice (once ∩ m), at-and x once m, at-le x once)))
 
   -- ---- whether c leaves the list not over
 
@@ -187,9 +186,7 @@ module _ {cs : List ℕ} {u : ℕ} (simple : Simple cs) (core : Core cs u) (c : 
               there = omega (arith, i .le x0, at-le x0 x)
 
               pick : Dec (3 ≤ ones x) → carried new x + 3 ≤ 2 * ones x
-              pick (yes k) =
-                  let s = size-less x0 x there in
-                  omega (arith, more x, few .few x h there, right (x - 2 ^ x0) (omega arith))
+              pick (yes k) = let s = size-less x0 x there in omega (arith, more x, few .few x h there, right (x - 2 ^ x0) (omega arith))
               pick (no k) = omega (arith, carried-one new (simple-take (suc c) cs simple) x (omega arith))
 
       pub lone-free : 0 < free own x0
@@ -233,12 +230,10 @@ module _ {cs : List ℕ} {u : ℕ} (simple : Simple cs) (core : Core cs u) (c : 
           within-smallest old m r reached-tight (λ y t. sub-trans (least (y ∩ u) (first-in y t) (second-in y t) (closed-in y t)) (and-l y u))
         where
           first-in : (y : ℕ) → Tight old m y → at a (y ∩ u) ≡ 1
-          first-in y t =
-              omega (arith, at-and a y u, pair-ends a b y (t .holds) .0, pair-ends a b u inside-u .0)
+          first-in y t = omega (arith, at-and a y u, pair-ends a b y (t .holds) .0, pair-ends a b u inside-u .0)
 
           second-in : (y : ℕ) → Tight old m y → at b (y ∩ u) ≡ 1
-          second-in y t =
-              omega (arith, at-and b y u, pair-ends a b y (t .holds) .1, pair-ends a b u inside-u .1)
+          second-in y t = omega (arith, at-and b y u, pair-ends a b y (t .holds) .1, pair-ends a b u inside-u .1)
 
           closed-in : (y : ℕ) → Tight old m y → Closed own (y ∩ u)
           closed-in y t =
@@ -323,8 +318,7 @@ module _ {cs : List ℕ} {u : ℕ} (simple : Simple cs) (core : Core cs u) (c : 
 
     -- the constraint is placed
     pub kept-placed : {t new : List (List ℕ)} → Ready cs u c a b t → Placed t a b new → Kept cs u (suc c) new (once ∪ m) (twice ∪ (once ∩ m))
-    kept-placed {t} {new} r p =
-        kept-next t (r .table) (r .closed) (r .balanced) (r .right) new p inside-u once twice (k .never) (k .lone)
+    kept-placed {t} {new} r p = kept-next t (r .table) (r .closed) (r .balanced) (r .right) new p inside-u once twice (k .never) (k .lone)
 
 -- ---- constraint c of those that stand in an array, as the code has it, with two elements that the code has found in it
 

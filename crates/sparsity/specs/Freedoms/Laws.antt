@@ -70,8 +70,7 @@ module _ (own : List (List ℕ)) (a : ℕ) (la : a < 2 ^ 64) where
   pub frees-only : (x y : ℕ) → x ≢ y → at x a ≡ 1 → at y a ≡ 1 → ((z : ℕ) → at z a ≡ 1 → z ≢ x → z ≢ y → free own z ≡ 0)
       → frees own a ≡ free own x + free own y
   unfolding frees
-  frees-only x y n ex ey none =
-      over-only a (free own) x y (at-below 64 x a la ex) (at-below 64 y a la ey) n ex ey (λ z l e p q. none z e p q)
+  frees-only x y n ex ey none = over-only a (free own) x y (at-below 64 x a la ex) (at-below 64 y a la ey) n ex ey (λ z l e p q. none z e p q)
 
 -- ---- the table at the start
 
@@ -102,10 +101,8 @@ free-next x own lx f = record {
     pair-of (suc (suc s)) h = absurd (omega arith)
 
     own-free : (y s : ℕ) → y < x + 1 → s < 2 → Dec (y ≡ x) → entry (set own x (x ∷ x ∷ [])) y s ≡ y
-    own-free y s l h (yes e) =
-        subst (λ (i : ℕ). entry (set own x (x ∷ x ∷ [])) i s ≡ i) (sym e) (ap (λ (r : List ℕ). getD r s 0) row ∙ pair-of s h)
-    own-free y s l h (no n) =
-        ap (λ (r : List ℕ). getD r s 0) (getD-set-other own x y (x ∷ x ∷ []) [] n) ∙ f .own-free y s (omega arith) h
+    own-free y s l h (yes e) = subst (λ (i : ℕ). entry (set own x (x ∷ x ∷ [])) i s ≡ i) (sym e) (ap (λ (r : List ℕ). getD r s 0) row ∙ pair-of s h)
+    own-free y s l h (no n) = ap (λ (r : List ℕ). getD r s 0) (getD-set-other own x y (x ∷ x ∷ []) [] n) ∙ f .own-free y s (omega arith) h
 
 module _ (own : List (List ℕ)) (f : FreeBelow 64 own) where
   pub free-table : Table own

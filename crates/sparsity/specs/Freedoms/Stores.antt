@@ -46,15 +46,10 @@ module _ (own : List (List ℕ)) (t : Table own) (x s y : ℕ) (lx : x < 64) (ls
       go (yes p) (yes q) =
           subst (λ (i : ℕ). P i r (entry (stored own x s y) i r)) (sym p)
           (subst (λ (i : ℕ). P x i (entry (stored own x s y) x i)) (sym q) (subst (P x s) (sym entry-same) new))
-      go (yes p) (no n) =
-          subst (λ (i : ℕ). P i r (entry (stored own x s y) i r)) (sym p) (subst (P x r) (sym (entry-slot r n)) (old x r))
+      go (yes p) (no n) = subst (λ (i : ℕ). P i r (entry (stored own x s y) i r)) (sym p) (subst (P x r) (sym (entry-slot r n)) (old x r))
 
   pub stored-table : y < 64 → Table (stored own x s y)
-  stored-table ly = record {
-    rows = length-set own x _ ∙ t .rows;
-    two = two;
-    low = cases (λ z r e. z < 64 → r < 2 → e < 64) (λ m k. ly) (t .low);
-  }
+  stored-table ly = record { rows = length-set own x _ ∙ t .rows; two = two; low = cases (λ z r e. z < 64 → r < 2 → e < 64) (λ m k. ly) (t .low) }
     where
       two : (z : ℕ) → z < 64 → length (getD (stored own x s y) z []) ≡ 2
       two z l = go (ℕ-discrete z x)
@@ -67,9 +62,7 @@ module _ (own : List (List ℕ)) (t : Table own) (x s y : ℕ) (lx : x < 64) (ls
 
   -- a set that is closed stays so
   pub stored-closed : (u : ℕ) → (at x u ≡ 1 → at y u ≡ 1) → Closed own u → Closed (stored own x s y) u
-  stored-closed u hy c = record {
-    stays = cases (λ z r i. at z u ≡ 1 → r < 2 → at i u ≡ 1) (λ e l. hy e) (c .stays);
-  }
+  stored-closed u hy c = record { stays = cases (λ z r i. at z u ≡ 1 → r < 2 → at i u ≡ 1) (λ e l. hy e) (c .stays) }
 
   -- a sum over the entries of x
   both : (h : ℕ → ℕ) → h (entry (stored own x s y) x 0) + h (entry (stored own x s y) x 1) + h (entry own x s)
@@ -243,14 +236,7 @@ module _ (own : List (List ℕ)) (t : Table own) (x y : ℕ) (lx : x < 64) (n : 
     -- x has one more free entry, and another element than x and y as many as before
     pub turned-gains : free new x ≡ free own x + 1
     turned-gains =
-        omega (
-          arith,
-          free-row mid y r x x n,
-          free-stored own t x s x lx ls,
-          ap (λ (i : ℕ). same i x) ex,
-          same-ne y x (λ q. n (sym q)),
-          same-refl x,
-        )
+        omega (arith, free-row mid y r x x n, free-stored own t x s x lx ls, ap (λ (i : ℕ). same i x) ex, same-ne y x (λ q. n (sym q)), same-refl x)
 
     pub turned-other : (z i : ℕ) → z ≢ x → z ≢ y → entry new z i ≡ entry own z i
     turned-other z i p q = entry-row mid y r x z i q ∙ entry-row own x s x z i p

@@ -97,8 +97,7 @@ module _ (a : ℕ) (f g : ℕ → ℕ) where
 
 pub over-two : (a : ℕ) (f : ℕ → ℕ) (x y : ℕ) → x < 64 → y < 64 → x ≢ y → at x a ≡ 1 → at y a ≡ 1 → f x + f y ≤ over a f
 unfolding over
-over-two a f x y lx ly n ex ey =
-    omega (arith, sum-two 64 (λ x. at x a * f x) x y lx ly n, one-times (at x a) (f x) ex, one-times (at y a) (f y) ey)
+over-two a f x y lx ly n ex ey = omega (arith, sum-two 64 (λ x. at x a * f x) x y lx ly n, one-times (at x a) (f x) ex, one-times (at y a) (f y) ey)
 
 -- two terms, and no other
 pub over-only : (a : ℕ) (f : ℕ → ℕ) (x y : ℕ) → x < 64 → y < 64 → x ≢ y → at x a ≡ 1 → at y a ≡ 1

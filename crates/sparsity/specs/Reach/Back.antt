@@ -88,9 +88,7 @@ module _ {own : List (List ℕ)} {queue from : List ℕ} {p : ℕ} (way : Way ow
         (ap (λ (z : ℕ). entry t z (o .0)) ex ∙ w .kept j (o .0) j-less ∙ ap (λ (k : ℕ). entry own (item queue k) (o .0)) ej ∙ o .2 ∙ sym ey)
 
     opens : (r < 2) × (entry t y r ≡ y)
-    opens =
-        let o = free-slot t y (subst (λ (z : ℕ). 0 < free t z) (sym ey) (w .open-at)) in
-        slot t y y r er (o .0) (o .1) (o .2)
+    opens = let o = free-slot t y (subst (λ (z : ℕ). 0 < free t z) (sym ey) (w .open-at)) in slot t y y r er (o .0) (o .1) (o .2)
 
     abbrev new : List (List ℕ)
     new = stored (stored t x s x) y r x
@@ -134,9 +132,7 @@ module _ {own : List (List ℕ)} {queue from : List ℕ} {p : ℕ} (way : Way ow
     }
       where
         start : (m : ℕ) → m < 2 → m ≢ j → free new (item queue m) ≡ free own (item queue m)
-        start m l n =
-            free-same own new (item queue m)
-            (λ k. other m k (omega arith) n (λ e. omega arith) ∙ w .kept m k (omega arith))
+        start m l n = free-same own new (item queue m) (λ k. other m k (omega arith) n (λ e. omega arith) ∙ w .kept m k (omega arith))
 
         here : free new (item queue j) ≡ free own (item queue j) + 1
         here = gains ∙ ap (λ (z : ℕ). z + 1) (free-same own t (item queue j) (λ k. w .kept j k j-less))
@@ -175,18 +171,15 @@ again-trans g h = record {
 
 -- the first two are a and b
 pub gained-ends : {own new : List (List ℕ)} {a b x y : ℕ} → x ≡ a → y ≡ b → Gained own x y new → Gained own a b new
-gained-ends {own} {new} {a} {b} {x} {y} ex ey g =
-    subst (λ (z : ℕ). Gained own a z new) ey (subst (λ (z : ℕ). Gained own z y new) ex g)
+gained-ends {own} {new} {a} {b} {x} {y} ex ey g = subst (λ (z : ℕ). Gained own a z new) ey (subst (λ (z : ℕ). Gained own z y new) ex g)
 
 -- ---- placing
 
 pub placed-first : (own : List (List ℕ)) {a i : ℕ} (b s : ℕ) → i ≡ a → s < 2 → entry own i s ≡ a → Placed own a b (stored own i s b)
-placed-first own {a} {i} b s ei l e =
-    record { from = i; to = b; slot = s; ends = inl (ei, refl); two = l; was-free = e ∙ sym ei; stores = refl }
+placed-first own {a} {i} b s ei l e = record { from = i; to = b; slot = s; ends = inl (ei, refl); two = l; was-free = e ∙ sym ei; stores = refl }
 
 pub placed-second : (own : List (List ℕ)) (a : ℕ) {b j : ℕ} (s : ℕ) → j ≡ b → s < 2 → entry own j s ≡ b → Placed own a b (stored own j s a)
-placed-second own a {b} {j} s ej l e =
-    record { from = j; to = a; slot = s; ends = inr (ej, refl); two = l; was-free = e ∙ sym ej; stores = refl }
+placed-second own a {b} {j} s ej l e = record { from = j; to = a; slot = s; ends = inr (ej, refl); two = l; was-free = e ∙ sym ej; stores = refl }
 
 -- the last of four entries, where the others are in use
 pub last-free : (own : List (List ℕ)) {a b i j : ℕ} → 0 < free own a + free own b → i ≡ a → j ≡ b

@@ -167,12 +167,7 @@ module _ {own : List (List ℕ)} {a b : ℕ} {queue from : List ℕ} {seen count
       → ((2 ≤ p → h ≡ same (entry own i 0) (item queue p) + same (entry own i 1) (item queue p)) × (p < 2 → h ≡ 0))
       → Found own a b queue from seen count p
   unfolding free
-  found-here sc h n o = record {
-    reached = r;
-    scanned = sc;
-    below = omega arith;
-    open-at = λ l. (far, positive (o .0 far));
-  }
+  found-here sc h n o = record { reached = r; scanned = sc; below = omega arith; open-at = λ l. (far, positive (o .0 far)) }
     where
       far : 2 ≤ p
       far = go (decLt p 2)
@@ -183,8 +178,7 @@ module _ {own : List (List ℕ)} {a b : ℕ} {queue from : List ℕ} {seen count
 
       positive : h ≡ same (entry own i 0) (item queue p) + same (entry own i 1) (item queue p)
           → 0 < same (entry own (item queue p) 0) (item queue p) + same (entry own (item queue p) 1) (item queue p)
-      positive e =
-          omega (arith, n, e, ap (λ (y : ℕ). same y (item queue p)) (entry-is 0), ap (λ (y : ℕ). same y (item queue p)) (entry-is 1))
+      positive e = omega (arith, n, e, ap (λ (y : ℕ). same y (item queue p)) (entry-is 0), ap (λ (y : ℕ). same y (item queue p)) (entry-is 1))
 
 -- every place is scanned
 pub found-all : {own : List (List ℕ)} {a b : ℕ} {queue from : List ℕ} {seen count : ℕ} (p : ℕ) → Reached own a b queue from seen count
@@ -260,14 +254,7 @@ module _ {own : List (List ℕ)} {a b : ℕ} {queue from : List ℕ} {seen count
           pick (no k) = ap (free own) (sym (o .2)) ∙ f .scanned .none (o .0) (omega arith) (lt-of-lt-of-le (o .1) done)
 
   pub found-stuck : Stuck own a b
-  found-stuck = record {
-    set = seen;
-    small = r .small;
-    first = found-first;
-    second = found-second;
-    closed = found-closed;
-    none = found-none;
-  }
+  found-stuck = record { set = seen; small = r .small; first = found-first; second = found-second; closed = found-closed; none = found-none }
 
 -- where no more can be had, the search finds none
 pub stuck-none : {own : List (List ℕ)} {a b : ℕ} {queue from : List ℕ} {seen count place : ℕ} → Found own a b queue from seen count place

@@ -24,8 +24,7 @@ visit-size seen y e = ap ones (or-comm seen (2 ^ y)) ∙ omega (arith, size-add 
 
 pub visit-room : (seen count y : ℕ) → seen < 2 ^ 64 → y < 64 → ones seen ≡ count → at y seen ≡ 0 → count < 64
 unfolding _∪_
-visit-room seen count y l ly e z =
-    omega (arith, visit-size seen y z, ones-le 64 (seen ∪ 2 ^ y) (or-lt 64 seen (2 ^ y) l (pow-lt ly)))
+visit-room seen count y l ly e z = omega (arith, visit-size seen y z, ones-le 64 (seen ∪ 2 ^ y) (or-lt 64 seen (2 ^ y) l (pow-lt ly)))
 
 pub longer-refl : (queue : List ℕ) (seen count : ℕ) → Longer queue seen count queue seen count
 longer-refl queue seen count = record { more = le-refl count; places = λ i l. refl; marks = λ x e. e }
@@ -108,9 +107,7 @@ module _ (own : List (List ℕ)) (t : Table own) (a b : ℕ) (queue from : List 
 
         queued : (x : ℕ) → at x v ≡ 1 → Dec (x ≡ y) → (i : ℕ) × (i < count + 1) × (item q i ≡ x)
         queued x e (yes m) = (count, omega arith, q-new ∙ sym m)
-        queued x e (no n) =
-            let o = r .queued x (sym (v-other x n) ∙ e) in
-            (o .0, omega (arith, o .1), q-old (o .0) (o .1) ∙ o .2)
+        queued x e (no n) = let o = r .queued x (sym (v-other x n) ∙ e) in (o .0, omega (arith, o .1), q-old (o .0) (o .1) ∙ o .2)
 
   pub visit-reached : (q f : List ℕ) (v n : ℕ) → Visit queue from seen count y p q f v n → Reached own a b q f v n
   visit-reached q f v n (known e) = r

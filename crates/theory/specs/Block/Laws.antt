@@ -29,8 +29,7 @@ module _ {A : Type 0} (k : ℕ) (d : A) where
 
   -- a store inside the list
   pub set-block : (l : List A) (i : ℕ) (v : A) → i < length l → set (block k d l) i v ≡ block k d (set l i v)
-  set-block l i v h =
-      set-append-left l (replicate (k - length l) d) i v h ∙ ap (λ (n : ℕ). set l i v ++ replicate (k - n) d) (sym (length-set l i v))
+  set-block l i v h = set-append-left l (replicate (k - length l) d) i v h ∙ ap (λ (n : ℕ). set l i v ++ replicate (k - n) d) (sym (length-set l i v))
 
   -- and one at its end
   pub store-block : (l : List A) (n : ℕ) (v : A) → n ≡ length l → n < k → set (block k d l) n v ≡ block k d (l ++ (v ∷ []))

@@ -174,10 +174,7 @@ perm-map f (then p q) = then (perm-map f p) (perm-map f q)
 pub among-perm : {l k : List ℕ} → Perm l k → (x : ℕ) → Among x l ↔ Among x k
 among-perm same x = Iff·rfl
 among-perm (skip y p) x = (⊎-elim inl (λ h. inr (among-perm p x .0 h)), ⊎-elim inl (λ h. inr (among-perm p x .1 h)))
-among-perm (swap y z) x = (
-  ⊎-elim (λ e. inr (inl e)) (⊎-elim inl (λ h. inr (inr h))),
-  ⊎-elim (λ e. inr (inl e)) (⊎-elim inl (λ h. inr (inr h))),
-)
+among-perm (swap y z) x = (⊎-elim (λ e. inr (inl e)) (⊎-elim inl (λ h. inr (inr h))), ⊎-elim (λ e. inr (inl e)) (⊎-elim inl (λ h. inr (inr h))))
 among-perm (then p q) x = Iff·trans (among-perm p x) (among-perm q x)
 
 pub carried-perm : {l k : List ℕ} → Perm l k → (x : ℕ) → carried l x ≡ carried k x
@@ -227,15 +224,11 @@ at-pair x u v e = go (ℕ-discrete x u) (ℕ-discrete x v)
 
 pub at-end : (u v : ℕ) → (at u (pair u v) ≡ 1) × (at v (pair u v) ≡ 1)
 unfolding pair
-at-end u v = (
-  omega (arith, at-or u (2 ^ u) (2 ^ v), at-same u, at-le u (2 ^ v)),
-  omega (arith, at-or v (2 ^ u) (2 ^ v), at-same v, at-le v (2 ^ u)),
-)
+at-end u v = (omega (arith, at-or u (2 ^ u) (2 ^ v), at-same u, at-le u (2 ^ v)), omega (arith, at-or v (2 ^ u) (2 ^ v), at-same v, at-le v (2 ^ u)))
 
 -- two pairs are the same set only if they are the same pair
 pub pair-one : (u v u′ v′ : ℕ) → u < v → u′ < v′ → pair u v ≡ pair u′ v′ → (u ≡ u′) × (v ≡ v′)
-pair-one u v u′ v′ h h′ e =
-    go (at-pair u u′ v′ (ap (at u) (sym e) ∙ at-end u v .0)) (at-pair v u′ v′ (ap (at v) (sym e) ∙ at-end u v .1))
+pair-one u v u′ v′ h h′ e = go (at-pair u u′ v′ (ap (at u) (sym e) ∙ at-end u v .0)) (at-pair v u′ v′ (ap (at v) (sym e) ∙ at-end u v .1))
   where
     go : (u ≡ u′) ⊎ (u ≡ v′) → (v ≡ u′) ⊎ (v ≡ v′) → (u ≡ u′) × (v ≡ v′)
     go (inl p) (inr q) = (p, q)

@@ -58,8 +58,7 @@ module _ (s : ℕ) where
 
   part-run : (p : List Merge) (l : List ℕ) → Valid l p → total part l ≤ total part (final l p)
   part-run [] l v = omega arith
-  part-run (m ∷ p) l v =
-      omega (arith, total-put part part-zero l m (v .0), part-merge (three l m) (v .0 .open3), part-run p (put l m) (v .1))
+  part-run (m ∷ p) l v = omega (arith, total-put part part-zero l m (v .0), part-merge (three l m) (v .0 .open3), part-run p (put l m) (v .1))
 
   part-start : (cs : List ℕ) → Pairs cs → carried cs s ≤ total part cs
   unfolding carried total Pairs

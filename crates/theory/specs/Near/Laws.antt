@@ -60,11 +60,7 @@ simple-more cs a b s h l n = record {
 }
 
 pub simple-take : (k : ℕ) (cs : List ℕ) → Simple cs → Simple (take k cs)
-simple-take k cs s = record {
-  pairs = pairs-take k cs (s .pairs);
-  below = below-take 64 k cs (s .below);
-  once = once-take k cs (s .once);
-}
+simple-take k cs s = record { pairs = pairs-take k cs (s .pairs); below = below-take 64 k cs (s .below); once = once-take k cs (s .once) }
 
 -- ---- constraints that stand in an array
 
@@ -97,10 +93,7 @@ unfolding pair
 pair-apart x y two q = omega (arith, two, ap (λ (z : ℕ). ones (pair x z)) (sym q), ap ones (sub-or (2 ^ x) (2 ^ x) (sub-refl (2 ^ x))), size-pow x)
 
 pub pair-other : (x y z : ℕ) → x ≢ z → pair x y ≡ pair x z → y ≡ z
-pair-other x y z n e = ⊎-elim
-    (λ (p : z ≡ x). absurd (n (sym p)))
-    (λ (p : z ≡ y). sym p)
-    (at-pair z x y (ap (at z) e ∙ at-end x z .1))
+pair-other x y z n e = ⊎-elim (λ (p : z ≡ x). absurd (n (sym p))) (λ (p : z ≡ y). sym p) (at-pair z x y (ap (at z) e ∙ at-end x z .1))
 
 -- ---- both ends noted
 

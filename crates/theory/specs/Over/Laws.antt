@@ -31,8 +31,7 @@ carried-append (m ∷ cs) ds x = omega (arith, carried-append cs ds x)
 
 pub carried-next : (cs : List ℕ) (k x : ℕ) → k < length cs → carried (take (suc k) cs) x ≡ carried (take k cs) x + has (getD cs k 0) x
 unfolding carried
-carried-next cs k x l =
-    ap (λ (l : List ℕ). carried l x) (take-suc cs k 0 l) ∙ omega (arith, carried-append (take k cs) (getD cs k 0 ∷ []) x)
+carried-next cs k x l = ap (λ (l : List ℕ). carried l x) (take-suc cs k 0 l) ∙ omega (arith, carried-append (take k cs) (getD cs k 0 ∷ []) x)
 
 pub carried-take-le : (cs : List ℕ) (j k x : ℕ) → j ≤ k → carried (take j cs) x ≤ carried (take k cs) x
 unfolding carried
@@ -68,8 +67,7 @@ over-not-fine o f = omega (arith, o .more, f (o .set) (o .two))
 
 -- a longer list stays over
 pub over-longer : (cs : List ℕ) (j k : ℕ) → j ≤ k → IsOver (take j cs) → IsOver (take k cs)
-over-longer cs j k h o =
-    record { set = o .set; two = o .two; more = omega (arith, o .more, carried-take-le cs j k (o .set) h) }
+over-longer cs j k h o = record { set = o .set; two = o .two; more = omega (arith, o .more, carried-take-le cs j k (o .set) h) }
 
 pub fine-shorter : (cs : List ℕ) (j k : ℕ) → j ≤ k → NotOver (take k cs) → NotOver (take j cs)
 unfolding NotOver
@@ -77,11 +75,7 @@ fine-shorter cs j k h f x b = omega (arith, f x b, carried-take-le cs j k x h)
 
 -- more than 2n-3 constraints are over, and fewer are listed where none is
 pub more-over : (n : ℕ) (cs : List ℕ) → 2 ≤ n → Below n cs → 2 * n < length cs + 3 → IsOver cs
-more-over n cs two below more = record {
-  set = full n;
-  two = omega (arith, size-full n);
-  more = omega (arith, size-full n, carried-full n cs below);
-}
+more-over n cs two below more = record { set = full n; two = omega (arith, size-full n); more = omega (arith, size-full n, carried-full n cs below) }
 
 pub fine-most : (n : ℕ) (cs : List ℕ) → 2 ≤ n → Below n cs → NotOver cs → length cs + 3 ≤ 2 * n
 unfolding NotOver
@@ -175,8 +169,7 @@ unfolding anyBelow
 any-none zero t e x l h = omega arith
 any-none (suc k) t e x l h = go (t k) refl e (any-none k t)
   where
-    go : (b : Bool) → t k ≡ b → elim b [ true ↦ true | false ↦ anyBelow k t ] ≡ false
-        → (anyBelow k t ≡ false → (x : ℕ) → x < k → T (t x) → ⊥) → ⊥
+    go : (b : Bool) → t k ≡ b → elim b [ true ↦ true | false ↦ anyBelow k t ] ≡ false → (anyBelow k t ≡ false → (x : ℕ) → x < k → T (t x) → ⊥) → ⊥
     go true q e ih = subst T e tt
     go false q e ih = pick (ℕ-discrete x k)
       where
@@ -249,8 +242,7 @@ fewest-of t z (suc k) = go (t k) refl (fewestBelow k t) (fewest-of t z k)
     pick q s p f true e =
         let l = ltb→lt (ones k) (ones (suc s)) (subst T (sym e) tt) in
         alone k q (split {P = λ (x : ℕ). T (t x) → ones k ≤ ones x} (λ h. le-refl (ones k)) (λ x m h. omega (arith, l, f x m h)))
-    pick q s p f false e =
-        some s p (split {P = λ (x : ℕ). T (t x) → ones (suc s) ≤ ones x} (λ h. low (decLt (ones k) (ones (suc s)))) f)
+    pick q s p f false e = some s p (split {P = λ (x : ℕ). T (t x) → ones (suc s) ≤ ones x} (λ h. low (decLt (ones k) (ones (suc s)))) f)
       where
         low : Dec (ones k < ones (suc s)) → ones (suc s) ≤ ones k
         low (yes l) = absurd (subst T e (lt→ltb (ones k) (ones (suc s)) l))

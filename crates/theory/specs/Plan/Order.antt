@@ -109,16 +109,14 @@ or-swap a b c = ext (a ∪ b ∪ c) (a ∪ c ∪ b) (λ x. simp at-or (omega ari
 
 pub put-ab : (s : List ℕ) (i j k : ℕ) → put s (merge i j k) ≡ put s (merge j i k)
 unfolding put cleared union
-put-ab s i j k =
-    ap₂ (λ (l : List ℕ) (u : ℕ). set l k 0 ++ (u ∷ [])) (set-swap s i j) (ap (λ (u : ℕ). u ∪ slot s k) (or-comm (slot s i) (slot s j)))
+put-ab s i j k = ap₂ (λ (l : List ℕ) (u : ℕ). set l k 0 ++ (u ∷ [])) (set-swap s i j) (ap (λ (u : ℕ). u ∪ slot s k) (or-comm (slot s i) (slot s j)))
 
 pub put-bc : (s : List ℕ) (i j k : ℕ) → put s (merge i j k) ≡ put s (merge i k j)
 unfolding put cleared union
 put-bc s i j k = ap₂ (λ (l : List ℕ) (u : ℕ). l ++ (u ∷ [])) (set-swap (set s i 0) j k) (or-swap (slot s i) (slot s j) (slot s k))
 
 pub put-ascending : (s : List ℕ) (m : Merge) → put s (ascending m) ≡ put s m
-put-ascending s m =
-    by-exchange (λ (r : Merge). put s r ≡ put s m) (λ i j k e. put-ab s j i k ∙ e) (λ i j k e. put-bc s i k j ∙ e) m refl
+put-ascending s m = by-exchange (λ (r : Merge). put s r ≡ put s m) (λ i j k e. put-ab s j i k ∙ e) (λ i j k e. put-bc s i k j ∙ e) m refl
 
 pub joint-ab : (s : List ℕ) (i j k : ℕ) → joint (three s (merge i j k)) ≡ joint (three s (merge j i k))
 unfolding joint

@@ -66,9 +66,7 @@ at-div (suc x) a = at-div x (a / 2) ∙ ap (λ (z : ℕ). z % 2) (div-div-eq-div
 
 pub zero-ext : (b : ℕ) → ((x : ℕ) → at x b ≡ zero) → b ≡ zero
 unfolding at
-zero-ext =
-    bin-ind (λ (b : ℕ). ((x : ℕ) → at x b ≡ zero) → b ≡ zero) (λ h. refl)
-    (λ b ih h. omega (arith, ih (λ x. h (suc x)), h zero))
+zero-ext = bin-ind (λ (b : ℕ). ((x : ℕ) → at x b ≡ zero) → b ≡ zero) (λ h. refl) (λ b ih h. omega (arith, ih (λ x. h (suc x)), h zero))
 
 pub ext : (a b : ℕ) → ((x : ℕ) → at x a ≡ at x b) → a ≡ b
 unfolding at
@@ -198,8 +196,7 @@ singles-apart a b ha hb ne = go (ones (a ∩ b)) refl
   where
     go : (k : ℕ) → ones (a ∩ b) ≡ k → k ≡ zero
     go zero e = refl
-    go (suc k) e =
-        absurd (ne (sym (size-eq a (a ∩ b) (and-l a b) (omega arith)) ∙ size-eq b (a ∩ b) (and-r a b) (omega arith)))
+    go (suc k) e = absurd (ne (sym (size-eq a (a ∩ b) (and-l a b) (omega arith)) ∙ size-eq b (a ∩ b) (and-r a b) (omega arith)))
 
 pub singles-or : (a b : ℕ) → ones a ≡ 1 → ones b ≡ 1 → a ≢ b → ones (a ∪ b) ≡ 2
 singles-or a b ha hb ne = omega (arith, size-or a b, singles-apart a b ha hb ne)
@@ -220,9 +217,7 @@ at-other (suc x) (suc u) ne = ap (at x) (omega arith) ∙ at-other x u (λ e. ne
 
 pub size-pow : (u : ℕ) → ones (2 ^ u) ≡ 1
 size-pow zero = omega (arith, ones-step 1, size-zero)
-size-pow (suc u) =
-    let half : 2 ^ suc u / 2 ≡ 2 ^ u = omega arith in
-    omega (arith, ones-step (2 ^ suc u), ap ones half, size-pow u)
+size-pow (suc u) = let half : 2 ^ suc u / 2 ≡ 2 ^ u = omega arith in omega (arith, ones-step (2 ^ suc u), ap ones half, size-pow u)
 
 pub pow-ne : (u v : ℕ) → u < v → 2 ^ u ≢ 2 ^ v
 pow-ne u v h e = omega (arith, pow-lt h)
@@ -230,9 +225,7 @@ pow-ne u v h e = omega (arith, pow-lt h)
 -- a set of one element or more has one
 pub some : (a : ℕ) → 1 ≤ ones a → (x : ℕ) × (at x a ≡ 1)
 unfolding at
-some =
-    bin-ind (λ (a : ℕ). 1 ≤ ones a → (x : ℕ) × (at x a ≡ 1)) (λ h. absurd (omega (arith, size-zero)))
-    (λ a ih h. go a ih h (ℕ-discrete (a % 2) 1))
+some = bin-ind (λ (a : ℕ). 1 ≤ ones a → (x : ℕ) × (at x a ≡ 1)) (λ h. absurd (omega (arith, size-zero))) (λ a ih h. go a ih h (ℕ-discrete (a % 2) 1))
   where
     go : (a : ℕ) → (1 ≤ ones (a / 2) → (x : ℕ) × (at x (a / 2) ≡ 1)) → 1 ≤ ones a → Dec (a % 2 ≡ 1) → (x : ℕ) × (at x a ≡ 1)
     go a ih h (yes e) = (zero, e)

@@ -41,8 +41,7 @@ meets-at x a b q n = ⊎-elim (λ (e : at x a ≡ 0). absurd (n (ap (bitAnd a) q
 
 pub misses-at : (x a b : ℕ) → b ≡ 2 ^ x → bitAnd a b ≡ 0 → at x a ≡ 0
 unfolding _∩_
-misses-at x a b q e =
-    omega (arith, at-and x a (2 ^ x), at-same x, at-le x a, ap (at x) (ap (bitAnd a) (sym q) ∙ e), at-zero x)
+misses-at x a b q e = omega (arith, at-and x a (2 ^ x), at-same x, at-le x a, ap (at x) (ap (bitAnd a) (sym q) ∙ e), at-zero x)
 
 -- ---- one element taken out
 
@@ -65,8 +64,7 @@ unfolding at
 less-other zero zero a e n = absurd (n refl)
 less-other zero (suc y) a e n = ap (at y) (omega arith)
 less-other (suc x) zero a e n = less-half x a (at-room (suc x) a e) .1
-less-other (suc x) (suc y) a e n =
-    ap (at y) (less-half x a (at-room (suc x) a e) .0) ∙ less-other x y (a / 2) e (λ q. n (ap suc q))
+less-other (suc x) (suc y) a e n = ap (at y) (less-half x a (at-room (suc x) a e) .0) ∙ less-other x y (a / 2) e (λ q. n (ap suc q))
 
 pub less-sub : (x a : ℕ) → at x a ≡ 1 → a - 2 ^ x ⊑ a
 less-sub x a e = record { le = λ y. go y (ℕ-discrete y x) }
@@ -111,10 +109,7 @@ size-less x a e = sym (size-add (a - 2 ^ x) x (less-same x a e)) ∙ ap ones (le
 
 -- another element of a, and there is one in a set of two
 pub less-in : (x y a : ℕ) → at x a ≡ 1 → at y (a - 2 ^ x) ≡ 1 → (at y a ≡ 1) × (x ≢ y)
-less-in x y a e i = (
-  omega (arith, less-sub x a e .le y, at-le y a),
-  λ q. omega (arith, less-same x a e, ap (λ (z : ℕ). at z (a - 2 ^ x)) q),
-)
+less-in x y a e i = (omega (arith, less-sub x a e .le y, at-le y a), λ q. omega (arith, less-same x a e, ap (λ (z : ℕ). at z (a - 2 ^ x)) q))
 
 pub less-some : (x a : ℕ) → at x a ≡ 1 → 2 ≤ ones a → 0 < a - 2 ^ x
 less-some x a e two = go (a - 2 ^ x) refl

@@ -25,8 +25,7 @@ unfolding at trailingZeros
 lowest-in zero x l n = absurd (n (omega arith))
 lowest-in (suc k) x l n = go (x % 2) refl (lowest-in k (x / 2))
   where
-    go : (d : ℕ) → x % 2 ≡ d → (x / 2 < 2 ^ k → x / 2 ≢ 0 → at (trailingZeros k (x / 2)) (x / 2) ≡ 1)
-        → at (under d (trailingZeros k (x / 2))) x ≡ 1
+    go : (d : ℕ) → x % 2 ≡ d → (x / 2 < 2 ^ k → x / 2 ≢ 0 → at (trailingZeros k (x / 2)) (x / 2) ≡ 1) → at (under d (trailingZeros k (x / 2))) x ≡ 1
     go zero e ih = ih (omega arith) (λ z. n (omega arith))
     go (suc d) e ih = omega arith
 
@@ -41,9 +40,7 @@ rest-gone (suc k) x l n = go (x % 2) refl (rest-gone k (x / 2))
   where
     go : (d : ℕ) → x % 2 ≡ d → (x / 2 < 2 ^ k → x / 2 ≢ 0 → at (trailingZeros k (x / 2)) (x / 2 - 1) ≡ 0)
         → at (under d (trailingZeros k (x / 2))) (x - 1) ≡ 0
-    go zero e ih =
-        let h : (x - 1) / 2 ≡ x / 2 - 1 = omega arith in
-        ap (at (trailingZeros k (x / 2))) h ∙ ih (omega arith) (λ z. n (omega arith))
+    go zero e ih = let h : (x - 1) / 2 ≡ x / 2 - 1 = omega arith in ap (at (trailingZeros k (x / 2))) h ∙ ih (omega arith) (λ z. n (omega arith))
     go (suc d) e ih = omega arith
 
 rest-kept : (k x y : ℕ) → x < 2 ^ k → x ≢ 0 → y ≢ trailingZeros k x → min (at y x) (at y (x - 1)) ≡ at y x
@@ -59,9 +56,7 @@ rest-kept (suc k) x y l n ne = go y (x % 2) refl (rest-kept k (x / 2)) ne
         let h : (x - 1) / 2 ≡ x / 2 - 1 = omega arith in
         ap (λ (z : ℕ). min (at y (x / 2)) (at y z)) h ∙ ih y (omega arith) (λ z. n (omega arith)) (λ z. m (ap suc z))
     go zero (suc d) e ih m = absurd (m refl)
-    go (suc y) (suc d) e ih m =
-        let h : (x - 1) / 2 ≡ x / 2 = omega arith in
-        ap (λ (z : ℕ). min (at y (x / 2)) (at y z)) h ∙ omega arith
+    go (suc y) (suc d) e ih m = let h : (x - 1) / 2 ≡ x / 2 = omega arith in ap (λ (z : ℕ). min (at y (x / 2)) (at y z)) h ∙ omega arith
 
 module _ (x : ℕ) (l : x < 2 ^ 64) (n : x ≢ 0) where
   pub rest-lowest : at (trailingZeros 64 x) (bitAnd x (x - 1)) ≡ 0
@@ -84,9 +79,7 @@ digit-beyond zero (suc (suc y)) l m = absurd (omega arith)
 digit-beyond (suc zero) (suc (suc y)) l m = absurd (omega arith)
 
 xor-split : (a b : ℕ) → (bitXor a b % 2 ≡ differ (a % 2) (b % 2)) × (bitXor a b / 2 ≡ bitXor (a / 2) (b / 2))
-xor-split a b =
-    let h = differ-two (a % 2) (b % 2) (omega arith) (omega arith) in
-    (omega (arith, xor-step a b), omega (arith, xor-step a b))
+xor-split a b = let h = differ-two (a % 2) (b % 2) (omega arith) (omega arith) in (omega (arith, xor-step a b), omega (arith, xor-step a b))
   where
     differ-two : (x y : ℕ) → x < 2 → y < 2 → differ x y < 2
     differ-two zero y l m = m

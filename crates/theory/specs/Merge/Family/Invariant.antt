@@ -26,10 +26,7 @@ pub in-dec : (x : ℕ) (t : Three) → Dec (In x t)
 in-dec x t = one-of x (t .a) (t .b) (t .c)
 
 pub good-same : (cs : List ℕ) {F G : Fam} → Same F G → Good cs G → Good cs F
-good-same cs h g = record {
-  tight = λ x p. g .tight x (h x .0 p);
-  apart = λ x y p q ne. g .apart x y (h x .0 p) (h y .0 q) ne;
-}
+good-same cs h g = record { tight = λ x p. g .tight x (h x .0 p); apart = λ x y p q ne. g .apart x y (h x .0 p) (h y .0 q) ne }
 
 module _ (cs : List ℕ) (fine : NotOver cs) where
   pub big : {F : Fam} → Good cs F → (x : ℕ) → F x → 2 ≤ ones x
@@ -112,8 +109,7 @@ module _ (cs : List ℕ) (fine : NotOver cs) where
         apart1 x y (inr p) (inr q) ne = g .apart x y (p .0) (q .0) ne
 
     pub outside-share : (x : ℕ) → F x → (In x t → ⊥) → ones (x ∩ union t) ≤ 1
-    outside-share x fx n =
-        share good-after x (union t) (inr (fx, n)) (inl refl) (λ e. union-new (subst F e fx))
+    outside-share x fx n = share good-after x (union t) (inr (fx, n)) (inl refl) (λ e. union-new (subst F e fx))
 
 pub among-good : (cs : List ℕ) → Pairs cs → NotOver cs → Good cs (start cs)
 unfolding Pairs NotOver

@@ -128,8 +128,7 @@ module _ (cs : List ℕ) (fine : NotOver cs) where
         ia .1,
         union-least t (ia .0) (ia .2) (subst (λ (z : ℕ). t .b ⊑ z) (sym p) (ib .2)) (subst (λ (z : ℕ). t .c ⊑ z) (sym (p ∙ q)) (ic .2)),
       )
-      joined (opened p q r) =
-          absurd (e u (record { ina = ia .1; inb = ib .1; inc = ic .1; open3 = open-by t u p q r (v .0 .open3) }))
+      joined (opened p q r) = absurd (e u (record { ina = ia .1; inb = ib .1; inc = ic .1; open3 = open-by t u p q r (v .0 .open3) }))
 
       next : (x : ℕ) → after F t x → (y : ℕ) × H y × (x ⊑ y)
       next x (inl h) =
@@ -169,5 +168,4 @@ module _ (cs : List ℕ) (pairs : Pairs cs) (fine : NotOver cs) where
   -- cluster of any maximal list of the whole
   pub never-smaller : (ds : List ℕ) → ((x : ℕ) → Among x ds → Among x cs) → (p q : List Three) → ValidIn (start ds) q
       → ValidIn (start cs) p → EndedIn (finalIn (start cs) p) → (x : ℕ) → finalIn (start ds) q x → (y : ℕ) × finalIn (start cs) p y × (x ⊑ y)
-  never-smaller ds sub p q w v e =
-      stays-inside cs fine (good-finalIn p v) e q w (λ x h. kept p (start cs) x (sub x h))
+  never-smaller ds sub p q w v e = stays-inside cs fine (good-finalIn p v) e q w (λ x h. kept p (start cs) x (sub x h))
