@@ -13,7 +13,6 @@ use Rattle.theory.specs.declared.JointKind.{JointKind}
 use Rattle.theory.specs.declared.JointKind.the-variants.{Ppp, Ppl, Pll, Lll}
 use Rattle.theory.specs.declared.Ways.{Ways}
 use Rattle.theory.specs.declared.Ways.the-variants.{Known, Unknown}
-pub mod Laws
 
 -- ---- the kind after the joint
 

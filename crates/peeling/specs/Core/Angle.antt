@@ -23,12 +23,11 @@ use Rattle.peeling.specs.Core.Joints.{joints-are}
 pub angle-more : (near : List ℕ) (lines v x : ℕ) (p : Peeled near v) (q : at x v ≡ 1) (h : ones (getD near x 0 ∩ v) ≤ 2)
     → angled lines (corners (less x p q h)) ≡ (eqb (ones (corner near v x)) 3 && allLines lines (corner near v x)) || angled lines (corners p)
 unfolding corners angled
-angle-more near lines v x p q h = go (eqb (ones (corner near v x)) 3)
-  where
-    go : (b : Bool) → angled lines (elim b [ true ↦ corner near v x ∷ corners p | false ↦ corners p ])
-        ≡ (b && allLines lines (corner near v x)) || angled lines (corners p)
-    go true = refl
-    go false = refl
+angle-more near lines v x p q h =
+    elim (eqb (ones (corner near v x)) 3) as (λ (b : Bool). angled lines (elim b [ true ↦ corner near v x ∷ corners p | false ↦ corners p ]) ≡ (b && allLines lines (corner near v x)) || angled lines (corners p)) [
+      | true ↦ refl
+      | false ↦ refl
+    ]
 
 pub all-told : (cs near : List ℕ) → Simple cs → Near cs near → (lines left : ℕ) (angle : Bool) → Taken near lines left angle
     → Told cs lines left angle

@@ -58,11 +58,7 @@ module _ (cs near : List ℕ) (simple : Simple cs) (is-near : Near cs near) wher
     b-in-a = less-sub x a xa
 
     has-x : (m : ℕ) → m ⊑ a → (m ⊑ b → ⊥) → at x m ≡ 1
-    has-x m i o = pick (bit (at x m) (at-le x m))
-      where
-        pick : (at x m ≡ 0) ⊎ (at x m ≡ 1) → at x m ≡ 1
-        pick (inl e) = absurd (o (sub-less x a m xa i e))
-        pick (inr e) = e
+    has-x m i o = elim (bit (at x m) (at-le x m)) [ inl e ↦ absurd (o (sub-less x a m xa i e)) | inr e ↦ e ]
 
     -- the other end of a constraint at x
     pub record End (m : ℕ) : Type 0 where
@@ -98,17 +94,16 @@ module _ (cs near : List ℕ) (simple : Simple cs) (is-near : Near cs near) wher
     -- two constraints at x with the same other end are one
     same-end : (m k : ℕ) (e : End m) (f : End k) → e .p ≡ f .p → m ≡ k
     unfolding Pairs
-    same-end m k e f q = go (ℕ-discrete m k)
-      where
-        go : Dec (m ≡ k) → m ≡ k
-        go (yes r) = r
-        go (no r) =
-            absurd (omega (
-              arith,
-              pairs-share m k (two-ends m (e .among)) (two-ends k (f .among)) r,
-              two-in (m ∩ k) x (e .p) (both x m k (e .x-in) (f .x-in))
-                  (both (e .p) m k (e .p-in) (subst (λ (w : ℕ). at w k ≡ 1) (sym q) (f .p-in))) (Ne·symm (e .p≢x)),
-            ))
+    same-end m k e f q =
+        elim (ℕ-discrete m k) [
+          | yes r ↦ r
+          | no r ↦ absurd (omega (
+            arith,
+            pairs-share m k (two-ends m (e .among)) (two-ends k (f .among)) r,
+            two-in (m ∩ k) x (e .p) (both x m k (e .x-in) (f .x-in))
+                (both (e .p) m k (e .p-in) (subst (λ (w : ℕ). at w k ≡ 1) (sym q) (f .p-in))) (Ne·symm (e .p≢x)),
+          ))
+        ]
 
     module _ (m k : ℕ) (e : End m) (f : End k) (m≢k : m ≢ k) where
       differ : e .p ≢ f .p
@@ -125,39 +120,33 @@ module _ (cs near : List ℕ) (simple : Simple cs) (is-near : Near cs near) wher
       in-mk z i j = ⊎-elim (λ r. r) (λ r. ⊎-elim (λ s. s) (λ s. absurd (differ (sym r ∙ s))) (f .only z j)) (e .only z i)
 
       one-of : (s p : ℕ) → at p s ≡ 1 → ((z : ℕ) → at z s ≡ 1 → z ≡ p) → ones s ≡ 1
-      one-of s p i h = ap ones (ext s (2 ^ p) (λ z. digit z (ℕ-discrete z p) (bit (at z s) (at-le z s)))) ∙ size-pow p
-        where
-          digit : (z : ℕ) → Dec (z ≡ p) → (at z s ≡ 0) ⊎ (at z s ≡ 1) → at z s ≡ at z (2 ^ p)
-          digit z (yes r) c = subst (λ (w : ℕ). at w s ≡ at w (2 ^ p)) (sym r) (omega (arith, i, at-same p))
-          digit z (no r) (inl c) = omega (arith, at-other z p r)
-          digit z (no r) (inr c) = absurd (r (h z c))
+      one-of s p i h =
+          ap ones (ext s (2 ^ p) (λ z. elim (ℕ-discrete z p) [
+            | yes r ↦ subst (λ (w : ℕ). at w s ≡ at w (2 ^ p)) (sym r) (omega (arith, i, at-same p))
+            | no r ↦ elim (bit (at z s) (at-le z s)) [ inl c ↦ omega (arith, at-other z p r) | inr c ↦ absurd (r (h z c)) ]
+          ])) ∙ size-pow p
 
       abbrev pub t : Three
       t = record { a = b; b = m; c = k }
 
       pub isopen : Open b m k
       isopen =
-          meet-open b m k
-          (one-of (b ∩ m) (e .p) (both (e .p) b m (e .p-b) (e .p-in)) (λ z i. let r = in-both z b m i in in-bm z (r .0) (r .1)))
-          (one-of (m ∩ k) x (both x m k (e .x-in) (f .x-in)) (λ z i. let r = in-both z m k i in in-mk z (r .0) (r .1)))
-          (one-of (b ∩ k) (f .p) (both (f .p) b k (f .p-b) (f .p-in)) (λ z i. let r = in-both z b k i in in-bk z (r .0) (r .1)))
-          (zero-ext (b ∩ m ∩ k) (λ z. none z (bit (at z (b ∩ m ∩ k)) (at-le z (b ∩ m ∩ k)))))
-        where
-          none : (z : ℕ) → (at z (b ∩ m ∩ k) ≡ 0) ⊎ (at z (b ∩ m ∩ k) ≡ 1) → at z (b ∩ m ∩ k) ≡ 0
-          none z (inl i) = i
-          none z (inr i) =
-              let r = in-both z (b ∩ m) k i in
-              let s = in-both z b m (r .0) in
-              absurd (omega (arith, out, ap (λ (w : ℕ). at w b) (in-mk z (s .1) (r .1)), s .0))
+          meet-open b m k (one-of (b ∩ m) (e .p) (both (e .p) b m (e .p-b) (e .p-in)) (λ z i. let r = in-both z b m i in in-bm z (r .0) (r .1))) (one-of (m ∩ k) x (both x m k (e .x-in) (f .x-in)) (λ z i. let r = in-both z m k i in in-mk z (r .0) (r .1))) (one-of (b ∩ k) (f .p) (both (f .p) b k (f .p-b) (f .p-in)) (λ z i. let r = in-both z b k i in in-bk z (r .0) (r .1))) (zero-ext (b ∩ m ∩ k) (λ z. elim (bit (at z (b ∩ m ∩ k)) (at-le z (b ∩ m ∩ k))) [
+            | inl i ↦ i
+            | inr i ↦ let r = in-both z (b ∩ m) k i in
+                let s = in-both z b m (r .0) in
+                absurd (omega (arith, out, ap (λ (w : ℕ). at w b) (in-mk z (s .1) (r .1)), s .0))
+          ]))
 
       union-is : union t ≡ a
       unfolding union
-      union-is = sub-antisymm (b ∪ m ∪ k) a (or-least (or-least b-in-a (e .in-a)) (f .in-a)) (record { le = λ z. go z (ℕ-discrete z x) })
-        where
-          go : (z : ℕ) → Dec (z ≡ x) → at z a ≤ at z (b ∪ m ∪ k)
-          go z (yes r) =
-              subst (λ (w : ℕ). at w a ≤ at w (b ∪ m ∪ k)) (sym r) (omega (arith, at-le x a, or-left x (b ∪ m) k (or-right x b m (e .x-in))))
-          go z (no r) = omega (arith, at-or z (b ∪ m) k, at-or z b m, less-other x z a xa r)
+      union-is =
+          sub-antisymm (b ∪ m ∪ k) a (or-least (or-least b-in-a (e .in-a)) (f .in-a)) (record {
+            le = λ z. elim (ℕ-discrete z x) [
+              | yes r ↦ subst (λ (w : ℕ). at w a ≤ at w (b ∪ m ∪ k)) (sym r) (omega (arith, at-le x a, or-left x (b ∪ m) k (or-right x b m (e .x-in))))
+              | no r ↦ omega (arith, at-or z (b ∪ m) k, at-or z b m, less-other x z a xa r)
+            ];
+          })
 
       pub joint-is : joint t ≡ corner near v x
       unfolding joint
@@ -196,11 +185,7 @@ module _ (cs near : List ℕ) (simple : Simple cs) (is-near : Near cs near) wher
         where
           into : after G t y → Parted cs a y
           into (inl q) = inl (q ∙ union-is)
-          into (inr (g, none)) = pick (s y .0 g)
-            where
-              pick : Parted cs b y → Parted cs a y
-              pick (inl q) = absurd (none (inl q))
-              pick (inr (i, o)) = inr (i, λ h. none (inr (no-third y (end y i h o))))
+          into (inr (g, none)) = elim (s y .0 g) [ inl q ↦ absurd (none (inl q)) | inr (i, o) ↦ inr (i, λ h. none (inr (no-third y (end y i h o)))) ]
 
           from : Parted cs a y → after G t y
           from (inl q) = inl (q ∙ sym union-is)

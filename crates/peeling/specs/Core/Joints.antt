@@ -75,24 +75,22 @@ module _ (cs near : List ℕ) (simple : Simple cs) (is-near : Near cs near) (n :
   tight-at : (u : ℕ) → Peeled near u → 2 ≤ ones (u ∩ full n) → carried cs (u ∩ full n) + 3 ≡ 2 * ones (u ∩ full n)
   unfolding NotOver
   tight-at u whole h = rw all-of (omega (arith, carried-full n cs below, size-full n, count))
-  tight-at u (less {u = v} x p q two) h = go (bit (at x (v ∩ full n)) (at-le x (v ∩ full n))) (λ k. tight-at v p k)
-    where
-      go : (at x (v ∩ full n) ≡ 0) ⊎ (at x (v ∩ full n) ≡ 1) → (2 ≤ ones (v ∩ full n) → carried cs (v ∩ full n) + 3 ≡ 2 * ones (v ∩ full n))
-          → carried cs ((v - 2 ^ x) ∩ full n) + 3 ≡ 2 * ones ((v - 2 ^ x) ∩ full n)
-      go (inl z) ih = let e = cut-out v x q z in rw e (ih (rw e at h))
-      go (inr z) ih =
-          let e = cut-in v x q z in
-          let s = size-less x (v ∩ full n) z in
-          let k : 2 ≤ ones ((v ∩ full n) - 2 ^ x) = rw e at h in
-          rw e (omega (
-            arith,
-            ih (omega arith),
-            fine ((v ∩ full n) - 2 ^ x) k,
-            near-counts x (v ∩ full n) z cs near simple is-near (at-below 64 x v (peeled-small v p) q),
-            size-le (getD near x 0 ∩ v) (getD near x 0 ∩ (v ∩ full n))
-                (and-most (and-l (getD near x 0) (v ∩ full n)) (sub-trans (and-r (getD near x 0) (v ∩ full n)) (and-l v (full n)))),
-            two,
-          ))
+  tight-at u (less {u = v} x p q two) h =
+      elim (bit (at x (v ∩ full n)) (at-le x (v ∩ full n))) [
+        | inl z ↦ let e = cut-out v x q z in rw e (tight-at v p (rw e at h))
+        | inr z ↦ let e = cut-in v x q z in
+            let s = size-less x (v ∩ full n) z in
+            let k : 2 ≤ ones ((v ∩ full n) - 2 ^ x) = rw e at h in
+            rw e (omega (
+              arith,
+              tight-at v p (omega arith),
+              fine ((v ∩ full n) - 2 ^ x) k,
+              near-counts x (v ∩ full n) z cs near simple is-near (at-below 64 x v (peeled-small v p) q),
+              size-le (getD near x 0 ∩ v) (getD near x 0 ∩ (v ∩ full n))
+                  (and-most (and-l (getD near x 0) (v ∩ full n)) (sub-trans (and-r (getD near x 0) (v ∩ full n)) (and-l v (full n)))),
+              two,
+            ))
+      ]
 
   -- ---- all elements put back, from what is left on
 
@@ -101,14 +99,13 @@ module _ (cs near : List ℕ) (simple : Simple cs) (is-near : Near cs near) (n :
 
   -- an element that is none of the n has no neighbour
   lone : (v x : ℕ) → x < 64 → at x v ≡ 1 → at x (v ∩ full n) ≡ 0 → ones (getD near x 0 ∩ v) ≡ 0
-  lone v x l xv z = go (ones (getD near x 0 ∩ v)) refl
-    where
-      go : (k : ℕ) → ones (getD near x 0 ∩ v) ≡ k → ones (getD near x 0 ∩ v) ≡ 0
-      go zero e = e
-      go (suc k) e =
-          let y = some (getD near x 0 ∩ v) (omega arith) in
-          let i = is-near .says x (y .0) l .0 (in-both (y .0) (getD near x 0) v (y .1) .0) in
-          absurd (omega (arith, both x v (full n) xv (pair-ends x (y .0) (full n) (inside (pair x (y .0)) i) .0), z))
+  lone v x l xv z =
+      elim (ones (getD near x 0 ∩ v)) as (λ (k : ℕ). ones (getD near x 0 ∩ v) ≡ k → ones (getD near x 0 ∩ v) ≡ 0) [
+        | zero ↦ λ e. e
+        | suc k ↦ λ e. let y = some (getD near x 0 ∩ v) (omega arith) in
+            let i = is-near .says x (y .0) l .0 (in-both (y .0) (getD near x 0) v (y .1) .0) in
+            absurd (omega (arith, both x v (full n) xv (pair-ends x (y .0) (full n) (inside (pair x (y .0)) i) .0), z))
+      ] refl
 
   corner-few : (v x : ℕ) → x < 64 → at x v ≡ 1 → at x (v ∩ full n) ≡ 0 → ones (corner near v x) ≢ 3
   corner-few v x l xv z e = omega (arith, e, size-or (2 ^ x) (getD near x 0 ∩ v), size-pow x, lone v x l xv z)
@@ -117,11 +114,7 @@ module _ (cs near : List ℕ) (simple : Simple cs) (is-near : Near cs near) (n :
   corner-within v x l xv z = record { le = λ y. go y (bit (at y (corner near v x)) (at-le y (corner near v x))) }
     where
       pick : (y : ℕ) → (at y (2 ^ x) ≡ 1) ⊎ (at y (getD near x 0 ∩ v) ≡ 1) → at y (v ∩ full n) ≡ 1
-      pick y (inl e) = here (ℕ-discrete y x)
-        where
-          here : Dec (y ≡ x) → at y (v ∩ full n) ≡ 1
-          here (yes r) = ap (λ (w : ℕ). at w (v ∩ full n)) r ∙ z
-          here (no r) = absurd (omega (arith, at-other y x r, e))
+      pick y (inl e) = elim (ℕ-discrete y x) [ yes r ↦ ap (λ (w : ℕ). at w (v ∩ full n)) r ∙ z | no r ↦ absurd (omega (arith, at-other y x r, e)) ]
       pick y (inr e) =
           let i = in-both y (getD near x 0) v e in
           both y v (full n) (i .1) (pair-ends x y (full n) (inside (pair x y) (is-near .says x y l .0 (i .0))) .1)
@@ -197,25 +190,19 @@ module _ (cs near : List ℕ) (simple : Simple cs) (is-near : Near cs near) (n :
   -- two of the elements are left before the last of them goes
   last-two : (u : ℕ) (d : Peeled near u) → ones (u ∩ full n) ≤ 2 → (v : ℕ) × (c : Peeled near v) × (ones (v ∩ full n) ≡ 2) × (corners d ≡ corners c)
   last-two u whole h = (u, whole, omega (arith, h, ap ones all-of, size-full n), refl)
-  last-two u (less {u = v} x p q two) h =
-      go (decLe 2 (ones ((v - 2 ^ x) ∩ full n))) (bit (at x (v ∩ full n)) (at-le x (v ∩ full n))) (λ k. last-two v p k)
-    where
-      l : x < 64
-      l = at-below 64 x v (peeled-small v p) q
-
-      go : Dec (2 ≤ ones ((v - 2 ^ x) ∩ full n)) → (at x (v ∩ full n) ≡ 0) ⊎ (at x (v ∩ full n) ≡ 1)
-          → (ones (v ∩ full n) ≤ 2 → (w : ℕ) × (c : Peeled near w) × (ones (w ∩ full n) ≡ 2) × (corners p ≡ corners c))
-          → (w : ℕ) × (c : Peeled near w) × (ones (w ∩ full n) ≡ 2) × (corners (less x p q two) ≡ corners c)
-      go (yes k) i ih = (v - 2 ^ x, less x p q two, omega (arith, h, k), refl)
-      go (no k) (inl z) ih = let r = ih (rw (cut-out v x q z) at h) in (r .0, r .1, r .2, corners-few x p q two (corner-few v x l q z) ∙ r .3)
-      go (no k) (inr z) ih =
-          let s : ones (v ∩ full n) ≤ 2 = omega (arith, size-less x (v ∩ full n) z, ap ones (cut-in v x q z), k) in
-          let r = ih s in (
+  last-two u (less {u = v} x p q two) h = let l : x < 64 = at-below 64 x v (peeled-small v p) q in elim (decLe 2 (ones ((v - 2 ^ x) ∩ full n))) [
+    | yes k ↦ (v - 2 ^ x, less x p q two, omega (arith, h, k), refl)
+    | no k ↦ elim (bit (at x (v ∩ full n)) (at-le x (v ∩ full n))) [
+      | inl z ↦ let r = last-two v p (rw (cut-out v x q z) at h) in (r .0, r .1, r .2, corners-few x p q two (corner-few v x l q z) ∙ r .3)
+      | inr z ↦ let s : ones (v ∩ full n) ≤ 2 = omega (arith, size-less x (v ∩ full n) z, ap ones (cut-in v x q z), k) in
+          let r = last-two v p s in (
             r .0,
             r .1,
             r .2,
             corners-few x p q two (λ e. omega (arith, e, size-le (v ∩ full n) (corner near v x) (corner-within v x l q z), s)) ∙ r .3,
           )
+    ]
+  ]
 
   -- one set alone is in no open merge
   ended-one : EndedIn (Parted cs (full n))

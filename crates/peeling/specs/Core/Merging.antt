@@ -86,17 +86,16 @@ module _ (cs : List ℕ) (pairs : Pairs cs) (fine : NotOver cs) (H : Fam) (good 
       go (no n) = absurd (omega (arith, share cs fine good y z hy hz ne, two-in (y ∩ z) p q (both p y z py pz) (both q y z qy qz) n))
 
   one-shared : (y z p : ℕ) → H y → H z → y ≢ z → at p y ≡ 1 → at p z ≡ 1 → ones (y ∩ z) ≡ 1
-  one-shared y z p hy hz ne py pz = go (ones (y ∩ z)) refl
-    where
-      go : (k : ℕ) → ones (y ∩ z) ≡ k → ones (y ∩ z) ≡ 1
-      go zero e =
-          absurd (omega (
-            arith,
-            both p y z py pz,
-            at-zero p,
-            ap (at p) (sym (size-eq (y ∩ z) 0 (record { le = λ x. omega (arith, at-zero x) }) (omega (arith, size-zero)))),
-          ))
-      go (suc k) e = omega (arith, share cs fine good y z hy hz ne)
+  one-shared y z p hy hz ne py pz =
+      elim (ones (y ∩ z)) as (λ (k : ℕ). ones (y ∩ z) ≡ k → ones (y ∩ z) ≡ 1) [
+        | zero ↦ λ e. absurd (omega (
+          arith,
+          both p y z py pz,
+          at-zero p,
+          ap (at p) (sym (size-eq (y ∩ z) 0 (record { le = λ x. omega (arith, at-zero x) }) (omega (arith, size-zero)))),
+        ))
+        | suc k ↦ λ e. omega (arith, share cs fine good y z hy hz ne)
+      ] refl
 
   -- three clusters that meet in three different elements are open
   corner : (y u v p q x : ℕ) → H y → H u → H v → at x y ≡ 0 → p ≢ q → at p y ≡ 1 → at p u ≡ 1 → at q y ≡ 1 → at q v ≡ 1 → at x u ≡ 1 → at x v ≡ 1 → ⊥
@@ -120,15 +119,14 @@ module _ (cs : List ℕ) (pairs : Pairs cs) (fine : NotOver cs) (H : Fam) (good 
       uv e = n (same-shared y u p q hy hu yu py pu qy (ap (at q) e ∙ qv))
 
       none : y ∩ u ∩ v ≡ 0
-      none = zero-ext (y ∩ u ∩ v) (λ z. go z (bit (at z (y ∩ u ∩ v)) (at-le z (y ∩ u ∩ v))))
-        where
-          go : (z : ℕ) → (at z (y ∩ u ∩ v) ≡ 0) ⊎ (at z (y ∩ u ∩ v) ≡ 1) → at z (y ∩ u ∩ v) ≡ 0
-          go z (inl e) = e
-          go z (inr e) =
-              let i = in-both z (y ∩ u) v e in
-              let j = in-both z y u (i .0) in
-              let s : z ≡ x = same-shared u v z x hu hv uv (j .1) (i .1) xu xv in
-              absurd (omega (arith, j .0, ap (λ (w : ℕ). at w y) s, out))
+      none =
+          zero-ext (y ∩ u ∩ v) (λ z. elim (bit (at z (y ∩ u ∩ v)) (at-le z (y ∩ u ∩ v))) [
+            | inl e ↦ e
+            | inr e ↦ let i = in-both z (y ∩ u) v e in
+                let j = in-both z y u (i .0) in
+                let s : z ≡ x = same-shared u v z x hu hv uv (j .1) (i .1) xu xv in
+                absurd (omega (arith, j .0, ap (λ (w : ℕ). at w y) s, out))
+          ])
 
   module _ (loose : Loose cs) where
     -- one element more
@@ -143,19 +141,19 @@ module _ (cs : List ℕ) (pairs : Pairs cs) (fine : NotOver cs) (H : Fam) (good 
         in-y z e n = omega (arith, sub .le z, less-other x z a xa n, at-le z y)
 
         has-x : (m : ℕ) → Between cs a b m → at x m ≡ 1
-        has-x m r = pick (bit (at x m) (at-le x m))
-          where
-            pick : (at x m ≡ 0) ⊎ (at x m ≡ 1) → at x m ≡ 1
-            pick (inl e) = absurd (r .not-b (sub-less x a m xa (r .in-a) e))
-            pick (inr e) = e
+        has-x m r = elim (bit (at x m) (at-le x m)) [ inl e ↦ absurd (r .not-b (sub-less x a m xa (r .in-a) e)) | inr e ↦ e ]
 
         go : (at x y ≡ 0) ⊎ (at x y ≡ 1) → (z : ℕ) × H z × (a ⊑ z)
-        go (inr e) = (y, hy, record { le = λ z. pick z (ℕ-discrete z x) (bit (at z a) (at-le z a)) })
-          where
-            pick : (z : ℕ) → Dec (z ≡ x) → (at z a ≡ 0) ⊎ (at z a ≡ 1) → at z a ≤ at z y
-            pick z (yes q) i = omega (arith, ap (λ (w : ℕ). at w y) q, at-le z a)
-            pick z (no n) (inl i) = omega arith
-            pick z (no n) (inr i) = omega (arith, in-y z i n)
+        go (inr e) = (
+          y,
+          hy,
+          record {
+            le = λ z. elim (ℕ-discrete z x) [
+              | yes q ↦ omega (arith, ap (λ (w : ℕ). at w y) q, at-le z a)
+              | no n ↦ elim (bit (at z a) (at-le z a)) [ inl i ↦ omega arith | inr i ↦ omega (arith, in-y z i n) ]
+            ];
+          },
+        )
         go (inl e) =
             let t = two-between cs a b more in
             let sm = pairs (t .m) (t .m-is .among) in
@@ -185,21 +183,18 @@ module _ (cs : List ℕ) (pairs : Pairs cs) (fine : NotOver cs) (H : Fam) (good 
     within : (k a : ℕ) → ones a ≤ k → a < 2 ^ 64 → 2 ≤ ones a → carried cs a + 3 ≡ 2 * ones a → (y : ℕ) × H y × (a ⊑ y)
     unfolding Pairs NotOver
     within zero a h l two e = absurd (omega arith)
-    within (suc k) a h l two e = go (decLe 3 (ones a)) (within k)
-      where
-        go : Dec (3 ≤ ones a) → ((b : ℕ) → ones b ≤ k → b < 2 ^ 64 → 2 ≤ ones b → carried cs b + 3 ≡ 2 * ones b → (y : ℕ) × H y × (b ⊑ y))
-            → (y : ℕ) × H y × (a ⊑ y)
-        go (yes three) ih =
-            let r = loose .least a l (omega arith) in
-            let s = size-less (r .0) a (r .1) in
-            let f = fine (a - 2 ^ r .0) (omega arith) in
-            let i = ih (a - 2 ^ r .0) (omega arith) (omega arith) (omega arith) (omega (arith, r .2, f, s)) in
-            grown a (r .0) (r .1) (omega (arith, f, s)) (i .0) (i .1) (i .2)
-        go (no n) ih =
-            let r = one-between cs a 0 (omega (arith, carried-small cs pairs 0 (omega (arith, size-zero)))) in
-            let q : r .0 ≡ a = size-eq a (r .0) (r .1 .in-a) (omega (arith, pairs (r .0) (r .1 .among))) in
-            let c = covered (r .0) (r .1 .among) in
-            (c .0, c .1, subst (λ (z : ℕ). z ⊑ c .0) q (c .2))
+    within (suc k) a h l two e =
+        elim (decLe 3 (ones a)) [
+          | yes three ↦ let r = loose .least a l (omega arith) in
+              let s = size-less (r .0) a (r .1) in
+              let f = fine (a - 2 ^ r .0) (omega arith) in
+              let i = within k (a - 2 ^ r .0) (omega arith) (omega arith) (omega arith) (omega (arith, r .2, f, s)) in
+              grown a (r .0) (r .1) (omega (arith, f, s)) (i .0) (i .1) (i .2)
+          | no n ↦ let r = one-between cs a 0 (omega (arith, carried-small cs pairs 0 (omega (arith, size-zero)))) in
+              let q : r .0 ≡ a = size-eq a (r .0) (r .1 .in-a) (omega (arith, pairs (r .0) (r .1 .among))) in
+              let c = covered (r .0) (r .1 .among) in
+              (c .0, c .1, subst (λ (z : ℕ). z ⊑ c .0) q (c .2))
+        ]
 
 -- ---- lists of merges
 
@@ -215,16 +210,15 @@ all-in-one : (s : List ℕ) (i y n : ℕ) → slot s i ≡ y → y ≢ 0 → n �
     → ((j : ℕ) → slot s j ≢ 0 → 2 ≤ ones (slot s j)) → left s ≡ 1
 unfolding left weights
 all-in-one s i y n at-i lives size count two =
+    let weight-zero : weight 0 ≡ 0 = omega (arith, size-zero) in
     let rest = none-lives (set s i 0) (λ j. others j (ℕ-discrete j i)) (omega (arith, total-set weight weight-zero s i, ap ones at-i)) in
-    omega (arith, total-set living refl s i, rest, living-one (slot s i) (λ z. lives (sym at-i ∙ z)))
+    omega (
+      arith,
+      total-set living refl s i,
+      rest,
+      elim (slot s i) as (λ (x : ℕ). x ≢ 0 → living x ≡ 1) [ zero ↦ λ h. absurd (h refl) | suc x ↦ λ h. refl ] (λ z. lives (sym at-i ∙ z)),
+    )
   where
-    weight-zero : weight 0 ≡ 0
-    weight-zero = omega (arith, size-zero)
-
-    living-one : (x : ℕ) → x ≢ 0 → living x ≡ 1
-    living-one zero h = absurd (h refl)
-    living-one (suc x) h = refl
-
     others : (j : ℕ) → Dec (j ≡ i) → slot (set s i 0) j ≢ 0 → 2 ≤ ones (slot (set s i 0) j)
     others j (yes e) h = absurd (h (ap (slot (set s i 0)) e ∙ zero-at s i))
     others j (no n) h = let e = getD-set-other s i j 0 0 n in rw e (two j (λ z. h (e ∙ z)))

@@ -62,10 +62,11 @@ light-or near u s t f g = record {
 
 -- those that are left when x is taken away are light still
 pub light-rest : (near : List ℕ) (u todo x : ℕ) → Light near u todo → at x u ≡ 1 → at x todo ≡ 1 → Light near (u - 2 ^ x) (todo - 2 ^ x)
-light-rest near u todo x t e h = record { light = λ y q. go y q (ℕ-discrete y x) }
-  where
-    go : (y : ℕ) → at y (todo - 2 ^ x) ≡ 1 → Dec (y ≡ x) → (at y (u - 2 ^ x) ≡ 1) × (ones (getD near y 0 ∩ (u - 2 ^ x)) ≤ 2)
-    go y q (yes p) = absurd (omega (arith, q, ap (λ (z : ℕ). at z (todo - 2 ^ x)) p, less-same x todo h))
-    go y q (no n) =
-        let o = t .light y (sym (less-other x y todo h n) ∙ q) in
-        (less-other x y u e n ∙ o .0, omega (arith, o .1, near-sub (getD near y 0) (u - 2 ^ x) u (less-sub x u e)))
+light-rest near u todo x t e h =
+    record {
+      light = λ y q. elim (ℕ-discrete y x) [
+        | yes p ↦ absurd (omega (arith, q, ap (λ (z : ℕ). at z (todo - 2 ^ x)) p, less-same x todo h))
+        | no n ↦ let o = t .light y (sym (less-other x y todo h n) ∙ q) in
+            (less-other x y u e n ∙ o .0, omega (arith, o .1, near-sub (getD near y 0) (u - 2 ^ x) u (less-sub x u e)))
+      ];
+    }

@@ -37,9 +37,6 @@ module _ (near : List ℕ) (left todo x s : ℕ) (p : Peeled near left) (t : Lig
   pub peel-less : left - s < left
   peel-less = omega (arith, peel-room, pow-pos x)
 
-  pub peel-next : Peeled near (left - s)
-  peel-next = subst (λ (z : ℕ). Peeled near (left - z)) (sym es) (less x p in-left (t .light x e .1))
-
   pub light-next : (r : ℕ) → Light near (left - s) r → Light near (left - s) (bitOr (todo - s) r)
   unfolding _∪_
   light-next r g =
@@ -65,23 +62,12 @@ module _ (cs near : List ℕ) (simple : Simple cs) (is-near : Near cs near) wher
   peeled-cut : (u : ℕ) → Peeled near u → (c a : ℕ) → carried (take c cs) a + 2 * ones (a ∩ u) ≤ carried (take c cs) (a ∩ u) + 2 * ones a
   peeled-cut u whole c a =
       omega (arith, carried-cut 64 (take c cs) (below-take 64 c cs (simple .below)) a, size-le a (a ∩ full 64) (and-l a (full 64)))
-  peeled-cut u (less {u = v} x p q two) c a = go (bit (at x a) (at-le x a)) (peeled-cut v p c a)
+  peeled-cut u (less {u = v} x p q two) c a =
+      let ih = peeled-cut v p c a in
+      elim (bit (at x a) (at-le x a)) [ inl z ↦ subst (λ (i : ℕ). carried (take c cs) a + 2 * ones i ≤ carried (take c cs) i + 2 * ones a) (sym (and-comm a (v - 2 ^ x) ∙ less-out x v a q z ∙ and-comm v a)) ih | inr z ↦ subst (λ (i : ℕ). carried (take c cs) a + 2 * ones i ≤ carried (take c cs) i + 2 * ones a) (sym (and-comm a (v - 2 ^ x) ∙ less-and x v a q z ∙ ap (λ (i : ℕ). i - 2 ^ x) (and-comm v a))) (omega (arith, ih, size-less x (a ∩ v) (there z), few-part c v x p q two .few (a ∩ v) (and-r a v) (there z))) ]
     where
-      outside-x : at x a ≡ 0 → a ∩ (v - 2 ^ x) ≡ a ∩ v
-      outside-x z = and-comm a (v - 2 ^ x) ∙ less-out x v a q z ∙ and-comm v a
-
       there : at x a ≡ 1 → at x (a ∩ v) ≡ 1
       there z = omega (arith, at-and x a v, q, z)
-
-      inside-x : at x a ≡ 1 → a ∩ (v - 2 ^ x) ≡ (a ∩ v) - 2 ^ x
-      inside-x z = and-comm a (v - 2 ^ x) ∙ less-and x v a q z ∙ ap (λ (i : ℕ). i - 2 ^ x) (and-comm v a)
-
-      go : (at x a ≡ 0) ⊎ (at x a ≡ 1) → carried (take c cs) a + 2 * ones (a ∩ v) ≤ carried (take c cs) (a ∩ v) + 2 * ones a
-          → carried (take c cs) a + 2 * ones (a ∩ (v - 2 ^ x)) ≤ carried (take c cs) (a ∩ (v - 2 ^ x)) + 2 * ones a
-      go (inl z) ih = subst (λ (i : ℕ). carried (take c cs) a + 2 * ones i ≤ carried (take c cs) i + 2 * ones a) (sym (outside-x z)) ih
-      go (inr z) ih =
-          subst (λ (i : ℕ). carried (take c cs) a + 2 * ones i ≤ carried (take c cs) i + 2 * ones a) (sym (inside-x z))
-          (omega (arith, ih, size-less x (a ∩ v) (there z), few-part c v x p q two .few (a ∩ v) (and-r a v) (there z)))
 
   -- the sets within what is left tell whether the list is over
   peeled-fine : (u : ℕ) → Peeled near u → (c : ℕ) → ((a : ℕ) → a ⊑ u → 2 ≤ ones a → carried (take c cs) a + 3 ≤ 2 * ones a) → NotOver (take c cs)
@@ -92,14 +78,12 @@ module _ (cs near : List ℕ) (simple : Simple cs) (is-near : Near cs near) wher
     where
       go : (a : ℕ) → a ⊑ v → 2 ≤ ones a → (at x a ≡ 0) ⊎ (at x a ≡ 1) → carried (take c cs) a + 3 ≤ 2 * ones a
       go a i b (inl z) = f a (sub-less x v a q i z) b
-      go a i b (inr z) = pick (decLe 3 (ones a))
-        where
-          within : a - 2 ^ x ⊑ v - 2 ^ x
-          within = sub-less x v (a - 2 ^ x) q (sub-trans (less-sub x a z) i) (less-same x a z)
-
-          pick : Dec (3 ≤ ones a) → carried (take c cs) a + 3 ≤ 2 * ones a
-          pick (yes k) = let s = size-less x a z in omega (arith, f (a - 2 ^ x) within (omega arith), few-part c v x p q two .few a i z)
-          pick (no k) = omega (arith, carried-one (take c cs) (simple-take c cs simple) a (omega arith))
+      go a i b (inr z) =
+          let within : a - 2 ^ x ⊑ v - 2 ^ x = sub-less x v (a - 2 ^ x) q (sub-trans (less-sub x a z) i) (less-same x a z) in
+          elim (decLe 3 (ones a)) [
+            | yes k ↦ let s = size-less x a z in omega (arith, f (a - 2 ^ x) within (omega arith), few-part c v x p q two .few a i z)
+            | no k ↦ omega (arith, carried-one (take c cs) (simple-take c cs simple) a (omega arith))
+          ]
 
   -- a set that does not lie in what is left has an element with at most two constraints in it
   peeled-loose : (u : ℕ) → Peeled near u → (a : ℕ) → a < 2 ^ 64 → (a ⊑ u) ⊎ ((x : ℕ) × (at x a ≡ 1) × (carried cs a ≤ carried cs (a - 2 ^ x) + 2))
@@ -118,12 +102,8 @@ module _ (cs near : List ℕ) (simple : Simple cs) (is-near : Near cs near) wher
           )
 
   all-loose : (u : ℕ) → Peeled near u → u ≡ 0 → Loose cs
-  all-loose u p z = record { least = λ a h some. go a some (peeled-loose u p a h) }
-    where
-      go : (a : ℕ) → 1 ≤ ones a → (a ⊑ u) ⊎ ((x : ℕ) × (at x a ≡ 1) × (carried cs a ≤ carried cs (a - 2 ^ x) + 2))
-          → (x : ℕ) × (at x a ≡ 1) × (carried cs a ≤ carried cs (a - 2 ^ x) + 2)
-      go a some (inl s) = absurd (omega (arith, size-le u a s, ap ones z, size-zero))
-      go a some (inr r) = r
+  all-loose u p z =
+      record { least = λ a h some. elim (peeled-loose u p a h) [ inl s ↦ absurd (omega (arith, size-le u a s, ap ones z, size-zero)) | inr r ↦ r ] }
 
   pub core-peeled : (u : ℕ) → Peeled near u → Core cs u
   core-peeled u p = record { small = peeled-small u p; fine = peeled-fine u p; cut = peeled-cut u p; loose = all-loose u p }

@@ -62,11 +62,7 @@ module _ {cs : List ℕ} {u : ℕ} (core : Core cs u) (c : ℕ) (lc : c < length
 
   module _ (out : getD cs c 0 ⊑ u → ⊥) where
     none : (x : ℕ) → x ⊑ u → has (getD cs c 0) x ≡ 0
-    none x h = go (has-dec (getD cs c 0) x)
-      where
-        go : Has (getD cs c 0) x → has (getD cs c 0) x ≡ 0
-        go (inside i q) = absurd (out (sub-trans i h))
-        go (outside n q) = q
+    none x h = elim (has-dec (getD cs c 0) x) [ inside i q ↦ absurd (out (sub-trans i h)) | outside n q ↦ q ]
 
     pub kept-skip : {own : List (List ℕ)} {once twice : ℕ} → Kept cs u c own once twice → Kept cs u (suc c) own once twice
     unfolding NotOver
@@ -106,51 +102,41 @@ module _ {cs : List ℕ} {u : ℕ} (simple : Simple cs) (core : Core cs u) (c : 
   module _ (own : List (List ℕ)) (table : Table own) (closed : Closed own u) (balanced : Balanced old u own) (right : NotOver new)
       (fresh : List (List ℕ)) (p : Placed own a b fresh) (inside-u : m ⊑ u) where
     from-to : (m ≡ pair (p .from) (p .to)) × (p .from < 64) × (p .from ≢ p .to) × (at (p .to) u ≡ 1) × (p .to < 64)
-    from-to = go (p .ends)
-      where
-        i : (at a u ≡ 1) × (at b u ≡ 1)
-        i = pair-ends a b u inside-u
-
-        go : ((p .from ≡ a) × (p .to ≡ b)) ⊎ ((p .from ≡ b) × (p .to ≡ a))
-            → (m ≡ pair (p .from) (p .to)) × (p .from < 64) × (p .from ≢ p .to) × (at (p .to) u ≡ 1) × (p .to < 64)
-        go (inl q) = (
-          ap₂ pair (sym (q .0)) (sym (q .1)),
-          omega (arith, ends .low, q .0),
-          λ z. ends .apart (sym (q .0) ∙ z ∙ q .1),
-          ap (λ (z : ℕ). at z u) (q .1) ∙ i .1,
-          omega (arith, ends .high, q .1),
-        )
-        go (inr q) = (
-          pair-comm a b ∙ ap₂ pair (sym (q .0)) (sym (q .1)),
-          omega (arith, ends .high, q .0),
-          λ z. ends .apart (sym (q .1) ∙ sym z ∙ q .0),
-          ap (λ (z : ℕ). at z u) (q .1) ∙ i .0,
-          omega (arith, ends .low, q .1),
-        )
+    from-to = let i : (at a u ≡ 1) × (at b u ≡ 1) = pair-ends a b u inside-u in elim (p .ends) [
+      | inl q ↦ (
+        ap₂ pair (sym (q .0)) (sym (q .1)),
+        omega (arith, ends .low, q .0),
+        λ z. ends .apart (sym (q .0) ∙ z ∙ q .1),
+        ap (λ (z : ℕ). at z u) (q .1) ∙ i .1,
+        omega (arith, ends .high, q .1),
+      )
+      | inr q ↦ (
+        pair-comm a b ∙ ap₂ pair (sym (q .0)) (sym (q .1)),
+        omega (arith, ends .high, q .0),
+        λ z. ends .apart (sym (q .1) ∙ sym z ∙ q .0),
+        ap (λ (z : ℕ). at z u) (q .1) ∙ i .0,
+        omega (arith, ends .low, q .1),
+      )
+    ]
 
     pub kept-next : (once twice : ℕ) → ((x : ℕ) → at x once ≡ 0 → Few old u x 0) → ((x : ℕ) → at x twice ≡ 0 → Few old u x 1)
         → Kept cs u (suc c) fresh (once ∪ m) (twice ∪ (once ∩ m))
     kept-next once twice never lone =
+        let o : (m ≡ pair (p .from) (p .to)) × (p .from < 64) × (p .from ≢ p .to) × (at (p .to) u ≡ 1) × (p .to < 64) = from-to in
         subst (λ (t : List (List ℕ)). Kept cs u (suc c) t (once ∪ m) (twice ∪ (once ∩ m))) (sym (p .stores)) (record {
           below = lc;
           table = stored-table own table (p .from) (p .slot) (p .to) (o .1) (p .two) (o .4);
           closed = stored-closed own table (p .from) (p .slot) (p .to) (o .1) (p .two) u (λ q. o .3) closed;
-          balanced = balanced-placed own table (p .from) (p .to) (o .1) (o .2) old new m u balanced more
-              (λ x z. has-not m x (p .from) (ap (at (p .from)) (o .0) ∙ at-end (p .from) (p .to) .0) z)
-              (λ x z. ap (λ (i : ℕ). has i x) (o .0) ∙ has-other (p .from) (p .to) x z) (p .slot) (p .two) (p .was-free);
+          balanced =
+              balanced-placed own table (p .from) (p .to) (o .1) (o .2) old new m u balanced more (λ x z. has-not m x (p .from) (ap (at (p .from)) (o .0) ∙ at-end (p .from) (p .to) .0) z) (λ x z. ap (λ (i : ℕ). has i x) (o .0) ∙ has-other (p .from) (p .to) x z) (p .slot) (p .two) (p .was-free);
           fine = right;
           never =
-              λ x z. few-other old new m more u x 0 (never x (omega (arith, at-or x once m, at-le x m)))
-              (omega (arith, at-or x once m, at-le x once));
-          lone = λ x z. two x z (bit (at x m) (at-le x m));
+              λ x z. few-other old new m more u x 0 (never x (omega (arith, at-or x once m, at-le x m))) (omega (arith, at-or x once m, at-le x once));
+          lone = λ x z. elim (bit (at x m) (at-le x m)) [
+            | inl q ↦ few-other old new m more u x 1 (lone x (omega (arith, at-or x twice (once ∩ m)))) q
+            | inr q ↦ few-more old new m more u x 0 (never x (omega (arith, at-or x twice (once ∩ m), at-and x once m, at-le x once)))
+          ];
         })
-      where
-        o : (m ≡ pair (p .from) (p .to)) × (p .from < 64) × (p .from ≢ p .to) × (at (p .to) u ≡ 1) × (p .to < 64)
-        o = from-to
-
-        two : (x : ℕ) → at x (twice ∪ (once ∩ m)) ≡ 0 → (at x m ≡ 0) ⊎ (at x m ≡ 1) → Few new u x 1
-        two x z (inl q) = few-other old new m more u x 1 (lone x (omega (arith, at-or x twice (once ∩ m)))) q
-        two x z (inr q) = few-more old new m more u x 0 (never x (omega (arith, at-or x twice (once ∩ m), at-and x once m, at-le x once)))
 
   -- ---- whether c leaves the list not over
 
@@ -164,13 +150,11 @@ module _ {cs : List ℕ} {u : ℕ} (simple : Simple cs) (core : Core cs u) (c : 
     -- four free entries
     pub four-fine : 4 ≤ free own a + free own b → NotOver new
     unfolding NotOver
-    four-fine four = core .fine (suc c) (λ x h two. go x h two (has-dec m x))
-      where
-        go : (x : ℕ) → x ⊑ u → 2 ≤ ones x → Has m x → carried new x + 3 ≤ 2 * ones x
-        go x h two (outside n q) = omega (arith, more x, right x two)
-        go x h two (inside i q) =
-            let o = pair-ends a b x i in
-            omega (arith, more x, bound x h, frees-two own x (low x h) a b (ends .apart) (o .0) (o .1))
+    four-fine four =
+        core .fine (suc c) (λ x h two. elim (has-dec m x) [
+          | outside n q ↦ omega (arith, more x, right x two)
+          | inside i q ↦ let o = pair-ends a b x i in omega (arith, more x, bound x h, frees-two own x (low x h) a b (ends .apart) (o .0) (o .1))
+        ])
 
     -- an end with one constraint at most
     module _ (x0 : ℕ) (end : at x0 m ≡ 1) (few : Few old u x0 1) where
@@ -180,14 +164,10 @@ module _ {cs : List ℕ} {u : ℕ} (simple : Simple cs) (core : Core cs u) (c : 
         where
           go : (x : ℕ) → x ⊑ u → 2 ≤ ones x → Has m x → carried new x + 3 ≤ 2 * ones x
           go x h two (outside n q) = omega (arith, more x, right x two)
-          go x h two (inside i q) = pick (decLe 3 (ones x))
-            where
-              there : at x0 x ≡ 1
-              there = omega (arith, i .le x0, at-le x0 x)
-
-              pick : Dec (3 ≤ ones x) → carried new x + 3 ≤ 2 * ones x
-              pick (yes k) = let s = size-less x0 x there in omega (arith, more x, few .few x h there, right (x - 2 ^ x0) (omega arith))
-              pick (no k) = omega (arith, carried-one new (simple-take (suc c) cs simple) x (omega arith))
+          go x h two (inside i q) = let there : at x0 x ≡ 1 = omega (arith, i .le x0, at-le x0 x) in elim (decLe 3 (ones x)) [
+            | yes k ↦ let s = size-less x0 x there in omega (arith, more x, few .few x h there, right (x - 2 ^ x0) (omega arith))
+            | no k ↦ omega (arith, carried-one new (simple-take (suc c) cs simple) x (omega arith))
+          ]
 
       pub lone-free : 0 < free own x0
       lone-free =
@@ -227,26 +207,22 @@ module _ {cs : List ℕ} {u : ℕ} (simple : Simple cs) (core : Core cs u) (c : 
 
       pub reached-smallest : Smallest old m r
       reached-smallest =
-          within-smallest old m r reached-tight (λ y t. sub-trans (least (y ∩ u) (first-in y t) (second-in y t) (closed-in y t)) (and-l y u))
+          within-smallest old m r reached-tight (λ y t. sub-trans (least (y ∩ u) (first-in y t) (second-in y t) (let h = low (y ∩ u) (and-r y u) in
+          kept-closed own (y ∩ u) h
+          (omega (
+            arith,
+            t .exact,
+            core .cut c y,
+            balanced .all (y ∩ u) (and-r y u),
+            frees-two own (y ∩ u) h a b (ends .apart) (first-in y t) (second-in y t),
+            exact .1,
+          )))) (and-l y u))
         where
           first-in : (y : ℕ) → Tight old m y → at a (y ∩ u) ≡ 1
           first-in y t = omega (arith, at-and a y u, pair-ends a b y (t .holds) .0, pair-ends a b u inside-u .0)
 
           second-in : (y : ℕ) → Tight old m y → at b (y ∩ u) ≡ 1
           second-in y t = omega (arith, at-and b y u, pair-ends a b y (t .holds) .1, pair-ends a b u inside-u .1)
-
-          closed-in : (y : ℕ) → Tight old m y → Closed own (y ∩ u)
-          closed-in y t =
-              let h = low (y ∩ u) (and-r y u) in
-              kept-closed own (y ∩ u) h
-              (omega (
-                arith,
-                t .exact,
-                core .cut c y,
-                balanced .all (y ∩ u) (and-r y u),
-                frees-two own (y ∩ u) h a b (ends .apart) (first-in y t) (second-in y t),
-                exact .1,
-              ))
 
       pub first-over : FirstOver cs c r
       first-over = record {
@@ -309,12 +285,10 @@ module _ {cs : List ℕ} {u : ℕ} (simple : Simple cs) (core : Core cs u) (c : 
       pub over-here : free t a + free t b < 4 → {queue from : List ℕ} {seen count place : ℕ} → Found t a b queue from seen count place
           → FirstOver cs c seen
       over-here h {queue} {from} {seen} {count} {place} f =
+          let done : count ≤ place = stuck-none f (⊎-elim (λ (q : 4 ≤ free t a + free t b). absurd (omega arith)) (λ s. s) (g .most)) in
           first-over t t-closed t-balanced (k .fine) inside-u (omega arith) seen (found-first f done) (found-second f done)
           (found-closed f done) (found-none f done)
           (λ w wa wb wc. seen-within (f .reached) w wa wb wc)
-        where
-          done : count ≤ place
-          done = stuck-none f (⊎-elim (λ (q : 4 ≤ free t a + free t b). absurd (omega arith)) (λ s. s) (g .most))
 
     -- the constraint is placed
     pub kept-placed : {t new : List (List ℕ)} → Ready cs u c a b t → Placed t a b new → Kept cs u (suc c) new (once ∪ m) (twice ∪ (once ∩ m))

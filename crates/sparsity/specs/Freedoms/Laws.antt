@@ -113,17 +113,14 @@ module _ (own : List (List ℕ)) (f : FreeBelow 64 own) where
 
   pub free-balanced : (u : ℕ) → Balanced [] u own
   unfolding carried frees kept free
-  free-balanced u = record {
-    all = λ a h. zero-add (over a (free own)) ∙ over-same a (free own) (λ x. at (entry own x 0) a + at (entry own x 1) a) (λ x l e. all-two a x l e);
-  }
-    where
-      all-two : (a x : ℕ) → x < 64 → at x a ≡ 1 → same (entry own x 0) x + same (entry own x 1) x ≡ at (entry own x 0) a + at (entry own x 1) a
-      all-two a x l e =
-          omega (
-            arith,
-            ap (λ (i : ℕ). same i x) (f .own-free x 0 l (zero-lt-suc 1)),
-            ap (λ (i : ℕ). same i x) (f .own-free x 1 l (le-refl 2)),
-            same-refl x,
-            ap (λ (i : ℕ). at i a) (f .own-free x 0 l (zero-lt-suc 1)),
-            ap (λ (i : ℕ). at i a) (f .own-free x 1 l (le-refl 2)),
-          )
+  free-balanced u =
+      record {
+        all = λ a h. zero-add (over a (free own)) ∙ over-same a (free own) (λ x. at (entry own x 0) a + at (entry own x 1) a) (λ x l e. omega (
+          arith,
+          ap (λ (i : ℕ). same i x) (f .own-free x 0 l (zero-lt-suc 1)),
+          ap (λ (i : ℕ). same i x) (f .own-free x 1 l (le-refl 2)),
+          same-refl x,
+          ap (λ (i : ℕ). at i a) (f .own-free x 0 l (zero-lt-suc 1)),
+          ap (λ (i : ℕ). at i a) (f .own-free x 1 l (le-refl 2)),
+        ));
+      }

@@ -1,6 +1,6 @@
 -- The effect of one store in the table of freedoms, and the balance that placing and turning keep. Assumes nothing.
 use mathlib.Core.Path.{_≡_, sym, ap, ap₂, _∙_, subst}
-use mathlib.Core.Logic.{_≢_, _⊎_, inl, inr, ⊎-elim}
+use mathlib.Core.Logic.{_≢_, inl, inr, ⊎-elim}
 use mathlib.Core.List.{List, []}
 use Prim.Native.Nat.{ℕ, _+_, _<_}
 use native.Mathlib.Nat.{le-of-suc-le-suc}
@@ -52,13 +52,12 @@ module _ (own : List (List ℕ)) (t : Table own) (x s y : ℕ) (lx : x < 64) (ls
   stored-table ly = record { rows = length-set own x _ ∙ t .rows; two = two; low = cases (λ z r e. z < 64 → r < 2 → e < 64) (λ m k. ly) (t .low) }
     where
       two : (z : ℕ) → z < 64 → length (getD (stored own x s y) z []) ≡ 2
-      two z l = go (ℕ-discrete z x)
-        where
-          go : Dec (z ≡ x) → length (getD (stored own x s y) z []) ≡ 2
-          go (yes e) =
-              subst (λ (i : ℕ). length (getD (stored own x s y) i []) ≡ 2) (sym e)
-              (ap length row-same ∙ length-set (getD own x []) s y ∙ t .two x lx)
-          go (no n) = ap length (getD-set-other own x z (set (getD own x []) s y) [] n) ∙ t .two z l
+      two z l =
+          elim (ℕ-discrete z x) [
+            | yes e ↦ subst (λ (i : ℕ). length (getD (stored own x s y) i []) ≡ 2) (sym e)
+                (ap length row-same ∙ length-set (getD own x []) s y ∙ t .two x lx)
+            | no n ↦ ap length (getD-set-other own x z (set (getD own x []) s y) [] n) ∙ t .two z l
+          ]
 
   -- a set that is closed stays so
   pub stored-closed : (u : ℕ) → (at x u ≡ 1 → at y u ≡ 1) → Closed own u → Closed (stored own x s y) u
@@ -67,24 +66,21 @@ module _ (own : List (List ℕ)) (t : Table own) (x s y : ℕ) (lx : x < 64) (ls
   -- a sum over the entries of x
   both : (h : ℕ → ℕ) → h (entry (stored own x s y) x 0) + h (entry (stored own x s y) x 1) + h (entry own x s)
       ≡ h (entry own x 0) + h (entry own x 1) + h y
-  both h = go (bit s (le-of-suc-le-suc ls))
-    where
-      go : (s ≡ 0) ⊎ (s ≡ 1) → h (entry (stored own x s y) x 0) + h (entry (stored own x s y) x 1) + h (entry own x s)
-          ≡ h (entry own x 0) + h (entry own x 1) + h y
-      go (inl e) =
-          omega (
-            arith,
-            ap h (ap (entry (stored own x s y) x) (sym e) ∙ entry-same),
-            ap h (entry-slot 1 (λ q. omega arith)),
-            ap (λ (i : ℕ). h (entry own x i)) e,
-          )
-      go (inr e) =
-          omega (
-            arith,
-            ap h (ap (entry (stored own x s y) x) (sym e) ∙ entry-same),
-            ap h (entry-slot 0 (λ q. omega arith)),
-            ap (λ (i : ℕ). h (entry own x i)) e,
-          )
+  both h =
+      elim (bit s (le-of-suc-le-suc ls)) [
+        | inl e ↦ omega (
+          arith,
+          ap h (ap (entry (stored own x s y) x) (sym e) ∙ entry-same),
+          ap h (entry-slot 1 (λ q. omega arith)),
+          ap (λ (i : ℕ). h (entry own x i)) e,
+        )
+        | inr e ↦ omega (
+          arith,
+          ap h (ap (entry (stored own x s y) x) (sym e) ∙ entry-same),
+          ap h (entry-slot 0 (λ q. omega arith)),
+          ap (λ (i : ℕ). h (entry own x i)) e,
+        )
+      ]
 
   pub free-stored : free (stored own x s y) x + same (entry own x s) x ≡ free own x + same y x
   unfolding free
@@ -172,20 +168,13 @@ module _ (own : List (List ℕ)) (t : Table own) (x y : ℕ) (lx : x < 64) (n : 
     turned-balanced cs u b = record { all = all }
       where
         all : (a : ℕ) → a ⊑ u → carried cs a + frees new a ≡ kept new a
-        all a h = go (bit (at x a) (at-le x a)) (bit (at y a) (at-le y a))
-          where
-            old : carried cs a + frees own a ≡ kept own a
-            old = b .all a h
-
-            sx : same (entry own x s) x ≡ 0
-            sx = ap (λ (i : ℕ). same i x) ex ∙ same-ne y x (λ q. n (sym q))
-
-            sy : same (entry mid y r) y ≡ 1
-            sy = ap (λ (i : ℕ). same i y) mid-free ∙ same-refl y
-
-            go : (at x a ≡ 0) ⊎ (at x a ≡ 1) → (at y a ≡ 0) ⊎ (at y a ≡ 1) → carried cs a + frees new a ≡ kept new a
-            go (inl p) (inl q) =
-                omega (
+        all a h =
+            let old : carried cs a + frees own a ≡ kept own a = b .all a h in
+            let sx : same (entry own x s) x ≡ 0 = ap (λ (i : ℕ). same i x) ex ∙ same-ne y x (λ q. n (sym q)) in
+            let sy : same (entry mid y r) y ≡ 1 = ap (λ (i : ℕ). same i y) mid-free ∙ same-refl y in
+            elim (bit (at x a) (at-le x a)) [
+              | inl p ↦ elim (bit (at y a) (at-le y a)) [
+                | inl q ↦ omega (
                   arith,
                   old,
                   frees-out own t x s x lx ls a p,
@@ -193,20 +182,7 @@ module _ (own : List (List ℕ)) (t : Table own) (x y : ℕ) (lx : x < 64) (n : 
                   frees-out mid mid-table y r x ly lr a q,
                   kept-out mid mid-table y r x ly lr a q,
                 )
-            go (inr p) (inl q) =
-                omega (
-                  arith,
-                  old,
-                  frees-at own t x s x lx ls a p,
-                  kept-at own t x s x lx ls a p,
-                  frees-out mid mid-table y r x ly lr a q,
-                  kept-out mid mid-table y r x ly lr a q,
-                  sx,
-                  same-refl x,
-                  ap (λ (i : ℕ). at i a) ex,
-                )
-            go (inl p) (inr q) =
-                omega (
+                | inr q ↦ omega (
                   arith,
                   old,
                   frees-out own t x s x lx ls a p,
@@ -217,8 +193,20 @@ module _ (own : List (List ℕ)) (t : Table own) (x y : ℕ) (lx : x < 64) (n : 
                   same-ne x y n,
                   ap (λ (i : ℕ). at i a) mid-free,
                 )
-            go (inr p) (inr q) =
-                omega (
+              ]
+              | inr p ↦ elim (bit (at y a) (at-le y a)) [
+                | inl q ↦ omega (
+                  arith,
+                  old,
+                  frees-at own t x s x lx ls a p,
+                  kept-at own t x s x lx ls a p,
+                  frees-out mid mid-table y r x ly lr a q,
+                  kept-out mid mid-table y r x ly lr a q,
+                  sx,
+                  same-refl x,
+                  ap (λ (i : ℕ). at i a) ex,
+                )
+                | inr q ↦ omega (
                   arith,
                   old,
                   frees-at own t x s x lx ls a p,
@@ -232,6 +220,8 @@ module _ (own : List (List ℕ)) (t : Table own) (x y : ℕ) (lx : x < 64) (n : 
                   ap (λ (i : ℕ). at i a) ex,
                   ap (λ (i : ℕ). at i a) mid-free,
                 )
+              ]
+            ]
 
     -- x has one more free entry, and another element than x and y as many as before
     pub turned-gains : free new x ≡ free own x + 1

@@ -18,14 +18,15 @@ use Rattle.sparsity.specs.Reach.Laws.{linked-within, reached-most}
 
 -- the place among the two entries of x that holds y, where one does
 pub slot : (own : List (List ℕ)) (x y s : ℕ) → s ≡ same (entry own x 1) y → (r : ℕ) → r < 2 → entry own x r ≡ y → (s < 2) × (entry own x s ≡ y)
-slot own x y s e r l q = (omega (arith, same-bit s (entry own x 1) y e), go (ℕ-discrete (entry own x 1) y))
-  where
-    go : Dec (entry own x 1 ≡ y) → entry own x s ≡ y
-    go (yes p) = ap (entry own x) (e ∙ ap (λ (z : ℕ). same z y) p ∙ same-refl y) ∙ p
-    go (no n) = ap (entry own x) (e ∙ same-ne (entry own x 1) y n) ∙ ap (entry own x) (sym zero-is) ∙ q
-      where
-        zero-is : r ≡ 0
-        zero-is = ⊎-elim (λ (z : r ≡ 0). z) (λ (z : r ≡ 1). absurd (n (ap (entry own x) (sym z) ∙ q))) (bit r (le-of-suc-le-suc l))
+slot own x y s e r l q = (
+  omega (arith, same-bit s (entry own x 1) y e),
+  elim (ℕ-discrete (entry own x 1) y) [
+    | yes p ↦ ap (entry own x) (e ∙ ap (λ (z : ℕ). same z y) p ∙ same-refl y) ∙ p
+    | no n ↦
+        let zero-is : r ≡ 0 = ⊎-elim (λ (z : r ≡ 0). z) (λ (z : r ≡ 1). absurd (n (ap (entry own x) (sym z) ∙ q))) (bit r (le-of-suc-le-suc l)) in
+        ap (entry own x) (e ∙ same-ne (entry own x 1) y n) ∙ ap (entry own x) (sym zero-is) ∙ q
+  ],
+)
 
 -- an element with a free entry has one
 pub free-slot : (own : List (List ℕ)) (x : ℕ) → 0 < free own x → (r : ℕ) × (r < 2) × (entry own x r ≡ x)

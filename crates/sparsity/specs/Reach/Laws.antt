@@ -44,27 +44,9 @@ module _ (own : List (List ℕ)) (a b : ℕ) (la : a < 64) (lb : b < 64) (n : a 
 
   pub begun : Reached own a b two from ends 2
   unfolding _∪_
-  begun = record {
-    lent = record { places = length-set (set queue 0 a) 1 b ∙ length-set queue 0 a ∙ lent .places; places′ = lent .places′ };
-    low = le-refl 2;
-    start = first;
-    start′ = second;
-    inside = either (λ i. item two i < 64) (omega (arith, first)) (omega (arith, second));
-    back = λ i h l. absurd (omega arith);
-    link = λ i h l. absurd (omega arith);
-    apart = λ i j l h e. n (sym first ∙ ap (item two) (low-is i j l h) ∙ e ∙ ap (item two) (high-is i j l h) ∙ second);
-    marked = either (λ i. at (item two i) ends ≡ 1) (ap (λ (x : ℕ). at x ends) first ∙ at-a) (ap (λ (x : ℕ). at x ends) second ∙ at-b);
-    queued = λ x e. queued x e (ℕ-discrete x a) (ℕ-discrete x b);
-    size = omega (arith, size-add (2 ^ b) a (at-other a b n), size-pow b);
-    small = or-lt 64 (2 ^ a) (2 ^ b) (pow-lt la) (pow-lt lb);
-  }
+  begun =
+      record { lent = record { places = length-set (set queue 0 a) 1 b ∙ length-set queue 0 a ∙ lent .places; places′ = lent .places′ }; low = le-refl 2; start = first; start′ = second; inside = either (λ i. item two i < 64) (omega (arith, first)) (omega (arith, second)); back = λ i h l. absurd (omega arith); link = λ i h l. absurd (omega arith); apart = λ i j l h e. n (sym first ∙ ap (item two) (omega arith) ∙ e ∙ ap (item two) (omega arith) ∙ second); marked = either (λ i. at (item two i) ends ≡ 1) (ap (λ (x : ℕ). at x ends) first ∙ at-a) (ap (λ (x : ℕ). at x ends) second ∙ at-b); queued = λ x e. queued x e (ℕ-discrete x a) (ℕ-discrete x b); size = omega (arith, size-add (2 ^ b) a (at-other a b n), size-pow b); small = or-lt 64 (2 ^ a) (2 ^ b) (pow-lt la) (pow-lt lb) }
     where
-      low-is : (i j : ℕ) → i < j → j < 2 → 0 ≡ i
-      low-is i j l h = omega arith
-
-      high-is : (i j : ℕ) → i < j → j < 2 → j ≡ 1
-      high-is i j l h = omega arith
-
       queued : (x : ℕ) → at x ends ≡ 1 → Dec (x ≡ a) → Dec (x ≡ b) → (i : ℕ) × (i < 2) × (item two i ≡ x)
       queued x e (yes p) d = (0, zero-lt-suc 1, first ∙ sym p)
       queued x e (no p) (yes q) = (1, lt-suc-self 1, second ∙ sym q)
@@ -167,15 +149,10 @@ module _ {own : List (List ℕ)} {a b : ℕ} {queue from : List ℕ} {seen count
       → ((2 ≤ p → h ≡ same (entry own i 0) (item queue p) + same (entry own i 1) (item queue p)) × (p < 2 → h ≡ 0))
       → Found own a b queue from seen count p
   unfolding free
-  found-here sc h n o = record { reached = r; scanned = sc; below = omega arith; open-at = λ l. (far, positive (o .0 far)) }
+  found-here sc h n o =
+      let far : 2 ≤ p = elim (decLt p 2) [ yes l ↦ absurd (n (o .1 l)) | no l ↦ omega arith ] in
+      record { reached = r; scanned = sc; below = omega arith; open-at = λ l. (far, positive (o .0 far)) }
     where
-      far : 2 ≤ p
-      far = go (decLt p 2)
-        where
-          go : Dec (p < 2) → 2 ≤ p
-          go (yes l) = absurd (n (o .1 l))
-          go (no l) = omega arith
-
       positive : h ≡ same (entry own i 0) (item queue p) + same (entry own i 1) (item queue p)
           → 0 < same (entry own (item queue p) 0) (item queue p) + same (entry own (item queue p) 1) (item queue p)
       positive e = omega (arith, n, e, ap (λ (y : ℕ). same y (item queue p)) (entry-is 0), ap (λ (y : ℕ). same y (item queue p)) (entry-is 1))
@@ -193,17 +170,16 @@ linked-within own queue from count back link u ea eb c i l = go (suc i) i (lt-su
   where
     go : (m i : ℕ) → i < m → i < count → at (item queue i) u ≡ 1
     go zero i h l = absurd (not-suc-le-zero h)
-    go (suc m) i h l = pick (λ j k n. go m j k n) (decLt i 2)
-      where
-        pick : ((j : ℕ) → j < m → j < count → at (item queue j) u ≡ 1) → Dec (i < 2) → at (item queue i) u ≡ 1
-        pick rec (yes k) = ⊎-elim
-            (λ (e : i ≡ 0). ap (λ (j : ℕ). at (item queue j) u) e ∙ ea)
-            (λ (e : i ≡ 1). ap (λ (j : ℕ). at (item queue j) u) e ∙ eb) (bit i (le-of-suc-le-suc k))
-        pick rec (no k) =
-            let two : 2 ≤ i = omega arith in
-            let o = link i two l in
-            let b = back i two l in
-            ap (λ (x : ℕ). at x u) (sym (o .2)) ∙ c .stays (item queue (item from i)) (o .0) (rec (item from i) (omega arith) (omega arith)) (o .1)
+    go (suc m) i h l =
+        elim (decLt i 2) [
+          | yes k ↦ ⊎-elim
+              (λ (e : i ≡ 0). ap (λ (j : ℕ). at (item queue j) u) e ∙ ea)
+              (λ (e : i ≡ 1). ap (λ (j : ℕ). at (item queue j) u) e ∙ eb) (bit i (le-of-suc-le-suc k))
+          | no k ↦ let two : 2 ≤ i = omega arith in
+              let o = link i two l in
+              let b = back i two l in
+              ap (λ (x : ℕ). at x u) (sym (o .2)) ∙ c .stays (item queue (item from i)) (o .0) (go m (item from i) (omega arith) (omega arith)) (o .1)
+        ]
 
 -- what is reached lies in every closed set that holds a and b
 pub reached-within : (own : List (List ℕ)) (a b : ℕ) (queue from : List ℕ) (seen count : ℕ) → Reached own a b queue from seen count
@@ -259,18 +235,17 @@ module _ {own : List (List ℕ)} {a b : ℕ} {queue from : List ℕ} {seen count
 -- where no more can be had, the search finds none
 pub stuck-none : {own : List (List ℕ)} {a b : ℕ} {queue from : List ℕ} {seen count place : ℕ} → Found own a b queue from seen count place
     → Stuck own a b → count ≤ place
-stuck-none {own} {a} {b} {queue} {from} {seen} {count} {place} f s = go (decLt place count)
-  where
-    go : Dec (place < count) → count ≤ place
-    go (no n) = omega arith
-    go (yes l) =
-        let r = f .reached in
-        let o = f .open-at l in
-        absurd
-        (omega (
-          arith,
-          o .1,
-          s .none (item queue place) (reached-within own a b queue from seen count r (s .set) (s .first) (s .second) (s .closed) place l)
-              (λ e. r .apart 0 place (omega (arith, o .0)) l (r .start ∙ sym e))
-              (λ e. r .apart 1 place (o .0) l (r .start′ ∙ sym e)),
-        ))
+stuck-none {own} {a} {b} {queue} {from} {seen} {count} {place} f s =
+    elim (decLt place count) [
+      | no n ↦ omega arith
+      | yes l ↦ let r = f .reached in
+          let o = f .open-at l in
+          absurd
+          (omega (
+            arith,
+            o .1,
+            s .none (item queue place) (reached-within own a b queue from seen count r (s .set) (s .first) (s .second) (s .closed) place l)
+                (λ e. r .apart 0 place (omega (arith, o .0)) l (r .start ∙ sym e))
+                (λ e. r .apart 1 place (o .0) l (r .start′ ∙ sym e)),
+          ))
+    ]

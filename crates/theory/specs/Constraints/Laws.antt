@@ -4,7 +4,7 @@ use mathlib.Core.Path.{_≡_, refl, sym, ap, ap₂, _∙_, subst}
 use mathlib.Core.Logic.{_≢_, _↔_, _⊎_, inl, inr, ⊎-elim, Iff·trans, Iff·rfl}
 use mathlib.Core.Bool.{Bool, true, false}
 use mathlib.Core.List.{List, [], _∷_, map}
-use Prim.Native.Nat.{ℕ, zero, suc, _+_, _*_, _^_, _≤_, _<_}
+use Prim.Native.Nat.{ℕ, zero, suc, _+_, _^_, _≤_, _<_}
 use native.Mathlib.Omega.{arith}
 use native.Mathlib.Decide.{ℕ-discrete, decLe}
 use lib.Bits.{or-lt}
@@ -32,35 +32,21 @@ has-dec m x = go (eqb (m ∩ x) m) refl
     go false e = outside (λ h. subst T (ap₂ eqb (sym (sub-and m x h)) refl ∙ e) (eqb-refl m)) (ap one-if e)
 
 pub has-in : (m x : ℕ) → m ⊑ x → has m x ≡ 1
-has-in m x h = go (has-dec m x)
-  where
-    go : Has m x → has m x ≡ 1
-    go (inside i e) = e
-    go (outside n e) = absurd (n h)
+has-in m x h = elim (has-dec m x) [ inside i e ↦ e | outside n e ↦ absurd (n h) ]
 
 -- 0 or 1; monotone; and what lies in two sets lies in what they share
 pub has-le : (m x : ℕ) → has m x ≤ 1
-has-le m x = go (has-dec m x)
-  where
-    go : Has m x → has m x ≤ 1
-    go (inside i e) = omega arith
-    go (outside n e) = omega arith
+has-le m x = elim (has-dec m x) [ inside i e ↦ omega arith | outside n e ↦ omega arith ]
 
 pub has-mono : (m x y : ℕ) → x ⊑ y → has m x ≤ has m y
-has-mono m x y h = go (has-dec m x)
-  where
-    go : Has m x → has m x ≤ has m y
-    go (inside i e) = omega (arith, has-in m y (sub-trans i h))
-    go (outside n e) = omega arith
+has-mono m x y h = elim (has-dec m x) [ inside i e ↦ omega (arith, has-in m y (sub-trans i h)) | outside n e ↦ omega arith ]
 
 pub has-and : (m x y : ℕ) → has m x + has m y ≤ has m (x ∩ y) + 1
-has-and m x y = go (has-dec m x) (has-dec m y)
-  where
-    go : Has m x → Has m y → has m x + has m y ≤ has m (x ∩ y) + 1
-    go (inside i e) (inside j f) = omega (arith, has-in m (x ∩ y) (and-most i j))
-    go (inside i e) (outside n f) = omega arith
-    go (outside n e) (inside j f) = omega arith
-    go (outside n e) (outside k f) = omega arith
+has-and m x y =
+    elim (has-dec m x) [
+      | inside i e ↦ elim (has-dec m y) [ inside j f ↦ omega (arith, has-in m (x ∩ y) (and-most i j)) | outside n f ↦ omega arith ]
+      | outside n e ↦ elim (has-dec m y) [ inside j f ↦ omega arith | outside k f ↦ omega arith ]
+    ]
 
 has-two : (m x y : ℕ) → has m x + has m y ≤ has m (x ∪ y) + has m (x ∩ y)
 has-two m x y =
@@ -154,14 +140,10 @@ carried-cut n (m ∷ cs) h x = go (has-dec m x) (carried-cut n cs (λ y i. h y (
 
 pub not-over-in : (n : ℕ) (cs : List ℕ) → Pairs cs → Below n cs → NotOverIn n cs → NotOver cs
 unfolding NotOver NotOverIn
-not-over-in n cs pairs below h x b = go (decLe 2 (ones (x ∩ full n)))
-  where
-    small : x ∩ full n < 2 ^ n
-    small = cut-below n x
-
-    go : Dec (2 ≤ ones (x ∩ full n)) → carried cs x + 3 ≤ 2 * ones x
-    go (yes k) = omega (arith, h (x ∩ full n) small k, carried-cut n cs below x, size-le x (x ∩ full n) (and-l x (full n)))
-    go (no k) = omega (arith, carried-cut n cs below x, carried-small cs pairs (x ∩ full n) (omega arith))
+not-over-in n cs pairs below h x b = let small : x ∩ full n < 2 ^ n = cut-below n x in elim (decLe 2 (ones (x ∩ full n))) [
+  | yes k ↦ omega (arith, h (x ∩ full n) small k, carried-cut n cs below x, size-le x (x ∩ full n) (and-l x (full n)))
+  | no k ↦ omega (arith, carried-cut n cs below x, carried-small cs pairs (x ∩ full n) (omega arith))
+]
 
 -- ---- in whichever order the constraints stand
 
@@ -215,12 +197,11 @@ pair-below n u v hu hv = or-lt n (2 ^ u) (2 ^ v) (pow-lt hu) (pow-lt hv)
 -- x is an end of the pair
 pub at-pair : (x u v : ℕ) → at x (pair u v) ≡ 1 → (x ≡ u) ⊎ (x ≡ v)
 unfolding pair
-at-pair x u v e = go (ℕ-discrete x u) (ℕ-discrete x v)
-  where
-    go : Dec (x ≡ u) → Dec (x ≡ v) → (x ≡ u) ⊎ (x ≡ v)
-    go (yes p) q = inl p
-    go (no p) (yes q) = inr q
-    go (no p) (no q) = absurd (omega (arith, at-or x (2 ^ u) (2 ^ v), at-other x u p, at-other x v q))
+at-pair x u v e =
+    elim (ℕ-discrete x u) [
+      | yes p ↦ inl p
+      | no p ↦ elim (ℕ-discrete x v) [ yes q ↦ inr q | no q ↦ absurd (omega (arith, at-or x (2 ^ u) (2 ^ v), at-other x u p, at-other x v q)) ]
+    ]
 
 pub at-end : (u v : ℕ) → (at u (pair u v) ≡ 1) × (at v (pair u v) ≡ 1)
 unfolding pair
@@ -228,13 +209,11 @@ at-end u v = (omega (arith, at-or u (2 ^ u) (2 ^ v), at-same u, at-le u (2 ^ v))
 
 -- two pairs are the same set only if they are the same pair
 pub pair-one : (u v u′ v′ : ℕ) → u < v → u′ < v′ → pair u v ≡ pair u′ v′ → (u ≡ u′) × (v ≡ v′)
-pair-one u v u′ v′ h h′ e = go (at-pair u u′ v′ (ap (at u) (sym e) ∙ at-end u v .0)) (at-pair v u′ v′ (ap (at v) (sym e) ∙ at-end u v .1))
-  where
-    go : (u ≡ u′) ⊎ (u ≡ v′) → (v ≡ u′) ⊎ (v ≡ v′) → (u ≡ u′) × (v ≡ v′)
-    go (inl p) (inr q) = (p, q)
-    go (inl p) (inl q) = absurd (omega arith)
-    go (inr p) (inl q) = absurd (omega arith)
-    go (inr p) (inr q) = absurd (omega arith)
+pair-one u v u′ v′ h h′ e =
+    elim (at-pair u u′ v′ (ap (at u) (sym e) ∙ at-end u v .0)) [
+      | inl p ↦ elim (at-pair v u′ v′ (ap (at v) (sym e) ∙ at-end u v .1)) [ inr q ↦ (p, q) | inl q ↦ absurd (omega arith) ]
+      | inr p ↦ elim (at-pair v u′ v′ (ap (at v) (sym e) ∙ at-end u v .1)) [ inl q ↦ absurd (omega arith) | inr q ↦ absurd (omega arith) ]
+    ]
 
 -- ---- a pair in a set
 
@@ -251,11 +230,7 @@ pair-ends u v x h = (omega (arith, h .le u, at-end u v .0, at-le u x), omega (ar
 
 -- whether both ends of a pair lie in a set
 pub has-not : (m x z : ℕ) → at z m ≡ 1 → at z x ≡ 0 → has m x ≡ 0
-has-not m x z e n = go (has-dec m x)
-  where
-    go : Has m x → has m x ≡ 0
-    go (outside k q) = q
-    go (inside i q) = absurd (omega (arith, i .le z))
+has-not m x z e n = elim (has-dec m x) [ outside k q ↦ q | inside i q ↦ absurd (omega (arith, i .le z)) ]
 
 pub has-other : (u v x : ℕ) → at u x ≡ 1 → has (pair u v) x ≡ at v x
 has-other u v x e = ⊎-elim

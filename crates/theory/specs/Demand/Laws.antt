@@ -1,20 +1,19 @@
 -- Further laws of every list of merges of an accepted sheet that isn't over. Assumes nothing.
 use mathlib.Core.Path.{_≡_, refl}
-use mathlib.Core.Logic.{_≢_, _⊎_}
+use mathlib.Core.Logic.{_≢_}
 use mathlib.Core.List.{List, [], _∷_}
 use Prim.Native.Nat.{ℕ, _+_, _*_, _≤_}
 use lib.ListN.{length}
 use Rattle.theory.specs.Set.{_⊑_}
 use Rattle.theory.specs.Constraints.{Among}
-use Rattle.theory.specs.Merge.{Merge, slot, three, union, OpenAt, Valid, final, Ended, Maximal, live}
-use Rattle.theory.specs.Merge.Family.{Good, Distinct, threes}
-use Rattle.theory.specs.Merge.Family.Invariant as invariant
+use Rattle.theory.specs.Merge.{Merge, slot, Valid, final, Ended, Maximal, live}
+use Rattle.theory.specs.Merge.Family.{Distinct, threes}
 use Rattle.theory.specs.Merge.Family.Outcome.{never-smaller}
-use Rattle.theory.specs.Merge.Numbered.{start-distinct, merge-at, as-start, as-end, ended-there}
+use Rattle.theory.specs.Merge.Numbered.{start-distinct, as-start, as-end, ended-there}
 use Rattle.theory.specs.Over.Laws.{fine-most}
 use Rattle.theory.specs.Graph.{Graph}
 use Rattle.theory.specs.Demand.{Accepted}
-use Rattle.theory.specs.Demand.Proof.{accepted-fine, accepted-good}
+use Rattle.theory.specs.Demand.Proof.{accepted-fine}
 
 -- if none is open at the start, the list is empty
 pub ended-empty : (s : List ℕ) (p : List Merge) → Ended s → Maximal s p → p ≡ []
@@ -31,18 +30,6 @@ module _ {g : Graph} (a : Accepted g) where
   -- e is at most 2n-3
   pub few : length (g .clusters) + 3 ≤ 2 * g .n
   few = fine-most (g .n) (g .clusters) (a .two) (a .below) (accepted-fine a)
-
-  -- a living cluster of m elements carries 2m-3 constraints, and no constraint lies in two
-  pub rests : (p : List Merge) → Valid (g .clusters) p → Good (g .clusters) (live (final (g .clusters) p))
-  rests p v = accepted-good a p v .0
-
-  -- the constraints of a union are those of its parts
-  pub inherit : (p : List Merge) → Valid (g .clusters) p → (m : Merge) → OpenAt (final (g .clusters) p) m → (c : ℕ) → Among c (g .clusters)
-      → c ⊑ union (three (final (g .clusters) p) m)
-      → (c ⊑ slot (final (g .clusters) p) (m .i)) ⊎ (c ⊑ slot (final (g .clusters) p) (m .j)) ⊎ (c ⊑ slot (final (g .clusters) p) (m .k))
-  inherit p v m o c i h =
-      invariant.inherit (g .clusters) (a .pairs) (accepted-fine a) (rests p v) (three (final (g .clusters) p) m)
-      (merge-at (final (g .clusters) p) m o) c i h
 
   -- more constraints, never a smaller part: every cluster of any list of merges of a sheet with some of the constraints lies inside a final
   -- cluster of any maximal list of the whole

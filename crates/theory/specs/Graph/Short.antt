@@ -31,13 +31,12 @@ joint-three (m ∷ p) s v j (inr i) = joint-three p (put s m) (v .1) j i
 
 -- two lines or fewer make no joint of three
 pub not-angled : (lines : ℕ) → ones lines ≤ 2 → (s : List ℕ) (p : List Merge) → Valid s p → angled lines (joints s p) ≡ false
-not-angled lines few s p v = go (angled lines (joints s p)) refl
-  where
-    go : (b : Bool) → angled lines (joints s p) ≡ b → angled lines (joints s p) ≡ false
-    go true e =
-        let a = angled-is lines (joints s p) (subst T (sym e) tt) in
-        absurd (omega (arith, joint-three p s v (a .0) (a .1), size-le lines (a .0) (a .2)))
-    go false e = e
+not-angled lines few s p v =
+    elim (angled lines (joints s p)) as (λ (b : Bool). angled lines (joints s p) ≡ b → angled lines (joints s p) ≡ false) [
+      | true ↦ λ e. let a = angled-is lines (joints s p) (subst T (sym e) tt) in
+          absurd (omega (arith, joint-three p s v (a .0) (a .1), size-le lines (a .0) (a .2)))
+      | false ↦ λ e. e
+    ] refl
 
 module _ (g : Graph) where
   -- more constraints than 2n-3
@@ -85,8 +84,4 @@ module _ (g : Graph) where
           ∙ ap (λ (l : Bool). elim l [ true ↦ Well | false ↦ Stuck ]) (holds (left (final cs (planOf cs))) 1 one)
         where
           holds : (x y : ℕ) → x ≡ y → eqb x y ≡ true
-          holds x y e = go (eqb x y) (eq-test x y e)
-            where
-              go : (b : Bool) → T b → b ≡ true
-              go true t = refl
-              go false t = absurd t
+          holds x y e = elim (eqb x y) as (λ (b : Bool). T b → b ≡ true) [ true ↦ λ t. refl | false ↦ λ t. absurd t ] (eq-test x y e)

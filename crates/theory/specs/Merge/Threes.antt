@@ -7,8 +7,8 @@ use native.Mathlib.Omega.{arith}
 use lib.Count.{ones}
 use Rattle.theory.specs.Merge.{Open, Three, union, joint, Merge, slot, OpenAt}
 use Rattle.theory.specs.Set.{_∩_, _∪_, _⊑_}
-use Rattle.theory.specs.Set.Laws.{size-or, size-le, sub-trans, or-l, or-r, and-r, and-or, singles-apart, singles-or, or-least, and-l, size-none}
-use Rattle.theory.specs.Set.Laws.{size-zero, and-most, and-mono, sub-refl, and-comm}
+use Rattle.theory.specs.Set.Laws.{size-or, size-le, sub-trans, or-l, or-r, and-r, and-or, singles-apart, singles-or, or-least, and-l, size-zero}
+use Rattle.theory.specs.Set.Laws.{and-most, sub-refl, and-comm}
 
 pub size-union : (t : Three) → Open (t .a) (t .b) (t .c) → ones (union t) + 3 ≡ ones (t .a) + ones (t .b) + ones (t .c)
 unfolding union
@@ -69,15 +69,6 @@ module _ (a b c : ℕ) (o : Open a b c) where
   big-c = open-big c (b ∩ c) (a ∩ c) (and-r b c) (and-r a c) (o .bc) (o .ac) (o .bc≢ac)
 
 -- ---- open, by what the three have in common
-
-pub open-meet : (a b c : ℕ) → Open a b c → a ∩ b ∩ c ≡ 0
-open-meet a b c o =
-    size-none (a ∩ b ∩ c)
-    (omega (
-      arith,
-      singles-apart (a ∩ b) (b ∩ c) (o .ab) (o .bc) (o .ab≢bc),
-      size-le ((a ∩ b) ∩ (b ∩ c)) (a ∩ b ∩ c) (and-most (and-l (a ∩ b) c) (and-mono (and-r a b) (sub-refl c))),
-    ))
 
 pub meet-open : (a b c : ℕ) → ones (a ∩ b) ≡ 1 → ones (b ∩ c) ≡ 1 → ones (a ∩ c) ≡ 1 → a ∩ b ∩ c ≡ 0 → Open a b c
 meet-open a b c p q r z = record {

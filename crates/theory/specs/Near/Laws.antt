@@ -12,10 +12,9 @@ use lib.Seq.{getD-set-same, getD-set-other, getD-take, length-take-le}
 use Rattle.theory.specs.Set.{_∩_, _∪_, _⊑_, at}
 use Rattle.theory.specs.Set.Laws.{at-or, at-le, at-zero, at-same, at-other, bit, size-eq, size-pow, size-add, sub-refl, sub-or, or-left}
 use Rattle.theory.specs.Set.Laws.{or-right, other, both}
-use Rattle.theory.specs.Set.Less.{at-below, less-other, less-and, size-less, sub-less}
-use Rattle.theory.specs.Constraints.{pair, has, carried, Among, Pairs, Below}
-use Rattle.theory.specs.Constraints.Laws.{Has, inside, outside, has-dec, has-in, size-pair, pair-below, at-pair, at-end, pair-in, pair-ends}
-use Rattle.theory.specs.Constraints.Laws.{pair-comm}
+use Rattle.theory.specs.Set.Less.{less-other, less-and, size-less, sub-less}
+use Rattle.theory.specs.Constraints.{pair, has, carried, Among, Pairs}
+use Rattle.theory.specs.Constraints.Laws.{Has, inside, outside, has-dec, has-in, at-pair, at-end, pair-in, pair-ends, pair-comm}
 use Rattle.theory.specs.Over.Laws.{among-take, among-at, pairs-take, below-take}
 use Rattle.theory.specs.Near.{Once, Simple, Standing, Near}
 
@@ -38,26 +37,10 @@ among-back x (m ∷ cs) ds h = inr (among-back x cs ds h)
 pub among-more : (x m : ℕ) (cs : List ℕ) → Among x (cs ++ m ∷ []) → Among x cs ⊎ (x ≡ m)
 among-more x m cs h = ⊎-elim inl (⊎-elim inr (λ z. absurd z)) (among-append x cs (m ∷ []) h)
 
-once-more : (m : ℕ) (cs : List ℕ) → Once cs → (Among m cs → ⊥) → Once (cs ++ m ∷ [])
-once-more m [] o n = (λ z. z, tt)
-once-more m (x ∷ cs) o n = (λ h. ⊎-elim (o .0) (λ e. n (inl (sym e))) (among-more x m cs h), once-more m cs (o .1) (λ h. n (inr h)))
-
 once-take : (k : ℕ) (cs : List ℕ) → Once cs → Once (take k cs)
 once-take zero cs o = tt
 once-take (suc k) [] o = tt
 once-take (suc k) (m ∷ cs) o = (λ h. o .0 (among-take m k cs h), once-take k cs (o .1))
-
-pub simple-none : Simple []
-unfolding Pairs Below
-simple-none = record { pairs = λ x h. absurd h; below = λ x h. absurd h; once = tt }
-
-pub simple-more : (cs : List ℕ) (a b : ℕ) → Simple cs → a < b → b < 64 → (Among (pair a b) cs → ⊥) → Simple (cs ++ pair a b ∷ [])
-unfolding Pairs Below
-simple-more cs a b s h l n = record {
-  pairs = λ x i. ⊎-elim (s .pairs x) (λ e. ap ones e ∙ size-pair a b h) (among-more x (pair a b) cs i);
-  below = λ x i. ⊎-elim (s .below x) (λ e. subst (λ (z : ℕ). z < 2 ^ 64) (sym e) (pair-below 64 a b (omega arith) l)) (among-more x (pair a b) cs i);
-  once = once-more (pair a b) cs (s .once) n;
-}
 
 pub simple-take : (k : ℕ) (cs : List ℕ) → Simple cs → Simple (take k cs)
 simple-take k cs s = record { pairs = pairs-take k cs (s .pairs); below = below-take 64 k cs (s .below); once = once-take k cs (s .once) }
@@ -130,13 +113,12 @@ module _ (cs near : List ℕ) (n : Near cs near) (a b : ℕ) (la : a < 64) (lb :
   says-end x z y l ne e g = (to, back)
     where
       to : at y (getD new x 0) ≡ 1 → Among (pair x y) (cs ++ pair a b ∷ [])
-      to i = go (ℕ-discrete y z)
-        where
-          go : Dec (y ≡ z) → Among (pair x y) (cs ++ pair a b ∷ [])
-          go (yes p) = among-back (pair x y) cs (pair a b ∷ []) (inl (ap (pair x) p ∙ sym e))
-          go (no p) =
-              among-front (pair x y) cs (pair a b ∷ [])
-              (n .says x y l .0 (omega (arith, i, ap (at y) g, at-or y (getD near x 0) (2 ^ z), at-other y z p)))
+      to i =
+          elim (ℕ-discrete y z) [
+            | yes p ↦ among-back (pair x y) cs (pair a b ∷ []) (inl (ap (pair x) p ∙ sym e))
+            | no p ↦ among-front (pair x y) cs (pair a b ∷ [])
+                (n .says x y l .0 (omega (arith, i, ap (at y) g, at-or y (getD near x 0) (2 ^ z), at-other y z p)))
+          ]
 
       back : Among (pair x y) (cs ++ pair a b ∷ []) → at y (getD new x 0) ≡ 1
       back h = ap (at y) g ∙ ⊎-elim
@@ -155,18 +137,18 @@ module _ (cs near : List ℕ) (n : Near cs near) (a b : ℕ) (la : a < 64) (lb :
   )
 
   pub near-more : Near (cs ++ pair a b ∷ []) new
-  near-more = record {
-    places = length-set mid b (getD near b 0 ∪ 2 ^ a) ∙ length-set near a (getD near a 0 ∪ 2 ^ b) ∙ n .places;
-    says = λ x y l. go x y l (ℕ-discrete x a) (ℕ-discrete x b);
-  }
-    where
-      go : (x y : ℕ) → x < 64 → Dec (x ≡ a) → Dec (x ≡ b) → (at y (getD new x 0) ≡ 1) ↔ Among (pair x y) (cs ++ pair a b ∷ [])
-      go x y l (yes p) d =
-          subst (λ (z : ℕ). (at y (getD new z 0) ≡ 1) ↔ Among (pair z y) (cs ++ pair a b ∷ [])) (sym p) (says-end a b y la a≢b refl at-a)
-      go x y l (no p) (yes q) =
-          subst (λ (z : ℕ). (at y (getD new z 0) ≡ 1) ↔ Among (pair z y) (cs ++ pair a b ∷ [])) (sym q)
-          (says-end b a y lb (Ne·symm a≢b) (pair-comm a b) at-b)
-      go x y l (no p) (no q) = says-neither x y l p q
+  near-more =
+      record {
+        places = length-set mid b (getD near b 0 ∪ 2 ^ a) ∙ length-set near a (getD near a 0 ∪ 2 ^ b) ∙ n .places;
+        says = λ x y l. elim (ℕ-discrete x a) [
+          | yes p ↦ subst (λ (z : ℕ). (at y (getD new z 0) ≡ 1) ↔ Among (pair z y) (cs ++ pair a b ∷ [])) (sym p) (says-end a b y la a≢b refl at-a)
+          | no p ↦ elim (ℕ-discrete x b) [
+            | yes q ↦ subst (λ (z : ℕ). (at y (getD new z 0) ≡ 1) ↔ Among (pair z y) (cs ++ pair a b ∷ [])) (sym q)
+                (says-end b a y lb (Ne·symm a≢b) (pair-comm a b) at-b)
+            | no q ↦ says-neither x y l p q
+          ]
+        ];
+      }
 
   -- the same of what the code has: both sets read, then both stored
   pub near-stored : {i j sa sb : ℕ} → i ≡ a → j ≡ b → sa ≡ 2 ^ a → sb ≡ 2 ^ b
@@ -208,13 +190,6 @@ module _ (x a : ℕ) (e : at x a ≡ 1) where
     pub near-counts : carried cs a ≤ carried cs (a - 2 ^ x) + ones (getD near x 0 ∩ a)
     near-counts = counts-in cs (s .pairs) (s .once) (getD near x 0) (λ y i. n .says x y l .1 i)
 
--- an element that is constrained with x is another one, below 64
-pub near-other : (cs near : List ℕ) → Simple cs → Near cs near → (x y : ℕ) → x < 64 → at y (getD near x 0) ≡ 1 → (y ≢ x) × (y < 64)
-unfolding Pairs Below
-near-other cs near s n x y l e =
-    let i = n .says x y l .0 e in
-    (Ne·symm (pair-apart x y (s .pairs (pair x y) i)), at-below 64 y (pair x y) (s .below (pair x y) i) (at-end x y .1))
-
 -- ---- what a set of two elements carries
 
 carried-none : (cs : List ℕ) → Pairs cs → (x : ℕ) → ones x ≡ 2 → (Among x cs → ⊥) → carried cs x ≡ 0
@@ -229,13 +204,12 @@ carried-none (m ∷ cs) pairs x two n = go (has-dec m x) (carried-none cs (λ y 
 one-most : (cs : List ℕ) → Pairs cs → Once cs → (x : ℕ) → ones x ≡ 2 → carried cs x ≤ 1
 unfolding carried Pairs
 one-most [] pairs once x two = omega arith
-one-most (m ∷ cs) pairs once x two = go (has-dec m x) (one-most cs (λ y h. pairs y (inr h)) (once .1) x two)
-  where
-    go : Has m x → carried cs x ≤ 1 → has m x + carried cs x ≤ 1
-    go (inside i q) r =
-        let e : m ≡ x = size-eq x m i (omega (arith, two, pairs m (inl refl))) in
-        omega (arith, carried-none cs (λ y h. pairs y (inr h)) x two (λ h. once .0 (subst (λ (z : ℕ). Among z cs) (sym e) h)))
-    go (outside k q) r = omega arith
+one-most (m ∷ cs) pairs once x two =
+    let r = one-most cs (λ y h. pairs y (inr h)) (once .1) x two in elim (has-dec m x) [
+      | inside i q ↦ let e : m ≡ x = size-eq x m i (omega (arith, two, pairs m (inl refl))) in
+          omega (arith, carried-none cs (λ y h. pairs y (inr h)) x two (λ h. once .0 (subst (λ (z : ℕ). Among z cs) (sym e) h)))
+      | outside k q ↦ omega arith
+    ]
 
 -- no more than one
 pub carried-one : (cs : List ℕ) → Simple cs → (x : ℕ) → ones x ≡ 2 → carried cs x ≤ 1

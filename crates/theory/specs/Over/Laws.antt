@@ -155,14 +155,12 @@ tight-test cs m x t =
 
 test-tight : (cs : List ℕ) (m x : ℕ) → T (isTight cs m x) → Tight cs m x
 unfolding isTight
-test-tight cs m x t = record { holds = go (has-dec m x); exact = eqb→eq (carried cs x + 3) (2 * ones x) (b .1) }
-  where
-    b : T (eqb (has m x) 1) × T (eqb (carried cs x + 3) (2 * ones x))
-    b = and-both (eqb (has m x) 1) (eqb (carried cs x + 3) (2 * ones x)) t
-
-    go : Has m x → m ⊑ x
-    go (inside i e) = i
-    go (outside n e) = absurd (omega (arith, eqb→eq (has m x) 1 (b .0)))
+test-tight cs m x t =
+    let b : T (eqb (has m x) 1) × T (eqb (carried cs x + 3) (2 * ones x)) = and-both (eqb (has m x) 1) (eqb (carried cs x + 3) (2 * ones x)) t in
+    record {
+      holds = elim (has-dec m x) [ inside i e ↦ i | outside n e ↦ absurd (omega (arith, eqb→eq (has m x) 1 (b .0))) ];
+      exact = eqb→eq (carried cs x + 3) (2 * ones x) (b .1);
+    }
 
 pub any-none : (k : ℕ) (t : ℕ → Bool) → anyBelow k t ≡ false → (x : ℕ) → x < k → T (t x) → ⊥
 unfolding anyBelow
@@ -171,21 +169,16 @@ any-none (suc k) t e x l h = go (t k) refl e (any-none k t)
   where
     go : (b : Bool) → t k ≡ b → elim b [ true ↦ true | false ↦ anyBelow k t ] ≡ false → (anyBelow k t ≡ false → (x : ℕ) → x < k → T (t x) → ⊥) → ⊥
     go true q e ih = subst T e tt
-    go false q e ih = pick (ℕ-discrete x k)
-      where
-        pick : Dec (x ≡ k) → ⊥
-        pick (yes p) = subst T (ap t p ∙ q) h
-        pick (no n) = ih e x (omega arith) h
+    go false q e ih = elim (ℕ-discrete x k) [ yes p ↦ subst T (ap t p ∙ q) h | no n ↦ ih e x (omega arith) h ]
 
 pub any-some : (k : ℕ) (t : ℕ → Bool) → T (anyBelow k t) → (x : ℕ) × (x < k) × T (t x)
 unfolding anyBelow
 any-some zero t h = absurd h
-any-some (suc k) t h = go (t k) refl h (any-some k t)
-  where
-    go : (b : Bool) → t k ≡ b → T (elim b [ true ↦ true | false ↦ anyBelow k t ])
-        → (T (anyBelow k t) → (x : ℕ) × (x < k) × T (t x)) → (x : ℕ) × (x < suc k) × T (t x)
-    go true q h ih = (k, lt-suc-self k, subst T (sym q) tt)
-    go false q h ih = let r = ih h in (r .0, le-step (r .1), r .2)
+any-some (suc k) t h =
+    elim (t k) as (λ (b : Bool). t k ≡ b → T (elim b [ true ↦ true | false ↦ anyBelow k t ]) → (x : ℕ) × (x < suc k) × T (t x)) [
+      | true ↦ λ q h. (k, lt-suc-self k, subst T (sym q) tt)
+      | false ↦ λ q h. let r = any-some k t h in (r .0, le-step (r .1), r .2)
+    ] refl h
 
 -- the test of "over" is right
 pub isOver-over : (n : ℕ) (cs : List ℕ) → isOver n cs ≡ true → IsOver cs
@@ -227,11 +220,7 @@ fewest-of t z zero = none (λ x l h. omega arith)
 fewest-of t z (suc k) = go (t k) refl (fewestBelow k t) (fewest-of t z k)
   where
     split : {P : ℕ → Type 0} → P k → ((x : ℕ) → x < k → P x) → (x : ℕ) → x < suc k → P x
-    split {P} h f x l = pick (ℕ-discrete x k)
-      where
-        pick : Dec (x ≡ k) → P x
-        pick (yes e) = subst P (sym e) h
-        pick (no n) = f x (omega arith)
+    split {P} h f x l = elim (ℕ-discrete x k) [ yes e ↦ subst P (sym e) h | no n ↦ f x (omega arith) ]
 
     alone : (k : ℕ) → T (t k) → ((x : ℕ) → x < suc k → T (t x) → ones k ≤ ones x) → Fewest (suc k) t k
     alone zero q f = absurd (z q)
@@ -349,11 +338,7 @@ module _ (n : ℕ) (cs : List ℕ) (pairs : Pairs cs) (below : Below n cs) where
       (subst (λ (i : ℕ). Smallest (take i cs) (getD cs i 0) y) (sym same) (k .smallest)))
     where
       not-after : (i j : ℕ) → NotOver (take i cs) → IsOver (take (suc j) cs) → i ≤ j
-      not-after i j f o = pick (decLe i j)
-        where
-          pick : Dec (i ≤ j) → i ≤ j
-          pick (yes l) = l
-          pick (no l) = absurd (over-not-fine (over-longer cs (suc j) i (omega arith) o) f)
+      not-after i j f o = elim (decLe i j) [ yes l ↦ l | no l ↦ absurd (over-not-fine (over-longer cs (suc j) i (omega arith) o) f) ]
 
   pub finds-overOf : (r : Finding) → Finds cs r → r ≡ overOf n cs
   finds-overOf r h = finds-one r (overOf n cs) h overOf-finds

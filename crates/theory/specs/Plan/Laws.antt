@@ -1,16 +1,16 @@
 -- The engine's plan: it is a maximal list of merges, and the only one whose every step is the first open merge. Assumes nothing.
-use mathlib.Core.Path.{_≡_, refl, sym, ap, ap₂, _∙_, subst}
+use mathlib.Core.Path.{_≡_, refl, sym, ap, ap₂, subst}
 use mathlib.Core.Logic.{inl, inr}
-use mathlib.Core.List.{List, [], _∷_, map}
+use mathlib.Core.List.{List, [], _∷_}
 use mathlib.Core.Option.{Option, none, some}
 use Prim.Native.Nat.{ℕ, zero, suc, _≤_, _<_}
 use native.Mathlib.Omega.{arith}
 use lib.ListN.{length}
 use Rattle.theory.specs.Constraints.{Pairs}
-use Rattle.theory.specs.Merge.{Merge, put, Valid, final, Ended, Maximal, left, joints}
+use Rattle.theory.specs.Merge.{Merge, put, Valid, final, Ended, Maximal, left}
 use Rattle.theory.specs.Merge.Count.{left-put, left-start}
 use Rattle.theory.specs.Plan.{firstOf, plan, planOf, ascending, NotAfter, First, IsPlan}
-use Rattle.theory.specs.Plan.Order.{merge-by, open-ascending, ascending-open, put-ascending, joint-ascending}
+use Rattle.theory.specs.Plan.Order.{merge-by}
 use Rattle.theory.specs.Plan.Search.{Found, found, nothing, first-found}
 
 -- ---- a plan by the relation
@@ -112,31 +112,3 @@ plan-of-maximal cs pairs = plan-maximal (planOf cs) cs (plan-of-is cs pairs)
 
 pub plan-of-one : (cs : List ℕ) → Pairs cs → (p : List Merge) → IsPlan cs p → planOf cs ≡ p
 plan-of-one cs pairs p e = plan-one (planOf cs) p cs (plan-of-is cs pairs) e
-
--- ---- a list of merges with the numbers of each in any order
-
-pub valid-ascending : (p : List Merge) (s : List ℕ) → Valid s p → Valid s (map ascending p)
-valid-ascending [] s v = tt
-valid-ascending (m ∷ p) s v =
-    (open-ascending s m (v .0), subst (λ (t : List ℕ). Valid t (map ascending p)) (sym (put-ascending s m)) (valid-ascending p (put s m) (v .1)))
-
-pub ascending-valid : (p : List Merge) (s : List ℕ) → Valid s (map ascending p) → Valid s p
-ascending-valid [] s v = tt
-ascending-valid (m ∷ p) s v =
-    (ascending-open s m (v .0), ascending-valid p (put s m) (subst (λ (t : List ℕ). Valid t (map ascending p)) (put-ascending s m) (v .1)))
-
-pub final-ascending : (p : List Merge) (s : List ℕ) → final s (map ascending p) ≡ final s p
-final-ascending [] s = refl
-final-ascending (m ∷ p) s = ap (λ (t : List ℕ). final t (map ascending p)) (put-ascending s m) ∙ final-ascending p (put s m)
-
-pub joints-ascending : (p : List Merge) (s : List ℕ) → joints s (map ascending p) ≡ joints s p
-unfolding joints
-joints-ascending [] s = refl
-joints-ascending (m ∷ p) s =
-    ap₂ _∷_ (joint-ascending s m) (ap (λ (t : List ℕ). joints t (map ascending p)) (put-ascending s m) ∙ joints-ascending p (put s m))
-
-pub maximal-ascending : (p : List Merge) (s : List ℕ) → Maximal s p → Maximal s (map ascending p)
-maximal-ascending p s m = record { valid = valid-ascending p s (m .valid); ended = subst Ended (sym (final-ascending p s)) (m .ended) }
-
-pub ascending-maximal : (p : List Merge) (s : List ℕ) → Maximal s (map ascending p) → Maximal s p
-ascending-maximal p s m = record { valid = ascending-valid p s (m .valid); ended = subst Ended (final-ascending p s) (m .ended) }

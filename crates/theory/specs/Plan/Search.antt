@@ -1,6 +1,6 @@
 -- The search for the first open merge finds it, or there is none. Assumes nothing.
 use mathlib.Core.Path.{_≡_, refl, sym, _∙_, subst}
-use mathlib.Core.Logic.{_⊎_, inl, inr}
+use mathlib.Core.Logic.{inl, inr}
 use mathlib.Core.List.{List, [], _∷_}
 use mathlib.Core.Bool.{Bool, true, false, not}
 use mathlib.Core.Option.{Option, none, some}
@@ -91,11 +91,10 @@ second (b ∷ s) a i k = go (thirdOf a b (suc k) s) (third s a b (suc k)) (secon
         after : (y : ℕ) → 0 < y → Open a b (slot (b ∷ s) y) → suc n ≤ y
         after zero m g = absurd (omega arith)
         after (suc y) m g = omega (arith, l y g)
-    go t (nothing l) o (found p q r e m h f g) = found (suc p) (suc q) r (e ∙ shift) (omega arith) h (λ x. front x) (λ y. after y)
+    go t (nothing l) o (found p q r e m h f g) =
+        let shift : merge i (suc k + p) (suc k + q) ≡ merge i (k + suc p) (k + suc q) = merge-by (omega arith) (omega arith) (omega arith) in
+        found (suc p) (suc q) r (e ∙ shift) (omega arith) h (λ x. front x) (λ y. after y)
       where
-        shift : merge i (suc k + p) (suc k + q) ≡ merge i (k + suc p) (k + suc q)
-        shift = merge-by (omega arith) (omega arith) (omega arith)
-
         front : (x y : ℕ) → x < y → Open a (slot (b ∷ s) x) (slot (b ∷ s) y) → suc p ≤ x
         front zero zero d v = absurd (omega arith)
         front zero (suc y) d v = absurd (l y v)
@@ -128,11 +127,9 @@ whole (a ∷ s) k = go (secondOf a k (suc k) s) (second s a k (suc k)) (firstOf 
     go : (t : Option Merge) → Second a k (suc k) s t → (o : Option Merge) → Whole (suc k) s o
         → Whole k (a ∷ s) (elim t [ some m ↦ some m | none ↦ o ])
     go t (found p q r e l h f g) w v =
+        let shift : merge k (suc k + p) (suc k + q) ≡ merge (k + 0) (k + suc p) (k + suc q) = merge-by (omega arith) (omega arith) (omega arith) in
         found 0 (suc p) (suc q) r (e ∙ shift) (omega arith) (omega arith) h (λ x y z b c d. omega arith) (λ y. middle y) (λ z. after z)
       where
-        shift : merge k (suc k + p) (suc k + q) ≡ merge (k + 0) (k + suc p) (k + suc q)
-        shift = merge-by (omega arith) (omega arith) (omega arith)
-
         middle : (y z : ℕ) → 0 < y → y < z → Open a (slot (a ∷ s) y) (slot (a ∷ s) z) → suc p ≤ y
         middle zero z b c d = absurd (omega arith)
         middle (suc y) zero b c d = absurd (omega arith)
@@ -142,11 +139,9 @@ whole (a ∷ s) k = go (secondOf a k (suc k) s) (second s a k (suc k)) (firstOf 
         after zero b d = absurd (omega arith)
         after (suc z) b d = omega (arith, g z (omega arith) d)
     go t (nothing l) w (found o p q r e b c h f g d) =
+        let shift : merge (suc k + o) (suc k + p) (suc k + q) ≡ merge (k + suc o) (k + suc p) (k + suc q) = merge-by (omega arith) (omega arith) (omega arith) in
         found (suc o) (suc p) (suc q) r (e ∙ shift) (omega arith) (omega arith) h (λ x. front x) (λ y. middle y) (λ z. after z)
       where
-        shift : merge (suc k + o) (suc k + p) (suc k + q) ≡ merge (k + suc o) (k + suc p) (k + suc q)
-        shift = merge-by (omega arith) (omega arith) (omega arith)
-
         front : (x y z : ℕ) → x < y → y < z → Open (slot (a ∷ s) x) (slot (a ∷ s) y) (slot (a ∷ s) z) → suc o ≤ x
         front x zero z m n v = absurd (omega arith)
         front x (suc y) zero m n v = absurd (omega arith)
@@ -197,14 +192,15 @@ first-found s = go (firstOf 0 s) (whole s 0)
         place : (q : Merge) → q .i < q .j → q .j < q .k → Open (slot s (q .i)) (slot s (q .j)) (slot s (q .k)) → Dec (q .i ≡ x) → Dec (q .j ≡ y)
             → NotAfter (merge x y z) q
         place q l m o (no n) v = inl (omega (arith, f (q .i) (q .j) (q .k) l m o, n))
-        place q l m o (yes p) v = inr (sym p, second′ v)
-          where
-            o1 : Open (slot s x) (slot s (q .j)) (slot s (q .k))
-            o1 = subst (λ (w : ℕ). Open (slot s w) (slot s (q .j)) (slot s (q .k))) p o
-
-            second′ : Dec (q .j ≡ y) → (y < q .j) ⊎ ((y ≡ q .j) × (z ≤ q .k))
-            second′ (no n) = inl (omega (arith, g (q .j) (q .k) (omega arith) m o1, n))
-            second′ (yes r) = inr (sym r, d (q .k) (omega arith) (subst (λ (w : ℕ). Open (slot s x) (slot s w) (slot s (q .k))) r o1))
+        place q l m o (yes p) v =
+            let o1 : Open (slot s x) (slot s (q .j)) (slot s (q .k)) = subst (λ (w : ℕ). Open (slot s w) (slot s (q .j)) (slot s (q .k))) p o in
+            inr (
+              sym p,
+              elim v [
+                | no n ↦ inl (omega (arith, g (q .j) (q .k) (omega arith) m o1, n))
+                | yes r ↦ inr (sym r, d (q .k) (omega arith) (subst (λ (w : ℕ). Open (slot s x) (slot s w) (slot s (q .k))) r o1))
+              ],
+            )
     go w (nothing f) = nothing (λ m o.
         let l = ascends m (o .i≢j) (o .j≢k) (o .i≢k) in
         f (ascending m .i) (ascending m .j) (ascending m .k) (l .0) (l .1) (open-ascending s m o .open3))

@@ -235,13 +235,10 @@ some = bin-ind (λ (a : ℕ). 1 ≤ ones a → (x : ℕ) × (at x a ≡ 1)) (λ 
 pub two : (a : ℕ) → 2 ≤ ones a → (x y : ℕ) × (x < y) × (at x a ≡ 1) × (at y a ≡ 1)
 unfolding at
 two =
-    bin-ind (λ (a : ℕ). 2 ≤ ones a → (x y : ℕ) × (x < y) × (at x a ≡ 1) × (at y a ≡ 1)) (λ h. absurd (omega (arith, size-zero)))
-    (λ a ih h. go a ih h (ℕ-discrete (a % 2) 1))
-  where
-    go : (a : ℕ) → (2 ≤ ones (a / 2) → (x y : ℕ) × (x < y) × (at x (a / 2) ≡ 1) × (at y (a / 2) ≡ 1)) → 2 ≤ ones a → Dec (a % 2 ≡ 1)
-        → (x y : ℕ) × (x < y) × (at x a ≡ 1) × (at y a ≡ 1)
-    go a ih h (yes e) = let r = some (a / 2) (omega (arith, ones-step a)) in (zero, suc (r .0), omega arith, e, r .1)
-    go a ih h (no n) = let r = ih (omega (arith, ones-step a)) in (suc (r .0), suc (r .1), omega (arith, r .2), r .3, r .4)
+    bin-ind (λ (a : ℕ). 2 ≤ ones a → (x y : ℕ) × (x < y) × (at x a ≡ 1) × (at y a ≡ 1)) (λ h. absurd (omega (arith, size-zero))) (λ a ih h. elim (ℕ-discrete (a % 2) 1) [
+      | yes e ↦ let r = some (a / 2) (omega (arith, ones-step a)) in (zero, suc (r .0), omega arith, e, r .1)
+      | no n ↦ let r = ih (omega (arith, ones-step a)) in (suc (r .0), suc (r .1), omega (arith, r .2), r .3, r .4)
+    ])
 
 pub other : (a y : ℕ) → 2 ≤ ones a → (x : ℕ) × (at x a ≡ 1) × (x ≢ y)
 other a y h = go (ℕ-discrete (two a h .0) y)
@@ -252,29 +249,29 @@ other a y h = go (ℕ-discrete (two a h .0) y)
 
 -- adding an element
 pub size-add : (a x : ℕ) → at x a ≡ 0 → ones (2 ^ x ∪ a) ≡ suc (ones a)
-size-add a x e = omega (arith, size-or (2 ^ x) a, size-pow x, ap ones apart, size-zero)
-  where
-    digit : (y : ℕ) → Dec (y ≡ x) → at y (2 ^ x ∩ a) ≡ at y zero
-    digit y (yes p) = omega (arith, at-and y (2 ^ x) a, at-zero y, ap (λ (z : ℕ). at z a) p)
-    digit y (no n) = omega (arith, at-and y (2 ^ x) a, at-zero y, at-other y x n)
-
-    apart : 2 ^ x ∩ a ≡ zero
-    apart = ext (2 ^ x ∩ a) zero (λ y. digit y (ℕ-discrete y x))
+size-add a x e =
+    let apart : 2 ^ x ∩ a ≡ zero = ext (2 ^ x ∩ a) zero (λ y. elim (ℕ-discrete y x) [
+      | yes p ↦ omega (arith, at-and y (2 ^ x) a, at-zero y, ap (λ (z : ℕ). at z a) p)
+      | no n ↦ omega (arith, at-and y (2 ^ x) a, at-zero y, at-other y x n)
+    ]) in omega (arith, size-or (2 ^ x) a, size-pow x, ap ones apart, size-zero)
 
 -- two different elements make two or more
 pub two-in : (a x y : ℕ) → at x a ≡ 1 → at y a ≡ 1 → x ≢ y → 2 ≤ ones a
 two-in a x y p q n =
     omega (
       arith,
-      size-le a (2 ^ x ∪ 2 ^ y) (record { le = λ z. digit z (ℕ-discrete z x) (ℕ-discrete z y) }),
+      size-le a (2 ^ x ∪ 2 ^ y) (record {
+        le = λ z. elim (ℕ-discrete z x) [
+          | yes e ↦ omega (arith, ap (λ (w : ℕ). at w a) e, at-le z (2 ^ x ∪ 2 ^ y))
+          | no m ↦ elim (ℕ-discrete z y) [
+            | yes e ↦ omega (arith, ap (λ (w : ℕ). at w a) e, at-le z (2 ^ x ∪ 2 ^ y))
+            | no k ↦ omega (arith, at-or z (2 ^ x) (2 ^ y), at-other z x m, at-other z y k)
+          ]
+        ];
+      }),
       size-add (2 ^ y) x (at-other x y n),
       size-pow y,
     )
-  where
-    digit : (z : ℕ) → Dec (z ≡ x) → Dec (z ≡ y) → at z (2 ^ x ∪ 2 ^ y) ≤ at z a
-    digit z (yes e) d = omega (arith, ap (λ (w : ℕ). at w a) e, at-le z (2 ^ x ∪ 2 ^ y))
-    digit z (no m) (yes e) = omega (arith, ap (λ (w : ℕ). at w a) e, at-le z (2 ^ x ∪ 2 ^ y))
-    digit z (no m) (no k) = omega (arith, at-or z (2 ^ x) (2 ^ y), at-other z x m, at-other z y k)
 
 pub both : (x a b : ℕ) → at x a ≡ 1 → at x b ≡ 1 → at x (a ∩ b) ≡ 1
 both x a b p q = omega (arith, at-and x a b)
@@ -283,11 +280,7 @@ pub in-both : (x a b : ℕ) → at x (a ∩ b) ≡ 1 → (at x a ≡ 1) × (at x
 in-both x a b e = (omega (arith, at-and x a b, at-le x a, at-le x b), omega (arith, at-and x a b, at-le x a, at-le x b))
 
 pub in-either : (x a b : ℕ) → at x (a ∪ b) ≡ 1 → (at x a ≡ 1) ⊎ (at x b ≡ 1)
-in-either x a b e = go (ℕ-discrete (at x a) 1)
-  where
-    go : Dec (at x a ≡ 1) → (at x a ≡ 1) ⊎ (at x b ≡ 1)
-    go (yes p) = inl p
-    go (no n) = inr (omega (arith, at-or x a b, at-le x a, at-le x b))
+in-either x a b e = elim (ℕ-discrete (at x a) 1) [ yes p ↦ inl p | no n ↦ inr (omega (arith, at-or x a b, at-le x a, at-le x b)) ]
 
 pub or-left : (x a b : ℕ) → at x a ≡ 1 → at x (a ∪ b) ≡ 1
 or-left x a b e = omega (arith, at-or x a b, at-le x b)
@@ -322,11 +315,8 @@ element a n = by (ones a) refl
     by (suc k) e = some a (omega arith)
 
 pub counted : (a p : ℕ) → at p a ≡ 1 → 1 ≤ ones a
-counted a p e = by (ones a) refl
-  where
-    by : (k : ℕ) → ones a ≡ k → 1 ≤ ones a
-    by zero z = absurd (filled a p e (size-none a z))
-    by (suc k) z = omega arith
+counted a p e =
+    elim (ones a) as (λ (k : ℕ). ones a ≡ k → 1 ≤ ones a) [ zero ↦ λ z. absurd (filled a p e (size-none a z)) | suc k ↦ λ z. omega arith ] refl
 
 -- two sets that share an element meet
 pub meets : (a b p : ℕ) → at p a ≡ 1 → at p b ≡ 1 → a ∩ b ≢ 0
@@ -334,16 +324,9 @@ meets a b p i j = filled (a ∩ b) p (both p a b i j)
 
 -- an element not in a set
 pub out : (p a : ℕ) → (at p a ≡ 1 → ⊥) → at p a ≡ 0
-out p a n = by (ℕ-discrete (at p a) 1)
-  where
-    by : Dec (at p a ≡ 1) → at p a ≡ 0
-    by (yes e) = absurd (n e)
-    by (no m) = omega (arith, at-le p a)
+out p a n = elim (ℕ-discrete (at p a) 1) [ yes e ↦ absurd (n e) | no m ↦ omega (arith, at-le p a) ]
 
 -- two single sets with an element in common are one
 pub same-single : (a b p : ℕ) → ones a ≡ 1 → ones b ≡ 1 → at p a ≡ 1 → at p b ≡ 1 → a ≡ b
-same-single a b p ea eb ia ib = by (ℕ-discrete a b)
-  where
-    by : Dec (a ≡ b) → a ≡ b
-    by (yes e) = e
-    by (no n) = absurd (omega (arith, singles-apart a b ea eb n, counted (a ∩ b) p (both p a b ia ib)))
+same-single a b p ea eb ia ib =
+    elim (ℕ-discrete a b) [ yes e ↦ e | no n ↦ absurd (omega (arith, singles-apart a b ea eb n, counted (a ∩ b) p (both p a b ia ib))) ]

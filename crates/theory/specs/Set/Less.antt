@@ -13,13 +13,12 @@ use Rattle.theory.specs.Set.Laws.{at-and, at-or, at-le, at-zero, at-div,
 
 -- an element of a set below 2 ^ n is below n
 pub at-below : (n x a : ℕ) → a < 2 ^ n → at x a ≡ 1 → x < n
-at-below n x a l e = go (decLt x n)
-  where
-    go : Dec (x < n) → x < n
-    go (yes h) = h
-    go (no h) =
-        let p : 2 ^ n ≤ 2 ^ x = pow-le-pow-right (zero-lt-suc 1) (omega arith) in
-        absurd (omega (arith, at-div x a, ap (λ (z : ℕ). z % 2) (div-eq-of-lt (lt-of-lt-of-le l p)), zero-mod 2))
+at-below n x a l e =
+    elim (decLt x n) [
+      | yes h ↦ h
+      | no h ↦ let p : 2 ^ n ≤ 2 ^ x = pow-le-pow-right (zero-lt-suc 1) (omega arith) in
+          absurd (omega (arith, at-div x a, ap (λ (z : ℕ). z % 2) (div-eq-of-lt (lt-of-lt-of-le l p)), zero-mod 2))
+    ]
 
 -- a part of a set below 2 ^ n is below 2 ^ n
 pub sub-below : (n a b : ℕ) → a ⊑ b → b < 2 ^ n → a < 2 ^ n
@@ -75,16 +74,13 @@ less-sub x a e = record { le = λ y. go y (ℕ-discrete y x) }
 
 -- what is left of a set, in another that holds the element too
 pub less-and : (x a b : ℕ) → at x a ≡ 1 → at x b ≡ 1 → (a - 2 ^ x) ∩ b ≡ (a ∩ b) - 2 ^ x
-less-and x a b e f = ext ((a - 2 ^ x) ∩ b) ((a ∩ b) - 2 ^ x) (λ y. go y (ℕ-discrete y x))
-  where
-    here : at x (a ∩ b) ≡ 1
-    here = omega (arith, at-and x a b)
-
-    go : (y : ℕ) → Dec (y ≡ x) → at y ((a - 2 ^ x) ∩ b) ≡ at y ((a ∩ b) - 2 ^ x)
-    go y (yes q) =
-        subst (λ (z : ℕ). at z ((a - 2 ^ x) ∩ b) ≡ at z ((a ∩ b) - 2 ^ x)) (sym q)
-        (omega (arith, at-and x (a - 2 ^ x) b, less-same x a e, less-same x (a ∩ b) here))
-    go y (no n) = omega (arith, at-and y (a - 2 ^ x) b, at-and y a b, less-other x y a e n, less-other x y (a ∩ b) here n)
+less-and x a b e f =
+    let here : at x (a ∩ b) ≡ 1 = omega (arith, at-and x a b) in
+    ext ((a - 2 ^ x) ∩ b) ((a ∩ b) - 2 ^ x) (λ y. elim (ℕ-discrete y x) [
+      | yes q ↦ subst (λ (z : ℕ). at z ((a - 2 ^ x) ∩ b) ≡ at z ((a ∩ b) - 2 ^ x)) (sym q)
+          (omega (arith, at-and x (a - 2 ^ x) b, less-same x a e, less-same x (a ∩ b) here))
+      | no n ↦ omega (arith, at-and y (a - 2 ^ x) b, at-and y a b, less-other x y a e n, less-other x y (a ∩ b) here n)
+    ])
 
 -- and in one that has not got it
 pub less-out : (x a b : ℕ) → at x a ≡ 1 → at x b ≡ 0 → (a - 2 ^ x) ∩ b ≡ a ∩ b
@@ -96,13 +92,12 @@ less-out x a b e z = ext ((a - 2 ^ x) ∩ b) (a ∩ b) (λ y. go y (ℕ-discrete
 
 -- put back
 pub less-or : (x a : ℕ) → at x a ≡ 1 → 2 ^ x ∪ (a - 2 ^ x) ≡ a
-less-or x a e = ext (2 ^ x ∪ (a - 2 ^ x)) a (λ y. go y (ℕ-discrete y x))
-  where
-    go : (y : ℕ) → Dec (y ≡ x) → at y (2 ^ x ∪ (a - 2 ^ x)) ≡ at y a
-    go y (yes q) =
-        subst (λ (z : ℕ). at z (2 ^ x ∪ (a - 2 ^ x)) ≡ at z a) (sym q)
-        (omega (arith, at-or x (2 ^ x) (a - 2 ^ x), at-same x, less-same x a e))
-    go y (no n) = omega (arith, at-or y (2 ^ x) (a - 2 ^ x), at-other y x n, less-other x y a e n)
+less-or x a e =
+    ext (2 ^ x ∪ (a - 2 ^ x)) a (λ y. elim (ℕ-discrete y x) [
+      | yes q ↦ subst (λ (z : ℕ). at z (2 ^ x ∪ (a - 2 ^ x)) ≡ at z a) (sym q)
+          (omega (arith, at-or x (2 ^ x) (a - 2 ^ x), at-same x, less-same x a e))
+      | no n ↦ omega (arith, at-or y (2 ^ x) (a - 2 ^ x), at-other y x n, less-other x y a e n)
+    ])
 
 pub size-less : (x a : ℕ) → at x a ≡ 1 → suc (ones (a - 2 ^ x)) ≡ ones a
 size-less x a e = sym (size-add (a - 2 ^ x) x (less-same x a e)) ∙ ap ones (less-or x a e)
@@ -141,18 +136,13 @@ trailing-at (suc k) a h l = go (a % 2) refl (λ z. trailing-at k (a / 2) (omega 
 -- a set without its lowest element
 pub drop-low : (a : ℕ) → 0 < a → suc (ones (bitAnd a (a - 1))) ≡ ones a
 drop-low =
-    bin-ind (λ (a : ℕ). 0 < a → suc (ones (bitAnd a (a - 1))) ≡ ones a) (λ h. absurd (omega arith))
-    (λ a ih h. go a ih h (ℕ-discrete (a % 2) 1))
-  where
-    go : (a : ℕ) → (0 < a / 2 → suc (ones (bitAnd (a / 2) (a / 2 - 1))) ≡ ones (a / 2)) → 0 < a → Dec (a % 2 ≡ 1)
-        → suc (ones (bitAnd a (a - 1))) ≡ ones a
-    go a ih h (yes e) =
-        let half : (a - 1) / 2 ≡ a / 2 = omega arith in
-        let b : ℕ = bitAnd a (a - 1) in
-        let s : b / 2 ≡ a / 2 = omega (arith, and-step a (a - 1), ap (bitAnd (a / 2)) half ∙ and-self (a / 2)) in
-        omega (arith, ones-step a, ones-step b, ap ones s, and-step a (a - 1))
-    go a ih h (no n) =
-        let half : (a - 1) / 2 ≡ a / 2 - 1 = omega arith in
-        let b : ℕ = bitAnd a (a - 1) in
-        let s : b / 2 ≡ bitAnd (a / 2) (a / 2 - 1) = omega (arith, and-step a (a - 1), ap (bitAnd (a / 2)) half) in
-        omega (arith, ones-step a, ones-step b, ap ones s, and-step a (a - 1), ih (omega arith))
+    bin-ind (λ (a : ℕ). 0 < a → suc (ones (bitAnd a (a - 1))) ≡ ones a) (λ h. absurd (omega arith)) (λ a ih h. elim (ℕ-discrete (a % 2) 1) [
+      | yes e ↦ let half : (a - 1) / 2 ≡ a / 2 = omega arith in
+          let b : ℕ = bitAnd a (a - 1) in
+          let s : b / 2 ≡ a / 2 = omega (arith, and-step a (a - 1), ap (bitAnd (a / 2)) half ∙ and-self (a / 2)) in
+          omega (arith, ones-step a, ones-step b, ap ones s, and-step a (a - 1))
+      | no n ↦ let half : (a - 1) / 2 ≡ a / 2 - 1 = omega arith in
+          let b : ℕ = bitAnd a (a - 1) in
+          let s : b / 2 ≡ bitAnd (a / 2) (a / 2 - 1) = omega (arith, and-step a (a - 1), ap (bitAnd (a / 2)) half) in
+          omega (arith, ones-step a, ones-step b, ap ones s, and-step a (a - 1), ih (omega arith))
+    ])

@@ -12,10 +12,7 @@ use Rattle.theory.specs.Set.Laws.{at-and, at-zero}
 
 pub at-below : (k x p : ℕ) → x < 2 ^ k → at p x ≡ 1 → p < k
 unfolding at
-at-below zero x p l e = absurd (omega (arith, ap (at p) z, at-zero p))
-  where
-    z : x ≡ 0
-    z = omega arith
+at-below zero x p l e = let z : x ≡ 0 = omega arith in absurd (omega (arith, ap (at p) z, at-zero p))
 at-below (suc k) x zero l e = omega arith
 at-below (suc k) x (suc p) l e = omega (arith, at-below k (x / 2) p (omega arith) e)
 
@@ -36,12 +33,12 @@ lowest-below k x l n = at-below k x (trailingZeros k x) l (lowest-in k x l n)
 rest-gone : (k x : ℕ) → x < 2 ^ k → x ≢ 0 → at (trailingZeros k x) (x - 1) ≡ 0
 unfolding at trailingZeros
 rest-gone zero x l n = absurd (n (omega arith))
-rest-gone (suc k) x l n = go (x % 2) refl (rest-gone k (x / 2))
-  where
-    go : (d : ℕ) → x % 2 ≡ d → (x / 2 < 2 ^ k → x / 2 ≢ 0 → at (trailingZeros k (x / 2)) (x / 2 - 1) ≡ 0)
-        → at (under d (trailingZeros k (x / 2))) (x - 1) ≡ 0
-    go zero e ih = let h : (x - 1) / 2 ≡ x / 2 - 1 = omega arith in ap (at (trailingZeros k (x / 2))) h ∙ ih (omega arith) (λ z. n (omega arith))
-    go (suc d) e ih = omega arith
+rest-gone (suc k) x l n =
+    elim (x % 2) as (λ (d : ℕ). x % 2 ≡ d → at (under d (trailingZeros k (x / 2))) (x - 1) ≡ 0) [
+      | zero ↦ λ e. let h : (x - 1) / 2 ≡ x / 2 - 1 = omega arith in
+          ap (at (trailingZeros k (x / 2))) h ∙ rest-gone k (x / 2) (omega arith) (λ z. n (omega arith))
+      | suc d ↦ λ e. omega arith
+    ] refl
 
 rest-kept : (k x y : ℕ) → x < 2 ^ k → x ≢ 0 → y ≢ trailingZeros k x → min (at y x) (at y (x - 1)) ≡ at y x
 unfolding at trailingZeros

@@ -21,20 +21,10 @@ unfolding sum
 sum-zero zero f h = refl
 sum-zero (suc n) f h = omega (arith, sum-zero n f (λ i k. h i (le-step k)), h n (lt-suc-self n))
 
-pub sum-add : (n : ℕ) (f g : ℕ → ℕ) → sum n (λ i. f i + g i) ≡ sum n f + sum n g
-unfolding sum
-sum-add zero f g = refl
-sum-add (suc n) f g = omega (arith, sum-add n f g)
-
 pub sum-mul : (n a : ℕ) (f : ℕ → ℕ) → sum n (λ i. a * f i) ≡ a * sum n f
 unfolding sum
 sum-mul zero a f = sym (mul-zero a)
 sum-mul (suc n) a f = omega (arith, sum-mul n a f, mul-add a (sum n f) (f n))
-
-pub sum-swap : (n m : ℕ) (f : ℕ → ℕ → ℕ) → sum n (λ i. sum m (f i)) ≡ sum m (λ j. sum n (λ i. f i j))
-unfolding sum
-sum-swap zero m f = sym (sum-zero m (λ j. 0) (λ j k. refl))
-sum-swap (suc n) m f = omega (arith, sum-swap n m f, sum-add m (λ j. sum n (λ i. f i j)) (f n))
 
 -- one term, and two
 pub sum-at : (n : ℕ) (f : ℕ → ℕ) (i : ℕ) → i < n → f i ≤ sum n f

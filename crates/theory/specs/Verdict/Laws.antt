@@ -23,12 +23,11 @@ use Rattle.theory.specs.declared.Verdict.the-variants.{Over, Angle, Well
 angled-some : (lines : ℕ) (js : List ℕ) → T (angled lines js) → (x : ℕ) × Among x js × T (allLines lines x)
 unfolding angled
 angled-some lines [] t = absurd t
-angled-some lines (j ∷ js) t = go (allLines lines j) refl t (angled-some lines js)
-  where
-    go : (b : Bool) → allLines lines j ≡ b → T (b || angled lines js) → (T (angled lines js) → (x : ℕ) × Among x js × T (allLines lines x))
-        → (x : ℕ) × Among x (j ∷ js) × T (allLines lines x)
-    go true e t ih = (j, inl refl, subst T (sym e) tt)
-    go false e t ih = let r = ih t in (r .0, inr (r .1), r .2)
+angled-some lines (j ∷ js) t =
+    elim (allLines lines j) as (λ (b : Bool). allLines lines j ≡ b → T (b || angled lines js) → (x : ℕ) × Among x (j ∷ js) × T (allLines lines x)) [
+      | true ↦ λ e t. (j, inl refl, subst T (sym e) tt)
+      | false ↦ λ e t. let r = angled-some lines js t in (r .0, inr (r .1), r .2)
+    ] refl t
 
 some-angled : (lines : ℕ) (js : List ℕ) (x : ℕ) → Among x js → T (allLines lines x) → T (angled lines js)
 unfolding angled
@@ -38,11 +37,8 @@ some-angled lines (j ∷ js) x (inl e) t = go (allLines lines j) (subst (λ (z :
     go : (b : Bool) → T b → T (b || angled lines js)
     go true t = tt
     go false t = absurd t
-some-angled lines (j ∷ js) x (inr i) t = go (allLines lines j) (some-angled lines js x i t)
-  where
-    go : (b : Bool) → T (angled lines js) → T (b || angled lines js)
-    go true t = tt
-    go false t = t
+some-angled lines (j ∷ js) x (inr i) t =
+    let t = some-angled lines js x i t in elim (allLines lines j) as (λ (b : Bool). T (b || angled lines js)) [ true ↦ tt | false ↦ t ]
 
 -- some joint is three lines
 pub angled-is : (lines : ℕ) (js : List ℕ) → T (angled lines js) → Angled lines js

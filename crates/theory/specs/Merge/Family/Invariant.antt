@@ -1,19 +1,18 @@
 -- A good family: each set carries exactly 2m-3 constraints and no constraint lies in two. A merge leaves a good family, and in one two sets
 -- share at most one element. Assumes nothing.
 use mathlib.Core.Path.{_≡_, refl, sym, ap, _∙_, subst}
-use mathlib.Core.Logic.{_≢_, _⊎_, inl, inr}
+use mathlib.Core.Logic.{_≢_, inl, inr}
 use mathlib.Core.List.{List}
 use Prim.Native.Nat.{ℕ, zero, _+_, _*_, _≤_}
 use native.Mathlib.Omega.{arith}
-use native.Mathlib.Decide.{ℕ-discrete, decLe}
+use native.Mathlib.Decide.{ℕ-discrete}
 use lib.Count.{ones}
 use Rattle.theory.specs.Tests.{one-of}
 use Rattle.theory.specs.Merge.{Three, union}
 use Rattle.theory.specs.Set.{_∩_, _∪_, _⊑_}
-use Rattle.theory.specs.Set.Laws.{size-or, size-le, or-l, and-r, and-comm, sub-and, size-eq, and-l}
-use Rattle.theory.specs.Constraints.{carried, NotOver, Among, Pairs}
-use Rattle.theory.specs.Constraints.Laws.{carried-mono, carried-two, carried-four, inside, Has, outside, has-dec, carried-pos, carried-small}
-use Rattle.theory.specs.Constraints.Laws.{pairs-share}
+use Rattle.theory.specs.Set.Laws.{size-or, size-le, or-l, and-r, and-comm, sub-and}
+use Rattle.theory.specs.Constraints.{carried, NotOver, Pairs}
+use Rattle.theory.specs.Constraints.Laws.{carried-mono, carried-two, carried-four, carried-pos, carried-small, pairs-share}
 use Rattle.theory.specs.Merge.Threes.{part-a, part-b, part-c, size-union}
 use Rattle.theory.specs.Merge.Family.{In, after, start, Fam, Same, OpenIn, Good}
 
@@ -68,16 +67,14 @@ module _ (cs : List ℕ) (fine : NotOver cs) where
         (omega arith, omega arith)
 
     pub union-new : F (union t) → ⊥
-    union-new fu = go (ℕ-discrete (t .a) (union t)) (ℕ-discrete (t .b) (union t))
+    union-new fu =
+        elim (ℕ-discrete (t .a) (union t)) [
+          | yes p ↦ elim (ℕ-discrete (t .b) (union t)) [ yes q ↦ a≢b (p ∙ sym q) | no n ↦ two (t .b) (m .inb) (part-b t) n ]
+          | no n ↦ elim (ℕ-discrete (t .b) (union t)) [ yes q ↦ two (t .a) (m .ina) (part-a t) n | no k ↦ two (t .a) (m .ina) (part-a t) n ]
+        ]
       where
         two : (x : ℕ) → F x → x ⊑ union t → x ≢ union t → ⊥
         two x fx h ne = omega (arith, share g x (union t) fx fu ne, ap ones (sub-and x (union t) h), big g x fx)
-
-        go : Dec (t .a ≡ union t) → Dec (t .b ≡ union t) → ⊥
-        go (yes p) (yes q) = a≢b (p ∙ sym q)
-        go (yes p) (no n) = two (t .b) (m .inb) (part-b t) n
-        go (no n) (yes q) = two (t .a) (m .ina) (part-a t) n
-        go (no n) (no k) = two (t .a) (m .ina) (part-a t) n
 
     sub-none : (x y : ℕ) → x ⊑ y → carried cs y ≡ zero → carried cs x ≡ zero
     sub-none x y h e = omega (arith, carried-mono cs x y h)
@@ -117,28 +114,3 @@ among-good cs p fine = record {
   tight = λ x h. omega (arith, p x h, carried-pos cs x h, fine x (omega (arith, p x h)));
   apart = λ x y h k ne. carried-small cs p (x ∩ y) (pairs-share x y (p x h) (p y k) ne);
 }
-
--- the constraints of a union are those of its parts
-pub inherit : (cs : List ℕ) → Pairs cs → (fine : NotOver cs) {F : Fam} → Good cs F → (t : Three) → OpenIn F t → (c : ℕ) → Among c cs → c ⊑ union t
-    → (c ⊑ t .a) ⊎ (c ⊑ t .b) ⊎ (c ⊑ t .c)
-unfolding Pairs
-inherit cs pairs fine g t m c i h = go (has-dec c (t .a)) (has-dec c (t .b)) (has-dec c (t .c))
-  where
-    none : (x : ℕ) → (c ⊑ x → ⊥) → carried cs (x ∩ c) ≡ zero
-    none x n = carried-small cs pairs (x ∩ c) (at-most (decLe 2 (ones (x ∩ c))))
-      where
-        at-most : Dec (2 ≤ ones (x ∩ c)) → ones (x ∩ c) ≤ 1
-        at-most (yes k) = absurd (n (subst (λ (z : ℕ). z ⊑ x) (size-eq c (x ∩ c) (and-r x c) (omega (arith, pairs c i))) (and-l x c)))
-        at-most (no k) = omega arith
-
-    go : Has c (t .a) → Has c (t .b) → Has c (t .c) → (c ⊑ t .a) ⊎ (c ⊑ t .b) ⊎ (c ⊑ t .c)
-    go (inside p e) q r = inl p
-    go (outside n e) (inside p f) r = inr (inl p)
-    go (outside n e) (outside k f) (inside p z) = inr (inr p)
-    go (outside n e) (outside k f) (outside l z) =
-        absurd (omega (
-          arith,
-          union-tight cs fine g t m c (none (t .a) n) (none (t .b) k) (none (t .c) l) .1,
-          ap (carried cs) (and-comm (union t) c ∙ sub-and c (union t) h),
-          carried-pos cs c i,
-        ))

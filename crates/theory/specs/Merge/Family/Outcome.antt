@@ -1,19 +1,18 @@
 -- Every maximal list of merges of a sheet that is not over ends in the same clusters, with the same joints and the same number of steps; and
 -- more constraints never make a final cluster smaller. Assumes nothing.
 use mathlib.Core.Path.{_≡_, ap, _∙_, subst, refl, sym}
-use mathlib.Core.Logic.{_≢_, _⊎_, inl, inr, Iff·trans, _↔_, ⊎-elim, Iff·rfl}
+use mathlib.Core.Logic.{_⊎_, inl, inr, Iff·trans, _↔_, ⊎-elim, Iff·rfl}
 use mathlib.Core.List.{List, [], _∷_}
-use Prim.Native.Nat.{ℕ, _≤_, suc}
-use lib.Count.{ones}
-use Rattle.theory.specs.Set.{_∩_, _⊑_}
+use Prim.Native.Nat.{ℕ, suc}
+use Rattle.theory.specs.Set.{_⊑_}
 use Rattle.theory.specs.Set.Laws.{sub-refl, sub-trans}
 use Rattle.theory.specs.Constraints.{NotOver, Among, Pairs, Perm}
 use Rattle.theory.specs.Constraints.Laws.{among-perm}
 use Rattle.theory.specs.Merge.{Three, union, joint}
-use Rattle.theory.specs.Merge.Family.{start, jointsIn, Meeting, Fam, Same, OpenIn, Good, ValidIn, finalIn, EndedIn, AlikeIn, movedIn, coincide}
-use Rattle.theory.specs.Merge.Family.{commute, In, after}
+use Rattle.theory.specs.Merge.Family.{start, jointsIn, Fam, Same, OpenIn, Good, ValidIn, finalIn, EndedIn, AlikeIn, movedIn, coincide, commute}
+use Rattle.theory.specs.Merge.Family.{In, after}
 use Rattle.theory.specs.Merge.Family.Diamond.{meeting, Lift, together, opened, open-by, lift, union-least}
-use Rattle.theory.specs.Merge.Family.Invariant.{share, in-dec, in-union, good-after, among-good}
+use Rattle.theory.specs.Merge.Family.Invariant.{in-dec, in-union, good-after, among-good}
 use lib.ListN.{length}
 
 -- ---- only which sets live matters
@@ -62,27 +61,26 @@ module _ (cs : List ℕ) (fine : NotOver cs) where
   rest : (p : List Three) {F : Fam} → Good cs F → ValidIn F p → EndedIn (finalIn F p) → (s : Three) → OpenIn F s → Rest F p s
   unfolding EndedIn
   rest [] g v end s k = absurd (end s k)
-  rest (t ∷ p) {F} g v end s k = go (λ n. rest p (good-after cs fine g t (v .0)) (v .1) end (movedIn t s) n) (meeting cs fine g t (v .0) s k)
-    where
-      go : (OpenIn (after F t) (movedIn t s) → Rest (after F t) p (movedIn t s)) → Meeting F t s → Rest F (t ∷ p) s
-      go ih (coincide ins j same) = record {
-        plan = p;
-        valid = valid-same same p (v .1);
-        ends = final-same same p;
-        steps = refl;
-        same-joints = λ x. (⊎-elim (λ e. inl (e ∙ sym j)) inr, ⊎-elim (λ e. inl (e ∙ j)) inr);
-      }
-      go ih (commute n o js jt same) =
-          let r = ih n in record {
-            plan = movedIn s t ∷ r .plan;
-            valid = (o, valid-same same (r .plan) (r .valid));
-            ends = λ x. Iff·trans (r .ends x) (final-same same (r .plan) x);
-            steps = ap suc (r .steps);
-            same-joints = λ x. (
-              ⊎-elim (λ e. inr (inl (e ∙ sym jt))) (λ h. ⊎-elim (λ e. inl (e ∙ js)) (λ i. inr (inr i)) (r .same-joints x .0 h)),
-              ⊎-elim (λ e. inr (r .same-joints x .1 (inl (e ∙ sym js)))) (⊎-elim (λ e. inl (e ∙ jt)) (λ i. inr (r .same-joints x .1 (inr i)))),
-            );
-          }
+  rest (t ∷ p) {F} g v end s k =
+      elim (meeting cs fine g t (v .0) s k) [
+        | coincide ins j same ↦ record {
+          plan = p;
+          valid = valid-same same p (v .1);
+          ends = final-same same p;
+          steps = refl;
+          same-joints = λ x. (⊎-elim (λ e. inl (e ∙ sym j)) inr, ⊎-elim (λ e. inl (e ∙ j)) inr);
+        }
+        | commute n o js jt same ↦ let r = rest p (good-after cs fine g t (v .0)) (v .1) end (movedIn t s) n in record {
+          plan = movedIn s t ∷ r .plan;
+          valid = (o, valid-same same (r .plan) (r .valid));
+          ends = λ x. Iff·trans (r .ends x) (final-same same (r .plan) x);
+          steps = ap suc (r .steps);
+          same-joints = λ x. (
+            ⊎-elim (λ e. inr (inl (e ∙ sym jt))) (λ h. ⊎-elim (λ e. inl (e ∙ js)) (λ i. inr (inr i)) (r .same-joints x .0 h)),
+            ⊎-elim (λ e. inr (r .same-joints x .1 (inl (e ∙ sym js)))) (⊎-elim (λ e. inl (e ∙ jt)) (λ i. inr (r .same-joints x .1 (inr i)))),
+          );
+        }
+      ]
 
   pub unique : (q p : List Three) {F : Fam} → Good cs F → ValidIn F p → EndedIn (finalIn F p) → ValidIn F q → EndedIn (finalIn F q) → AlikeIn F F p q
   unfolding EndedIn
@@ -94,7 +92,8 @@ module _ (cs : List ℕ) (fine : NotOver cs) where
       record {
         finals = λ x. Iff·trans (r .ends x) (u .finals x);
         steps = r .steps ∙ ap suc (u .steps);
-        same-joints = λ x. Iff·trans (r .same-joints x) (⊎-elim inl (λ i. inr (u .same-joints x .0 i)), ⊎-elim inl (λ i. inr (u .same-joints x .1 i)));
+        same-joints =
+            λ x. Iff·trans (r .same-joints x) (⊎-elim inl (λ i. inr (u .same-joints x .0 i)), ⊎-elim inl (λ i. inr (u .same-joints x .1 i)));
       }
 
   -- whatever merges came before, the family is good
@@ -153,16 +152,6 @@ module _ (cs : List ℕ) (pairs : Pairs cs) (fine : NotOver cs) where
         steps = u .steps;
         same-joints = u .same-joints;
       }
-
-  -- either way round: after any number of merges two open merges are one three, or each is open once the other is made, the union standing in
-  -- for a cluster in common, with the joint it had; and after both the same clusters live
-  pub either-in : (p : List Three) → ValidIn (start cs) p → (t s : Three) → OpenIn (finalIn (start cs) p) t → OpenIn (finalIn (start cs) p) s
-      → Meeting (finalIn (start cs) p) t s
-  either-in p v t s m k = meeting cs fine (good-finalIn p v) t m s k
-
-  -- two living clusters never share two elements, whatever merges came before
-  pub never-two : (p : List Three) → ValidIn (start cs) p → (x y : ℕ) → finalIn (start cs) p x → finalIn (start cs) p y → x ≢ y → ones (x ∩ y) ≤ 1
-  never-two p v x y h k ne = share cs fine (good-finalIn p v) x y h k ne
 
   -- more constraints, never a smaller part: every cluster of any list of merges of a sheet with some of the constraints lies inside a final
   -- cluster of any maximal list of the whole
