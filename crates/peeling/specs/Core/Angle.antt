@@ -24,10 +24,9 @@ pub angle-more : (near : List ℕ) (lines v x : ℕ) (p : Peeled near v) (q : at
     → angled lines (corners (less x p q h)) ≡ (eqb (ones (corner near v x)) 3 && allLines lines (corner near v x)) || angled lines (corners p)
 unfolding corners angled
 angle-more near lines v x p q h =
-    elim (eqb (ones (corner near v x)) 3) as (λ (b : Bool). angled lines (elim b [ true ↦ corner near v x ∷ corners p | false ↦ corners p ]) ≡ (b && allLines lines (corner near v x)) || angled lines (corners p)) [
-      | true ↦ refl
-      | false ↦ refl
-    ]
+    elim (eqb (ones (corner near v x)) 3)
+    as (λ (b : Bool). angled lines (elim b [ true ↦ corner near v x ∷ corners p | false ↦ corners p ])
+    ≡ (b && allLines lines (corner near v x)) || angled lines (corners p)) [ true ↦ refl | false ↦ refl ]
 
 pub all-told : (cs near : List ℕ) → Simple cs → Near cs near → (lines left : ℕ) (angle : Bool) → Taken near lines left angle
     → Told cs lines left angle

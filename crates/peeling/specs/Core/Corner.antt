@@ -131,7 +131,10 @@ module _ (cs near : List ℕ) (simple : Simple cs) (is-near : Near cs near) wher
 
       pub isopen : Open b m k
       isopen =
-          meet-open b m k (one-of (b ∩ m) (e .p) (both (e .p) b m (e .p-b) (e .p-in)) (λ z i. let r = in-both z b m i in in-bm z (r .0) (r .1))) (one-of (m ∩ k) x (both x m k (e .x-in) (f .x-in)) (λ z i. let r = in-both z m k i in in-mk z (r .0) (r .1))) (one-of (b ∩ k) (f .p) (both (f .p) b k (f .p-b) (f .p-in)) (λ z i. let r = in-both z b k i in in-bk z (r .0) (r .1))) (zero-ext (b ∩ m ∩ k) (λ z. elim (bit (at z (b ∩ m ∩ k)) (at-le z (b ∩ m ∩ k))) [
+          meet-open b m k (one-of (b ∩ m) (e .p) (both (e .p) b m (e .p-b) (e .p-in)) (λ z i. let r = in-both z b m i in in-bm z (r .0) (r .1)))
+          (one-of (m ∩ k) x (both x m k (e .x-in) (f .x-in)) (λ z i. let r = in-both z m k i in in-mk z (r .0) (r .1)))
+          (one-of (b ∩ k) (f .p) (both (f .p) b k (f .p-b) (f .p-in)) (λ z i. let r = in-both z b k i in in-bk z (r .0) (r .1)))
+          (zero-ext (b ∩ m ∩ k) (λ z. elim (bit (at z (b ∩ m ∩ k)) (at-le z (b ∩ m ∩ k))) [
             | inl i ↦ i
             | inr i ↦ let r = in-both z (b ∩ m) k i in
                 let s = in-both z b m (r .0) in
@@ -143,7 +146,8 @@ module _ (cs near : List ℕ) (simple : Simple cs) (is-near : Near cs near) wher
       union-is =
           sub-antisymm (b ∪ m ∪ k) a (or-least (or-least b-in-a (e .in-a)) (f .in-a)) (record {
             le = λ z. elim (ℕ-discrete z x) [
-              | yes r ↦ subst (λ (w : ℕ). at w a ≤ at w (b ∪ m ∪ k)) (sym r) (omega (arith, at-le x a, or-left x (b ∪ m) k (or-right x b m (e .x-in))))
+              | yes r ↦ subst (λ (w : ℕ). at w a ≤ at w (b ∪ m ∪ k)) (sym r)
+                  (omega (arith, at-le x a, or-left x (b ∪ m) k (or-right x b m (e .x-in))))
               | no r ↦ omega (arith, at-or z (b ∪ m) k, at-or z b m, less-other x z a xa r)
             ];
           })

@@ -1,6 +1,6 @@
 -- Elements with at most two constraints are taken away one by one: what is left is a core. A least over set has three constraints at each element, so
 -- none loses any. Assumes nothing.
-use mathlib.Core.Path.{_≡_, sym, ap, _∙_, subst}
+use mathlib.Core.Path.{_≡_, sym, ap, subst}
 use mathlib.Core.Logic.{_⊎_, inl, inr}
 use mathlib.Core.List.{List}
 use Prim.Native.Nat.{ℕ, _+_, _*_, _-_, _^_, _≤_, _<_}
@@ -64,10 +64,13 @@ module _ (cs near : List ℕ) (simple : Simple cs) (is-near : Near cs near) wher
       omega (arith, carried-cut 64 (take c cs) (below-take 64 c cs (simple .below)) a, size-le a (a ∩ full 64) (and-l a (full 64)))
   peeled-cut u (less {u = v} x p q two) c a =
       let ih = peeled-cut v p c a in
-      elim (bit (at x a) (at-le x a)) [ inl z ↦ subst (λ (i : ℕ). carried (take c cs) a + 2 * ones i ≤ carried (take c cs) i + 2 * ones a) (sym (and-comm a (v - 2 ^ x) ∙ less-out x v a q z ∙ and-comm v a)) ih | inr z ↦ subst (λ (i : ℕ). carried (take c cs) a + 2 * ones i ≤ carried (take c cs) i + 2 * ones a) (sym (and-comm a (v - 2 ^ x) ∙ less-and x v a q z ∙ ap (λ (i : ℕ). i - 2 ^ x) (and-comm v a))) (omega (arith, ih, size-less x (a ∩ v) (there z), few-part c v x p q two .few (a ∩ v) (and-r a v) (there z))) ]
-    where
-      there : at x a ≡ 1 → at x (a ∩ v) ≡ 1
-      there z = omega (arith, at-and x a v, q, z)
+      elim (bit (at x a) (at-le x a)) [
+        | inl z ↦ rw (and-comm a (v - 2 ^ x), less-out x v a q z, and-comm v a) ih
+        | inr z ↦
+            let there : at x (a ∩ v) ≡ 1 = omega (arith, at-and x a v) in
+            rw (and-comm a (v - 2 ^ x), less-and x v a q z, and-comm v a)
+            (omega (arith, ih, size-less x (a ∩ v) there, few-part c v x p q two .few (a ∩ v) (and-r a v) there))
+      ]
 
   -- the sets within what is left tell whether the list is over
   peeled-fine : (u : ℕ) → Peeled near u → (c : ℕ) → ((a : ℕ) → a ⊑ u → 2 ≤ ones a → carried (take c cs) a + 3 ≤ 2 * ones a) → NotOver (take c cs)

@@ -128,10 +128,13 @@ module _ {cs : List ℕ} {u : ℕ} (simple : Simple cs) (core : Core cs u) (c : 
           table = stored-table own table (p .from) (p .slot) (p .to) (o .1) (p .two) (o .4);
           closed = stored-closed own table (p .from) (p .slot) (p .to) (o .1) (p .two) u (λ q. o .3) closed;
           balanced =
-              balanced-placed own table (p .from) (p .to) (o .1) (o .2) old new m u balanced more (λ x z. has-not m x (p .from) (ap (at (p .from)) (o .0) ∙ at-end (p .from) (p .to) .0) z) (λ x z. ap (λ (i : ℕ). has i x) (o .0) ∙ has-other (p .from) (p .to) x z) (p .slot) (p .two) (p .was-free);
+              balanced-placed own table (p .from) (p .to) (o .1) (o .2) old new m u balanced more
+              (λ x z. has-not m x (p .from) (ap (at (p .from)) (o .0) ∙ at-end (p .from) (p .to) .0) z)
+              (λ x z. ap (λ (i : ℕ). has i x) (o .0) ∙ has-other (p .from) (p .to) x z) (p .slot) (p .two) (p .was-free);
           fine = right;
           never =
-              λ x z. few-other old new m more u x 0 (never x (omega (arith, at-or x once m, at-le x m))) (omega (arith, at-or x once m, at-le x once));
+              λ x z. few-other old new m more u x 0 (never x (omega (arith, at-or x once m, at-le x m)))
+              (omega (arith, at-or x once m, at-le x once));
           lone = λ x z. elim (bit (at x m) (at-le x m)) [
             | inl q ↦ few-other old new m more u x 1 (lone x (omega (arith, at-or x twice (once ∩ m)))) q
             | inr q ↦ few-more old new m more u x 0 (never x (omega (arith, at-or x twice (once ∩ m), at-and x once m, at-le x once)))

@@ -45,7 +45,20 @@ module _ (own : List (List ℕ)) (a b : ℕ) (la : a < 64) (lb : b < 64) (n : a 
   pub begun : Reached own a b two from ends 2
   unfolding _∪_
   begun =
-      record { lent = record { places = length-set (set queue 0 a) 1 b ∙ length-set queue 0 a ∙ lent .places; places′ = lent .places′ }; low = le-refl 2; start = first; start′ = second; inside = either (λ i. item two i < 64) (omega (arith, first)) (omega (arith, second)); back = λ i h l. absurd (omega arith); link = λ i h l. absurd (omega arith); apart = λ i j l h e. n (sym first ∙ ap (item two) (omega arith) ∙ e ∙ ap (item two) (omega arith) ∙ second); marked = either (λ i. at (item two i) ends ≡ 1) (ap (λ (x : ℕ). at x ends) first ∙ at-a) (ap (λ (x : ℕ). at x ends) second ∙ at-b); queued = λ x e. queued x e (ℕ-discrete x a) (ℕ-discrete x b); size = omega (arith, size-add (2 ^ b) a (at-other a b n), size-pow b); small = or-lt 64 (2 ^ a) (2 ^ b) (pow-lt la) (pow-lt lb) }
+      record {
+        lent = record { places = length-set (set queue 0 a) 1 b ∙ length-set queue 0 a ∙ lent .places; places′ = lent .places′ };
+        low = le-refl 2;
+        start = first;
+        start′ = second;
+        inside = either (λ i. item two i < 64) (omega (arith, first)) (omega (arith, second));
+        back = λ i h l. absurd (omega arith);
+        link = λ i h l. absurd (omega arith);
+        apart = λ i j l h e. n (sym first ∙ ap (item two) (omega arith) ∙ e ∙ ap (item two) (omega arith) ∙ second);
+        marked = either (λ i. at (item two i) ends ≡ 1) (ap (λ (x : ℕ). at x ends) first ∙ at-a) (ap (λ (x : ℕ). at x ends) second ∙ at-b);
+        queued = λ x e. queued x e (ℕ-discrete x a) (ℕ-discrete x b);
+        size = omega (arith, size-add (2 ^ b) a (at-other a b n), size-pow b);
+        small = or-lt 64 (2 ^ a) (2 ^ b) (pow-lt la) (pow-lt lb);
+      }
     where
       queued : (x : ℕ) → at x ends ≡ 1 → Dec (x ≡ a) → Dec (x ≡ b) → (i : ℕ) × (i < 2) × (item two i ≡ x)
       queued x e (yes p) d = (0, zero-lt-suc 1, first ∙ sym p)

@@ -35,7 +35,8 @@ unfolding listVerdict
 same-verdict g h n l r pairs f p q v w =
     judged-same (g .lines) (g .n) (length (g .clusters)) (joints (g .clusters) p) (joints (h .clusters) q)
     (final (g .clusters) p) (final (h .clusters) q)
-    (angled-same (g .lines) (joints (g .clusters) p) (joints (h .clusters) q) (every-order (g .clusters) pairs f (h .clusters) r p q v w .same-joints))
+    (angled-same (g .lines) (joints (g .clusters) p) (joints (h .clusters) q)
+    (every-order (g .clusters) pairs f (h .clusters) r p q v w .same-joints))
     (same-left (g .clusters) pairs f (h .clusters) r p q v w)
     ∙ rw (n, l, ← length-perm r)
 

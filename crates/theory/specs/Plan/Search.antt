@@ -139,7 +139,8 @@ whole (a ∷ s) k = go (secondOf a k (suc k) s) (second s a k (suc k)) (firstOf 
         after zero b d = absurd (omega arith)
         after (suc z) b d = omega (arith, g z (omega arith) d)
     go t (nothing l) w (found o p q r e b c h f g d) =
-        let shift : merge (suc k + o) (suc k + p) (suc k + q) ≡ merge (k + suc o) (k + suc p) (k + suc q) = merge-by (omega arith) (omega arith) (omega arith) in
+        let shift : merge (suc k + o) (suc k + p) (suc k + q) ≡ merge (k + suc o) (k + suc p) (k + suc q) =
+        merge-by (omega arith) (omega arith) (omega arith) in
         found (suc o) (suc p) (suc q) r (e ∙ shift) (omega arith) (omega arith) h (λ x. front x) (λ y. middle y) (λ z. after z)
       where
         front : (x y z : ℕ) → x < y → y < z → Open (slot (a ∷ s) x) (slot (a ∷ s) y) (slot (a ∷ s) z) → suc o ≤ x

@@ -235,7 +235,8 @@ some = bin-ind (λ (a : ℕ). 1 ≤ ones a → (x : ℕ) × (at x a ≡ 1)) (λ 
 pub two : (a : ℕ) → 2 ≤ ones a → (x y : ℕ) × (x < y) × (at x a ≡ 1) × (at y a ≡ 1)
 unfolding at
 two =
-    bin-ind (λ (a : ℕ). 2 ≤ ones a → (x y : ℕ) × (x < y) × (at x a ≡ 1) × (at y a ≡ 1)) (λ h. absurd (omega (arith, size-zero))) (λ a ih h. elim (ℕ-discrete (a % 2) 1) [
+    bin-ind (λ (a : ℕ). 2 ≤ ones a → (x y : ℕ) × (x < y) × (at x a ≡ 1) × (at y a ≡ 1)) (λ h. absurd (omega (arith, size-zero)))
+    (λ a ih h. elim (ℕ-discrete (a % 2) 1) [
       | yes e ↦ let r = some (a / 2) (omega (arith, ones-step a)) in (zero, suc (r .0), omega arith, e, r .1)
       | no n ↦ let r = ih (omega (arith, ones-step a)) in (suc (r .0), suc (r .1), omega (arith, r .2), r .3, r .4)
     ])
