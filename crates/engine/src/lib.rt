@@ -1,16 +1,19 @@
 // The engine: the verdict of a list of merges, and its steps with their kinds and placements. Contracts cite theory's definitions and this crate's
 // specs.
 ghost use mathlib.Core.Path.{_≡_};
-ghost use mathlib.Core.List.{List};
-ghost use Prim.Native.Nat.{ℕ, _+_, _*_, _≤_, _<_};
+ghost use mathlib.Core.List.{List, [], _∷_};
+ghost use Prim.Native.Nat.{ℕ, _+_, _*_, _≤_, _<_, _^_};
 ghost use lib.ListN.{length, take, replicate};
 ghost use lib.IntN.{natAbs, _-ℤ_};
 ghost use Rattle.theory.specs.Verdict.{angled as someLines, judged};
 ghost use Rattle.theory.specs.Placement.{jointKind, against as comparison, triangle as triangleWays, stripOf, placed};
 ghost use Rattle.theory.specs.Merge.{left, merge as numbers};
+ghost use Rattle.merges.specs.Run.{places};
 ghost use Rattle.engine.specs.Steps.{waysBy, stepAt, blankStep, Stepped};
-ghost use Rattle.space.specs.Space.{answer, after};
+ghost use Rattle.space.specs.Space.{Put, answer, after};
 ghost use Rattle.engine.specs.Lists.{livingOf};
+use merges::ELEMENTS;
+use merges::PLACES;
 use merges::Run;
 use space::Written;
 use space::put_number16;
@@ -21,7 +24,7 @@ use theory::Verdict;
 use theory::Ways;
 
 // Is some joint three lines?
-pub fn angled(joints: &[u64; 64], steps: usize, lines: u64) -> bool
+fn angled(joints: &[u64; ELEMENTS], steps: usize, lines: u64) -> bool
     requires { ⌜ (steps ≤ 64) × (length (now joints) ≡ 64) ⌝ }
     ensures { λ r. ⌜ r ≡ someLines lines (take steps (now (joints .entry))) ⌝ }
 {
@@ -37,7 +40,7 @@ pub fn angled(joints: &[u64; 64], steps: usize, lines: u64) -> bool
 }
 
 // The verdict of a list of merges, after "over", for its final clusters: e less two a step are left.
-pub fn settle(joints: &[u64; 64], steps: usize, n: usize, e: usize, lines: u64) -> Verdict
+pub fn settle(joints: &[u64; ELEMENTS], steps: usize, n: usize, e: usize, lines: u64) -> Verdict
     requires { ⌜ (steps ≤ 64) × (2 * steps ≤ e) × (n ≤ 64) × (e ≤ 200) × (length (now joints) ≡ 64) ⌝ }
     ensures { λ r. ⌜ ((finals : List ℕ) → left finals + 2 * steps ≡ e → r ≡ judged lines n e (take steps (now (joints .entry))) finals) ⌝ }
 {
@@ -55,7 +58,7 @@ pub fn settle(joints: &[u64; 64], steps: usize, n: usize, e: usize, lines: u64) 
 }
 
 // The kind of a joint.
-pub fn joint_kind(joint: u64, lines: u64) -> JointKind
+fn joint_kind(joint: u64, lines: u64) -> JointKind
     ensures { λ r. ⌜ r ≡ jointKind lines joint ⌝ }
 {
     match u64::count_ones(joint & lines) {
@@ -178,8 +181,8 @@ fn wide(x: u16) -> usize
 
 // Step t of a list of merges, from its parts and joints.
 fn step_at(
-    parts: &[u16; 192],
-    joints: &[u64; 64],
+    parts: &[u16; PLACES],
+    joints: &[u64; ELEMENTS],
     start: &[u64; 200],
     sizes: &[i32; 200],
     lines: u64,
@@ -262,40 +265,42 @@ pub fn put_plan(run: Run, out: &mut [u16]) -> Written
     Written::Done(count)
 }
 
-// How many clusters live.
-fn count_living(slots: &[u64; 192], used: usize) -> usize
-    requires { ⌜ (used ≤ 192) × (length (now slots) ≡ 192) ⌝ }
-    ensures { λ r. ⌜ r ≡ length (livingOf (take used (now (slots .entry)))) ⌝ }
+// A cluster, unless it is dead.
+fn put_living(out: &mut [u64], at: usize, x: u64) -> usize
+    requires { ⌜ at + 1 < 2 ^ 64 ⌝ }
+    ensures { λ r. ⌜ Put (now (out .entry)) at (livingOf (x ∷ [])) r (now (out .exit)) × (r ≤ at + 1) ⌝ }
 {
-    let mut count: usize = 0;
-    let mut c: usize = 0;
-    while c < used {
-        if slots[c] != 0 {
-            count += 1;
-        }
-        c += 1;
+    if x == 0 {
+        return at;
     }
-    count
+    put_number64(out, at, x)
 }
 
-// The clusters that live, by number, into lent space, or 17.
-pub fn put_clusters(slots: &[u64; 192], used: usize, out: &mut [u64]) -> Written
-    requires { ⌜ (used ≤ 192) × (length (now slots) ≡ 192) ⌝ }
-    ensures { λ r. ⌜ (r ≡ answer (livingOf (take used (now (slots .entry)))) (now (out .entry)))
-        × (now (out .exit) ≡ after (livingOf (take used (now (slots .entry)))) (now (out .entry))) ⌝ }
+// The clusters that live among the first `used` slots, by number.
+fn put_all_living(out: &mut [u64], slots: &[u64; PLACES], used: usize) -> usize
+    requires { ⌜ (used ≤ places) × (length (now slots) ≡ places) ⌝ }
+    ensures { λ r. ⌜ Put (now (out .entry)) 0 (livingOf (take used (now (slots .entry)))) r (now (out .exit)) ⌝ }
 {
-    let count = count_living(slots, used);
-    if out.len() < count {
-        return Written::Refused(17);
-    }
     let mut next: usize = 0;
     let mut c: usize = 0;
     while c < used {
-        let x = slots[c];
-        if x != 0 {
-            next = put_number64(out, next, x);
-        }
+        next = put_living(out, next, slots[c]);
         c += 1;
     }
-    Written::Done(count)
+    next
+}
+
+// The clusters that live, by number, into lent space, or 17.
+pub fn put_clusters(slots: &[u64; PLACES], used: usize, out: &mut [u64]) -> Written
+    requires { ⌜ (used ≤ places) × (length (now slots) ≡ places) ⌝ }
+    ensures { λ r. ⌜ (r ≡ answer (livingOf (take used (now (slots .entry)))) (now (out .entry)))
+        × (now (out .exit) ≡ after (livingOf (take used (now (slots .entry)))) (now (out .entry))) ⌝ }
+{
+    let count = put_all_living(&mut out[..0], slots, used);
+    if out.len() < count {
+        Written::Refused(17)
+    } else {
+        let written = put_all_living(out, slots, used);
+        Written::Done(written)
+    }
 }

@@ -1,4 +1,4 @@
--- `engine::joint_kind` meets its contract. Assumes nothing.
+-- `engine::joint_kind` meets its contract: the count of lines among the joint's elements decides. Assumes nothing.
 use mathlib.Core.Path.{_≡_, refl, sym, ap}
 use mathlib.Core.Logic.{_≢_}
 use Prim.Native.Nat.{ℕ, zero, suc}
@@ -15,21 +15,9 @@ lines-three (suc zero) a b c = absurd (b refl)
 lines-three (suc (suc zero)) a b c = absurd (c refl)
 lines-three (suc (suc (suc k))) a b c = refl
 
-returns : tie.Need-returns
-unfolding jointKind _∩_
-returns c = sym (ap withLines (c .match .keys1))
-
-returns-2 : tie.Need-returns-2
-unfolding jointKind _∩_
-returns-2 c = sym (ap withLines (c .match .keys2))
-
-returns-3 : tie.Need-returns-3
-unfolding jointKind _∩_
-returns-3 c = sym (ap withLines (c .match .keys3))
-
-returns-4 : tie.Need-returns-4
-unfolding jointKind _∩_
-returns-4 c = sym (lines-three _ (c .match .rest .0 .0 .1) (c .match .rest .0 .1) (c .match .rest .1))
-
 pub joint-kind-spec : {M : Type 1} → statement M
-joint-kind-spec = tie.close (tie.spec returns returns-2 returns-3 returns-4)
+unfolding jointKind _∩_
+joint-kind-spec =
+    tie.close
+    (tie.spec (λ c. sym (ap withLines (c .match .keys1))) (λ c. sym (ap withLines (c .match .keys2))) (λ c. sym (ap withLines (c .match .keys3)))
+    (λ c. sym (lines-three _ (c .match .rest .0 .0 .1) (c .match .rest .0 .1) (c .match .rest .1))))
