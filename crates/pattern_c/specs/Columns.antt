@@ -1,7 +1,7 @@
 -- The facts that the writer takes, a size given or missing (document 01, "Refused"), in columns: one list for each field of the constraints.
 -- A place that a list lacks is blank.
 use Prim.Native.Nat.{ℕ, zero, suc, _%_}
-use mathlib.Core.Bool.{_&&_}
+use mathlib.Core.Bool.{_&&_, cond}
 use mathlib.Core.List.{List, [], _∷_, _++_}
 use lib.Dec.{eqb, ltb}
 use lib.IntN.{ℤ, pos}
@@ -10,12 +10,12 @@ use Rattle.sheet.specs.declared.Size.{Size}
 use Rattle.sheet.specs.declared.Size.the-variants.{Given, Missing}
 use Rattle.sheet.specs.declared.Constraint.{Constraint}
 use Rattle.sheet.specs.declared.Sheet.{Sheet}
-use Rattle.sheet.specs.Facts.{elementsOf, pick}
+use Rattle.sheet.specs.Facts.{elementsOf}
 pub mod Laws
 
 -- bit 0 of the map: the size is given; no other bit has an influence
 abbrev pub sizeIn : List ℕ → List ℤ → ℕ → Size
-sizeIn maps sizes i = pick (eqb (getD maps i 0 % 2) 1 && ltb i (length sizes)) (Given (getD sizes i (pos 0))) Missing
+sizeIn maps sizes i = cond (eqb (getD maps i 0 % 2) 1 && ltb i (length sizes)) (Given (getD sizes i (pos 0))) Missing
 
 abbrev pub constraintIn : List ℕ → List ℕ → List ℕ → List ℤ → ℕ → Constraint
 constraintIn firsts seconds maps sizes i =

@@ -14,7 +14,7 @@ use Rattle.sheet.specs.declared.Size.{Size}
 use Rattle.sheet.specs.declared.Constraint.{Constraint}
 use Rattle.sheet.specs.Field.{Field, value, refused, next, byte, demand}
 use Rattle.sheet.specs.Field.Laws.{next-value, value-with, refused-value}
-use Rattle.sheet.specs.Rules.{ends, stands, pairAt, bitMap}
+use Rattle.sheet.specs.Rules.{endsAscend, stands, pairAt, mapAllowed}
 use Rattle.sheet.specs.Decode.{size, tag, dimension, constraint, constraints}
 use Rattle.sheet.specs.Graph.{sizeOf}
 use Rattle.graph.specs.Lent.{InArrays, Packed}
@@ -25,15 +25,15 @@ use Rattle.reader.specs.Answers.{Ascending, MapBelow, mapOf, sizeIn, Lis
 
 module _ (es : List Element) (cs : List Constraint) (s : List ℕ) {a b : ℕ} {s1 s2 : List ℕ} (first : byte s ≡ value a s1)
     (second : byte s1 ≡ value b s2) where
-  pub ends-wrong : ends (length es) a b ≡ false → constraint es cs s ≡ refused 6
+  pub ends-wrong : endsAscend (length es) a b ≡ false → constraint es cs s ≡ refused 6
   unfolding constraint
   ends-wrong e = rw (first, second, e)
 
-  pub pair-again : ends (length es) a b ≡ true → stands cs a b ≡ true → constraint es cs s ≡ refused 7
+  pub pair-again : endsAscend (length es) a b ≡ true → stands cs a b ≡ true → constraint es cs s ≡ refused 7
   unfolding constraint
   pair-again e p = rw (first, second, e, p)
 
-  pub pair-new : ends (length es) a b ≡ true → stands cs a b ≡ false → constraint es cs s ≡ dimension a b (pairAt es a b) s2
+  pub pair-new : endsAscend (length es) a b ≡ true → stands cs a b ≡ false → constraint es cs s ≡ dimension a b (pairAt es a b) s2
   unfolding constraint
   pair-new e p = rw (first, second, e, p)
 
@@ -61,9 +61,9 @@ after-map a b p s = by-map (byte s)
     demanded false map t = refl
 
     by-map : (x : Field ℕ)
-        → next x (λ map t. demand (bitMap p map) 8 (sized-by a b p map t))
-        ≡ next (next x (λ map t. demand (bitMap p map) 8 (value map t))) (sized-by a b p)
-    by-map (value map t) = demanded (bitMap p map) map t
+        → next x (λ map t. demand (mapAllowed p map) 8 (sized-by a b p map t))
+        ≡ next (next x (λ map t. demand (mapAllowed p map) 8 (value map t))) (sized-by a b p)
+    by-map (value map t) = demanded (mapAllowed p map) map t
     by-map (refused k) = refl
 
 -- the size before it was a number

@@ -12,7 +12,7 @@ use Rattle.sheet.specs.Facts.{Facts, elementsOf}
 use Rattle.sheet.specs.Facts.Laws.{elementsOf-length, linesOf-elementsOf}
 use Rattle.sheet.specs.Field.{Field, value, refused, byte}
 use Rattle.sheet.specs.Field.Laws.{next-value, value-with, refused-value}
-use Rattle.sheet.specs.Rules.{elementCount, constraintCount}
+use Rattle.sheet.specs.Rules.{elementsInRange, constraintsInRange}
 use Rattle.sheet.specs.Decode.{opening, constraint, constraints, readKinds, readConstraints, readSheet}
 use Rattle.graph.specs.declared.Head.{Head}
 use Rattle.graph.specs.Lent.{InArrays}
@@ -31,11 +31,11 @@ module _ (es : List Element) (s : List ℕ) where
   no-constraint-count was = rw was
 
   module _ {e : ℕ} {s1 : List ℕ} (counted : byte s ≡ value e s1) where
-    pub many-constraints : constraintCount e ≡ false → readConstraints es s ≡ refused 5
+    pub many-constraints : constraintsInRange e ≡ false → readConstraints es s ≡ refused 5
     unfolding readConstraints
     many-constraints h = rw (counted, h)
 
-    pub constraints-counted : constraintCount e ≡ true → readConstraints es s ≡ factsWith es (constraints es e [] s1)
+    pub constraints-counted : constraintsInRange e ≡ true → readConstraints es s ≡ factsWith es (constraints es e [] s1)
     unfolding readConstraints
     constraints-counted h = rw (counted, h)
 
@@ -50,11 +50,11 @@ module _ (s : List ℕ) where
     no-element-count was = rw (opened, was)
 
     module _ {n : ℕ} {s2 : List ℕ} (counted : byte s1 ≡ value n s2) where
-      pub elements-outside : elementCount n ≡ false → readSheet s ≡ refused 3
+      pub elements-outside : elementsInRange n ≡ false → readSheet s ≡ refused 3
       unfolding readSheet
       elements-outside h = rw (opened, counted, h)
 
-      module _ (h : elementCount n ≡ true) where
+      module _ (h : elementsInRange n ≡ true) where
         pub no-kinds : {k : ℕ} → readKinds n s2 ≡ refused k → readSheet s ≡ refused k
         unfolding readSheet
         no-kinds was = rw (opened, counted, h, was)

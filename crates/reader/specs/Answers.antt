@@ -11,7 +11,7 @@ use Rattle.sheet.specs.declared.PairKind.{PairKind}
 use Rattle.sheet.specs.declared.Constraint.{Constraint}
 use Rattle.sheet.specs.Facts.{Facts, elementsOf, sheetOf}
 use Rattle.sheet.specs.Field.{Field, value, refused, next, demand, byte as byteOf, openingBytes}
-use Rattle.sheet.specs.Rules.{pairAt, bitMap}
+use Rattle.sheet.specs.Rules.{pairAt, mapAllowed}
 use Rattle.sheet.specs.Decode.{size as sizeField, dimension, constraints}
 use Rattle.sheet.specs.Graph.{sizeOf}
 use Rattle.graph.specs.declared.Head.{Head}
@@ -70,7 +70,7 @@ pub record Ascending (n : ℕ) (r : EndsRead) : Type 0 where
 
 -- the bit map
 abbrev pub mapOf : PairKind → List ℕ → Field ℕ
-mapOf p s = next (byteOf s) (λ map s1. demand (bitMap p map) 8 (value map s1))
+mapOf p s = next (byteOf s) (λ map s1. demand (mapAllowed p map) 8 (value map s1))
 
 pub record MapBelow (r : ByteRead) : Type 0 where
   pub below : (map : ℕ) (c : Cursor) → r ≡ byte.Value map c → map < 4

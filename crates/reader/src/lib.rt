@@ -303,7 +303,7 @@ fn read_map(s: &[u8], c: Cursor, p: PairKind) -> ByteRead
     let ByteRead::Value(map, after) = third else {
         return third;
     };
-    if !sheet::bit_map(p, map) {
+    if !sheet::map_allowed(p, map) {
         return ByteRead::Refused(8);
     }
     ByteRead::Value(map, after)
@@ -321,7 +321,7 @@ fn read_size(s: &[u8], c: Cursor, p: PairKind, stands: bool) -> SizeRead
         return SizeRead::Refused(number.refusal());
     };
     let z = signed(u);
-    if !sheet::size_range(p, z) {
+    if !sheet::size_in_range(p, z) {
         return SizeRead::Refused(9);
     }
     SizeRead::Value(z, after)
@@ -421,7 +421,7 @@ fn read_kinds(s: &[u8], c: Cursor, n: usize) -> NumberRead
     let NumberRead::Value(m, after) = number else {
         return NumberRead::Refused(number.refusal());
     };
-    if !sheet::kind_bits(n, m) {
+    if !sheet::kind_bits_used(n, m) {
         return NumberRead::Refused(4);
     }
     NumberRead::Value(m, after)
@@ -441,7 +441,7 @@ fn read_head(s: &[u8]) -> HeadRead
         return HeadRead::Refused(count.refusal());
     };
     let n = b as usize;
-    if !sheet::element_count(n) {
+    if !sheet::elements_in_range(n) {
         return HeadRead::Refused(3);
     }
     let kinds = read_kinds(s, c2, n);
@@ -453,7 +453,7 @@ fn read_head(s: &[u8]) -> HeadRead
         return HeadRead::Refused(listed.refusal());
     };
     let e = k as usize;
-    if !sheet::constraint_count(e) {
+    if !sheet::constraints_in_range(e) {
         return HeadRead::Refused(5);
     }
     HeadRead::Value(Head { n, e, lines }, c4)

@@ -4,10 +4,10 @@ use mathlib.Core.Bool.{true}
 use mathlib.Core.List.{[]}
 use lib.ListN.{length}
 use Rattle.sheet.specs.Facts.{Facts}
-use Rattle.sheet.specs.Rules.{elementCount, constraintCount, constraintsFault}
+use Rattle.sheet.specs.Rules.{elementsInRange, constraintsInRange, constraintsFault}
 pub mod Laws
 
 pub record Accepted (f : Facts) : Type 0 where
-  pub element-count : elementCount (length (f .elements)) ≡ true
-  pub constraint-count : constraintCount (length (f .constraints)) ≡ true
+  pub elements-in-range : elementsInRange (length (f .elements)) ≡ true
+  pub constraints-in-range : constraintsInRange (length (f .constraints)) ≡ true
   pub no-fault : constraintsFault (f .elements) [] (f .constraints) ≡ 0

@@ -18,10 +18,6 @@ pub record Facts : Type 0 where
   pub elements : List Element
   pub constraints : List Constraint
 
-abbrev pub pick : {A : Type 0} → Bool → A → A → A
-pick true a b = a
-pick false a b = b
-
 -- ---- kinds as one number: element i is bit i; 1 is a line, 0 a point (document 01, "The sheet in bytes")
 
 abbrev pub kindOf : Bool → Kind

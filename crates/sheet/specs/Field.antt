@@ -1,12 +1,11 @@
 -- A field of a sheet, read at the front of the bytes left: its value with the bytes after it, or the number of the rule that refuses it
 -- (document 01, "Refused": "The first field that fails decides").
 use Prim.Native.Nat.{ℕ, zero, suc, _+_, _*_, _-_, _/_, _%_, _^_, _<_}
-use mathlib.Core.Bool.{Bool, true, false, _&&_}
+use mathlib.Core.Bool.{Bool, true, false, _&&_, cond}
 use mathlib.Core.List.{List, [], _∷_}
 use lib.Dec.{eqb, ltb}
 use lib.IntN.{ℤ, pos, negsuc}
 use lib.ListN.{length, take, drop, getD}
-use Rattle.sheet.specs.Facts.{pick}
 pub mod Laws
 
 pub data Field (A : Type 0) : Type 0 where
@@ -39,15 +38,19 @@ pub record Bytes (s : List ℕ) : Type 0 where
 
 -- a field of k bytes; rule 2: the sheet ends inside a field
 unfoldable pub field : ℕ → List ℕ → Field ℕ
-field k s = pick (ltb (length s) k) (refused 2) (value (number (take k s)) (drop k s))
+field k s = cond (ltb (length s) k) (refused 2) (value (number (take k s)) (drop k s))
 
 abbrev pub byte : List ℕ → Field ℕ
 byte [] = refused 2
 byte (b ∷ s) = value b s
 
+-- a byte of which rule k demands this
+abbrev pub byteBy : (ℕ → Bool) → ℕ → List ℕ → Field ℕ
+byteBy takes k s = next (byte s) (λ b s1. demand (takes b) k (value b s1))
+
 -- two's complement of 32 bits
 abbrev pub signed32 : ℕ → ℤ
-signed32 u = pick (ltb u (2 ^ 31)) (pos u) (negsuc (2 ^ 32 - suc u))
+signed32 u = cond (ltb u (2 ^ 31)) (pos u) (negsuc (2 ^ 32 - suc u))
 
 abbrev pub unsigned32 : ℤ → ℕ
 unsigned32 (pos n) = n

@@ -17,10 +17,11 @@ use Rattle.sheet.specs.WithoutTags.Laws.{untagged-same}
 use Rattle.sheet.specs.Accepted.{Accepted}
 use Rattle.sheet.specs.RoundTrip.Written.{constraint-back, sheet-back, sheet-untagged}
 use Rattle.sheet.specs.RoundTrip.Read.{constraint-front, sheet-read}
-use Rattle.sheet.specs.RoundTrip.Blocks.{accepted-length}
+use Rattle.sheet.specs.Accepted.Laws.{accepted-most}
+use Rattle.sheet.specs.Rules.Laws.{constraints-most}
+use Rattle.sheet.specs.Encode.Laws.{sheet-length}
 pub mod Written
 pub mod Read
-pub mod Blocks
 
 -- reading a written sheet gives its facts
 pub read-written : (f : Facts) → Accepted f → readSheet (sheetBytes f) ≡ value f []
@@ -57,4 +58,4 @@ pub read-most : (s : List ℕ) (f : Facts) (t : List ℕ) → Bytes s → readSh
 read-most s f t h e = sheet-read s h e .most
 
 pub written-most : (f : Facts) → Accepted f → length (sheetBytes f) ≤ 1414
-written-most f h = accepted-length f h
+written-most f h = sheet-length f (accepted-most f h) (constraints-most _ (h .constraints-in-range))

@@ -7,8 +7,8 @@ ghost use lib.Dec.{eqb};
 ghost use lib.ListN.{length, take};
 ghost use Rattle.theory.specs.Block.{block};
 ghost use Rattle.sheet.specs.Facts.{kindOf, lineBit, elementsOf, linesOf, blankElement};
-ghost use Rattle.sheet.specs.Rules.{elementCount, kindBits, constraintCount, ends, stands, pairOf, optional, bitMap, within as liesWithin};
-ghost use Rattle.sheet.specs.Rules.{sizeRange, sizeFault, constraintFault, sheetFault};
+ghost use Rattle.sheet.specs.Rules.{elementsInRange, kindBitsUsed, constraintsInRange, endsAscend, stands, pairOf, sizeOptional, mapAllowed, within as liesWithin};
+ghost use Rattle.sheet.specs.Rules.{sizeInRange, sizeFault, constraintFault, sheetFault};
 ghost use Rattle.sheet.specs.Range.{lowestSize, highestSize};
 ghost use Rattle.sheet.specs.Noted.{Noted};
 
@@ -51,30 +51,30 @@ pub enum PairKind {
 }
 
 // Rule 3.
-pub fn element_count(n: usize) -> bool
-    ensures { λ r. ⌜ r ≡ elementCount n ⌝ }
+pub fn elements_in_range(n: usize) -> bool
+    ensures { λ r. ⌜ r ≡ elementsInRange n ⌝ }
 {
     if 2 <= n { n <= 64 } else { false }
 }
 
 // Rule 4: the number of the kinds has no bit from n on.
-pub fn kind_bits(n: usize, m: u64) -> bool
+pub fn kind_bits_used(n: usize, m: u64) -> bool
     requires { ⌜ n ≤ 64 ⌝ }
-    ensures { λ r. ⌜ r ≡ kindBits n m ⌝ }
+    ensures { λ r. ⌜ r ≡ kindBitsUsed n m ⌝ }
 {
     if n < 64 { m < 1 << n } else { true }
 }
 
 // Rule 5.
-pub fn constraint_count(e: usize) -> bool
-    ensures { λ r. ⌜ r ≡ constraintCount e ⌝ }
+pub fn constraints_in_range(e: usize) -> bool
+    ensures { λ r. ⌜ r ≡ constraintsInRange e ⌝ }
 {
     e <= 200
 }
 
 // Rule 6.
 pub fn ends_ascend(n: usize, a: u8, b: u8) -> bool
-    ensures { λ r. ⌜ r ≡ ends n a b ⌝ }
+    ensures { λ r. ⌜ r ≡ endsAscend n a b ⌝ }
 {
     if a < b { (b as usize) < n } else { false }
 }
@@ -95,7 +95,7 @@ pub fn pair_of(a: Kind, b: Kind) -> PairKind
 }
 
 fn size_optional(p: PairKind) -> bool
-    ensures { λ r. ⌜ r ≡ optional p ⌝ }
+    ensures { λ r. ⌜ r ≡ sizeOptional p ⌝ }
 {
     match p {
         PairKind::Points => false,
@@ -105,8 +105,8 @@ fn size_optional(p: PairKind) -> bool
 }
 
 // Rule 8, of a bit map.
-pub fn bit_map(p: PairKind, map: u8) -> bool
-    ensures { λ r. ⌜ r ≡ bitMap p map ⌝ }
+pub fn map_allowed(p: PairKind, map: u8) -> bool
+    ensures { λ r. ⌜ r ≡ mapAllowed p map ⌝ }
 {
     if map < 4 {
         if map % 2 == 1 { true } else { size_optional(p) }
@@ -144,8 +144,8 @@ fn highest_size(p: PairKind) -> i32
 }
 
 // Rule 9: one range with 0 left out, so that the way does not part at the kind of pair.
-pub fn size_range(p: PairKind, z: i32) -> bool
-    ensures { λ r. ⌜ r ≡ sizeRange p z ⌝ }
+pub fn size_in_range(p: PairKind, z: i32) -> bool
+    ensures { λ r. ⌜ r ≡ sizeInRange p z ⌝ }
 {
     if z == 0 {
         return false;
@@ -158,7 +158,7 @@ pub fn size_fault(p: PairKind, size: Size) -> u8
     ensures { λ r. ⌜ r ≡ sizeFault p size ⌝ }
 {
     match size {
-        Size::Given(z) => { if size_range(p, z) { 0 } else { 9 } }
+        Size::Given(z) => { if size_in_range(p, z) { 0 } else { 9 } }
         Size::Missing => { if size_optional(p) { 0 } else { 8 } }
     }
 }
@@ -265,10 +265,10 @@ pub fn sheet_fault(s: Sheet) -> u8
 {
     let n = s.n;
     let e = s.e;
-    if !element_count(n) {
+    if !elements_in_range(n) {
         return 3;
     }
-    if !constraint_count(e) {
+    if !constraints_in_range(e) {
         return 5;
     }
     let elements = s.elements;

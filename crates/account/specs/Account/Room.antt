@@ -14,7 +14,7 @@ use Rattle.theory.specs.declared.Finding.the-variants.{Fine, First}
 use Rattle.theory.specs.Graph.{findingOf}
 use Rattle.sheet.specs.Facts.{Facts}
 use Rattle.sheet.specs.Accepted.{Accepted}
-use Rattle.sheet.specs.Graph.Laws.{accepted-most, accepted-two}
+use Rattle.sheet.specs.Accepted.Laws.{accepted-most, accepted-two}
 use Rattle.sheet.specs.Graph.{graphOf}
 use Rattle.plans.specs.Check.{savedSteps}
 use Rattle.report.specs.Report.Length.{over-long}

@@ -11,7 +11,7 @@ use Rattle.theory.specs.Plan.{planOf, ascending, IsPlan}
 use Rattle.theory.specs.Plan.Laws.{ascending-same, plan-of-is, plan-of-maximal}
 use Rattle.sheet.specs.Facts.{Facts}
 use Rattle.sheet.specs.Accepted.{Accepted}
-use Rattle.sheet.specs.Accepted.Laws.{none-else}
+use Rattle.sheet.specs.Rules.Laws.{none-else}
 use Rattle.sheet.specs.Graph.Laws.{sheet-demand3, clusters-pairs, clusters-below, fault-none, fine-fault}
 use Rattle.sheet.specs.Graph.{graphOf, overFault}
 use Rattle.theory.specs.declared.Finding.{Finding}
@@ -66,14 +66,14 @@ module _ (f : Facts) (a : Accepted f) where
   -- rule 11 lets through what is not over
   pub let-through : (l : List ℕ) → savedFault (graphOf f) l ≡ 0 → findingOf (graphOf f) ≡ Fine
   unfolding savedFault
-  let-through l h = fault-none (graphOf f) (none-else (f .elements) (overFault (graphOf f)) (planFault (graphOf f .clusters) l) h .0)
+  let-through l h = fault-none (graphOf f) (none-else (overFault (graphOf f)) (planFault (graphOf f .clusters) l) h .0)
 
   pub saved-maximal : (l : List ℕ) → savedFault (graphOf f) l ≡ 0
       → (verdictOf (graphOf f) ≢ Over) × (length l % 3 ≡ 0) × Maximal (graphOf f .clusters) (savedSteps l)
   unfolding savedFault
   saved-maximal l h =
       let m = accepted-maximal (graphOf f .clusters) l .0
-      (none-else (f .elements) (overFault (graphOf f)) (planFault (graphOf f .clusters) l) h .1) in
+      (none-else (overFault (graphOf f)) (planFault (graphOf f .clusters) l) h .1) in
       (fine-not-over (graphOf f) (let-through l h), m .0, m .1)
 
   saved-list : (l : List ℕ) → SavedList (graphOf f) l

@@ -13,7 +13,8 @@ use Rattle.sheet.proofs.Passed.{elements-long, constraints-long}
 use Rattle.sheet.specs.declared.Constraint.{Constraint}
 use Rattle.sheet.specs.declared.Size.the-variants.{Given}
 use Rattle.sheet.specs.Facts.{factsOf}
-use Rattle.sheet.specs.RoundTrip.Blocks.{constraints-most, elements-most, sheetFault-none, factsOf-accepted}
+use Rattle.sheet.specs.Rules.Laws.{constraints-most, elements-most}
+use Rattle.sheet.specs.Accepted.Laws.{sheetFault-none, factsOf-accepted}
 use Rattle.graph.specs.Lent.{InArrays, Unpacks}
 use Rattle.graph.specs.Lent.Laws.{in-arrays-none, accepted-unpack}
 use Rattle.graph.proofs.fill.Statement.{statement}

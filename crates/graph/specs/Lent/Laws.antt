@@ -23,11 +23,10 @@ use Rattle.sheet.specs.declared.Size.the-variants.{Given, Missing}
 use Rattle.theory.specs.Block.{block}
 use Rattle.sheet.specs.Facts.{Facts}
 use Rattle.sheet.specs.Rules.{pairAt, sizeFault, constraintFault, constraintsFault}
-use Rattle.sheet.specs.Rules.Laws.{ends-true}
+use Rattle.sheet.specs.Rules.Laws.{ends-true, none-else}
 use Rattle.sheet.specs.Accepted.{Accepted}
-use Rattle.sheet.specs.Accepted.Laws.{taken, none-else}
+use Rattle.sheet.specs.Accepted.Laws.{taken, accepted-most}
 use Rattle.sheet.specs.Graph.{clusterOf, sizeOf}
-use Rattle.sheet.specs.Graph.Laws.{accepted-most}
 use Rattle.sheet.specs.Noted.{Noted}
 use Rattle.sheet.specs.Noted.Laws.{noted-none, clusters-more}
 use Rattle.graph.specs.Lent.{InArrays, Unpacks}
@@ -144,7 +143,7 @@ faults-unpack : (es : List Element) (cs done : List Constraint) (i : ℕ) (d : C
 unfolding constraintsFault
 faults-unpack es [] done i d m e l = absurd (omega arith)
 faults-unpack es (c ∷ cs) done zero d m e l =
-    let h = none-else es (constraintFault es done c) (constraintsFault es (done ++ c ∷ []) cs) e in
+    let h = none-else (constraintFault es done c) (constraintsFault es (done ++ c ∷ []) cs) e in
     let t = taken es done c (h .0) in
     let o = ends-true (length es) (c .first) (c .second) (t .ends-ascend) in
     record {
@@ -153,7 +152,7 @@ faults-unpack es (c ∷ cs) done zero d m e l =
       not-zero = zero-refused (pairAt es (c .first) (c .second)) (c .size) (t .size-fits);
     }
 faults-unpack es (c ∷ cs) done (suc i) d m e l =
-    let h = none-else es (constraintFault es done c) (constraintsFault es (done ++ c ∷ []) cs) e in
+    let h = none-else (constraintFault es done c) (constraintsFault es (done ++ c ∷ []) cs) e in
     faults-unpack es cs (done ++ c ∷ []) i d m (h .1) (le-of-suc-le-suc l)
 
 pub accepted-unpack : (f : Facts) (i : ℕ) (d : Constraint) → Accepted f → i < length (f .constraints) → Unpacks (getD (f .constraints) i d)

@@ -13,8 +13,8 @@ use Rattle.sheet.specs.declared.Sheet.{Sheet}
 use Rattle.theory.specs.Block.{block}
 use Rattle.sheet.specs.Facts.{factsOf}
 use Rattle.sheet.specs.Rules.{constraintsFault, sheetFault}
-use Rattle.sheet.specs.Rules.Laws.{and-true}
-use Rattle.sheet.specs.RoundTrip.Blocks.{constraints-most, sheetFault-none}
+use Rattle.sheet.specs.Rules.Laws.{and-true, constraints-most}
+use Rattle.sheet.specs.Accepted.Laws.{sheetFault-none}
 use Rattle.sheet.proofs.Passed.{Passed, elements-long, constraints-long}
 use Rattle.sheet.specs.Graph.{graphOf}
 use Rattle.sheet.specs.Graph.Laws.{clusters-pairs, clusters-below}

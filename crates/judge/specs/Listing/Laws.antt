@@ -17,8 +17,8 @@ use Rattle.sheet.specs.declared.Element.{Element}
 use Rattle.sheet.specs.declared.Constraint.{Constraint}
 use Rattle.sheet.specs.Facts.{Facts}
 use Rattle.sheet.specs.Rules.{stands, constraintFault, constraintsFault}
-use Rattle.sheet.specs.Rules.Laws.{ends-true, stands-more}
-use Rattle.sheet.specs.Accepted.Laws.{taken, none-else}
+use Rattle.sheet.specs.Rules.Laws.{ends-true, stands-more, none-else}
+use Rattle.sheet.specs.Accepted.Laws.{taken}
 use Rattle.sheet.specs.Graph.{clusterOf, graphOf}
 use Rattle.sheet.specs.Graph.Laws.{clusters-pairs, clusters-below}
 
@@ -46,20 +46,20 @@ module _ (es : List Element) where
   each-ends [] done e i d h = absurd (omega arith)
   each-ends (c ∷ cs) done e zero d h =
       ends-true (length es) (c .first) (c .second)
-      (taken es done c (none-else es (constraintFault es done c) (constraintsFault es (done ++ c ∷ []) cs) e .0) .ends-ascend)
+      (taken es done c (none-else (constraintFault es done c) (constraintsFault es (done ++ c ∷ []) cs) e .0) .ends-ascend)
   each-ends (c ∷ cs) done e (suc i) d h =
-      each-ends cs (done ++ c ∷ []) (none-else es (constraintFault es done c) (constraintsFault es (done ++ c ∷ []) cs) e .1) i d (le-of-suc-le-suc h)
+      each-ends cs (done ++ c ∷ []) (none-else (constraintFault es done c) (constraintsFault es (done ++ c ∷ []) cs) e .1) i d (le-of-suc-le-suc h)
 
   -- a pair that stands before is none of the list's
   fresh : (cs done : List Constraint) → constraintsFault es done cs ≡ 0 → (a b : ℕ) → a < b → stands done a b ≡ true
       → Among (pair a b) (map clusterOf cs) → ⊥
   unfolding constraintsFault
   fresh (c ∷ cs) done e a b h s (inl q) =
-      let t = taken es done c (none-else es (constraintFault es done c) (constraintsFault es (done ++ c ∷ []) cs) e .0) in
+      let t = taken es done c (none-else (constraintFault es done c) (constraintsFault es (done ++ c ∷ []) cs) e .0) in
       let p = pair-one a b (c .first) (c .second) h (ends-true (length es) (c .first) (c .second) (t .ends-ascend) .0) q in
       subst T (sym s ∙ ap₂ (stands done) (p .0) (p .1) ∙ t .is-new) tt
   fresh (c ∷ cs) done e a b h s (inr i) =
-      fresh cs (done ++ c ∷ []) (none-else es (constraintFault es done c) (constraintsFault es (done ++ c ∷ []) cs) e .1) a b h
+      fresh cs (done ++ c ∷ []) (none-else (constraintFault es done c) (constraintsFault es (done ++ c ∷ []) cs) e .1) a b h
       (stands-before done c a b s) i
 
   -- none stands twice
@@ -67,7 +67,7 @@ module _ (es : List Element) where
   unfolding constraintsFault
   each-once [] done e = tt
   each-once (c ∷ cs) done e =
-      let h = none-else es (constraintFault es done c) (constraintsFault es (done ++ c ∷ []) cs) e in
+      let h = none-else (constraintFault es done c) (constraintsFault es (done ++ c ∷ []) cs) e in
       let l = ends-true (length es) (c .first) (c .second) (taken es done c (h .0) .ends-ascend) in
       (fresh cs (done ++ c ∷ []) (h .1) (c .first) (c .second) (l .0) (stands-here done c), each-once cs (done ++ c ∷ []) (h .1))
 

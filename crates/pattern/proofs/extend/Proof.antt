@@ -11,7 +11,7 @@ use Rattle.sheet.specs.Rules.{sheetFault}
 use Rattle.sheet.specs.Encode.{sheetBytes}
 use Rattle.sheet.specs.Accepted.{Accepted}
 use Rattle.sheet.specs.Graph.{graphOf, overFault}
-use Rattle.sheet.specs.RoundTrip.Blocks.{factsOf-sheetOf, sheetOf-fault}
+use Rattle.sheet.specs.Accepted.Laws.{factsOf-sheetOf, sheetOf-fault}
 use Rattle.reader.specs.Answers.{asReading, outcomeNumber}
 use Rattle.pattern.specs.Sketches.{heldSheet, longer}
 use Rattle.pattern.specs.Sheets.Laws.{reading-refused, reading-accepted}

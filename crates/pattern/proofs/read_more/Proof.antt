@@ -10,8 +10,7 @@ use Rattle.sheet.specs.Facts.{Facts, factsOf}
 use Rattle.sheet.specs.Field.{Bytes}
 use Rattle.sheet.specs.Decode.{constraints}
 use Rattle.sheet.specs.Accepted.{Accepted}
-use Rattle.sheet.specs.Graph.Laws.{accepted-most}
-use Rattle.sheet.specs.RoundTrip.Blocks.{factsOf-accepted}
+use Rattle.sheet.specs.Accepted.Laws.{accepted-most, factsOf-accepted}
 use Rattle.graph.specs.declared.Head.{Head}
 use Rattle.graph.specs.Lent.{headOf}
 use Rattle.reader.specs.Answers.{outcomeNumber, ListRead}

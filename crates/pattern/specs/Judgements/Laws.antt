@@ -5,8 +5,9 @@ use lib.ListN.{length, take}
 use Rattle.sheet.specs.Facts.{Facts, factsOf}
 use Rattle.sheet.specs.declared.Sheet.{Sheet}
 use Rattle.sheet.specs.Accepted.{Accepted}
-use Rattle.sheet.specs.Graph.Laws.{accepted-two, accepted-most, length-clusters, clusters-pairs, clusters-below}
-use Rattle.sheet.specs.RoundTrip.Blocks.{constraints-most}
+use Rattle.sheet.specs.Accepted.Laws.{accepted-two, accepted-most}
+use Rattle.sheet.specs.Graph.Laws.{length-clusters, clusters-pairs, clusters-below}
+use Rattle.sheet.specs.Rules.Laws.{constraints-most}
 use Rattle.sheet.specs.Graph.{graphOf}
 use Rattle.engine.specs.Lists.{livingOf}
 use Rattle.judge.specs.declared.Judged.{Judged}
@@ -24,7 +25,7 @@ pub record Judging (f : Facts) (j : Judged) : Type 0 where
 
 pub judging : (f : Facts) → Accepted f → (s : Sheet) → factsOf s ≡ f → (j : Judged) → j ≡ judgedOf (graphOf (factsOf s)) → Judging f j
 judging f a s facts-are j e =
-    let m = constraints-most (length (f .constraints)) (a .constraint-count) in
+    let m = constraints-most (length (f .constraints)) (a .constraints-in-range) in
     let h = judged-held (graphOf f) (clusters-pairs f (a .no-fault)) (clusters-below f (a .no-fault))
     (λ fine. rw length-clusters (few f (accepted-most f a) (accepted-two f a) m (a .no-fault) fine)) in
     let q : j ≡ judgedOf (graphOf f) = e ∙ ap (λ (x : Facts). judgedOf (graphOf x)) facts-are in

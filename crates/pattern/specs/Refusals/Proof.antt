@@ -16,7 +16,7 @@ use Rattle.space.specs.declared.Written.the-variants.{Done, Refused}
 use Rattle.space.specs.Space.{answer}
 use Rattle.sheet.specs.declared.Constraint.{Constraint}
 use Rattle.sheet.specs.declared.Sheet.{Sheet}
-use Rattle.sheet.specs.Facts.{Facts, factsOf, pick}
+use Rattle.sheet.specs.Facts.{Facts, factsOf}
 use Rattle.sheet.specs.Rules.{or-else, constraintFault, sheetFault}
 use Rattle.sheet.specs.Field.{Field, value, refused, Bytes}
 use Rattle.sheet.specs.Decode.{readSheet}
@@ -91,11 +91,11 @@ written : (s : Sheet) (space : List ℕ) (k : ℕ) → writeAnswer s space ≡ R
 unfolding writeAnswer
 written s space k e = go (sheetFault s) (fault-sheet s) e
   where
-    go : (j : ℕ) → Fault 3 9 j → pick (eqb j 0) (answer (sheetBytes (factsOf s)) space) (Refused j) ≡ Refused k
+    go : (j : ℕ) → Fault 3 9 j → cond (eqb j 0) (answer (sheetBytes (factsOf s)) space) (Refused j) ≡ Refused k
         → Rule 3 9 k ⊎ ((k ≡ 17) × (length space < length (sheetBytes (factsOf s))))
     go zero h q = inr (short (sheetBytes (factsOf s)) space k q)
     go (suc j) h q =
-        let z = ap (λ (b : Bool). pick b (answer (sheetBytes (factsOf s)) space) (Refused (suc j))) (ne-eqb (suc j) 0 (λ p. omega arith)) in
+        let z = ap (λ (b : Bool). cond b (answer (sheetBytes (factsOf s)) space) (Refused (suc j))) (ne-eqb (suc j) 0 (λ p. omega arith)) in
         inl (subst (Rule 3 9) (number (suc j) k (sym z ∙ q)) h)
 
 fault-over : (g : Graph) → Fault 3 11 (overFault g)

@@ -16,7 +16,7 @@ use Rattle.sheet.specs.Field.{Field, value, refused, Bytes}
 use Rattle.sheet.specs.Decode.{readSheet}
 use Rattle.sheet.specs.WithoutTags.{withoutTags}
 use Rattle.sheet.specs.RoundTrip.{written-read}
-use Rattle.sheet.specs.RoundTrip.Blocks.{factsOf-sheetOf, sheetOf-fault}
+use Rattle.sheet.specs.Accepted.Laws.{factsOf-sheetOf, sheetOf-fault}
 use Rattle.sheet.specs.Graph.{graphOf}
 use Rattle.reader.specs.declared.Outcome.the-variants.{Accepted as Took, Refused as Stopped}
 use Rattle.reader.specs.declared.Reading.{Reading}

@@ -10,8 +10,8 @@ use Rattle.sheet.specs.Facts.{Facts, sheetOf, factsOf}
 use Rattle.sheet.specs.Field.{value, Bytes}
 use Rattle.sheet.specs.Rules.{constraintFault}
 use Rattle.sheet.specs.Accepted.{Accepted}
-use Rattle.sheet.specs.Graph.Laws.{accepted-most}
-use Rattle.sheet.specs.RoundTrip.Blocks.{constraints-most, factsOf-sheetOf, sheetOf-fault}
+use Rattle.sheet.specs.Accepted.Laws.{accepted-most, factsOf-sheetOf, sheetOf-fault}
+use Rattle.sheet.specs.Rules.Laws.{constraints-most}
 use Rattle.sheet.specs.Graph.{graphOf, overFault}
 use Rattle.sketch.specs.Sketch.{holdFault, extended, addFault, addAfter}
 use Rattle.sketch.specs.Sketch.Laws.{add-last, taken-added}
@@ -28,7 +28,7 @@ module _ (f : Facts) (h : Accepted f) (o : overFault (graphOf f) ≡ 0) where
   unfolding sheetOf
   sheet-held = record {
     elements-long = rw (length-append, length-replicate) (omega (arith, accepted-most f h));
-    constraints-long = rw (length-append, length-replicate) (omega (arith, constraints-most (length (f .constraints)) (h .constraint-count)));
+    constraints-long = rw (length-append, length-replicate) (omega (arith, constraints-most (length (f .constraints)) (h .constraints-in-range)));
     no-fault = no-fault;
   }
 

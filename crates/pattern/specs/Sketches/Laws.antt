@@ -17,10 +17,10 @@ use Rattle.sheet.specs.Rules.{constraintFault, sheetFault}
 use Rattle.sheet.specs.Decode.{constraint, constraints, readSheet}
 use Rattle.sheet.specs.Encode.{sheetBytes}
 use Rattle.sheet.specs.Accepted.{Accepted}
-use Rattle.sheet.specs.Graph.Laws.{accepted-two, accepted-most}
+use Rattle.sheet.specs.Accepted.Laws.{accepted-two, accepted-most, factsOf-sheetOf, sheetOf-fault}
 use Rattle.sheet.specs.RoundTrip.{written-read}
 use Rattle.sheet.specs.RoundTrip.Read.{constraint-front}
-use Rattle.sheet.specs.RoundTrip.Blocks.{constraints-most, factsOf-sheetOf, sheetOf-fault}
+use Rattle.sheet.specs.Rules.Laws.{constraints-most}
 use Rattle.graph.specs.Lent.{InArrays}
 use Rattle.reader.specs.declared.Outcome.{Outcome}
 use Rattle.reader.specs.declared.Outcome.the-variants.{Accepted as Took, Refused as Stopped}
@@ -155,8 +155,8 @@ pub extended-accepted : (f : Facts) (c : Constraint) → Accepted f → length (
     → constraintFault (f .elements) (f .constraints) c ≡ 0
     → Accepted (extended f c)
 extended-accepted f c h l k = record {
-  element-count = h .element-count;
-  constraint-count = rw length-append (le-leb (length (f .constraints) + 1) 200 (omega arith));
+  elements-in-range = h .elements-in-range;
+  constraints-in-range = rw length-append (le-leb (length (f .constraints) + 1) 200 (omega arith));
   no-fault = extended-none f c (h .no-fault) k;
 }
 
@@ -166,7 +166,7 @@ few-constraints f h o =
     let m = few-held f (record {
       two = accepted-two f h;
       elements = accepted-most f h;
-      constraints = constraints-most (length (f .constraints)) (h .constraint-count);
+      constraints = constraints-most (length (f .constraints)) (h .constraints-in-range);
       none = h .no-fault;
     }) o in
     omega (arith, m)
@@ -179,7 +179,7 @@ module _ (f : Facts) (h : Accepted f) (o : overFault (graphOf f) ≡ 0) (s : She
 
   long : length (s .constraints) ≡ 200
   unfolding sheetOf
-  long = rw (is, length-append, length-replicate) (omega (arith, constraints-most (length (f .constraints)) (h .constraint-count)))
+  long = rw (is, length-append, length-replicate) (omega (arith, constraints-most (length (f .constraints)) (h .constraints-in-range)))
 
   facts-are : factsOf s ≡ f
   facts-are = ap factsOf is ∙ factsOf-sheetOf f

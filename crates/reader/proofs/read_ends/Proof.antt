@@ -8,7 +8,7 @@ use borrow.Author.Needs.{needs}
 use lib.ListN.{drop}
 use Rattle.sheet.specs.Field.{value, byte}
 use Rattle.sheet.specs.Rules.Laws.{ends-true}
-use Rattle.sheet.specs.Rules.{ends}
+use Rattle.sheet.specs.Rules.{endsAscend}
 use Rattle.sheet.specs.Decode.{constraint}
 use Rattle.reader.specs.Answers.{asByte}
 use Rattle.reader.proofs.Constraints.{ends-wrong, pair-again, pair-new, no-ends}
@@ -63,7 +63,7 @@ returns-3 c = (
 )
 
 -- they ascend, below n and so below 64
-ascend : (c : tie.Else1) → ends (c .before .before .before .before .before .before .before .before .before .before .before .args .n)
+ascend : (c : tie.Else1) → endsAscend (c .before .before .before .before .before .before .before .before .before .before .before .args .n)
     (c .before .before .before .before .before .before .before .start .given .0 .0) (c .before .before .before .end .given .0 .0) ≡ true
 ascend c = sym (c .before .ends-ascend .ensures) ∙ not-false (c .before .ends-ascend .result) (c .if1 .left)
 

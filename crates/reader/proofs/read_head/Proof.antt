@@ -9,10 +9,9 @@ use lib.Dec.{leb}
 use lib.ListN.{drop}
 use Rattle.sheet.specs.Facts.{elementsOf}
 use Rattle.sheet.specs.Field.{value, byte, openingBytes}
-use Rattle.sheet.specs.Rules.{elementCount, constraintCount}
-use Rattle.sheet.specs.Rules.Laws.{and-true}
+use Rattle.sheet.specs.Rules.{elementsInRange, constraintsInRange}
+use Rattle.sheet.specs.Rules.Laws.{and-true, elements-most, constraints-most}
 use Rattle.sheet.specs.Decode.{opening, readConstraints, readSheet}
-use Rattle.sheet.specs.RoundTrip.Blocks.{elements-most, constraints-most}
 use Rattle.reader.specs.Answers.{asOpening, asByte, asKinds}
 use Rattle.reader.proofs.Sheets.{no-head, no-opening, no-element-count, elements-outside, no-kinds, kinds-read, no-constraint-count}
 use Rattle.reader.proofs.Sheets.{many-constraints, constraints-counted}
@@ -49,12 +48,12 @@ counted c =
 returns-3 : tie.Need-returns-3
 returns-3 c = (
   sym (elements-outside _ (opened (c .before .before .before .before .before .before)) (counted (c .before .before))
-      (sym (c .before .element-count .ensures) ∙ not-true (c .before .element-count .result) (c .if1 .taken))),
+      (sym (c .before .elements-in-range .ensures) ∙ not-true (c .before .elements-in-range .result) (c .if1 .taken))),
   no-head,
 )
 
-enough : (c : tie.Else1) → elementCount (c .before .before .before .count .given .0 .0) ≡ true
-enough c = sym (c .before .element-count .ensures) ∙ not-false (c .before .element-count .result) (c .if1 .left)
+enough : (c : tie.Else1) → elementsInRange (c .before .before .before .count .given .0 .0) ≡ true
+enough c = sym (c .before .elements-in-range .ensures) ∙ not-false (c .before .elements-in-range .result) (c .if1 .left)
 
 read-kinds-requires : tie.Need-read-kinds-requires
 read-kinds-requires c κs =
@@ -102,14 +101,14 @@ returns-6 c = (
   sym
       (rest (c .before .before .before .before .before .before)
       ∙ many-constraints _ _ (listed (c .before .before))
-      (sym (c .before .constraint-count .ensures) ∙ not-true (c .before .constraint-count .result) (c .if2 .taken))),
+      (sym (c .before .constraints-in-range .ensures) ∙ not-true (c .before .constraints-in-range .result) (c .if2 .taken))),
   no-head,
 )
 
 returns-7 : tie.Need-returns-7
 returns-7 c =
-    let few : constraintCount (c .before .before .before .listed .given .0 .0) ≡ true =
-    sym (c .before .constraint-count .ensures) ∙ not-false (c .before .constraint-count .result) (c .if2 .left) in
+    let few : constraintsInRange (c .before .before .before .listed .given .0 .0) ≡ true =
+    sym (c .before .constraints-in-range .ensures) ∙ not-false (c .before .constraints-in-range .result) (c .if2 .left) in
     let n = c .before .before .before .before .before .before .before .before .before .before .before .before .before .count .given .0 .0 in
     let m = c .before .before .before .before .before .before .before .kinds .given .0 .0 in
     let e = c .before .before .before .listed .given .0 .0 in

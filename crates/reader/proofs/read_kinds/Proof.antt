@@ -21,8 +21,8 @@ returns-2 c = (
   rw (
     ← c .before .before .before .before .before .read-number .ensures .0,
     c .before .before .before .number .given .1,
-    ← c .before .kind-bits .ensures,
-    not-true (c .before .kind-bits .result) (c .if1 .taken),
+    ← c .before .kind-bits-used .ensures,
+    not-true (c .before .kind-bits-used .result) (c .if1 .taken),
   ),
   record { below = λ v d e. let z : _≡_ {A = ℕ} 0 1 = cc in omega arith },
 )
@@ -30,16 +30,16 @@ returns-2 c = (
 returns-3 : tie.Need-returns-3
 unfolding readKinds
 returns-3 c =
-    let h = not-false (c .before .kind-bits .result) (c .if1 .left) in (
+    let h = not-false (c .before .kind-bits-used .result) (c .if1 .left) in (
       rw (
         ← c .before .before .before .before .before .read-number .ensures .0,
         c .before .before .before .number .given .1,
-        ← c .before .kind-bits .ensures,
+        ← c .before .kind-bits-used .ensures,
         h,
       ),
       record {
         below = λ v d e. let q : c .before .before .before .number .given .0 .0 ≡ v = cc in
-            rw (← q) (ltb-true _ _ (sym (c .before .kind-bits .ensures) ∙ h));
+            rw (← q) (ltb-true _ _ (sym (c .before .kind-bits-used .ensures) ∙ h));
       },
     )
 

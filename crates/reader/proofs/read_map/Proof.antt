@@ -20,8 +20,8 @@ returns-2 c =
       rw (
         ← r .ensures,
         c .before .before .before .third .given .1,
-        ← c .before .bit-map .ensures,
-        not-true (c .before .bit-map .result) (c .if1 .taken),
+        ← c .before .map-allowed .ensures,
+        not-true (c .before .map-allowed .result) (c .if1 .taken),
       ),
       no-map,
     )
@@ -29,10 +29,10 @@ returns-2 c =
 returns-3 : tie.Need-returns-3
 returns-3 c =
     let r = c .before .before .before .before .before .read-byte in
-    let ok = not-false (c .before .bit-map .result) (c .if1 .left) in
+    let ok = not-false (c .before .map-allowed .result) (c .if1 .left) in
     let map = c .before .before .before .third .given .0 .0 in
-    let l : map < 4 = ltb-true map 4 (and-true (ltb map 4) _ (sym (c .before .bit-map .ensures) ∙ ok) .0) in (
-      rw (← r .ensures, c .before .before .before .third .given .1, ← c .before .bit-map .ensures, ok),
+    let l : map < 4 = ltb-true map 4 (and-true (ltb map 4) _ (sym (c .before .map-allowed .ensures) ∙ ok) .0) in (
+      rw (← r .ensures, c .before .before .before .third .given .1, ← c .before .map-allowed .ensures, ok),
       record { below = λ m d e. let same : map ≡ m = cc in rw (← same) l },
     )
 

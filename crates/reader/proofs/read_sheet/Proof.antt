@@ -8,9 +8,9 @@ use Rattle.sheet.specs.Facts.{Facts}
 use Rattle.sheet.specs.Field.{value, Bytes}
 use Rattle.sheet.specs.Decode.{readSheet}
 use Rattle.sheet.specs.Accepted.{Accepted}
-use Rattle.sheet.specs.Graph.Laws.{accepted-most}
+use Rattle.sheet.specs.Accepted.Laws.{accepted-most}
 use Rattle.sheet.specs.RoundTrip.{written-read}
-use Rattle.sheet.specs.RoundTrip.Blocks.{constraints-most}
+use Rattle.sheet.specs.Rules.Laws.{constraints-most}
 use Rattle.graph.specs.Lent.{headOf}
 use Rattle.reader.specs.Answers.{graphRule}
 use Rattle.reader.specs.Answers.Laws.{graph-refused, graph-accepted}
@@ -46,7 +46,7 @@ module _ (c : tie.After-sizes2) where
 sheet-of-requires : tie.Need-sheet-of-requires
 sheet-of-requires c κs =
     let f = found c in
-    rw (f .3) (accepted-most (f .0) (accepted c), constraints-most (length (f .0 .constraints)) (accepted c .constraint-count))
+    rw (f .3) (accepted-most (f .0) (accepted c), constraints-most (length (f .0 .constraints)) (accepted c .constraints-in-range))
 
 returns-2 : tie.Need-returns-2
 returns-2 c =

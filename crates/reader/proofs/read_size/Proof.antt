@@ -7,7 +7,7 @@ use mir.Syntax.{w32}
 use mir.Facts.{toZ-ofZ}
 use lib.ListN.{drop}
 use Rattle.sheet.specs.Field.{value, field, signed32}
-use Rattle.sheet.specs.Rules.{sizeRange}
+use Rattle.sheet.specs.Rules.{sizeInRange}
 use Rattle.sheet.specs.Decode.{size}
 use Rattle.reader.specs.Answers.{asNumber}
 use Rattle.reader.proofs.read_size.Statement.{statement}
@@ -32,7 +32,7 @@ signed-requires : tie.Need-signed-requires
 signed-requires c κs = c .before .before .before .read-number .ensures .1 .below _ _ (c .before .number .given .1)
 
 -- the size that is read, and whether it lies in its range
-module _ (c : tie.After-size-range) where
+module _ (c : tie.After-size-in-range) where
   stands : c .before .before .before .before .before .before .before .before .args .stands ≡ true
   stands =
       not-false (c .before .before .before .before .before .before .before .before .args .stands)
@@ -46,16 +46,16 @@ module _ (c : tie.After-size-range) where
       sym (c .before .before .before .before .before .read-number .ensures .0)
       ∙ ap (asNumber (c .before .before .before .before .before .before .before .before .args .s .now)) (c .before .before .before .number .given .1)
 
-  range : c .size-range .result
-      ≡ sizeRange (c .before .before .before .before .before .before .before .before .args .p)
+  range : c .size-in-range .result
+      ≡ sizeInRange (c .before .before .before .before .before .before .before .before .args .p)
       (signed32 (c .before .before .before .number .given .0 .0))
   range =
-      rw (toZ-ofZ {w = w32} {z = c .before .signed .result} (search needs), c .before .signed .ensures) at (c .size-range .ensures)
+      rw (toZ-ofZ {w = w32} {z = c .before .signed .result} (search needs), c .before .signed .ensures) at (c .size-in-range .ensures)
 
 returns-3 : tie.Need-returns-3
 unfolding size
 returns-3 c =
-    rw (stands (c .before), number-is (c .before), ← range (c .before), not-true (c .before .size-range .result) (c .if2 .taken))
+    rw (stands (c .before), number-is (c .before), ← range (c .before), not-true (c .before .size-in-range .result) (c .if2 .taken))
 
 returns-4 : tie.Need-returns-4
 unfolding size
@@ -66,7 +66,7 @@ returns-4 c =
       stands (c .before),
       number-is (c .before),
       ← range (c .before),
-      not-false (c .before .size-range .result) (c .if2 .left),
+      not-false (c .before .size-in-range .result) (c .if2 .left),
     )
 
 pub read-size-spec : {M : Type 1} → statement M

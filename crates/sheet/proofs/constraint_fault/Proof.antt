@@ -1,20 +1,21 @@
+-- `sheet::constraint_fault` meets its contract: the rules in their order, the kinds of the ends by their number. Assumes nothing.
 use borrow.Author.Needs.{needs}
 use borrow.Author.Tests.{not-true, not-false}
 use Prim.Native.Nat.{_<_}
 use native.Mathlib.Omega.{arith}
 use mathlib.Core.Path.{_≡_, sym, _∙_}
 use mathlib.Core.Bool.{true}
-use Rattle.sheet.specs.Rules.{ends}
-use Rattle.sheet.specs.Rules.Laws.{ends-true, fault-ends, fault-stands, fault-size, pair-shift}
+use Rattle.sheet.specs.Rules.{endsAscend, constraintFault}
+use Rattle.sheet.specs.Rules.Laws.{ends-true, pair-shift}
 use Rattle.sheet.proofs.constraint_fault.Statement.{statement}
 use Rattle.sheet.proofs.constraint_fault.Tie as tie
 
 returns : tie.Need-returns
-returns c = λ es cs en el h.
-    sym (fault-ends es cs (c .before .before .args .c) (rw en at (sym (c .before .ends-ascend .ensures) ∙ not-true _ (c .if1 .taken))))
+unfolding constraintFault
+returns c = λ es cs en el h. rw (rw en at (sym (c .before .ends-ascend .ensures) ∙ not-true _ (c .if1 .taken)))
 
 -- both ends lie below n
-fine : (c : tie.Else1) → ends (c .before .before .args .n) (c .before .before .args .c .first) (c .before .before .args .c .second) ≡ true
+fine : (c : tie.Else1) → endsAscend (c .before .before .args .n) (c .before .before .args .c .first) (c .before .before .args .c .second) ≡ true
 fine c = sym (c .before .ends-ascend .ensures) ∙ not-false _ (c .if1 .left)
 
 -- they ascend, below 64
@@ -24,21 +25,12 @@ both c =
     let h = ends-true (c .before .before .args .n) (k .first) (k .second) (fine c) in
     (h .0, omega (arith, h, c .before .before .pre))
 
-pair-stands-requires : tie.Need-pair-stands-requires
-pair-stands-requires c κs = both c
-
 returns-2 : tie.Need-returns-2
-returns-2 c = λ es cs en el h.
-    sym (fault-stands es cs (c .before .before .before .before .args .c) (rw en at (fine (c .before .before)))
-    (sym (c .before .pair-stands .ensures cs h) ∙ c .if2 .taken))
-
-kind-at-requires : tie.Need-kind-at-requires
-kind-at-requires c κs = omega (arith, both (c .before .before))
-
-kind-at-requires-2 : tie.Need-kind-at-requires-2
-kind-at-requires-2 c κs = both (c .before .before .before) .1
+unfolding constraintFault
+returns-2 c = λ es cs en el h. rw (rw en at (fine (c .before .before)), sym (c .before .pair-stands .ensures cs h) ∙ c .if2 .taken)
 
 returns-3 : tie.Need-returns-3
+unfolding constraintFault
 returns-3 c = λ es cs en el h.
     let k = c .before .before .before .before .before .before .before .before .args .c in
     c .size-fault .ensures
@@ -48,12 +40,12 @@ returns-3 c = λ es cs en el h.
       c .before .before .before .kind-at .ensures,
       el,
       pair-shift es (k .first) (k .second),
+      rw en at (fine (c .before .before .before .before .before .before)),
+      sym (c .before .before .before .before .before .pair-stands .ensures cs h) ∙ c .before .before .before .before .if2 .left,
     )
-    (sym (fault-size es cs k (rw en at (fine (c .before .before .before .before .before .before)))
-    (sym (c .before .before .before .before .before .pair-stands .ensures cs h) ∙ c .before .before .before .before .if2 .left)))
 
 pub constraint-fault-spec : {M : Type 1} → statement M
 constraint-fault-spec =
     tie.close
-    (tie.spec (λ c κs. search needs) returns pair-stands-requires returns-2 kind-at-requires kind-at-requires-2
-    (λ c κs. search needs) (λ c κs. search needs) returns-3)
+    (tie.spec (λ c κs. search needs) returns (λ c κs. both c) returns-2 (λ c κs. omega (arith, both (c .before .before)))
+    (λ c κs. both (c .before .before .before) .1) (λ c κs. search needs) (λ c κs. search needs) returns-3)

@@ -11,7 +11,7 @@ returns c =
     let g = c .before .before .before .size .given in
     rw (
       ap (sizeFault (c .before .before .before .before .before .args .p)) (g .1),
-      ← (rw (toZ-ofZ {w = w32} {z = g .0 .0} (search needs)) at (c .before .size-range .ensures)),
+      ← (rw (toZ-ofZ {w = w32} {z = g .0 .0} (search needs)) at (c .before .size-in-range .ensures)),
       c .if1 .taken,
     )
 
@@ -20,7 +20,7 @@ returns-2 c =
     let g = c .before .before .before .size .given in
     rw (
       ap (sizeFault (c .before .before .before .before .before .args .p)) (g .1),
-      ← (rw (toZ-ofZ {w = w32} {z = g .0 .0} (search needs)) at (c .before .size-range .ensures)),
+      ← (rw (toZ-ofZ {w = w32} {z = g .0 .0} (search needs)) at (c .before .size-in-range .ensures)),
       c .if1 .left,
     )
 

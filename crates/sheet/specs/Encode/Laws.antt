@@ -9,9 +9,10 @@ use lib.Seq.{take-suc}
 use Rattle.sheet.specs.declared.Size.{Size}
 use Rattle.sheet.specs.declared.Size.the-variants.{Given, Missing}
 use Rattle.sheet.specs.declared.Constraint.{Constraint}
-use Rattle.sheet.specs.Field.{unsigned32}
+use Rattle.sheet.specs.Facts.{Facts}
+use Rattle.sheet.specs.Field.{unsigned32, kindBytes}
 use Rattle.sheet.specs.Field.Laws.{length-digits}
-use Rattle.sheet.specs.Encode.{sizeBit, sizeBytes, constraintBytes, constraintsBytes}
+use Rattle.sheet.specs.Encode.{sizeBit, sizeBytes, constraintBytes, constraintsBytes, sheetBytes}
 
 pub sizeBit-le : (z : Size) → sizeBit z ≤ 1
 sizeBit-le (Given z) = omega arith
@@ -31,6 +32,12 @@ pub constraints-length : (cs : List Constraint) → length (constraintsBytes cs)
 unfolding constraintsBytes
 constraints-length [] = omega arith
 constraints-length (c ∷ cs) = rw length-append (omega (arith, constraint-length c, constraints-length cs))
+
+pub sheet-length : (f : Facts) → length (f .elements) ≤ 64 → length (f .constraints) ≤ 200 → length (sheetBytes f) ≤ 1414
+unfolding sheetBytes
+sheet-length f n-most e-most =
+    let bytes : kindBytes (length (f .elements)) ≤ 8 = omega arith in
+    rw (length-append, length-digits) (omega (arith, constraints-length (f .constraints)))
 
 -- ---- one constraint more
 

@@ -5,16 +5,15 @@ use native.Mathlib.Nat.{pow-zero, pow-succ', div-lt-iff-lt-mul, mul-comm}
 use native.Mathlib.Omega.{arith}
 use borrow.Author.Tests.{lt-ltb, le-ltb, ltb-false, eqb-true}
 use mathlib.Core.Path.{_≡_, refl, sym, ap}
-use mathlib.Core.Bool.{Bool, true, false}
+use mathlib.Core.Bool.{Bool, true, false, cond}
 use mathlib.Core.List.{List, [], _∷_, _++_}
 use lib.Dec.{ltb, eqb}
 use lib.IntN.{ℤ, pos, negsuc}
 use lib.ListN.{length, take, drop, getD, length-append, take-append-drop}
 use lib.Seq.{take-at, drop-at, length-take-le, getD-drop}
 use lib.Signed.{mag}
-use Rattle.sheet.specs.Facts.{pick}
 use Rattle.sheet.specs.Rules.Laws.{and-true}
-use Rattle.sheet.specs.Field.{Field, value, refused, next, demand, number, digits, field, byte, signed32, unsigned32, begins, Bytes}
+use Rattle.sheet.specs.Field.{Field, value, refused, next, demand, number, digits, field, byte, byteBy, signed32, unsigned32, begins, Bytes}
 
 -- ---- numbers and their bytes
 
@@ -98,7 +97,7 @@ module _ {A : Type 0} where
       let left : s ≡ t = cc in
       rw (← same, ← left) h
 
-  pick-went : (q : Bool) (k : ℕ) (a : A) (s : List ℕ) {b : A} {t : List ℕ} → pick q (refused k) (value a s) ≡ value b t
+  pick-went : (q : Bool) (k : ℕ) (a : A) (s : List ℕ) {b : A} {t : List ℕ} → cond q (refused k) (value a s) ≡ value b t
       → (q ≡ false) × (a ≡ b) × (s ≡ t)
   pick-went true k a s e = refused-value e
   pick-went false k a s e = (refl, cc, cc)
@@ -132,6 +131,12 @@ byte-front [] h e = refused-value e
 byte-front (x ∷ s) {b} {t} h e =
     let rest : s ≡ t = cc in record { front = cc; rest = rw rest at (bytes-rest h) }
 
+pub byteBy-front : (takes : ℕ → Bool) (k : ℕ) (s : List ℕ) {b : ℕ} {t : List ℕ} → Bytes s → byteBy takes k s ≡ value b t
+    → (takes b ≡ true) × FrontByte s b t
+byteBy-front takes k s h e =
+    next-value (byte s) _ e (λ x u was e1.
+    demand-value (takes x) k _ e1 (λ ok e2. value-with (λ b t. (takes b ≡ true) × FrontByte s b t) e2 (ok, byte-front s h was)))
+
 -- ---- the opening
 
 pub begins-front : (p s : List ℕ) → begins p s ≡ true → s ≡ p ++ drop (length p) s
@@ -156,6 +161,6 @@ signed32-unsigned32 (negsuc n) h =
 pub unsigned32-signed32 : (u : ℕ) → u < 2 ^ 32 → unsigned32 (signed32 u) ≡ u
 unsigned32-signed32 u h = go (ltb u (2 ^ 31)) refl
   where
-    go : (q : Bool) → ltb u (2 ^ 31) ≡ q → unsigned32 (pick q (pos u) (negsuc (2 ^ 32 - suc u))) ≡ u
+    go : (q : Bool) → ltb u (2 ^ 31) ≡ q → unsigned32 (cond q (pos u) (negsuc (2 ^ 32 - suc u))) ≡ u
     go true e = refl
     go false e = omega arith

@@ -1,12 +1,10 @@
 -- The graph of a sheet that no rule refuses, and rule 11. An accepted sheet whose verdict isn't over meets demand 3. Assumes nothing.
-use Prim.Native.Nat.{ℕ, _^_, _≤_, _<_}
+use Prim.Native.Nat.{ℕ, _^_, _<_}
 use native.Mathlib.Omega.{arith}
 use mathlib.Core.Logic.{_≢_, inl, inr}
 use mathlib.Core.Path.{_≡_, refl, sym, ap, _∙_, subst}
 use mathlib.Core.List.{List, [], _∷_, _++_, map}
-use borrow.Author.Tests.{leb-true}
 use lib.Count.{ones}
-use lib.Dec.{leb}
 use lib.ListN.{length, length-map}
 use Rattle.theory.specs.Constraints.{Among, Pairs, Below, Perm}
 use Rattle.theory.specs.Constraints.Laws.{perm-map, size-pair, pair-below}
@@ -23,9 +21,9 @@ use Rattle.sheet.specs.declared.Element.{Element}
 use Rattle.sheet.specs.declared.Constraint.{Constraint}
 use Rattle.sheet.specs.Facts.{Facts}
 use Rattle.sheet.specs.Rules.{constraintFault, constraintsFault}
-use Rattle.sheet.specs.Rules.Laws.{and-true, ends-true}
+use Rattle.sheet.specs.Rules.Laws.{ends-true, none-else}
 use Rattle.sheet.specs.Accepted.{Accepted}
-use Rattle.sheet.specs.Accepted.Laws.{taken, none-else, accepted-perm}
+use Rattle.sheet.specs.Accepted.Laws.{taken, accepted-perm, accepted-two}
 use Rattle.sheet.specs.Graph.{clusterOf, graphOf, overRule, overFault, reordered, SheetDemand3}
 
 pub length-clusters : (f : Facts) → length (graphOf f .clusters) ≡ length (f .constraints)
@@ -37,13 +35,13 @@ clusters-sound : (es : List Element) (cs done : List Constraint) → constraints
 unfolding constraintsFault
 clusters-sound es [] done e x i = absurd i
 clusters-sound es (c ∷ cs) done e x (inl q) =
-    let h = none-else es (constraintFault es done c) (constraintsFault es (done ++ c ∷ []) cs) e in
+    let h = none-else (constraintFault es done c) _ e in
     let l = ends-true (length es) (c .first) (c .second) (taken es done c (h .0) .ends-ascend) in (
       ap ones q ∙ size-pair (c .first) (c .second) (l .0),
       subst (λ (z : ℕ). z < 2 ^ length es) (sym q) (pair-below (length es) (c .first) (c .second) (omega arith) (l .1)),
     )
 clusters-sound es (c ∷ cs) done e x (inr i) =
-    clusters-sound es cs (done ++ c ∷ []) (none-else es (constraintFault es done c) (constraintsFault es (done ++ c ∷ []) cs) e .1) x i
+    clusters-sound es cs (done ++ c ∷ []) (none-else (constraintFault es done c) _ e .1) x i
 
 module _ (f : Facts) (none : constraintsFault (f .elements) [] (f .constraints) ≡ 0) where
   pub clusters-pairs : Pairs (graphOf f .clusters)
@@ -89,12 +87,6 @@ module _ (g : Graph) where
       go (First c x) q = absurd (v (ap verdictNumber (first-verdict g q)))
 
 -- ---- accepted sheets
-
-pub accepted-two : (f : Facts) → Accepted f → 2 ≤ length (f .elements)
-accepted-two f h = leb-true 2 (length (f .elements)) (and-true (leb 2 (length (f .elements))) (leb (length (f .elements)) 64) (h .element-count) .0)
-
-pub accepted-most : (f : Facts) → Accepted f → length (f .elements) ≤ 64
-accepted-most f h = leb-true (length (f .elements)) 64 (and-true (leb 2 (length (f .elements))) (leb (length (f .elements)) 64) (h .element-count) .1)
 
 -- what theory calls accepted
 in-theory : (f : Facts) → Accepted f → verdictOf (graphOf f) ≢ Over → demand.Accepted (graphOf f)

@@ -4,66 +4,51 @@ use native.Mathlib.Nat.{pow-le-pow-right, lt-of-lt-of-le, pow-succ'}
 use native.Mathlib.Omega.{arith}
 use borrow.Author.Tests.{lt-ltb, leb-true}
 use mathlib.Core.Path.{_≡_, refl, _∙_}
-use mathlib.Core.Bool.{Bool, true, false, _||_}
+use mathlib.Core.Bool.{true, false, _||_, or-false}
 use mathlib.Core.List.{List, [], _∷_, _++_, append-nil, append-assoc}
-use lib.Dec.{eqb}
+use lib.Dec.{eqb, leb}
 use lib.IntN.{ℤ, pos, negsuc}
 use lib.ListN.{length}
 use lib.Pow.{pow-add}
-use lib.Signed.{mag, leZ}
+use lib.Signed.{mag}
 use Rattle.sheet.specs.declared.Element.{Element}
 use Rattle.sheet.specs.declared.PairKind.{PairKind}
 use Rattle.sheet.specs.declared.PairKind.the-variants.{Points, PointLine, Lines}
 use Rattle.sheet.specs.declared.Size.{Size}
 use Rattle.sheet.specs.declared.Size.the-variants.{Given, Missing}
 use Rattle.sheet.specs.declared.Constraint.{Constraint}
-use Rattle.sheet.specs.Facts.{Facts, pick, linesOf}
+use Rattle.sheet.specs.Facts.{Facts, linesOf}
 use Rattle.sheet.specs.Facts.Laws.{linesOf-below, elementsOf-linesOf}
 use Rattle.sheet.specs.Field.{value, digits, unsigned32, kindBytes}
 use Rattle.sheet.specs.Field.Laws.{length-digits, field-digits, unsigned32-below, signed32-unsigned32}
-use Rattle.sheet.specs.Rules.Laws.{and-true}
-use Rattle.sheet.specs.Rules.{ends, stands, pairAt, optional, bitMap, within, sizeRange, sizeFault, constraintFault, or-else, constraintsFault}
+use Rattle.sheet.specs.Rules.Laws.{and-true, unless-none, none-else}
+use Rattle.sheet.specs.Rules.{pairAt, sizeOptional, mapAllowed, within, sizeInRange, sizeFault, constraintFault, constraintsFault}
 use Rattle.sheet.specs.Decode.{size, tag, dimension, constraint, constraints, readConstraints, readKinds, readSheet}
 use Rattle.sheet.specs.Encode.{sizeBit, sizeBytes, constraintBytes, constraintsBytes, sheetBytes}
 use Rattle.sheet.specs.WithoutTags.{noTags, untagged}
 use Rattle.sheet.specs.WithoutTags.Laws.{untagged-front}
 use Rattle.sheet.specs.Accepted.{Accepted}
+use Rattle.sheet.specs.Accepted.Laws.{taken}
 
 -- ---- what a rule that takes a fact says of it
 
 false-true : {A : Type 0} → false ≡ true → A
 false-true e = let z : _≡_ {A = ℕ} 0 1 = cc in absurd (omega arith)
 
-or-else-none : (x y : ℕ) → or-else x y ≡ 0 → (x ≡ 0) × (y ≡ 0)
-or-else-none zero y e = (refl, e)
-or-else-none (suc x) y e = absurd (omega arith)
+within-pos : (k m : ℕ) → k < 2 ^ 31 → within (pos 1) (pos k) (pos m) ≡ true → m < 2 ^ 31
+within-pos k m h e = omega (arith, leb-true m k (and-true (leb 1 m) (leb m k) e .1))
 
-pick-none : (q : Bool) (k : ℕ) → pick q 0 (suc k) ≡ 0 → q ≡ true
-pick-none true k e = refl
-pick-none false k e = absurd (omega arith)
-
-fault-none : (q r : Bool) (x : ℕ) → pick q (pick r 7 x) 6 ≡ 0 → (q ≡ true) × (r ≡ false) × (x ≡ 0)
-fault-none true true x e = absurd (omega arith)
-fault-none true false x e = (refl, refl, e)
-fault-none false r x e = absurd (omega arith)
-
-within-pos : (n k : ℕ) (z : ℤ) → k < 2 ^ 31 → within (pos n) (pos k) z ≡ true → mag z < 2 ^ 31
-within-pos n k (pos m) h e = omega (arith, leb-true m k (and-true (leZ (pos n) (pos m)) (leZ (pos m) (pos k)) e .1))
-within-pos n k (negsuc m) h e = false-true e
-
-within-neg : (n k : ℕ) (z : ℤ) → n < 2 ^ 31 → within (negsuc n) (negsuc k) z ≡ true → mag z < 2 ^ 31
-within-neg n k (pos m) h e = false-true e
-within-neg n k (negsuc m) h e = omega (arith, leb-true m n (and-true (leZ (negsuc n) (negsuc m)) (leZ (negsuc m) (negsuc k)) e .0))
-
-either : {A : Type 0} (a b : Bool) → a || b ≡ true → (a ≡ true → A) → (b ≡ true → A) → A
-either true b e f g = f refl
-either false b e f g = g e
+within-neg : (k m : ℕ) → k < 2 ^ 31 → within (negsuc k) (negsuc 0) (negsuc m) || false ≡ true → m < 2 ^ 31
+within-neg k m h e = omega (arith, leb-true m k (and-true (leb m k) (leb 0 m) (rw or-false at e) .0))
 
 -- a size in its range is a signed number of 32 bits
-size-mag : (p : PairKind) (z : ℤ) → sizeRange p z ≡ true → mag z < 2 ^ 31
-size-mag Points z e = within-pos 1 40000 z (omega arith) e
-size-mag PointLine z e = either _ _ e (within-neg 39999 0 z (omega arith)) (within-pos 1 40000 z (omega arith))
-size-mag Lines z e = either _ _ e (within-neg 17998 0 z (omega arith)) (within-pos 1 17999 z (omega arith))
+size-mag : (p : PairKind) (z : ℤ) → sizeInRange p z ≡ true → mag z < 2 ^ 31
+size-mag Points (pos m) e = within-pos 40000 m (omega arith) e
+size-mag Points (negsuc m) e = false-true e
+size-mag PointLine (pos m) e = within-pos 40000 m (omega arith) e
+size-mag PointLine (negsuc m) e = within-neg 39999 m (omega arith) e
+size-mag Lines (pos m) e = within-pos 17999 m (omega arith) e
+size-mag Lines (negsuc m) e = within-neg 17998 m (omega arith) e
 
 -- ---- one constraint
 
@@ -72,12 +57,12 @@ module _ (p : PairKind) where
   unfolding size sizeBytes
   size-back Missing s h = refl
   size-back (Given z) s h =
-      let range : sizeRange p z ≡ true = pick-none _ 8 h in
+      let range : sizeInRange p z ≡ true = unless-none _ 8 0 h .0 in
       let m : mag z < 2 ^ 31 = size-mag p z range in
       rw (field-digits 4 (unsigned32 z) s (unsigned32-below z m), signed32-unsigned32 z m, range)
 
-  map-back : (z : Size) → sizeFault p z ≡ 0 → bitMap p (sizeBit z) ≡ true
-  map-back Missing h = pick-none (optional p) 7 h
+  map-back : (z : Size) → sizeFault p z ≡ 0 → mapAllowed p (sizeBit z) ≡ true
+  map-back Missing h = unless-none (sizeOptional p) 7 0 h .0
   map-back (Given z) h = refl
 
 -- bit 0 is the size's, and bit 1 is clear
@@ -86,25 +71,13 @@ bits Missing = (refl, refl)
 bits (Given z) = (refl, refl)
 
 module _ (elements : List Element) (done : List Constraint) (c : Constraint) where
-  fault : constraintFault elements done c ≡ 0
-      → (ends (length elements) (c .first) (c .second) ≡ true) × (stands done (c .first) (c .second) ≡ false)
-      × (sizeFault (pairAt elements (c .first) (c .second)) (c .size) ≡ 0)
-  unfolding constraintFault
-  fault e = fault-none _ _ _ e
-
   pub constraint-back : (s : List ℕ) → constraintFault elements done c ≡ 0 → constraint elements done (constraintBytes c ++ s) ≡ value c s
   unfolding constraint dimension tag constraintBytes
   constraint-back s h =
-      let f = fault h in
+      let t = taken elements done c h in
       let p = pairAt elements (c .first) (c .second) in
-      rw (
-        f .0,
-        f .1,
-        map-back p (c .size) (f .2),
-        bits (c .size) .0,
-        bits (c .size) .1,
-        size-back p (c .size) s (f .2),
-      )
+      let b = bits (c .size) in
+      rw (t .ends-ascend, t .is-new, map-back p (c .size) (t .size-fits), b .0, b .1, size-back p (c .size) s (t .size-fits))
 
 -- ---- all constraints
 
@@ -113,7 +86,7 @@ pub constraints-back : (elements : List Element) (cs done : List Constraint) →
 unfolding constraintsFault constraints constraintsBytes
 constraints-back elements [] done h = rw append-nil
 constraints-back elements (c ∷ cs) done h =
-    let f = or-else-none (constraintFault elements done c) (constraintsFault elements (done ++ c ∷ []) cs) h in
+    let f = none-else (constraintFault elements done c) _ h in
     rw (constraint-back elements done c (constraintsBytes cs) (f .0))
     (constraints-back elements cs (done ++ c ∷ []) (f .1) ∙ rw append-assoc)
 
@@ -139,11 +112,11 @@ unfolding readSheet readKinds readConstraints sheetBytes
 sheet-back f h =
     let es = f .elements in
     rw (
-      h .element-count,
+      h .elements-in-range,
       field-digits (kindBytes (length es)) (linesOf es) (length (f .constraints) ∷ constraintsBytes (f .constraints)) (kinds-fit es),
       lt-ltb _ _ (linesOf-below es),
       elementsOf-linesOf es,
-      h .constraint-count,
+      h .constraints-in-range,
       constraints-back es (f .constraints) [] (h .no-fault),
     )
 

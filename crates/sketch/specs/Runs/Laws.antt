@@ -3,7 +3,7 @@ use Prim.Native.Nat.{ℕ, zero, suc, _<_}
 use native.Mathlib.Omega.{arith}
 use mathlib.Core.Path.{_≡_, refl, sym, ap, _∙_, subst}
 use mathlib.Core.Logic.{_⊎_, inl, inr}
-use mathlib.Core.Bool.{Bool, true, false}
+use mathlib.Core.Bool.{Bool, true, false, cond, not}
 use mathlib.Core.List.{List, [], _∷_, _++_, append-nil, append-assoc}
 use lib.ListN.{length, length-set}
 use Rattle.theory.specs.Constraints.{Among}
@@ -16,11 +16,11 @@ use Rattle.sheet.specs.declared.Size.{Size}
 use Rattle.sheet.specs.declared.Size.the-variants.{Given, Missing}
 use Rattle.sheet.specs.declared.Constraint.{Constraint}
 use Rattle.sheet.specs.declared.Sheet.{Sheet}
-use Rattle.sheet.specs.Facts.{Facts, factsOf, pick}
-use Rattle.sheet.specs.Rules.{ends, stands, pairAt, optional, sizeRange, sizeFault, or-else, constraintFault}
+use Rattle.sheet.specs.Facts.{Facts, factsOf}
+use Rattle.sheet.specs.Rules.{endsAscend, stands, pairAt, sizeOptional, sizeInRange, sizeFault, or-else, constraintFault}
 use Rattle.sheet.specs.Accepted.{Accepted}
-use Rattle.sheet.specs.Accepted.Laws.{none-else}
-use Rattle.sheet.specs.RoundTrip.Blocks.{factsOf-accepted}
+use Rattle.sheet.specs.Rules.Laws.{none-else}
+use Rattle.sheet.specs.Accepted.Laws.{factsOf-accepted}
 use Rattle.sheet.specs.Graph.{graphOf, overRule, overFault}
 use Rattle.sheet.specs.Graph.Laws.{fault-none}
 use Rattle.judge.specs.Listing.Blocks.{Blocks, blocks}
@@ -33,7 +33,7 @@ use Rattle.sketch.specs.Runs.{Held, afterAll, takenBy, takenOf, Next, ta
 abbrev Rule : ℕ → Type 0
 Rule k = (k ≡ 0) ⊎ Among k (6 ∷ 7 ∷ 8 ∷ 9 ∷ 11 ∷ [])
 
-pick-rule : (b : Bool) {i j : ℕ} → Rule i → Rule j → Rule (pick b i j)
+pick-rule : (b : Bool) {i j : ℕ} → Rule i → Rule j → Rule (cond b i j)
 pick-rule true p q = p
 pick-rule false p q = q
 
@@ -42,8 +42,8 @@ else-rule zero j p q = q
 else-rule (suc i) j p q = p
 
 size-rule : (p : PairKind) (z : Size) → Rule (sizeFault p z)
-size-rule p Missing = pick-rule (optional p) (inl refl) (inr (inr (inr (inl refl))))
-size-rule p (Given z) = pick-rule (sizeRange p z) (inl refl) (inr (inr (inr (inr (inl refl)))))
+size-rule p Missing = pick-rule (sizeOptional p) (inl refl) (inr (inr (inr (inl refl))))
+size-rule p (Given z) = pick-rule (sizeInRange p z) (inl refl) (inr (inr (inr (inr (inl refl)))))
 
 over-rule : (o : Finding) → Rule (overRule o)
 over-rule Fine = inl refl
@@ -53,8 +53,8 @@ next-rule : (f : Facts) (c : Constraint) → Rule (nextFault f c)
 unfolding nextFault constraintFault overFault
 next-rule f c =
     else-rule (constraintFault (f .elements) (f .constraints) c) (overFault (graphOf (extended f c)))
-    (pick-rule (ends (length (f .elements)) (c .first) (c .second)) (pick-rule (stands (f .constraints) (c .first) (c .second)) (inr (inr (inl refl)))
-    (size-rule (pairAt (f .elements) (c .first) (c .second)) (c .size))) (inr (inl refl)))
+    (pick-rule (endsAscend (length (f .elements)) (c .first) (c .second)) (pick-rule (not (stands (f .constraints) (c .first) (c .second)))
+    (size-rule (pairAt (f .elements) (c .first) (c .second)) (c .size)) (inr (inr (inl refl)))) (inr (inl refl)))
     (over-rule (findingOf (graphOf (extended f c))))
 
 named : (k : ℕ) → Rule (suc k) → Among (suc k) (6 ∷ 7 ∷ 8 ∷ 9 ∷ 11 ∷ [])
@@ -88,7 +88,7 @@ module _ (s : Sheet) (h : Held s) where
   stored-held : (c : Constraint) → nextFault (factsOf s) c ≡ 0 → Held (stored s c)
   unfolding stored holdFault nextFault
   stored-held c e =
-      let k = none-else (factsOf s .elements) (constraintFault (factsOf s .elements) (factsOf s .constraints) c)
+      let k = none-else (constraintFault (factsOf s .elements) (factsOf s .constraints) c)
       (overFault (graphOf (extended (factsOf s) c))) e in
       record {
         elements-long = h .elements-long;

@@ -14,10 +14,9 @@ use Rattle.sheet.specs.declared.Element.{Element}
 use Rattle.sheet.specs.declared.Constraint.{Constraint}
 use Rattle.sheet.specs.declared.Sheet.{Sheet}
 use Rattle.sheet.specs.Facts.{Facts, factsOf}
-use Rattle.sheet.specs.Rules.{or-else, constraintCount, constraintFault, constraintsFault, sheetFault}
-use Rattle.sheet.specs.Rules.Laws.{or-else-some}
-use Rattle.sheet.specs.Accepted.Laws.{none-else}
-use Rattle.sheet.specs.RoundTrip.Blocks.{sheetFault-none}
+use Rattle.sheet.specs.Rules.{or-else, constraintsInRange, constraintFault, constraintsFault, sheetFault}
+use Rattle.sheet.specs.Rules.Laws.{or-else-some, none-else}
+use Rattle.sheet.specs.Accepted.Laws.{sheetFault-none}
 use Rattle.sheet.specs.Graph.{graphOf, overFault}
 use Rattle.sheet.specs.Graph.Laws.{clusters-pairs, clusters-below, fault-none}
 use Rattle.theory.specs.Graph.{verdictOf}
@@ -92,14 +91,14 @@ module _ (s : Sheet) (c : Constraint) (long : length (s .constraints) ≡ 200) (
   stored-fault e k =
       let h = sheetFault-none s e in
       let q : s .e < length (s .constraints) = rw long room in
-      let m : constraintCount (s .e + 1) ≡ true = le-leb (s .e + 1) 200 (omega arith) in
+      let m : constraintsInRange (s .e + 1) ≡ true = le-leb (s .e + 1) 200 (omega arith) in
       rw (h .0, m, add-one, take-suc-set (s .constraints) (s .e) c q) (extended-none (factsOf s) c (h .2) k)
 
 -- ---- the rules in their order
 
 pub hold-none : (s : Sheet) → holdFault s ≡ 0 → (sheetFault s ≡ 0) × (overFault (graphOf (factsOf s)) ≡ 0)
 unfolding holdFault
-hold-none s e = none-else (factsOf s .elements) (sheetFault s) (overFault (graphOf (factsOf s))) e
+hold-none s e = none-else (sheetFault s) (overFault (graphOf (factsOf s))) e
 
 module _ (s : Sheet) (c : Constraint) where
   pub add-unheld : (holdFault s ≡ 0 → ⊥) → addFault s c ≡ holdFault s

@@ -3,12 +3,15 @@
 use borrow.Author.Needs.{needs}
 use Prim.Native.Nat.{_<_, _≤_}
 use native.Mathlib.Nat.{zero-add, le-trans}
+use native.Mathlib.Omega.{arith}
 use mathlib.Core.Path.{_≡_}
 use mathlib.Core.List.{[]}
-use lib.ListN.{length}
+use lib.ListN.{length, length-take}
 use Rattle.sheet.specs.Facts.{factsOf}
 use Rattle.sheet.specs.Encode.{sheetBytes}
-use Rattle.sheet.specs.RoundTrip.Blocks.{sheetFault-none, sheetFault-length, elements-most, constraints-most}
+use Rattle.sheet.specs.Accepted.Laws.{sheetFault-none}
+use Rattle.sheet.specs.Encode.Laws.{sheet-length}
+use Rattle.sheet.specs.Rules.Laws.{elements-most, constraints-most}
 use Rattle.space.specs.Space.Laws.{none-left, put-refused, put-done}
 use Rattle.writer.proofs.write_accepted.Statement.{statement}
 use Rattle.writer.proofs.write_accepted.Tie as tie
@@ -32,7 +35,9 @@ put-sheet-requires c κs = (
 returns : tie.Need-returns
 returns c =
     let a = c .before .before .before .before .before .before .before .before in
-    put-done (le-trans (sheetFault-length (a .args .s) (a .pre)) (c .before .before .before .before .if1 .taken))
+    let most = sheet-length (factsOf (a .args .s)) (omega (arith, length-take (a .args .s .n) (a .args .s .elements), few-elements a))
+    (omega (arith, length-take (a .args .s .e) (a .args .s .constraints), few-constraints a)) in
+    put-done (le-trans most (c .before .before .before .before .if1 .taken))
     (c .before .before .put-sheet .ensures)
 
 put-sheet-requires-2 : tie.Need-put-sheet-requires-2

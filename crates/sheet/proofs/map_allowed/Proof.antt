@@ -1,7 +1,7 @@
 use borrow.Author.Needs.{needs}
 use borrow.Author.Tests.{lt-ltb, le-ltb, eq-eqb, ne-eqb}
-use Rattle.sheet.proofs.bit_map.Statement.{statement}
-use Rattle.sheet.proofs.bit_map.Tie as tie
+use Rattle.sheet.proofs.map_allowed.Statement.{statement}
+use Rattle.sheet.proofs.map_allowed.Tie as tie
 
 returns : tie.Need-returns
 returns c = rw (lt-ltb _ _ (c .before .if1 .taken), eq-eqb _ _ (c .if2 .taken))
@@ -13,5 +13,5 @@ returns-2 c =
 returns-3 : tie.Need-returns-3
 returns-3 c = rw (le-ltb _ _ (c .if1 .left))
 
-pub bit-map-spec : {M : Type 1} → statement M
-bit-map-spec = tie.close (tie.spec (λ c κs. search needs) returns returns-2 returns-3)
+pub map-allowed-spec : {M : Type 1} → statement M
+map-allowed-spec = tie.close (tie.spec (λ c κs. search needs) returns returns-2 returns-3)

@@ -5,8 +5,8 @@ use mathlib.Core.Path.{_≡_, sym, subst}
 use native.Mathlib.Nat.{one-mul, mod-eq-of-lt}
 use native.Mathlib.Omega.{arith}
 use lib.Pow.{pow-lt}
-use Rattle.sheet.proofs.kind_bits.Statement.{statement}
-use Rattle.sheet.proofs.kind_bits.Tie as tie
+use Rattle.sheet.proofs.kind_bits_used.Statement.{statement}
+use Rattle.sheet.proofs.kind_bits_used.Tie as tie
 
 returns : tie.Need-returns
 returns c =
@@ -20,5 +20,5 @@ returns-2 : tie.Need-returns-2
 returns-2 c =
     sym (lt-ltb _ _ (all (c .before .args .n) (c .before .args .m) (c .before .pre) (c .if1 .left) (c .before .fits .m .fits)))
 
-pub kind-bits-spec : {M : Type 1} → statement M
-kind-bits-spec = tie.close (tie.spec (λ c. search needs) returns returns-2)
+pub kind-bits-used-spec : {M : Type 1} → statement M
+kind-bits-used-spec = tie.close (tie.spec (λ c. search needs) returns returns-2)

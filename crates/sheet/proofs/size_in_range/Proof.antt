@@ -5,15 +5,15 @@ use mir.Facts.{toZ-ofZ}
 use mir.Val.{toZ, ofZ}
 use mir.Syntax.{w32}
 use Rattle.sheet.specs.Range.Laws.{range-without-zero, no-zero}
-use Rattle.sheet.specs.Rules.{sizeRange}
-use Rattle.sheet.proofs.size_range.Statement.{statement}
-use Rattle.sheet.proofs.size_range.Tie as tie
+use Rattle.sheet.specs.Rules.{sizeInRange}
+use Rattle.sheet.proofs.size_in_range.Statement.{statement}
+use Rattle.sheet.proofs.size_in_range.Tie as tie
 
 returns : tie.Need-returns
 returns c =
     let g = c .before .args in
     let zero : g .z ≡ pos 0 = sym (toZ-ofZ (c .before .fits .z)) ∙ ap (toZ w32) (c .if1 .taken) in
-    sym (ap (sizeRange (g .p)) zero ∙ no-zero (g .p))
+    sym (ap (sizeInRange (g .p)) zero ∙ no-zero (g .p))
 
 returns-2 : tie.Need-returns-2
 returns-2 c =
@@ -24,6 +24,6 @@ returns-2 c =
     (c .within .ensures)
     ∙ sym (range-without-zero (g .p) (g .z) (λ e. c .before .before .before .if1 .left (ap (ofZ w32) e)))
 
-pub size-range-spec : {M : Type 1} → statement M
-size-range-spec =
+pub size-in-range-spec : {M : Type 1} → statement M
+size-in-range-spec =
     tie.close (tie.spec returns (λ c κs. search needs) (λ c κs. search needs) (λ c κs. search needs) returns-2)
