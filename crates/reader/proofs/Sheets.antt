@@ -1,8 +1,7 @@
--- The fields of a sheet in file order: what the whole answer is, once they are known up to one of them. Assumes nothing.
+-- The head and the constraints: what is read of a list is read of its sheet. Assumes nothing.
 use Prim.Native.Nat.{ℕ, zero, suc, _+_, _^_, _<_}
 use native.Mathlib.Omega.{arith}
 use mathlib.Core.Path.{_≡_, refl, sym, _∙_}
-use mathlib.Core.Bool.{true, false}
 use mathlib.Core.List.{List, [], _∷_, _++_}
 use lib.IntN.{ℤ}
 use lib.ListN.{length, length-append}
@@ -10,10 +9,9 @@ use Rattle.sheet.specs.declared.Element.{Element}
 use Rattle.sheet.specs.declared.Constraint.{Constraint}
 use Rattle.sheet.specs.Facts.{Facts, elementsOf}
 use Rattle.sheet.specs.Facts.Laws.{elementsOf-length, linesOf-elementsOf}
-use Rattle.sheet.specs.Field.{Field, value, refused, byte}
+use Rattle.sheet.specs.Field.{Field, value, refused}
 use Rattle.sheet.specs.Field.Laws.{next-value, value-with, refused-value}
-use Rattle.sheet.specs.Rules.{elementsInRange, constraintsInRange}
-use Rattle.sheet.specs.Decode.{opening, constraint, constraints, readKinds, readConstraints, readSheet}
+use Rattle.sheet.specs.Decode.{constraint, constraints}
 use Rattle.graph.specs.declared.Head.{Head}
 use Rattle.graph.specs.Lent.{InArrays}
 use Rattle.reader.specs.declared.HeadRead.the-variants as head
@@ -24,44 +22,6 @@ use Rattle.reader.specs.Answers.{factsWith, Within, asOutcome, ListRead,
 
 pub no-head : {k : ℕ} → Within (head.Refused k)
 no-head = record { within = λ h c e. let z : _≡_ {A = ℕ} 0 1 = cc in absurd (omega arith) }
-
-module _ (es : List Element) (s : List ℕ) where
-  pub no-constraint-count : {k : ℕ} → byte s ≡ refused k → readConstraints es s ≡ refused k
-  unfolding readConstraints
-  no-constraint-count was = rw was
-
-  module _ {e : ℕ} {s1 : List ℕ} (counted : byte s ≡ value e s1) where
-    pub many-constraints : constraintsInRange e ≡ false → readConstraints es s ≡ refused 5
-    unfolding readConstraints
-    many-constraints h = rw (counted, h)
-
-    pub constraints-counted : constraintsInRange e ≡ true → readConstraints es s ≡ factsWith es (constraints es e [] s1)
-    unfolding readConstraints
-    constraints-counted h = rw (counted, h)
-
-module _ (s : List ℕ) where
-  pub no-opening : {k : ℕ} → opening s ≡ refused k → readSheet s ≡ refused k
-  unfolding readSheet
-  no-opening was = rw was
-
-  module _ {o s1 : List ℕ} (opened : opening s ≡ value o s1) where
-    pub no-element-count : {k : ℕ} → byte s1 ≡ refused k → readSheet s ≡ refused k
-    unfolding readSheet
-    no-element-count was = rw (opened, was)
-
-    module _ {n : ℕ} {s2 : List ℕ} (counted : byte s1 ≡ value n s2) where
-      pub elements-outside : elementsInRange n ≡ false → readSheet s ≡ refused 3
-      unfolding readSheet
-      elements-outside h = rw (opened, counted, h)
-
-      module _ (h : elementsInRange n ≡ true) where
-        pub no-kinds : {k : ℕ} → readKinds n s2 ≡ refused k → readSheet s ≡ refused k
-        unfolding readSheet
-        no-kinds was = rw (opened, counted, h, was)
-
-        pub kinds-read : {es : List Element} {s3 : List ℕ} → readKinds n s2 ≡ value es s3 → readSheet s ≡ readConstraints es s3
-        unfolding readSheet
-        kinds-read was = rw (opened, counted, h, was)
 
 -- ---- the head and the constraints
 

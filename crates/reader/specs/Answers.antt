@@ -2,23 +2,22 @@
 -- (document 01, "Where each form goes": each field read answers a value with the next cursor or a refusal number).
 use Prim.Native.Nat.{ℕ, _^_, _≤_, _<_}
 use mathlib.Core.Path.{_≡_}
-use mathlib.Core.Bool.{Bool}
 use mathlib.Core.List.{List, []}
 use lib.IntN.{ℤ}
 use lib.ListN.{drop}
 use Rattle.sheet.specs.declared.Element.{Element}
-use Rattle.sheet.specs.declared.PairKind.{PairKind}
+use Rattle.sheet.specs.declared.Size.{Size}
 use Rattle.sheet.specs.declared.Constraint.{Constraint}
 use Rattle.sheet.specs.Facts.{Facts, elementsOf, sheetOf}
-use Rattle.sheet.specs.Field.{Field, value, refused, next, demand, byte as byteOf, openingBytes}
-use Rattle.sheet.specs.Rules.{pairAt, mapAllowed}
-use Rattle.sheet.specs.Decode.{size as sizeField, dimension, constraints}
+use Rattle.sheet.specs.Field.{Field, value, refused, next}
+use Rattle.sheet.specs.Rules.{pairAt}
+use Rattle.sheet.specs.Decode.{dimension, constraints}
 use Rattle.sheet.specs.Graph.{sizeOf}
 use Rattle.graph.specs.declared.Head.{Head}
 use Rattle.graph.specs.Lent.{headOf, InArrays}
 use Rattle.reader.specs.declared.Cursor.{Cursor}
-use Rattle.reader.specs.declared.OpeningRead.{OpeningRead}
-use Rattle.reader.specs.declared.OpeningRead.the-variants as opening
+use Rattle.reader.specs.declared.PlaceRead.{PlaceRead}
+use Rattle.reader.specs.declared.PlaceRead.the-variants as place
 use Rattle.reader.specs.declared.ByteRead.{ByteRead}
 use Rattle.reader.specs.declared.ByteRead.the-variants as byte
 use Rattle.reader.specs.declared.NumberRead.{NumberRead}
@@ -27,8 +26,6 @@ use Rattle.reader.specs.declared.EndsRead.{EndsRead}
 use Rattle.reader.specs.declared.EndsRead.the-variants as ends
 use Rattle.reader.specs.declared.SizeRead.{SizeRead}
 use Rattle.reader.specs.declared.SizeRead.the-variants as size
-use Rattle.reader.specs.declared.TagRead.{TagRead}
-use Rattle.reader.specs.declared.TagRead.the-variants as tag
 use Rattle.reader.specs.declared.HeadRead.{HeadRead}
 use Rattle.reader.specs.declared.HeadRead.the-variants as head
 use Rattle.reader.specs.declared.GraphRead.{GraphRead}
@@ -38,9 +35,9 @@ use Rattle.reader.specs.declared.Outcome.the-variants as outcome
 use Rattle.reader.specs.declared.Reading.{Reading}
 pub mod Laws
 
-abbrev pub asOpening : List ℕ → OpeningRead → Field (List ℕ)
-asOpening s (opening.Value c) = value openingBytes (drop (c .at) s)
-asOpening s (opening.Refused k) = refused k
+abbrev pub asPlace : List ℕ → PlaceRead → Field (Unit {0})
+asPlace s (place.Value c) = value tt (drop (c .at) s)
+asPlace s (place.Refused k) = refused k
 
 abbrev pub asByte : List ℕ → ByteRead → Field ℕ
 asByte s (byte.Value v c) = value v (drop (c .at) s)
@@ -55,9 +52,13 @@ abbrev pub asKinds : ℕ → List ℕ → NumberRead → Field (List Element)
 asKinds n s (number.Value m c) = value (elementsOf n m) (drop (c .at) s)
 asKinds n s (number.Refused k) = refused k
 
+-- a constraint of these ends
+abbrev pub between : ℕ → ℕ → Field Size → Field Constraint
+between a b f = next f (λ z s. value (record { first = a; second = b; size = z }) s)
+
 -- the two ends: the rest of the constraint follows them
 abbrev pub asEnds : List Element → List ℕ → EndsRead → Field Constraint
-asEnds es s (ends.Value a b c) = dimension a b (pairAt es a b) (drop (c .at) s)
+asEnds es s (ends.Value a b c) = between a b (dimension (pairAt es a b) (drop (c .at) s))
 asEnds es s (ends.Refused k) = refused k
 
 abbrev pub endsRule : EndsRead → ℕ
@@ -68,24 +69,13 @@ endsRule (ends.Refused k) = k
 pub record Ascending (n : ℕ) (r : EndsRead) : Type 0 where
   pub ascend : (a b : ℕ) (c : Cursor) → r ≡ ends.Value a b c → (a < b) × (b < n)
 
--- the bit map
-abbrev pub mapOf : PairKind → List ℕ → Field ℕ
-mapOf p s = next (byteOf s) (λ map s1. demand (mapAllowed p map) 8 (value map s1))
-
-pub record MapBelow (r : ByteRead) : Type 0 where
-  pub below : (map : ℕ) (c : Cursor) → r ≡ byte.Value map c → map < 4
-
--- the size as a number
-abbrev pub sizeIn : PairKind → Bool → List ℕ → Field ℤ
-sizeIn p stands s = next (sizeField p stands s) (λ z s1. value (sizeOf z) s1)
+-- a size as a number
+abbrev pub sizeIn : Field Size → Field ℤ
+sizeIn f = next f (λ z s. value (sizeOf z) s)
 
 abbrev pub asSize : List ℕ → SizeRead → Field ℤ
 asSize s (size.Value z c) = value z (drop (c .at) s)
 asSize s (size.Refused k) = refused k
-
-abbrev pub asTag : List ℕ → TagRead → Field (Unit {0})
-asTag s (tag.Value c) = value tt (drop (c .at) s)
-asTag s (tag.Refused k) = refused k
 
 -- the number of the rule that refuses, 0 of a value
 abbrev pub ruleOf : {A : Type 0} → Field A → ℕ

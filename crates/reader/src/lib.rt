@@ -8,12 +8,12 @@ ghost use lib.Dec.{eqb, leb};
 ghost use lib.IntN.{pos};
 ghost use lib.ListN.{length, drop, replicate};
 ghost use Rattle.sheet.specs.Facts.{linesOf};
-ghost use Rattle.sheet.specs.Field.{refused, byte, field, signed32, openingBytes, begins};
-ghost use Rattle.sheet.specs.Decode.{opening, tag, constraint, constraints, readKinds, readSheet};
+ghost use Rattle.sheet.specs.Field.{refused, byte, byteBy, field, signed32, openingBytes, begins};
+ghost use Rattle.sheet.specs.Rules.{pairAt, mapAllowed};
+ghost use Rattle.sheet.specs.Decode.{opening, size, tag, dimension, constraint, constraints, readKinds, readSheet};
 ghost use Rattle.sheet.specs.Noted.{Noted};
 ghost use Rattle.graph.specs.Lent.{InArrays};
-ghost use Rattle.reader.specs.Answers.{ruleOf, asOpening, asByte, asNumber, asEnds, endsRule, Ascending, mapOf, MapBelow, sizeIn, asSize};
-ghost use Rattle.reader.specs.Answers.{asTag, asKinds, Below};
+ghost use Rattle.reader.specs.Answers.{ruleOf, asPlace, asByte, asNumber, asKinds, Below, asEnds, endsRule, Ascending, sizeIn, asSize};
 ghost use Rattle.reader.specs.Answers.{headRule, graphRule, asHead, Within, ListRead, SheetRead, asReading, outcomeNumber};
 use graph::Head;
 use sheet::Constraint;
@@ -28,40 +28,35 @@ pub struct Cursor {
     pub at: usize,
 }
 
-pub enum OpeningRead {
+// A field whose bytes are not kept: the place after it.
+enum PlaceRead {
     Value(Cursor),
     Refused(u8),
 }
 
-pub enum ByteRead {
+enum ByteRead {
     Value(u8, Cursor),
     Refused(u8),
 }
 
-pub enum NumberRead {
+enum NumberRead {
     Value(u64, Cursor),
     Refused(u8),
 }
 
 // The two ends of a constraint.
-pub enum EndsRead {
+enum EndsRead {
     Value(u8, u8, Cursor),
     Refused(u8),
 }
 
 // A size, 0 for a missing one.
-pub enum SizeRead {
+enum SizeRead {
     Value(i32, Cursor),
     Refused(u8),
 }
 
-// A tag is dropped: what is left of it is the place after it.
-pub enum TagRead {
-    Value(Cursor),
-    Refused(u8),
-}
-
-pub enum HeadRead {
+enum HeadRead {
     Value(Head, Cursor),
     Refused(u8),
 }
@@ -83,21 +78,21 @@ pub struct Reading {
     pub sheet: Sheet,
 }
 
-impl OpeningRead {
-    // The rule that refuses the opening, 0 of one that was read.
-    pub fn refusal(self) -> u8
-        ensures { λ k. ⌜ k ≡ ruleOf (asOpening [] self) ⌝ }
+impl PlaceRead {
+    // The rule that refuses the field, 0 of one that was read.
+    fn refusal(self) -> u8
+        ensures { λ k. ⌜ k ≡ ruleOf (asPlace [] self) ⌝ }
     {
         match self {
-            OpeningRead::Value(_) => 0,
-            OpeningRead::Refused(k) => k,
+            PlaceRead::Value(_) => 0,
+            PlaceRead::Refused(k) => k,
         }
     }
 }
 
 impl ByteRead {
     // The rule that refuses the byte, 0 of one that was read.
-    pub fn refusal(self) -> u8
+    fn refusal(self) -> u8
         ensures { λ k. ⌜ k ≡ ruleOf (asByte [] self) ⌝ }
     {
         match self {
@@ -109,7 +104,7 @@ impl ByteRead {
 
 impl NumberRead {
     // The rule that refuses the number, 0 of one that was read.
-    pub fn refusal(self) -> u8
+    fn refusal(self) -> u8
         ensures { λ k. ⌜ k ≡ ruleOf (asNumber [] self) ⌝ }
     {
         match self {
@@ -121,7 +116,7 @@ impl NumberRead {
 
 impl EndsRead {
     // The rule that refuses the ends, 0 of two that were read.
-    pub fn refusal(self) -> u8
+    fn refusal(self) -> u8
         ensures { λ k. ⌜ k ≡ endsRule self ⌝ }
     {
         match self {
@@ -133,7 +128,7 @@ impl EndsRead {
 
 impl SizeRead {
     // The rule that refuses the size, 0 of one that was read.
-    pub fn refusal(self) -> u8
+    fn refusal(self) -> u8
         ensures { λ k. ⌜ k ≡ ruleOf (asSize [] self) ⌝ }
     {
         match self {
@@ -143,21 +138,9 @@ impl SizeRead {
     }
 }
 
-impl TagRead {
-    // The rule that refuses the tag, 0 of one that was read.
-    pub fn refusal(self) -> u8
-        ensures { λ k. ⌜ k ≡ ruleOf (asTag [] self) ⌝ }
-    {
-        match self {
-            TagRead::Value(_) => 0,
-            TagRead::Refused(k) => k,
-        }
-    }
-}
-
 impl HeadRead {
     // The rule that refuses the head, 0 of one that was read.
-    pub fn refusal(self) -> u8
+    fn refusal(self) -> u8
         ensures { λ k. ⌜ k ≡ headRule self ⌝ }
     {
         match self {
@@ -197,17 +180,17 @@ fn opens(s: &[u8]) -> bool
 }
 
 // The opening: rule 1.
-pub fn read_opening(s: &[u8]) -> OpeningRead
-    ensures { λ r. ⌜ asOpening (now (s .entry)) r ≡ opening (now (s .entry)) ⌝ }
+fn read_opening(s: &[u8]) -> PlaceRead
+    ensures { λ r. ⌜ asPlace (now (s .entry)) r ≡ opening (now (s .entry)) ⌝ }
 {
     if !opens(s) {
-        return OpeningRead::Refused(1);
+        return PlaceRead::Refused(1);
     }
-    OpeningRead::Value(Cursor { at: 4 })
+    PlaceRead::Value(Cursor { at: 4 })
 }
 
 // One byte: rule 2 where none is left.
-pub fn read_byte(s: &[u8], c: Cursor) -> ByteRead
+fn read_byte(s: &[u8], c: Cursor) -> ByteRead
     ensures { λ r. ⌜ asByte (now (s .entry)) r ≡ byte (drop (c .at) (now (s .entry))) ⌝ }
 {
     let at = c.at;
@@ -226,7 +209,7 @@ fn enough(len: usize, at: usize, k: usize) -> bool
 }
 
 // A number of k bytes, lowest first: rule 2 where they are not all there.
-pub fn read_number(s: &[u8], c: Cursor, k: usize) -> NumberRead
+fn read_number(s: &[u8], c: Cursor, k: usize) -> NumberRead
     requires { ⌜ (0 < k) × (k ≤ 8) ⌝ }
     ensures { λ r. ⌜ asNumber (now (s .entry)) r ≡ field k (drop (c .at) (now (s .entry))) ⌝ }
     ensures { λ r. ⌜ Below (256 ^ k) r ⌝ }
@@ -296,8 +279,7 @@ fn read_ends(s: &[u8], c: Cursor, near: &[u64; 64], n: usize) -> EndsRead
 
 // The bit map: rule 8.
 fn read_map(s: &[u8], c: Cursor, p: PairKind) -> ByteRead
-    ensures { λ r. ⌜ asByte (now (s .entry)) r ≡ mapOf p (drop (c .at) (now (s .entry))) ⌝ }
-    ensures { λ r. ⌜ MapBelow r ⌝ }
+    ensures { λ r. ⌜ asByte (now (s .entry)) r ≡ byteBy (mapAllowed p) 8 (drop (c .at) (now (s .entry))) ⌝ }
 {
     let third = read_byte(s, c);
     let ByteRead::Value(map, after) = third else {
@@ -311,7 +293,7 @@ fn read_map(s: &[u8], c: Cursor, p: PairKind) -> ByteRead
 
 // The size, where bit 0 of the map stands: rule 9.
 fn read_size(s: &[u8], c: Cursor, p: PairKind, stands: bool) -> SizeRead
-    ensures { λ r. ⌜ asSize (now (s .entry)) r ≡ sizeIn p stands (drop (c .at) (now (s .entry))) ⌝ }
+    ensures { λ r. ⌜ asSize (now (s .entry)) r ≡ sizeIn (size p stands (drop (c .at) (now (s .entry)))) ⌝ }
 {
     if !stands {
         return SizeRead::Value(0, c);
@@ -328,16 +310,38 @@ fn read_size(s: &[u8], c: Cursor, p: PairKind, stands: bool) -> SizeRead
 }
 
 // The tag, where bit 1 of the map stands: twice the bit is how many bytes are passed over, so that the way does not part at the bit.
-fn skip_tag(s: &[u8], c: Cursor, bit: u8) -> TagRead
+fn skip_tag(s: &[u8], c: Cursor, bit: u8) -> PlaceRead
     requires { ⌜ bit < 2 ⌝ }
-    ensures { λ r. ⌜ asTag (now (s .entry)) r ≡ tag (eqb bit 1) (drop (c .at) (now (s .entry))) ⌝ }
+    ensures { λ r. ⌜ asPlace (now (s .entry)) r ≡ tag (eqb bit 1) (drop (c .at) (now (s .entry))) ⌝ }
 {
     let at = c.at;
     let width = 2 * (bit as usize);
     if bytes_left(s.len(), at) < width {
-        return TagRead::Refused(2);
+        return PlaceRead::Refused(2);
     }
-    TagRead::Value(Cursor { at: at + width })
+    PlaceRead::Value(Cursor { at: at + width })
+}
+
+// What follows the two ends: the bit map and the fields whose bit stands, by the number of the kinds.
+fn read_dimension(s: &[u8], c: Cursor, lines: u64, a: u8, b: u8) -> SizeRead
+    requires { ⌜ (a < 64) × (b < 64) ⌝ }
+    ensures { λ r. ⌜ ((es : List Element) → lines ≡ linesOf es
+        → asSize (now (s .entry)) r ≡ sizeIn (dimension (pairAt es a b) (drop (c .at) (now (s .entry))))) ⌝ }
+{
+    let p = sheet::pair_of(sheet::kind_at(lines, a), sheet::kind_at(lines, b));
+    let third = read_map(s, c, p);
+    let ByteRead::Value(map, c1) = third else {
+        return SizeRead::Refused(third.refusal());
+    };
+    let sized = read_size(s, c1, p, map % 2 == 1);
+    let SizeRead::Value(z, c2) = sized else {
+        return sized;
+    };
+    let tagged = skip_tag(s, c2, map / 2);
+    let PlaceRead::Value(c3) = tagged else {
+        return SizeRead::Refused(tagged.refusal());
+    };
+    SizeRead::Value(z, c3)
 }
 
 // Constraints i0 to e - 1 after those in the arrays, and then the end of the bytes: rules 6 to 10.
@@ -364,21 +368,12 @@ pub fn read_constraints(
         let EndsRead::Value(a, b, c1) = ends else {
             return Outcome::Refused(ends.refusal());
         };
-        let p = sheet::pair_of(sheet::kind_at(lines, a), sheet::kind_at(lines, b));
-        let third = read_map(s, c1, p);
-        let ByteRead::Value(map, c2) = third else {
-            return Outcome::Refused(third.refusal());
-        };
-        let sized = read_size(s, c2, p, map % 2 == 1);
-        let SizeRead::Value(z, c3) = sized else {
+        let sized = read_dimension(s, c1, lines, a, b);
+        let SizeRead::Value(z, c2) = sized else {
             return Outcome::Refused(sized.refusal());
         };
-        let tagged = skip_tag(s, c3, map / 2);
-        let TagRead::Value(c4) = tagged else {
-            return Outcome::Refused(tagged.refusal());
-        };
         graph::note(near, start, sizes, i, a, b, z);
-        c = c4;
+        c = c2;
         i += 1;
     }
     let end = c.at;
@@ -419,7 +414,7 @@ fn read_kinds(s: &[u8], c: Cursor, n: usize) -> NumberRead
 {
     let number = read_number(s, c, (n + 7) / 8);
     let NumberRead::Value(m, after) = number else {
-        return NumberRead::Refused(number.refusal());
+        return number;
     };
     if !sheet::kind_bits_used(n, m) {
         return NumberRead::Refused(4);
@@ -433,7 +428,7 @@ fn read_head(s: &[u8]) -> HeadRead
     ensures { λ r. ⌜ Within r ⌝ }
 {
     let front = read_opening(s);
-    let OpeningRead::Value(c1) = front else {
+    let PlaceRead::Value(c1) = front else {
         return HeadRead::Refused(front.refusal());
     };
     let count = read_byte(s, c1);
