@@ -7,7 +7,8 @@ ghost use lib.Dec.{eqb};
 ghost use lib.ListN.{length, take};
 ghost use Rattle.theory.specs.Block.{block};
 ghost use Rattle.sheet.specs.Facts.{kindOf, lineBit, elementsOf, linesOf, blankElement};
-ghost use Rattle.sheet.specs.Rules.{elementsInRange, kindBitsUsed, constraintsInRange, endsAscend, stands, pairOf, sizeOptional, mapAllowed, within as liesWithin};
+ghost use Rattle.sheet.specs.Rules.{elementsInRange, kindBitsUsed, constraintsInRange, endsAscend, stands, pairOf, sizeOptional};
+ghost use Rattle.sheet.specs.Rules.{mapAllowed, within as liesWithin};
 ghost use Rattle.sheet.specs.Rules.{sizeInRange, sizeFault, constraintFault, sheetFault};
 ghost use Rattle.sheet.specs.Range.{lowestSize, highestSize};
 ghost use Rattle.sheet.specs.Noted.{Noted};
@@ -154,7 +155,7 @@ pub fn size_in_range(p: PairKind, z: i32) -> bool
 }
 
 // Rules 8 and 9 of a size that is given or missing: the rule's number, or 0.
-pub fn size_fault(p: PairKind, size: Size) -> u8
+fn size_fault(p: PairKind, size: Size) -> u8
     ensures { λ r. ⌜ r ≡ sizeFault p size ⌝ }
 {
     match size {

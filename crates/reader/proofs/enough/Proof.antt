@@ -15,11 +15,6 @@ shifted at k len h = by (leb (at + k) len) refl
     by true e = let l = leb-true (at + k) len e in le-leb at (len - k) (omega arith) ∙ sym e
     by false e = let l = leb-false (at + k) len e in lt-leb at (len - k) (omega arith) ∙ sym e
 
-returns : tie.Need-returns
-returns c = sym (lt-leb (c .before .args .at + c .before .args .k) (c .before .args .len) (omega arith))
-
-returns-2 : tie.Need-returns-2
-returns-2 c = shifted (c .before .args .at) (c .before .args .k) (c .before .args .len) (omega arith)
-
 pub enough-spec : {M : Type 1} → statement M
-enough-spec = tie.close (tie.spec returns returns-2)
+enough-spec = tie.close (tie.spec (λ c. sym (lt-leb (c .before .args .at + c .before .args .k) (c .before .args .len) (omega arith)))
+    (λ c. shifted (c .before .args .at) (c .before .args .k) (c .before .args .len) (omega arith)))

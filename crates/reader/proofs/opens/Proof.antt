@@ -15,9 +15,6 @@ Inv-loop s i₀ i = (i ≤ 4) × (begins openingBytes s ≡ begins (drop i openi
 abbrev μ-loop : tie.MeasureT-loop
 μ-loop s i₀ i = 4 - i
 
-loop-holds : tie.Need-loop-holds Inv-loop μ-loop
-loop-holds c = (search needs, refl)
-
 returns : tie.Need-returns Inv-loop μ-loop
 returns c =
     rw (
@@ -48,5 +45,5 @@ returns-3 c =
 pub opens-spec : {M : Type 1} → statement M
 opens-spec =
     tie.close
-    (tie.spec Inv-loop μ-loop loop-holds returns (λ c. search needs) (λ c. search needs) returns-2 (λ c. search needs)
+    (tie.spec Inv-loop μ-loop (λ c. (search needs, refl)) returns (λ c. search needs) (λ c. search needs) returns-2 (λ c. search needs)
     (λ c. search needs) loop-again returns-3)

@@ -10,8 +10,6 @@ returns : tie.Need-returns
 returns c =
     rw (add-one, drop-cons (c .before .before .args .s .now) (c .before .before .args .c .at) 0 (c .before .if1 .taken))
 
-returns-2 : tie.Need-returns-2
-returns-2 c = rw (drop-of-length-le (c .before .args .s .now) (c .if1 .left))
-
 pub read-byte-spec : {M : Type 1} → statement M
-read-byte-spec = tie.close (tie.spec (λ c. search needs) (λ c. search needs) returns returns-2)
+read-byte-spec = tie.close (tie.spec (λ c. search needs) (λ c. search needs) returns
+    (λ c. rw (drop-of-length-le (c .before .args .s .now) (c .if1 .left))))

@@ -131,5 +131,6 @@ read-constraints-spec =
     (λ c. (c .before .pre .1, λ es done en el n h. record { read = done; count = n; holds = h; left = refl }))
     (λ c κs. c .before .before .before .before .pre .0) (λ c. search needs) (λ c. search needs) (λ c κs. search needs) returns
     (λ c κs. (omega (arith, below c), below c .1)) (λ c. search needs) (λ c. search needs) (λ c κs. search needs) returns-2
-    (λ c κs. let k = c .before .before .before .before .before .before .before in (omega (arith, k .before .before .before .before .before .loop-test .taken, from-ends k .before .before .pre .2), below k .0, below k .1))
+    (λ c κs. let k = c .before .before .before .before .before .before .before in
+    (omega (arith, k .before .before .before .before .before .loop-test .taken, from-ends k .before .before .pre .2), below k .0, below k .1))
     (λ c. omega arith) (λ c. omega arith) loop-again returns-3 returns-4)

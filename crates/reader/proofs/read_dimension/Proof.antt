@@ -52,11 +52,12 @@ unfolding dimension
 returns-2 c = λ es e.
     let m = c .before .before .before in
     let k = m .before .before .before in
+    let s = k .before .before .before .before .before .args .s .now in
     rw (
       pair-is (k .before) es e,
       ← k .read-map .ensures,
       m .before .third .given .1,
-      no-size (field m) (sym (c .before .before .read-size .ensures) ∙ ap (asSize (k .before .before .before .before .before .args .s .now)) (c .enum-told2 .given .1)),
+      no-size (field m) (sym (c .before .before .read-size .ensures) ∙ ap (asSize s) (c .enum-told2 .given .1)),
       c .enum-told2 .given .1,
     )
 

@@ -5,6 +5,8 @@ use mathlib.Core.Bool.{true}
 use mathlib.Core.Path.{_≡_, sym, _∙_}
 use borrow.Author.Tests.{not-true, not-false}
 use borrow.Author.Needs.{needs}
+use lib.ListN.{drop}
+use Rattle.sheet.specs.Facts.{elementsOf}
 use Rattle.sheet.specs.Rules.{elementsInRange, constraintsInRange}
 use Rattle.sheet.specs.Rules.Laws.{elements-range, constraints-most}
 use Rattle.sheet.specs.Decode.{readConstraints, readSheet}
@@ -67,62 +69,51 @@ returns-4 c =
       no-head,
     )
 
-returns-5 : tie.Need-returns-5
-unfolding readSheet readConstraints
-returns-5 c =
-    let m = c .before .before .before .before in
+-- what follows the kinds
+rest : (m : tie.After-known-told3)
+    → readSheet
+    (m .before .before .before .before .before .before .before .before .before .before .before .before .before .before .before .args .s .now)
+    ≡ readConstraints (elementsOf (m .before .before .before .before .before .before .before .count .given .0 .0) (m .before .kinds .given .0 .0))
+    (drop (m .before .kinds .given .0 .1 .0 .at)
+    (m .before .before .before .before .before .before .before .before .before .before .before .before .before .before .before .args .s .now))
+unfolding readSheet
+rest m =
     let r = m .before .before .before .before in
     let n = r .before .before in
-    let o = n .before .before .before .before in (
-      rw (
-        ← o .before .before .before .read-opening .ensures,
-        o .before .front .given .1,
-        ← n .before .before .before .read-byte .ensures,
-        n .before .count .given .1,
-        enough r,
-        ← m .before .before .before .read-kinds .ensures .0,
-        m .before .kinds .given .1,
-        ← c .before .before .before .read-byte2 .ensures,
-        c .refusal4 .ensures,
-        c .before .enum-told4 .given .1,
-      ),
-      no-head,
+    let o = n .before .before .before .before in
+    rw (
+      ← o .before .before .before .read-opening .ensures,
+      o .before .front .given .1,
+      ← n .before .before .before .read-byte .ensures,
+      n .before .count .given .1,
+      enough r,
+      ← m .before .before .before .read-kinds .ensures .0,
+      m .before .kinds .given .1,
     )
 
+returns-5 : tie.Need-returns-5
+unfolding readConstraints
+returns-5 c =
+    let b = c .before .before .before in
+    (rw (rest (b .before), ← b .read-byte2 .ensures, c .refusal4 .ensures, c .before .enum-told4 .given .1), no-head)
+
 returns-6 : tie.Need-returns-6
-unfolding readSheet readConstraints
+unfolding readConstraints
 returns-6 c =
     let l = c .before .before in
     let m = l .before .before .before .before in
-    let r = m .before .before .before .before in
-    let n = r .before .before in
-    let o = n .before .before .before .before in (
-      rw (
-        ← o .before .before .before .read-opening .ensures,
-        o .before .front .given .1,
-        ← n .before .before .before .read-byte .ensures,
-        n .before .count .given .1,
-        enough r,
-        ← m .before .before .before .read-kinds .ensures .0,
-        m .before .kinds .given .1,
-        ← l .before .before .before .read-byte2 .ensures,
-        l .before .listed .given .1,
-        sym (c .before .constraints-in-range .ensures) ∙ not-true (c .before .constraints-in-range .result) (c .if2 .taken),
-      ),
-      no-head,
-    )
+    let many = sym (c .before .constraints-in-range .ensures) ∙ not-true (c .before .constraints-in-range .result) (c .if2 .taken) in
+    (rw (rest m, ← l .before .before .before .read-byte2 .ensures, l .before .listed .given .1, many), no-head)
 
 returns-7 : tie.Need-returns-7
-unfolding readSheet readConstraints
+unfolding readConstraints
 returns-7 c =
     let l = c .before .before in
     let m = l .before .before .before .before in
     let r = m .before .before .before .before in
-    let n = r .before .before in
-    let o = n .before .before .before .before in
     let few : constraintsInRange (l .before .listed .given .0 .0) ≡ true =
     sym (c .before .constraints-in-range .ensures) ∙ not-false (c .before .constraints-in-range .result) (c .if2 .left) in
-    let x = n .before .count .given .0 .0 in
+    let x = r .before .before .before .count .given .0 .0 in
     let y = m .before .kinds .given .0 .0 in
     let z = l .before .listed .given .0 .0 in
     let all : (x ≤ 64) × (y < 2 ^ x) × (z ≤ 200) = (
@@ -130,18 +121,7 @@ returns-7 c =
       m .before .before .before .read-kinds .ensures .1 .below _ _ (m .before .kinds .given .1),
       constraints-most _ few,
     ) in (
-      rw (
-        ← o .before .before .before .read-opening .ensures,
-        o .before .front .given .1,
-        ← n .before .before .before .read-byte .ensures,
-        n .before .count .given .1,
-        enough r,
-        ← m .before .before .before .read-kinds .ensures .0,
-        m .before .kinds .given .1,
-        ← l .before .before .before .read-byte2 .ensures,
-        l .before .listed .given .1,
-        few,
-      ),
+      rw (rest m, ← l .before .before .before .read-byte2 .ensures, l .before .listed .given .1, few),
       record { within = λ h d is. let same : record { n = x; e = z; lines = y } ≡ h = cc in rw (← same) all },
     )
 

@@ -15,8 +15,9 @@ returns c = (rw (← c .before .before .read-number .ensures .0, c .enum-told .g
 returns-2 : tie.Need-returns-2
 unfolding readKinds
 returns-2 c =
-    let k = c .before .before .before in (
-      rw (← k .before .before .read-number .ensures .0, k .number .given .1, ← c .before .kind-bits-used .ensures, not-true (c .before .kind-bits-used .result) (c .if1 .taken)),
+    let k = c .before .before .before in
+    let h = not-true (c .before .kind-bits-used .result) (c .if1 .taken) in (
+      rw (← k .before .before .read-number .ensures .0, k .number .given .1, ← c .before .kind-bits-used .ensures, h),
       no-number,
     )
 

@@ -7,6 +7,7 @@ use borrow.Author.Needs.{needs}
 use borrow.Author.Tests.{leb-true, leb-false, not-true, not-false}
 use lib.ListN.{length, take, drop}
 use Rattle.sheet.specs.Field.{value, number}
+use Rattle.reader.proofs.Constraints.{no-number}
 use Rattle.reader.proofs.Numbers.{field-short, field-whole, number-none, number-more, below-more, below-most}
 use Rattle.reader.proofs.read_number.Statement.{statement}
 use Rattle.reader.proofs.read_number.Tie as tie
@@ -21,8 +22,13 @@ abbrev μ-loop : tie.MeasureT-loop
 returns : tie.Need-returns Inv-loop μ-loop
 returns c =
     let b = c .before .before .before in (
-      sym (field-short (b .args .s .now) (b .args .c .at) (b .args .k) (omega (arith, b .pre .0, leb-false (b .args .c .at + b .args .k) (length (b .args .s .now)) (sym (c .before .enough .ensures) ∙ not-true (c .before .enough .result) (c .if1 .taken))))),
-      record { below = λ v d e. let z : _≡_ {A = ℕ} 0 1 = cc in omega arith },
+      sym (field-short (b .args .s .now) (b .args .c .at) (b .args .k) (omega (
+        arith,
+        b .pre .0,
+        leb-false (b .args .c .at + b .args .k) (length (b .args .s .now))
+            (sym (c .before .enough .ensures) ∙ not-true (c .before .enough .result) (c .if1 .taken)),
+      ))),
+      no-number,
     )
 
 room : (c : tie.Else1 Inv-loop μ-loop)
@@ -60,12 +66,6 @@ mul-u c =
           (c .before .before .before .before .before .pre .1),
     )
 
-add-wide : tie.Need-add-wide Inv-loop μ-loop
-add-wide c = omega (arith, room (c .before .before))
-
-shared-slice-read-wide : tie.Need-shared-slice-read-wide Inv-loop μ-loop
-shared-slice-read-wide c = omega (arith, room (c .before .before .before))
-
 add-u : tie.Need-add-u Inv-loop μ-loop
 add-u c =
     let a = c .before .before .before .loop in
@@ -88,9 +88,6 @@ loop-again c =
           (c .before .before .loop-test .taken) (a .inv .0) (a .inv .2) (byte-below c),
     )
 
-add-t8 : tie.Need-add-t8 Inv-loop μ-loop
-add-t8 c = omega (arith, room (c .before .before))
-
 returns-2 : tie.Need-returns-2 Inv-loop μ-loop
 returns-2 c =
     let a = c .before .loop in
@@ -107,5 +104,6 @@ returns-2 c =
 pub read-number-spec : {M : Type 1} → statement M
 read-number-spec =
     tie.close
-    (tie.spec Inv-loop μ-loop (λ c κs. search needs) returns loop-holds (λ c. search needs) mul-u add-wide
-    shared-slice-read-wide (λ c κs. search needs) add-u (λ c. search needs) loop-again add-t8 returns-2)
+    (tie.spec Inv-loop μ-loop (λ c κs. search needs) returns loop-holds (λ c. search needs) mul-u (λ c. omega (arith, room (c .before .before)))
+    (λ c. omega (arith, room (c .before .before .before))) (λ c κs. search needs) add-u (λ c. search needs) loop-again
+    (λ c. omega (arith, room (c .before .before))) returns-2)

@@ -28,9 +28,6 @@ returns-2 c =
       c .before .enum-told .given .1,
     )
 
-signed-requires : tie.Need-signed-requires
-signed-requires c κs = c .before .before .before .read-number .ensures .1 .below _ _ (c .before .number .given .1)
-
 -- the size that is read, and whether it lies in its range
 module _ (c : tie.After-size-in-range) where
   stands : c .before .before .before .before .before .before .before .before .args .stands ≡ true
@@ -73,4 +70,4 @@ pub read-size-spec : {M : Type 1} → statement M
 read-size-spec =
     tie.close
     (tie.spec returns (λ c κs. search needs) (λ c. search needs) (λ c. search needs) (λ c κs. search needs) returns-2
-    signed-requires (λ c κs. search needs) returns-3 returns-4)
+    (λ c κs. c .before .before .before .read-number .ensures .1 .below _ _ (c .before .number .given .1)) (λ c κs. search needs) returns-3 returns-4)

@@ -23,9 +23,6 @@ add-result : tie.Need-add-result
 add-result c =
     rw (negative (c .before .args .u) (c .if1 .left) (c .before .pre)) (fits (c .before .args .u) (c .if1 .left) (c .before .pre))
 
-returns : tie.Need-returns
-returns c = rw (lt-ltb _ _ (c .if1 .taken))
-
 returns-2 : tie.Need-returns-2
 returns-2 c =
     rw (
@@ -35,4 +32,4 @@ returns-2 c =
     )
 
 pub signed-spec : {M : Type 1} → statement M
-signed-spec = tie.close (tie.spec (λ c. search needs) (λ c. search needs) add-result returns returns-2)
+signed-spec = tie.close (tie.spec (λ c. search needs) (λ c. search needs) add-result (λ c. rw (lt-ltb _ _ (c .if1 .taken))) returns-2)

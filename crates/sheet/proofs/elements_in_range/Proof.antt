@@ -1,12 +1,7 @@
+-- `sheet::elements_in_range` meets its contract: two comparisons, the second only where the first holds. Assumes nothing.
 use borrow.Author.Tests.{le-leb, lt-leb}
 use Rattle.sheet.proofs.elements_in_range.Statement.{statement}
 use Rattle.sheet.proofs.elements_in_range.Tie as tie
 
-returns : tie.Need-returns
-returns c = rw (le-leb _ _ (c .if1 .taken))
-
-returns-2 : tie.Need-returns-2
-returns-2 c = rw (lt-leb _ _ (c .if1 .left))
-
 pub elements-in-range-spec : {M : Type 1} → statement M
-elements-in-range-spec = tie.close (tie.spec returns returns-2)
+elements-in-range-spec = tie.close (tie.spec (λ c. rw (le-leb _ _ (c .if1 .taken))) (λ c. rw (lt-leb _ _ (c .if1 .left))))

@@ -1,3 +1,4 @@
+-- `sheet::elements_of` meets its contract: the elements before i stand, the number has those from i on. Assumes nothing.
 use Prim.Native.Nat.{ℕ, suc, _+_, _-_, _/_, _%_, _<_, _≤_}
 use native.Mathlib.Nat.{div-one, sub-zero}
 use native.Mathlib.Numerals.{add-one}
@@ -22,9 +23,6 @@ Inv-loop n lines elements₀ left₀ i₀ elements left i =
 
 abbrev μ-loop : tie.MeasureT-loop
 μ-loop n lines elements₀ left₀ i₀ elements left i = n - i
-
-loop-holds : tie.Need-loop-holds Inv-loop μ-loop
-loop-holds c = (search needs, refl, rw sub-zero, refl)
 
 -- one element more is taken from the number
 module _ (n i left : ℕ) (elements : List Element) (below : i < n) (room : i < length elements) where
@@ -71,5 +69,5 @@ returns c =
 pub elements-of-spec : {M : Type 1} → statement M
 elements-of-spec =
     tie.close
-    (tie.spec Inv-loop μ-loop loop-holds (λ c κs. omega arith) (λ c. search needs) (λ c. search needs)
+    (tie.spec Inv-loop μ-loop (λ c. (search needs, refl, rw sub-zero, refl)) (λ c κs. omega arith) (λ c. search needs) (λ c. search needs)
     (λ c. omega arith) loop-again returns)

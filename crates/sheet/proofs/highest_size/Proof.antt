@@ -1,18 +1,11 @@
+-- `sheet::highest_size` meets its contract: one case for each kind of pair. Assumes nothing.
 use mathlib.Core.Path.{sym, ap}
 use borrow.Author.Needs.{needs}
 use Rattle.sheet.specs.Range.{highestSize}
 use Rattle.sheet.proofs.highest_size.Statement.{statement}
 use Rattle.sheet.proofs.highest_size.Tie as tie
 
-returns : tie.Need-returns
-returns c = sym (ap highestSize (c .enum-told .given .1))
-
-returns-2 : tie.Need-returns-2
-returns-2 c = sym (ap highestSize (c .enum-told2 .given .1))
-
-returns-3 : tie.Need-returns-3
-returns-3 c = sym (ap highestSize (c .enum-told3 .given .1))
-
 pub highest-size-spec : {M : Type 1} → statement M
 highest-size-spec =
-    tie.close (tie.spec (λ c. search needs) (λ c. search needs) (λ c. search needs) returns returns-2 returns-3)
+    tie.close (tie.spec (λ c. search needs) (λ c. search needs) (λ c. search needs) (λ c. sym (ap highestSize (c .enum-told .given .1)))
+    (λ c. sym (ap highestSize (c .enum-told2 .given .1))) (λ c. sym (ap highestSize (c .enum-told3 .given .1))))

@@ -1,3 +1,4 @@
+-- `sheet::kind_bits_used` meets its contract: the number is below 2 ^ n, and any number of 64 bits where n is 64. Assumes nothing.
 use borrow.Author.Needs.{needs}
 use borrow.Author.Tests.{lt-ltb}
 use Prim.Native.Nat.{ℕ, _^_, _<_, _≤_}

@@ -1,3 +1,4 @@
+-- `sheet::lines_of` meets its contract: the bits from the last element down; the number stays below 2 ^ 64. Assumes nothing.
 use Prim.Native.Nat.{ℕ, _+_, _*_, _-_, _<_, _≤_, _^_}
 use native.Mathlib.Nat.{pow-le-pow-right}
 use native.Mathlib.Omega.{arith}

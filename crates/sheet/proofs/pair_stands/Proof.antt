@@ -4,8 +4,6 @@ use Rattle.sheet.specs.Noted.Laws.{noted-says}
 use Rattle.sheet.proofs.pair_stands.Statement.{statement}
 use Rattle.sheet.proofs.pair_stands.Tie as tie
 
-returns : tie.Need-returns
-returns c = λ cs h. noted-says h (c .before .pre .0) (c .before .pre .1)
-
 pub pair-stands-spec : {M : Type 1} → statement M
-pair-stands-spec = tie.close (tie.spec (λ c. search needs) (λ c. search needs) (λ c. search needs) returns)
+pair-stands-spec = tie.close (tie.spec (λ c. search needs) (λ c. search needs) (λ c. search needs)
+    (λ c. λ cs h. noted-says h (c .before .pre .0) (c .before .pre .1)))

@@ -62,7 +62,9 @@ module _ (c : tie.After-lines-of Inv-loop μ-loop) where
   few = elements-most _ (counted (c .before .before .before .before .before))
 
   room : sheet .e ≤ length (sheet .constraints)
-  room = rw (constraints-long sheet (c .before .before .before .before .before .before .before .good .0)) (constraints-most _ (listed (c .before .before .before)))
+  room =
+      rw (constraints-long sheet (c .before .before .before .before .before .before .before .good .0))
+      (constraints-most _ (listed (c .before .before .before)))
 
   sized : sheet .n ≡ length (factsOf sheet .elements)
   sized = sym (length-take-le _ _ (rw (elements-long sheet (c .before .before .before .before .before .before .before .good .0)) few))
@@ -124,6 +126,7 @@ sheet-fault-spec =
     tie.close
     (tie.spec Inv-loop μ-loop (λ c κs. search needs) returns (λ c κs. search needs) returns-2
     (λ c κs. elements-most _ (counted (c .before .before .before .before)))
-    (λ c. (search needs, room c, noted-none, λ es a b. refl, constraints-most _ (listed (c .before .before .before)))) (λ c. search needs) (λ c. search needs)
+    (λ c. (search needs, room c, noted-none, λ es a b. refl, constraints-most _ (listed (c .before .before .before)))) (λ c. search needs)
+    (λ c. search needs)
     (λ c κs. few (c .before .before .before .before)) returns-3 (λ c κs. below (c .before .before) (c .before .if3 .left))
     (λ c. search needs) (λ c. search needs) loop-again returns-4)

@@ -1,3 +1,4 @@
+-- `sheet::size_fault` meets its contract: a given size by its range, a missing one by the kind of pair. Assumes nothing.
 use borrow.Author.Needs.{needs}
 use mathlib.Core.Path.{ap}
 use mir.Facts.{toZ-ofZ}

@@ -1,3 +1,4 @@
+-- `sheet::size_in_range` meets its contract: 0 apart, one range is the rule's two. Assumes nothing.
 use mathlib.Core.Path.{_≡_, sym, ap, _∙_}
 use borrow.Author.Needs.{needs}
 use lib.IntN.{pos}

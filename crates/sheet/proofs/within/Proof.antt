@@ -1,3 +1,4 @@
+-- `sheet::within` meets its contract: two comparisons of signed numbers. Assumes nothing.
 use mir.Facts.{toZ-ofZ}
 use Rattle.sheet.proofs.within.Statement.{statement}
 use Rattle.sheet.proofs.within.Tie as tie

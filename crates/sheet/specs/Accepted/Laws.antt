@@ -1,5 +1,5 @@
--- Facts that no rule refuses: each constraint of theirs, every order of their constraints (document 01, "Every order of merging"), and the blocks of a
--- sheet that hold them. Assumes nothing.
+-- Facts that no rule refuses: each constraint of theirs, every order of their constraints (document 01, "Every order of merging"), and the blocks of
+-- a sheet that hold them. Assumes nothing.
 use Prim.Native.Nat.{ℕ, _≤_}
 use native.Mathlib.Decide.{ℕ-discrete}
 use native.Mathlib.Omega.{arith}
@@ -91,7 +91,8 @@ module _ (es : List Element) where
         size-fits = tx .size-fits;
       }) in
       let rest = faults-same l (dy ++ x ∷ []) (dx ++ y ∷ []) (λ a b.
-      rw (stands-more dy x a b, stands-more done y a b, stands-more dx y a b, stands-more done x a b, or-assoc, or-assoc, or-comm (is y a b) (is x a b))) in
+      rw (stands-more dy x a b, stands-more done y a b, stands-more dx y a b, stands-more done x a b, or-assoc, or-assoc)
+      (rw (or-comm (is y a b) (is x a b)))) in
       rw (fy, fx, rest, g .1)
 
 -- what precedes the constraints, and each constraint's own fields, stay

@@ -14,10 +14,12 @@ use Rattle.sheet.specs.declared.Constraint.{Constraint}
 use Rattle.sheet.specs.Facts.{Facts, linesOf}
 use Rattle.sheet.specs.Facts.Laws.{elementsOf-length, linesOf-elementsOf}
 use Rattle.sheet.specs.Field.{value, digits, field, byte, byteBy, signed32, kindBytes, openingBytes, begins, Bytes}
-use Rattle.sheet.specs.Field.Laws.{length-digits, next-value, demand-value, value-with, refused-value, field-front, byte-front, byteBy-front, begins-front}
+use Rattle.sheet.specs.Field.Laws.{length-digits, next-value, demand-value, value-with, refused-value, field-front, byte-front}
+use Rattle.sheet.specs.Field.Laws.{byteBy-front, begins-front}
 use Rattle.sheet.specs.Field.Laws.{bytes-drop, unsigned32-signed32}
 use Rattle.sheet.specs.Rules.Laws.{and-true, elements-most, constraints-most}
-use Rattle.sheet.specs.Rules.{elementsInRange, kindBitsUsed, constraintsInRange, endsAscend, stands, pairAt, sizeOptional, mapAllowed, sizeInRange, sizeFault}
+use Rattle.sheet.specs.Rules.{elementsInRange, kindBitsUsed, constraintsInRange, endsAscend, stands, pairAt, sizeOptional, mapAllowed}
+use Rattle.sheet.specs.Rules.{sizeInRange, sizeFault}
 use Rattle.sheet.specs.Rules.{constraintFault, constraintsFault}
 use Rattle.sheet.specs.Decode.{opening, size, tag, dimension, constraint, constraints, readConstraints, readKinds, readSheet}
 use Rattle.sheet.specs.Encode.{sizeBit, sizeBytes, constraintBytes, constraintsBytes, sheetBytes}
@@ -233,4 +235,5 @@ sheet-read s h e =
     next-value (constraints elements k [] s4) _ e4 (λ cs s5 was5 e5.
     let r = constraints-front elements k [] s4 (d .1 .rest) was5 in
     value-with (Read s) e5
-    (assembled a (b .1 .front) (c .front) (d .1 .front) (r .walk) (r .most) (r .all-are) (c .count) (r .count) (b .0) (d .0) (r .taken) (r .spent)))))))
+    (assembled a (b .1 .front) (c .front) (d .1 .front) (r .walk) (r .most) (r .all-are) (c .count) (r .count) (b .0) (d .0) (r .taken)
+    (r .spent)))))))

@@ -13,11 +13,5 @@ use Rattle.space.proofs.put_byte.Tie as tie
 put : (c : tie.Joined1) → Put (c .before .args .out .now) (c .before .args .at) (c .before .args .b ∷ []) (c .before .args .at + 1) (c .if1 .out)
 put c = put-one (⊎-elim (λ w. cc) (λ w. w .1 ∙ sym (set-out _ _ _ (w .0 .left))) (c .if1 .came))
 
-same-length : tie.Need-same-length
-same-length c = put c .length-is
-
-returns : tie.Need-returns
-returns c = put c
-
 pub put-byte-spec : {M : Type 1} → statement M
-put-byte-spec = tie.close (tie.spec (λ c. search needs) (λ c. search needs) same-length returns)
+put-byte-spec = tie.close (tie.spec (λ c. search needs) (λ c. search needs) (λ c. put c .length-is) (λ c. put c))

@@ -26,15 +26,6 @@ three : (c : tie.Else2)
     ∷ digit (c .before .before .before .args .n % 10) ∷ []
 three c = decimal-3 (c .before .before .before .args .n) (c .before .if1 .left) (c .if2 .left)
 
-put-byte-requires : tie.Need-put-byte-requires
-put-byte-requires c κs = omega (arith, ap length (one (c .before .before)))
-
-returns : tie.Need-returns
-returns c = put-as (cc (one (c .before .before .before .before .before))) (c .before .before .put-byte .ensures)
-
-put-byte-requires-2 : tie.Need-put-byte-requires-2
-put-byte-requires-2 c κs = omega (arith, ap length (two (c .before .before)))
-
 put-byte-requires-3 : tie.Need-put-byte-requires-3
 put-byte-requires-3 c κs =
     omega (
@@ -47,9 +38,6 @@ returns-2 : tie.Need-returns-2
 returns-2 c =
     put-as (cc (two (c .before .before .before .before .before .before .before .before .before .before)))
     (c .before .before .before .before .before .before .before .put-byte2 .ensures then c .before .before .put-byte3 .ensures)
-
-put-byte-requires-4 : tie.Need-put-byte-requires-4
-put-byte-requires-4 c κs = omega (arith, ap length (three (c .before .before)))
 
 put-byte-requires-5 : tie.Need-put-byte-requires-5
 put-byte-requires-5 c κs =
@@ -77,7 +65,10 @@ returns-3 c =
 pub put-decimal-spec : {M : Type 1} → statement M
 put-decimal-spec =
     tie.close
-    (tie.spec (λ c κs. search needs) put-byte-requires (λ c. search needs) returns (λ c κs. search needs)
-    put-byte-requires-2 (λ c κs. search needs) put-byte-requires-3 (λ c. search needs) returns-2 (λ c κs. search needs)
-    put-byte-requires-4 (λ c κs. search needs) put-byte-requires-5 (λ c κs. search needs) put-byte-requires-6
+    (tie.spec (λ c κs. search needs) (λ c κs. omega (arith, ap length (one (c .before .before)))) (λ c. search needs)
+    (λ c. put-as (cc (one (c .before .before .before .before .before))) (c .before .before .put-byte .ensures)) (λ c κs. search needs)
+    (λ c κs. omega (arith, ap length (two (c .before .before)))) (λ c κs. search needs) put-byte-requires-3 (λ c. search needs) returns-2
+    (λ c κs. search needs)
+    (λ c κs. omega (arith, ap length (three (c .before .before)))) (λ c κs. search needs) put-byte-requires-5 (λ c κs. search needs)
+    put-byte-requires-6
     (λ c. search needs) returns-3)

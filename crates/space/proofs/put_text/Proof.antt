@@ -19,12 +19,6 @@ Inv-loop out₀ at text next i₀ out i =
 abbrev μ-loop : tie.MeasureT-loop
 μ-loop out₀ at text next i₀ out i = length text - i
 
-returns : tie.Need-returns Inv-loop μ-loop
-returns c = put-short refl (c .if1 .taken)
-
-loop-holds : tie.Need-loop-holds Inv-loop μ-loop
-loop-holds c = (search needs, refl, rw add-zero)
-
 loop-again : tie.Need-loop-again Inv-loop μ-loop
 loop-again c =
     let a = c .before .before .loop in
@@ -32,14 +26,12 @@ loop-again c =
     let h = c .before .loop-test .taken in
     (omega arith, simp length-set (a .inv .1), a .inv .2 ∙ rw (drop-cons text (a .i) 0 h, add-one, add-suc))
 
-same-length : tie.Need-same-length Inv-loop μ-loop
-same-length c = c .before .loop .inv .1
-
 returns-2 : tie.Need-returns-2 Inv-loop μ-loop
 returns-2 c = put-all refl (sym (c .before .loop .inv .2 ∙ rw (drop-of-length-le (c .before .before .before .args .text .now) (c .loop-test .left))))
 
 pub put-text-spec : {M : Type 1} → statement M
 put-text-spec =
     tie.close
-    (tie.spec Inv-loop μ-loop (λ c. search needs) returns loop-holds (λ c. search needs) (λ c. search needs)
-    (λ c. search needs) (λ c. search needs) (λ c. search needs) loop-again same-length returns-2)
+    (tie.spec Inv-loop μ-loop (λ c. search needs) (λ c. put-short refl (c .if1 .taken)) (λ c. (search needs, refl, rw add-zero)) (λ c. search needs)
+    (λ c. search needs)
+    (λ c. search needs) (λ c. search needs) (λ c. search needs) loop-again (λ c. c .before .loop .inv .1) returns-2)

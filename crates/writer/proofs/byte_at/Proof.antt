@@ -14,8 +14,5 @@ past [] i h = refl
 past (b ∷ s) zero h = absurd (omega arith)
 past (b ∷ s) (suc i) h = past s i (le-of-suc-le-suc h)
 
-returns-2 : tie.Need-returns-2
-returns-2 c = past (c .before .args .s .now) (c .before .args .i) (c .if1 .left)
-
 pub byte-at-spec : {M : Type 1} → statement M
-byte-at-spec = tie.close (tie.spec (λ c. search needs) (λ c. search needs) returns-2)
+byte-at-spec = tie.close (tie.spec (λ c. search needs) (λ c. search needs) (λ c. past (c .before .args .s .now) (c .before .args .i) (c .if1 .left)))

@@ -20,9 +20,6 @@ Inv-loop out₀ at k u next left₀ i₀ out left i =
 abbrev μ-loop : tie.MeasureT-loop
 μ-loop out₀ at k u next left₀ i₀ out left i = next - i
 
-returns : tie.Need-returns Inv-loop μ-loop
-returns c = put-short (rw length-digits) (c .if1 .taken)
-
 loop-holds : tie.Need-loop-holds Inv-loop μ-loop
 loop-holds c =
     let a = c .before .args in
@@ -37,9 +34,6 @@ loop-again c =
     let more : s .at + s .k - a .i ≡ suc (s .at + s .k - suc (a .i)) = omega arith in
     (omega arith, omega arith, simp length-set (a .inv .2), a .inv .3 ∙ rw (more, add-one))
 
-same-length : tie.Need-same-length Inv-loop μ-loop
-same-length c = c .before .loop .inv .2
-
 returns-2 : tie.Need-returns-2 Inv-loop μ-loop
 unfolding digits
 returns-2 c =
@@ -51,5 +45,6 @@ returns-2 c =
 pub put-number-spec : {M : Type 1} → statement M
 put-number-spec =
     tie.close
-    (tie.spec Inv-loop μ-loop (λ c. search needs) returns loop-holds (λ c. search needs) (λ c. search needs)
-    (λ c. search needs) (λ c. search needs) loop-again same-length returns-2)
+    (tie.spec Inv-loop μ-loop (λ c. search needs) (λ c. put-short (rw length-digits) (c .if1 .taken)) loop-holds (λ c. search needs)
+    (λ c. search needs)
+    (λ c. search needs) (λ c. search needs) loop-again (λ c. c .before .loop .inv .2) returns-2)

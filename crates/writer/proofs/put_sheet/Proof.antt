@@ -22,14 +22,23 @@ Inv-loop out₀ lines s n e a1 a2 a3 at₀ i₀ out at i = (i ≤ e) × Put out�
 abbrev μ-loop : tie.MeasureT-loop
 μ-loop out₀ lines s n e a1 a2 a3 at₀ i₀ out at i = e - i
 
-put-byte-requires-2 : tie.Need-put-byte-requires-2 Inv-loop μ-loop
-put-byte-requires-2 c κs =
-    omega (arith, c .before .before .before .put-number .ensures .next-is, length-digits ((c .before .before .before .before .before .before .before .before .before .before .before .before .before .before .before .args .t2 .n + 7) / 8) (c .before .before .before .before .before .before .before .before .before .before .before .before .before .before .before .args .lines), c .before .before .before .before .before .before .before .put-byte .ensures .next-is, c .before .before .before .before .before .before .before .before .before .before .before .put-text .ensures .next-is, c .before .before .before .before .before .before .before .before .before .before .before .before .before .before .before .pre .0)
-
 -- what precedes the constraints is short
-few : (c : tie.After-slice-known5 Inv-loop μ-loop) → c .before .before .put-byte2 .result ≤ 14
-few c =
-    omega (arith, c .before .before .put-byte2 .ensures .next-is, c .before .before .before .before .before .before .put-number .ensures .next-is, length-digits ((c .before .before .before .before .before .before .before .before .before .before .before .before .before .before .before .before .before .before .args .t2 .n + 7) / 8) (c .before .before .before .before .before .before .before .before .before .before .before .before .before .before .before .before .before .before .args .lines), c .before .before .before .before .before .before .before .before .before .before .put-byte .ensures .next-is, c .before .before .before .before .before .before .before .before .before .before .before .before .before .before .put-text .ensures .next-is, c .before .before .before .before .before .before .before .before .before .before .before .before .before .before .before .before .before .before .pre .0)
+module _ (n : tie.After-put-number Inv-loop μ-loop) where
+  abbrev start : tie.Start Inv-loop μ-loop
+  start = n .before .before .before .before .before .before .before .before .before .before .before .before
+
+  few : n .put-number .result ≤ 13
+  few =
+      let b = n .before .before .before .before in
+      let t = b .before .before .before .before in
+      omega (
+        arith,
+        n .put-number .ensures .next-is,
+        length-digits ((start .args .t2 .n + 7) / 8) (start .args .lines),
+        b .put-byte .ensures .next-is,
+        t .put-text .ensures .next-is,
+        start .pre .0,
+      )
 
 -- the lengths of the blocks
 long-elements : (c : tie.Start Inv-loop μ-loop) → length (c .args .t2 .elements) ≡ 64
@@ -45,12 +54,13 @@ loop-holds c = (search needs, put-none _ _)
 put-constraint-requires : tie.Need-put-constraint-requires Inv-loop μ-loop
 put-constraint-requires c κs =
     let a = c .before .before .before .loop in
-    let s = c .before .before .before .before .before .before .before .before .before .before .before .before .before .before .before .before .before .before .before .before .before .before in
+    let s = start (c .before .before .before .before .before .before .before .before .before .before) in
     let cs = s .args .t2 .constraints in
     let short : a .i ≤ length cs = omega (arith, long-constraints s, s .pre .1, c .before .before .loop-test .taken) in
     omega (
       arith,
-      few (c .before .before .before .before),
+      few (c .before .before .before .before .before .before .before .before .before .before),
+      c .before .before .before .before .before .before .put-byte2 .ensures .next-is,
       a .inv .1 .next-is,
       constraints-length (take (a .i) cs),
       length-take-le (a .i) cs short,
@@ -60,14 +70,20 @@ put-constraint-requires c κs =
 loop-again : tie.Need-loop-again Inv-loop μ-loop
 loop-again c =
     let a = c .before .before .before .before .before .before .loop in
-    let s = c .before .before .before .before .before .before .before .before .before .before .before .before .before .before .before .before .before .before .before .before .before .before .before .before .before in
+    let s = start (c .before .before .before .before .before .before .before .before .before .before .before .before .before) in
     let h : a .i + 1 ≤ length (s .args .t2 .constraints) =
     omega (arith, long-constraints s, s .pre .1, c .before .before .before .before .before .loop-test .taken) in
     (omega arith, put-as (sym (constraints-more (s .args .t2 .constraints) (a .i) _ h)) (a .inv .1 then c .before .before .put-constraint .ensures))
 
-all : (c : tie.After-loop Inv-loop μ-loop) → Put (c .before .before .before .before .before .before .before .before .before .before .before .before .before .before .before .before .before .before .before .before .args .out .now) 0 (sheetBytes (factsOf (c .before .before .before .before .before .before .before .before .before .before .before .before .before .before .before .before .before .before .before .before .args .t2))) (c .before .loop .at) (c .before .loop .out)
+-- the place after the last constraint
+abbrev from-end : tie.After-loop Inv-loop μ-loop → tie.After-put-number Inv-loop μ-loop
+from-end c = c .before .before .before .before .before .before .before .before
+
+all : (c : tie.After-loop Inv-loop μ-loop)
+    → Put (start (from-end c) .args .out .now) 0 (sheetBytes (factsOf (start (from-end c) .args .t2))) (c .before .loop .at) (c .before .loop .out)
 all c =
-    let s = c .before .before .before .before .before .before .before .before .before .before .before .before .before .before .before .before .before .before .before .before in
+    let n = from-end c in
+    let s = start n in
     let a = c .before .loop in
     let last : a .i ≡ s .args .t2 .e = omega arith in
     let n-is : length (take (s .args .t2 .n) (s .args .t2 .elements)) ≡ s .args .t2 .n =
@@ -75,17 +91,13 @@ all c =
     let e-is : length (take (s .args .t2 .e) (s .args .t2 .constraints)) ≡ s .args .t2 .e =
     length-take-le _ _ (omega (arith, long-constraints s, s .pre .1)) in
     put-as (sheet-pieces (factsOf (s .args .t2)) n-is e-is (s .pre .2))
-    (c .before .before .before .before .before .before .before .before .before .before .before .before .before .before .before .before .put-text .ensures then c .before .before .before .before .before .before .before .before .before .before .before .before .put-byte .ensures then c .before .before .before .before .before .before .before .before .put-number .ensures then c .before .before .before .before .put-byte2 .ensures then (rw last at (a .inv .1)))
-
-same-length : tie.Need-same-length Inv-loop μ-loop
-same-length c = all c .length-is
-
-returns : tie.Need-returns Inv-loop μ-loop
-returns c = all c
+    (n .before .before .before .before .before .before .before .before .put-text .ensures then n .before .before .before .before .put-byte .ensures
+    then n .put-number .ensures then c .before .before .before .before .put-byte2 .ensures then (rw last at (a .inv .1)))
 
 pub put-sheet-spec : {M : Type 1} → statement M
 put-sheet-spec =
     tie.close
     (tie.spec Inv-loop μ-loop (λ c. search needs) (λ c κs. search needs) (λ c. search needs) (λ c κs. search needs)
-    (λ c. search needs) (λ c κs. search needs) (λ c. search needs) put-byte-requires-2 loop-holds (λ c. search needs)
-    (λ c. search needs) put-constraint-requires (λ c. search needs) (λ c. search needs) loop-again same-length returns)
+    (λ c. search needs) (λ c κs. search needs) (λ c. search needs) (λ c κs. omega (arith, few (c .before .before .before))) loop-holds
+    (λ c. search needs) (λ c. search needs) put-constraint-requires (λ c. search needs) (λ c. search needs) loop-again
+    (λ c. all c .length-is) (λ c. all c))

@@ -48,26 +48,15 @@ flipped c = rw (toZ-ofZ (c .before .fits .z)) (flip (c .before .args .z) (negati
 kept : (c : tie.Else1) → Above (c .before .args .z)
 kept c = above (c .before .args .z) (c .before .fits .z) (rw (toZ-ofZ (c .before .fits .z)) at (c .if1 .left))
 
-sub-result : tie.Need-sub-result
-sub-result c = rw (flipped c) (record { sfits = negative c .small })
-
-cast-result : tie.Need-cast-result
-cast-result c = rw (flipped c, toZ-pos w32 (negative c .small)) (tt, record { fits = omega (arith, negative c .small) })
-
-sub-result-2 : tie.Need-sub-result-2
-sub-result-2 c = rw (flipped c, toZ-pos w32 (negative c .small)) (omega (arith, negative c .small))
-
-cast-result-2 : tie.Need-cast-result-2
-cast-result-2 c = rw (toZ-ofZ (c .before .fits .z), kept c .is) (tt, record { fits = omega (arith, kept c .small) })
-
 returns : tie.Need-returns
 returns c =
     let n = negative c in
     rw (flipped c, toZ-pos w32 (n .small)) (omega (arith, of-below (c .before .args .z) (n .m) (n .is), n .small))
 
-returns-2 : tie.Need-returns-2
-returns-2 c = rw (toZ-ofZ (c .before .fits .z), kept c .is)
-
 pub unsigned-spec : {M : Type 1} → statement M
 unsigned-spec =
-    tie.close (tie.spec sub-result cast-result sub-result-2 cast-result-2 returns returns-2)
+    tie.close (tie.spec (λ c. rw (flipped c) (record { sfits = negative c .small }))
+    (λ c. rw (flipped c, toZ-pos w32 (negative c .small)) (tt, record { fits = omega (arith, negative c .small) }))
+    (λ c. rw (flipped c, toZ-pos w32 (negative c .small)) (omega (arith, negative c .small)))
+    (λ c. rw (toZ-ofZ (c .before .fits .z), kept c .is) (tt, record { fits = omega (arith, kept c .small) })) returns
+    (λ c. rw (toZ-ofZ (c .before .fits .z), kept c .is)))

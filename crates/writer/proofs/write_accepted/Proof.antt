@@ -22,9 +22,6 @@ few-elements c = elements-most (c .args .s .n) (sheetFault-none (c .args .s) (c 
 few-constraints : (c : tie.Start) → c .args .s .e ≤ 200
 few-constraints c = constraints-most (c .args .s .e) (sheetFault-none (c .args .s) (c .pre) .1)
 
-lines-of-requires : tie.Need-lines-of-requires
-lines-of-requires c κs = few-elements (c .before .before)
-
 put-sheet-requires : tie.Need-put-sheet-requires
 put-sheet-requires c κs = (
   few-elements (c .before .before .before .before .before),
@@ -76,5 +73,5 @@ returns-3 c =
 pub write-accepted-spec : {M : Type 1} → statement M
 write-accepted-spec =
     tie.close
-    (tie.spec lines-of-requires put-sheet-requires (λ c. search needs) returns (λ c. search needs) (λ c. search needs)
+    (tie.spec (λ c κs. few-elements (c .before .before)) put-sheet-requires (λ c. search needs) returns (λ c. search needs) (λ c. search needs)
     put-sheet-requires-2 (λ c. search needs) returns-2 put-sheet-requires-3 (λ c. search needs) returns-3)
