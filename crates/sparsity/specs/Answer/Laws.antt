@@ -13,7 +13,7 @@ use lib.ListN.{length, take, getD}
 use Rattle.theory.specs.Set.{_∩_, _∪_, _⊑_, at}
 use Rattle.theory.specs.Set.Laws.{at-and, at-or, at-le, bit, size-zero, sub-refl, sub-trans, and-l, and-r, and-sub, sub-and, two-in}
 use Rattle.theory.specs.Constraints.{pair, has, carried, NotOver, Below}
-use Rattle.theory.specs.Constraints.Laws.{Has, inside, outside, has-dec, at-end, pair-in, pair-ends, has-not, has-other, pair-comm}
+use Rattle.theory.specs.Constraints.Laws.{Has, inside, outside, has-dec, at-end, pair-in, pair-ends, has-pair, pair-comm}
 use Rattle.theory.specs.Over.{Tight, Smallest, FirstOver, overOf}
 use Rattle.theory.specs.Over.Laws.{carried-next, tight-over, within-smallest, finds-overOf}
 use Rattle.theory.specs.Set.Less.{sub-below, less-sub, size-less}
@@ -129,8 +129,7 @@ module _ {cs : List ℕ} {u : ℕ} (simple : Simple cs) (core : Core cs u) (c : 
           closed = stored-closed own table (p .from) (p .slot) (p .to) (o .1) (p .two) u (λ q. o .3) closed;
           balanced =
               balanced-placed own table (p .from) (p .to) (o .1) (o .2) old new m u balanced more
-              (λ x z. has-not m x (p .from) (ap (at (p .from)) (o .0) ∙ at-end (p .from) (p .to) .0) z)
-              (λ x z. ap (λ (i : ℕ). has i x) (o .0) ∙ has-other (p .from) (p .to) x z) (p .slot) (p .two) (p .was-free);
+              (λ x. ap (λ (i : ℕ). has i x) (o .0) ∙ has-pair (p .from) (p .to) x) (p .slot) (p .two) (p .was-free);
           fine = right;
           never =
               λ x z. few-other old new m more u x 0 (never x (omega (arith, at-or x once m, at-le x m)))

@@ -1,11 +1,10 @@
 -- Sums over a set's elements. Assumes nothing.
 use mathlib.Core.Path.{_≡_, refl, sym, ap, ap₂, _∙_}
-use mathlib.Core.Logic.{_≢_, _⊎_, inl, inr, ⊎-elim}
+use mathlib.Core.Logic.{_≢_, inl, inr, ⊎-elim}
 use mathlib.Core.List.{List}
 use Prim.Native.Nat.{ℕ, _+_, _*_, _-_, _^_, _≤_, _<_}
 use native.Mathlib.Nat.{zero-mul, one-mul}
 use native.Mathlib.Omega.{arith}
-use native.Mathlib.Decide.{ℕ-discrete}
 use lib.Count.{ones}
 use Rattle.theory.specs.Set.{at}
 use Rattle.theory.specs.Set.Laws.{at-le, bit, size-sum}
@@ -59,30 +58,14 @@ module _ (a : ℕ) (f g : ℕ → ℕ) where
 
   pub over-same : ((x : ℕ) → x < 64 → at x a ≡ 1 → f x ≡ g x) → over a f ≡ over a g
   unfolding over
-  over-same h = sum-eq 64 (λ x. at x a * f x) (λ x. at x a * g x) (λ x l. go x l (bit (at x a) (at-le x a)))
-    where
-      go : (x : ℕ) → x < 64 → (at x a ≡ 0) ⊎ (at x a ≡ 1) → at x a * f x ≡ at x a * g x
-      go x l (inl e) = no-times (at x a) (f x) e ∙ sym (no-times (at x a) (g x) e)
-      go x l (inr e) = ap (λ (z : ℕ). at x a * z) (h x l e)
+  over-same h =
+      sum-eq 64 (λ x. at x a * f x) (λ x. at x a * g x)
+      (λ x l. elim (bit (at x a) (at-le x a)) [ inl e ↦ rw e (omega arith) | inr e ↦ ap (λ (z : ℕ). at x a * z) (h x l e) ])
 
   -- terms that agree but at one element
-  pub over-at : (y : ℕ) → y < 64 → at y a ≡ 1 → ((x : ℕ) → x ≢ y → f x ≡ g x) → over a f + g y ≡ over a g + f y
+  pub over-change : (y : ℕ) → y < 64 → ((x : ℕ) → x ≢ y → f x ≡ g x) → over a f + at y a * g y ≡ over a g + at y a * f y
   unfolding over
-  over-at y l e h =
-      omega (
-        arith,
-        sum-change 64 (λ x. at x a * f x) (λ x. at x a * g x) y l (λ x m n. ap (λ (z : ℕ). at x a * z) (h x n)),
-        one-times (at y a) (f y) e,
-        one-times (at y a) (g y) e,
-      )
-
-  pub over-out : (y : ℕ) → at y a ≡ 0 → ((x : ℕ) → x ≢ y → f x ≡ g x) → over a f ≡ over a g
-  unfolding over
-  over-out y e h = sum-eq 64 (λ x. at x a * f x) (λ x. at x a * g x) (λ x l. go x (ℕ-discrete x y))
-    where
-      go : (x : ℕ) → Dec (x ≡ y) → at x a * f x ≡ at x a * g x
-      go x (yes q) = let z = ap (λ (i : ℕ). at i a) q ∙ e in no-times (at x a) (f x) z ∙ sym (no-times (at x a) (g x) z)
-      go x (no n) = ap (λ (z : ℕ). at x a * z) (h x n)
+  over-change y l h = sum-change 64 (λ x. at x a * f x) (λ x. at x a * g x) y l (λ x m n. ap (λ (z : ℕ). at x a * z) (h x n))
 
   -- where no term of f is above that of g, and the sum is not below, each term is the same
   pub over-tight : ((x : ℕ) → x < 64 → at x a ≡ 1 → f x ≤ g x) → over a g ≤ over a f → (x : ℕ) → x < 64 → at x a ≡ 1 → g x ≤ f x

@@ -4,7 +4,7 @@ use mathlib.Core.Path.{_≡_, refl, sym, ap, ap₂, _∙_, subst}
 use mathlib.Core.Logic.{_≢_, _↔_, _⊎_, inl, inr, ⊎-elim, Iff·trans, Iff·rfl}
 use mathlib.Core.Bool.{Bool, true, false}
 use mathlib.Core.List.{List, [], _∷_, map}
-use Prim.Native.Nat.{ℕ, zero, suc, _+_, _^_, _≤_, _<_}
+use Prim.Native.Nat.{ℕ, zero, suc, _+_, _*_, _^_, _≤_, _<_}
 use native.Mathlib.Omega.{arith}
 use native.Mathlib.Decide.{ℕ-discrete, decLe}
 use lib.Bits.{or-lt}
@@ -229,13 +229,14 @@ pub pair-ends : (u v x : ℕ) → pair u v ⊑ x → (at u x ≡ 1) × (at v x �
 pair-ends u v x h = (omega (arith, h .le u, at-end u v .0, at-le u x), omega (arith, h .le v, at-end u v .1, at-le v x))
 
 -- whether both ends of a pair lie in a set
-pub has-not : (m x z : ℕ) → at z m ≡ 1 → at z x ≡ 0 → has m x ≡ 0
-has-not m x z e n = elim (has-dec m x) [ outside k q ↦ q | inside i q ↦ absurd (omega (arith, i .le z)) ]
-
-pub has-other : (u v x : ℕ) → at u x ≡ 1 → has (pair u v) x ≡ at v x
-has-other u v x e = ⊎-elim
-    (λ (z : at v x ≡ 0). has-not (pair u v) x v (at-end u v .1) z ∙ sym z)
-    (λ (z : at v x ≡ 1). has-in (pair u v) x (pair-in u v x e z) ∙ sym z) (bit (at v x) (at-le v x))
+pub has-pair : (u v x : ℕ) → has (pair u v) x ≡ at u x * at v x
+has-pair u v x = elim (has-dec (pair u v) x) [
+  | inside i q ↦ let e = pair-ends u v x i in rw (q, e .0, e .1)
+  | outside n q ↦ elim (bit (at u x) (at-le u x)) [
+    | inl e ↦ rw (q, e) (omega arith)
+    | inr e ↦ elim (bit (at v x) (at-le v x)) [ inl f ↦ rw (q, f) (omega arith) | inr f ↦ absurd (n (pair-in u v x e f)) ]
+  ]
+]
 
 pub pair-comm : (u v : ℕ) → pair u v ≡ pair v u
 unfolding pair
