@@ -35,11 +35,29 @@ pub record Core (cs : List ℕ) (u : ℕ) : Type 0 where
   pub cut : (c a : ℕ) → carried (take c cs) a + 2 * ones (a ∩ u) ≤ carried (take c cs) (a ∩ u) + 2 * ones a
   pub loose : u ≡ 0 → Loose cs
 
+-- each element of u has three neighbours in it
+pub record Dense (near : List ℕ) (u : ℕ) : Type 0 where
+  pub three : (x : ℕ) → at x u ≡ 1 → 3 ≤ ones (getD near x 0 ∩ u)
+
+-- and u is the largest such set
+pub record Largest (near : List ℕ) (u : ℕ) : Type 0 where
+  pub dense : Dense near u
+  pub largest : (a : ℕ) → a < 2 ^ 64 → Dense near a → a ⊑ u
+
 -- ---- taking elements away
 
 -- elements of u with at most two neighbours in u
 pub record Light (near : List ℕ) (u todo : ℕ) : Type 0 where
   pub light : (x : ℕ) → at x todo ≡ 1 → (at x u ≡ 1) × (ones (getD near x 0 ∩ u) ≤ 2)
+
+-- those of who that are not among todo have three neighbours in u
+pub record Heavy (near : List ℕ) (u who todo : ℕ) : Type 0 where
+  pub heavy : (x : ℕ) → at x who ≡ 1 → at x todo ≡ 0 → 3 ≤ ones (getD near x 0 ∩ u)
+
+-- neighbours are so both ways, and below 64
+pub record Mutual (near : List ℕ) : Type 0 where
+  pub below : (x y : ℕ) → x < 64 → at y (getD near x 0) ≡ 1 → y < 64
+  pub back : (x y : ℕ) → x < 64 → y < 64 → at y (getD near x 0) ≡ 1 → at x (getD near y 0) ≡ 1
 
 -- what is left when elements with at most two neighbours among those left are taken away one by one
 pub data Peeled (near : List ℕ) : ℕ → Type 0 where

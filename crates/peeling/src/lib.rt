@@ -3,14 +3,15 @@
 // (document 01, "Verdict names: over"). The contracts cite this crate's `Core`.
 ghost use mathlib.Core.Path.{_≡_};
 ghost use mathlib.Core.List.{List};
-ghost use Prim.Native.Nat.{ℕ, _-_, _^_, _<_};
+ghost use Prim.Native.Nat.{ℕ, _-_, _^_, _≤_, _<_};
 ghost use mathlib.Core.Bool.{_&&_, _||_};
 ghost use lib.Count.{ones};
 ghost use lib.Dec.{eqb};
+ghost use lib.ListN.{getD};
 ghost use Rattle.theory.specs.Set.{_⊑_, at, full};
 ghost use Rattle.theory.specs.Near.{Simple, Near};
 ghost use Rattle.theory.specs.Verdict.{allLines};
-ghost use Rattle.peeling.specs.Core.{Core, Light, Taken, Told};
+ghost use Rattle.peeling.specs.Core.{Core, Dense, Largest, Light, Heavy, Mutual, Taken, Told};
 
 // A byte as an index.
 pub fn wide(x: u8) -> usize
@@ -44,7 +45,7 @@ pub fn lowest(m: u64) -> u8
 
 // The elements with two neighbours at most.
 fn light_all(near: &[u64; 64]) -> u64
-    ensures { λ r. ⌜ Light (now (near .entry)) (full 64) r ⌝ }
+    ensures { λ r. ⌜ Light (now (near .entry)) (full 64) r × ((x : ℕ) → x < 64 → at x r ≡ 0 → 3 ≤ ones (getD (now (near .entry)) x 0)) ⌝ }
 {
     let mut todo: u64 = 0;
     let mut x: u8 = 0;
@@ -61,7 +62,7 @@ fn light_all(near: &[u64; 64]) -> u64
 // The elements of who with two neighbours at most among those left.
 fn light_of(near: &[u64; 64], left: u64, who: u64) -> u64
     requires { ⌜ who ⊑ left ⌝ }
-    ensures { λ r. ⌜ Light (now (near .entry)) left r ⌝ }
+    ensures { λ r. ⌜ Light (now (near .entry)) left r × Heavy (now (near .entry)) left who r ⌝ }
 {
     let mut todo: u64 = 0;
     let mut m = who;
@@ -103,8 +104,8 @@ pub struct Peeling {
 
 // Takes elements with two neighbours at most away, one after another.
 fn peel(near: &[u64; 64], low: u64, lines: u64) -> Peeling
-    requires { ⌜ Light (now near) (full 64) low ⌝ }
-    ensures { λ r. ⌜ Taken (now (near .entry)) lines (r .left) (r .angle) ⌝ }
+    requires { ⌜ Light (now near) (full 64) low × ((x : ℕ) → x < 64 → at x low ≡ 0 → 3 ≤ ones (getD (now near) x 0)) ⌝ }
+    ensures { λ r. ⌜ Taken (now (near .entry)) lines (r .left) (r .angle) × (Mutual (now (near .entry)) → Dense (now (near .entry)) (r .left)) ⌝ }
 {
     let mut left: u64 = 18446744073709551615;
     let mut todo = low;
@@ -122,15 +123,16 @@ fn peel(near: &[u64; 64], low: u64, lines: u64) -> Peeling
 
 // The elements that an over set can have; and where there is none, and 2n-3 constraints of n elements, whether some joint of the plan is three lines.
 pub fn peel_of(near: &[u64; 64], lines: u64) -> Peeling
-    ensures { λ r. ⌜ ((cs : List ℕ) → Simple cs → Near cs (now (near .entry)) → Told cs lines (r .left) (r .angle)) ⌝ }
+    ensures { λ r. ⌜ ((cs : List ℕ) → Simple cs → Near cs (now (near .entry))
+        → Told cs lines (r .left) (r .angle) × Largest (now (near .entry)) (r .left)) ⌝ }
 {
     let low = light_all(near);
     peel(near, low, lines)
 }
 
-// The elements that an over set can have.
+// The elements that an over set can have: the largest set whose elements have three neighbours each in it.
 pub fn core_of(near: &[u64; 64]) -> u64
-    ensures { λ r. ⌜ ((cs : List ℕ) → Simple cs → Near cs (now (near .entry)) → Core cs r) ⌝ }
+    ensures { λ r. ⌜ ((cs : List ℕ) → Simple cs → Near cs (now (near .entry)) → Core cs r × Largest (now (near .entry)) r) ⌝ }
 {
     let peeling = peel_of(near, 0);
     peeling.left

@@ -47,11 +47,10 @@ strip d d1 d2 = against (natAbs (d2 -ℤ d1)) d
 -- the constraints a, b and a third, with their sizes x, y, z: the one without a line is d. A distance of two points is above 0, so it is its
 -- own absolute value
 unfoldable pub stripOf : ℕ → ℕ → ℕ → ℤ → ℤ → ℤ → ℕ
-stripOf lines a b x y z =
-    elim (eqb (a ∩ lines) 0) [
-      | true ↦ strip (natAbs x) y z
-      | false ↦ elim (eqb (b ∩ lines) 0) [ true ↦ strip (natAbs y) x z | false ↦ strip (natAbs z) x y ]
-    ]
+stripOf lines a b x y z = elim (eqb (a ∩ lines) 0) [
+  | true ↦ strip (natAbs x) y z
+  | false ↦ elim (eqb (b ∩ lines) 0) [ true ↦ strip (natAbs y) x z | false ↦ strip (natAbs z) x y ]
+]
 
 -- by kind, from two of the three constraints and the three sizes
 unfoldable pub placed : ℕ → JointKind → ℕ → ℕ → ℤ → ℤ → ℤ → Ways
@@ -70,10 +69,9 @@ initial e m = ltb (m .i) e && (ltb (m .j) e && ltb (m .k) e)
 
 -- the step m among the clusters s: known only if all three parts are initial clusters and the kind isn't lll
 unfoldable pub ways : ℕ → ℕ → List ℤ → List ℕ → Merge → Ways
-ways lines e sizes s m =
-    elim (initial e m) [
-      | true ↦
-          placed lines (jointKind lines (joint (three s m))) (slot s (m .i)) (slot s (m .j)) (sizeAt sizes (m .i))
-          (sizeAt sizes (m .j)) (sizeAt sizes (m .k))
-      | false ↦ Unknown
-    ]
+ways lines e sizes s m = elim (initial e m) [
+  | true ↦
+      placed lines (jointKind lines (joint (three s m))) (slot s (m .i)) (slot s (m .j)) (sizeAt sizes (m .i))
+      (sizeAt sizes (m .j)) (sizeAt sizes (m .k))
+  | false ↦ Unknown
+]

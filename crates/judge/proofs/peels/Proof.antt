@@ -19,7 +19,7 @@ returns : tie.Need-returns
 returns c =
     let s = c .before .before .before .before in
     let b = in-blocks s in
-    c .peel-of .ensures (graphOf (factsOf (s .args .s)) .clusters) (b .simple) (c .before .before .near-of .ensures)
+    c .peel-of .ensures (graphOf (factsOf (s .args .s)) .clusters) (b .simple) (c .before .before .near-of .ensures) .0
 
 pub peels-spec : {M : Type 1} → statement M
 peels-spec = tie.close (tie.spec near-of-requires (λ c κs. search needs) returns)

@@ -1,23 +1,27 @@
 -- `light_all` meets its contract. The loop's invariant: the elements found are light. Assumes nothing.
-use mathlib.Core.Logic.{⊎-elim}
-use Prim.Native.Nat.{_-_, _≤_}
+use mathlib.Core.Path.{_≡_, ap, _∙_, subst}
+use mathlib.Core.Logic.{inl, inr, ⊎-elim}
+use Prim.Native.Nat.{ℕ, _-_, _≤_, _<_}
 use native.Mathlib.Omega.{arith}
+use lib.Bits.{bitOr}
+use lib.Count.{ones}
 use lib.ListN.{getD}
-use Rattle.theory.specs.Set.{full}
+use Rattle.theory.specs.Set.{at, full}
 use Rattle.peeling.specs.Core.{Light}
-use Rattle.peeling.specs.Core.Neighbours.{light-none, light-all-code, light-same, two-most}
+use Rattle.peeling.specs.Core.Neighbours.{light-none, light-all-code, light-same, two-most, three-least, heavy-tried}
 use borrow.Author.Needs.{needs}
 use Rattle.peeling.proofs.light_all.Statement.{statement}
 use Rattle.peeling.proofs.light_all.Tie as tie
 
 abbrev Inv-loop : tie.InvT-loop
-Inv-loop near todo₀ x₀ todo x = (x ≤ 64) × Light near (full 64) todo
+Inv-loop near todo₀ x₀ todo x =
+    (x ≤ 64) × Light near (full 64) todo × ((y : ℕ) → y < x → at y todo ≡ 0 → 3 ≤ ones (getD near y 0))
 
 abbrev μ-loop : tie.MeasureT-loop
 μ-loop near todo₀ x₀ todo x = 64 - x
 
 loop-holds : tie.Need-loop-holds Inv-loop μ-loop
-loop-holds c = (omega arith, light-none (c .args .near .now) (full 64))
+loop-holds c = (omega arith, light-none (c .args .near .now) (full 64), λ y l z. absurd (omega arith))
 
 mul-drop-low : tie.Need-mul-drop-low Inv-loop μ-loop
 mul-drop-low c = omega (arith, c .wide .ensures)
@@ -37,10 +41,20 @@ loop-again c =
           (λ w. light-all-code near (l .todo) (l .inv .1) (c .before .before .before .before .before .loop-test .taken) (i .ensures) (w .1 .ensures)
           (two-most (getD near (i .result) 0) (p .result) (q .result) (p .ensures) (q .ensures) (w .0 .taken)) (w .2))
           (λ w. light-same near (full 64) (w .1) (l .inv .1)) (c .if1 .came),
+      λ y o. heavy-tried (λ z. z < l .x) (λ z. 3 ≤ ones (getD near z 0)) (l .todo) (l .x) (l .inv .2)
+          (⊎-elim (λ w. inl (w .2 ∙ ap (bitOr (l .todo)) (w .1 .ensures)))
+          (λ w. inr (
+            w .1,
+            subst (λ (k : ℕ). 3 ≤ ones (getD near k 0)) (i .ensures)
+                (three-least (getD near (i .result) 0) (p .result) (q .result) (p .ensures) (q .ensures) (w .0 .left)),
+          )) (c .if1 .came))
+          y (λ n. omega arith),
     )
 
 returns : tie.Need-returns Inv-loop μ-loop
-returns c = c .before .loop .inv .1
+returns c =
+    let l = c .before .loop in
+    (l .inv .1, λ x h o. l .inv .2 x (omega (arith, c .loop-test .left)) o)
 
 pub light-all-spec : {M : Type 1} → statement M
 light-all-spec =

@@ -1,28 +1,30 @@
 -- `light_of` meets its contract. The loop's invariant: the elements found are light, and those to be tried are left. Assumes nothing.
-use mathlib.Core.Path.{sym, subst}
-use mathlib.Core.Logic.{⊎-elim}
-use Prim.Native.Nat.{ℕ, _-_}
+use mathlib.Core.Path.{_≡_, sym, ap, _∙_, subst}
+use mathlib.Core.Logic.{inl, inr, ⊎-elim}
+use Prim.Native.Nat.{ℕ, _-_, _≤_}
 use native.Mathlib.Omega.{arith}
-use lib.Bits.{bitAnd}
+use lib.Bits.{bitAnd, bitOr}
+use lib.Count.{ones}
 use lib.ListN.{getD}
 use lib.Pow.{pow-pos}
-use Rattle.theory.specs.Set.{_⊑_}
-use Rattle.theory.specs.Set.Laws.{at-le, sub-trans}
-use Rattle.theory.specs.Set.Less.{at-room, less-sub}
+use Rattle.theory.specs.Set.{_∩_, _⊑_, at}
+use Rattle.theory.specs.Set.Laws.{at-le, at-zero, sub-trans}
+use Rattle.theory.specs.Set.Less.{at-room, less-other, less-sub}
 use Rattle.peeling.specs.Core.{Light}
-use Rattle.peeling.specs.Core.Neighbours.{light-none, light-code, light-same, two-most}
+use Rattle.peeling.specs.Core.Neighbours.{light-none, light-code, light-same, two-most, three-least, heavy-tried}
 use borrow.Author.Needs.{needs}
 use Rattle.peeling.proofs.light_of.Statement.{statement}
 use Rattle.peeling.proofs.light_of.Tie as tie
 
 abbrev Inv-loop : tie.InvT-loop
-Inv-loop near left who todo₀ m₀ todo m = (m ⊑ left) × Light near left todo
+Inv-loop near left who todo₀ m₀ todo m =
+    (m ⊑ left) × Light near left todo × ((y : ℕ) → (at y who ≡ 1) × (at y m ≡ 0) → at y todo ≡ 0 → 3 ≤ ones (getD near y 0 ∩ left))
 
 abbrev μ-loop : tie.MeasureT-loop
 μ-loop near left who todo₀ m₀ todo m = m
 
 loop-holds : tie.Need-loop-holds Inv-loop μ-loop
-loop-holds c = (c .pre, light-none (c .args .near .now) (c .args .left))
+loop-holds c = (c .pre, light-none (c .args .near .now) (c .args .left), λ y o z. absurd (omega (arith, o .0, o .1)))
 
 single-requires : tie.Need-single-requires Inv-loop μ-loop
 single-requires c κs = c .before .lowest .ensures .0
@@ -34,25 +36,24 @@ element-copy-out-drop-low : tie.Need-element-copy-out-drop-low Inv-loop μ-loop
 element-copy-out-drop-low c = omega (arith, c .before .wide .ensures, c .before .before .lowest .ensures .0)
 
 sub-m : tie.Need-sub-m Inv-loop μ-loop
-sub-m c =
-    omega (
-      arith,
-      at-room (c .before .before .before .before .before .before .lowest .result)
-          (c .before .before .before .before .before .before .before .before .loop .m)
-          (c .before .before .before .before .before .before .lowest .ensures .1),
-      c .before .before .before .before .single .ensures,
-    )
+sub-m c = omega (
+  arith,
+  at-room (c .before .before .before .before .before .before .lowest .result)
+      (c .before .before .before .before .before .before .before .before .loop .m)
+      (c .before .before .before .before .before .before .lowest .ensures .1),
+  c .before .before .before .before .single .ensures,
+)
 
 loop-less : tie.Need-loop-less Inv-loop μ-loop
-loop-less c =
-    omega (
-      arith,
-      sub-m c,
-      c .before .before .before .before .single .ensures,
-      pow-pos (c .before .before .before .before .before .before .lowest .result),
-    )
+loop-less c = omega (
+  arith,
+  sub-m c,
+  c .before .before .before .before .single .ensures,
+  pow-pos (c .before .before .before .before .before .before .lowest .result),
+)
 
 loop-again : tie.Need-loop-again Inv-loop μ-loop
+unfolding _∩_
 loop-again c =
     let a = c .before .before .before .before .before .before .before .before .before .args in
     let l = c .before .before .before .before .before .before .before .before .loop in
@@ -67,10 +68,23 @@ loop-again c =
           (omega (arith, l .inv .0 .le (x .result), x .ensures .1, at-le (x .result) (a .left))) (i .ensures) (b .ensures)
           (two-most (bitAnd (getD (a .near .now) (i .result) 0) (a .left)) (p .result) (q .result) (p .ensures) (q .ensures) (w .0 .taken)) (w .1))
           (λ w. light-same (a .near .now) (a .left) (w .1) (l .inv .1)) (c .if1 .came),
+      λ y o. heavy-tried (λ z. (at z (a .who) ≡ 1) × (at z (l .m) ≡ 0)) (λ z. 3 ≤ ones (bitAnd (getD (a .near .now) z 0) (a .left)))
+          (l .todo) (x .result) (l .inv .2)
+          (⊎-elim (λ w. inl (w .1 ∙ ap (bitOr (l .todo)) (b .ensures)))
+          (λ w. inr (
+            w .1,
+            subst (λ (k : ℕ). 3 ≤ ones (bitAnd (getD (a .near .now) k 0) (a .left))) (i .ensures)
+                (three-least (bitAnd (getD (a .near .now) (i .result) 0) (a .left)) (p .result) (q .result) (p .ensures) (q .ensures) (w .0 .left)),
+          ))
+          (c .if1 .came))
+          y (λ n. (o .0, sym (less-other (x .result) y (l .m) (x .ensures .1) n) ∙ ap (λ (k : ℕ). at y (l .m - k)) (sym (b .ensures)) ∙ o .1)),
     )
 
 returns : tie.Need-returns Inv-loop μ-loop
-returns c = c .before .loop .inv .1
+returns c =
+    let l = c .before .loop in
+    let z : l .m ≡ 0 = omega (arith, c .loop-test .left) in
+    (l .inv .1, record { heavy = λ x i o. l .inv .2 x (i, ap (at x) z ∙ at-zero x) o })
 
 pub light-of-spec : {M : Type 1} → statement M
 light-of-spec =

@@ -1,27 +1,28 @@
 -- `peel` meets its contract. The loop's invariant: elements are taken away down to left, and todo are light there. Assumes nothing.
-use mathlib.Core.Path.{refl}
+use mathlib.Core.Path.{_≡_, refl, ap, _∙_}
 use Prim.Native.Nat.{_-_}
 use native.Mathlib.Omega.{arith}
 use lib.ListN.{getD}
-use Rattle.peeling.specs.Core.{Light, whole, corners, Taken}
-use Rattle.peeling.specs.Core.Peeling.{peel-room, todo-room, peel-less, light-next}
+use Rattle.peeling.specs.Core.{Light, Heavy, Mutual, whole, corners, Taken}
+use Rattle.peeling.specs.Core.Neighbours.{heavy-start}
+use Rattle.peeling.specs.Core.Peeling.{peel-room, todo-room, peel-less, light-next, heavy-left}
 use Rattle.peeling.specs.Core.Angle.{taken-next}
-use Rattle.theory.specs.Set.{_∩_, _∪_, full}
-use Rattle.theory.specs.Set.Laws.{and-r}
+use Rattle.theory.specs.Set.{_∩_, _∪_, at, full}
+use Rattle.theory.specs.Set.Laws.{at-zero, and-r}
 use Rattle.theory.specs.Verdict.{angled}
 use borrow.Author.Needs.{needs}
 use Rattle.peeling.proofs.peel.Statement.{statement}
 use Rattle.peeling.proofs.peel.Tie as tie
 
 abbrev Inv-loop : tie.InvT-loop
-Inv-loop near low lines left₀ todo₀ angle₀ left todo angle = Taken near lines left angle × Light near left todo
+Inv-loop near low lines left₀ todo₀ angle₀ left todo angle = Taken near lines left angle × Light near left todo × (Mutual near → Heavy near left left todo)
 
 abbrev μ-loop : tie.MeasureT-loop
 μ-loop near low lines left₀ todo₀ angle₀ left todo angle = left
 
 loop-holds : tie.Need-loop-holds Inv-loop μ-loop
 unfolding full corners angled
-loop-holds c = (record { peeled = whole; angle-is = refl }, c .pre)
+loop-holds c = (record { peeled = whole; angle-is = refl }, c .pre .0, λ m. heavy-start (c .args .near .now) (c .args .low) m (c .pre .1))
 
 single-requires : tie.Need-single-requires Inv-loop μ-loop
 single-requires c κs = c .before .lowest .ensures .0
@@ -86,11 +87,16 @@ loop-again c =
           (i .ensures) (t .result) (n .result) (t .ensures) (n .ensures),
       light-next (s .args .near .now) (l .left) (l .todo) (x .result) (b .result) (l .inv .0 .peeled) (l .inv .1)
           (x .ensures .1) (b .ensures) (c .light-of .result)
-          (c .light-of .ensures),
+          (c .light-of .ensures .0),
+      heavy-left (s .args .near .now) (l .left) (l .todo) (x .result) (b .result) (l .inv .0 .peeled) (l .inv .1) (x .ensures .1) (b .ensures)
+          (c .light-of .result) (i .result) (i .ensures) (l .inv .2) (c .light-of .ensures .1),
     )
 
 returns : tie.Need-returns Inv-loop μ-loop
-returns c = c .before .loop .inv .0
+returns c =
+    let l = c .before .loop in
+    let z : l .todo ≡ 0 = omega (arith, c .loop-test .left) in
+    (l .inv .0, λ m. record { three = λ x e. l .inv .2 m .heavy x e (ap (at x) z ∙ at-zero x) })
 
 pub peel-spec : {M : Type 1} → statement M
 peel-spec =

@@ -1,5 +1,6 @@
 -- `peel_of` meets its contract. Assumes nothing.
 use Rattle.peeling.specs.Core.Angle.{all-told}
+use Rattle.peeling.specs.Core.Peeling.{peeled-largest}
 use borrow.Author.Needs.{needs}
 use Rattle.peeling.proofs.peel_of.Statement.{statement}
 use Rattle.peeling.proofs.peel_of.Tie as tie
@@ -7,7 +8,11 @@ use Rattle.peeling.proofs.peel_of.Tie as tie
 returns : tie.Need-returns
 returns c =
     let a = c .before .before .args in
-    λ cs simple near. all-told cs (a .near .now) simple near (a .lines) (c .peel .result .left) (c .peel .result .angle) (c .peel .ensures)
+    let t = c .peel .ensures in
+    λ cs simple near. (
+      all-told cs (a .near .now) simple near (a .lines) (c .peel .result .left) (c .peel .result .angle) (t .0),
+      peeled-largest cs (a .near .now) simple near (c .peel .result .left) (t .0 .peeled) (t .1),
+    )
 
 pub peel-of-spec : {M : Type 1} → statement M
 peel-of-spec = tie.close (tie.spec (λ c κs. search needs) (λ c κs. search needs) returns)

@@ -94,16 +94,15 @@ module _ (cs near : List ℕ) (simple : Simple cs) (is-near : Near cs near) wher
     -- two constraints at x with the same other end are one
     same-end : (m k : ℕ) (e : End m) (f : End k) → e .p ≡ f .p → m ≡ k
     unfolding Pairs
-    same-end m k e f q =
-        elim (ℕ-discrete m k) [
-          | yes r ↦ r
-          | no r ↦ absurd (omega (
-            arith,
-            pairs-share m k (two-ends m (e .among)) (two-ends k (f .among)) r,
-            two-in (m ∩ k) x (e .p) (both x m k (e .x-in) (f .x-in))
-                (both (e .p) m k (e .p-in) (subst (λ (w : ℕ). at w k ≡ 1) (sym q) (f .p-in))) (Ne·symm (e .p≢x)),
-          ))
-        ]
+    same-end m k e f q = elim (ℕ-discrete m k) [
+      | yes r ↦ r
+      | no r ↦ absurd (omega (
+        arith,
+        pairs-share m k (two-ends m (e .among)) (two-ends k (f .among)) r,
+        two-in (m ∩ k) x (e .p) (both x m k (e .x-in) (f .x-in))
+            (both (e .p) m k (e .p-in) (subst (λ (w : ℕ). at w k ≡ 1) (sym q) (f .p-in))) (Ne·symm (e .p≢x)),
+      ))
+    ]
 
     module _ (m k : ℕ) (e : End m) (f : End k) (m≢k : m ≢ k) where
       differ : e .p ≢ f .p
@@ -120,11 +119,10 @@ module _ (cs near : List ℕ) (simple : Simple cs) (is-near : Near cs near) wher
       in-mk z i j = ⊎-elim (λ r. r) (λ r. ⊎-elim (λ s. s) (λ s. absurd (differ (sym r ∙ s))) (f .only z j)) (e .only z i)
 
       one-of : (s p : ℕ) → at p s ≡ 1 → ((z : ℕ) → at z s ≡ 1 → z ≡ p) → ones s ≡ 1
-      one-of s p i h =
-          ap ones (ext s (2 ^ p) (λ z. elim (ℕ-discrete z p) [
-            | yes r ↦ subst (λ (w : ℕ). at w s ≡ at w (2 ^ p)) (sym r) (omega (arith, i, at-same p))
-            | no r ↦ elim (bit (at z s) (at-le z s)) [ inl c ↦ omega (arith, at-other z p r) | inr c ↦ absurd (r (h z c)) ]
-          ])) ∙ size-pow p
+      one-of s p i h = ap ones (ext s (2 ^ p) (λ z. elim (ℕ-discrete z p) [
+        | yes r ↦ subst (λ (w : ℕ). at w s ≡ at w (2 ^ p)) (sym r) (omega (arith, i, at-same p))
+        | no r ↦ elim (bit (at z s) (at-le z s)) [ inl c ↦ omega (arith, at-other z p r) | inr c ↦ absurd (r (h z c)) ]
+      ])) ∙ size-pow p
 
       abbrev pub t : Three
       t = record { a = b; b = m; c = k }
@@ -143,14 +141,13 @@ module _ (cs near : List ℕ) (simple : Simple cs) (is-near : Near cs near) wher
 
       union-is : union t ≡ a
       unfolding union
-      union-is =
-          sub-antisymm (b ∪ m ∪ k) a (or-least (or-least b-in-a (e .in-a)) (f .in-a)) (record {
-            le = λ z. elim (ℕ-discrete z x) [
-              | yes r ↦ subst (λ (w : ℕ). at w a ≤ at w (b ∪ m ∪ k)) (sym r)
-                  (omega (arith, at-le x a, or-left x (b ∪ m) k (or-right x b m (e .x-in))))
-              | no r ↦ omega (arith, at-or z (b ∪ m) k, at-or z b m, less-other x z a xa r)
-            ];
-          })
+      union-is = sub-antisymm (b ∪ m ∪ k) a (or-least (or-least b-in-a (e .in-a)) (f .in-a)) (record {
+        le = λ z. elim (ℕ-discrete z x) [
+          | yes r ↦ subst (λ (w : ℕ). at w a ≤ at w (b ∪ m ∪ k)) (sym r)
+              (omega (arith, at-le x a, or-left x (b ∪ m) k (or-right x b m (e .x-in))))
+          | no r ↦ omega (arith, at-or z (b ∪ m) k, at-or z b m, less-other x z a xa r)
+        ];
+      })
 
       pub joint-is : joint t ≡ corner near v x
       unfolding joint

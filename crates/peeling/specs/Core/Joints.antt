@@ -75,22 +75,21 @@ module _ (cs near : List ℕ) (simple : Simple cs) (is-near : Near cs near) (n :
   tight-at : (u : ℕ) → Peeled near u → 2 ≤ ones (u ∩ full n) → carried cs (u ∩ full n) + 3 ≡ 2 * ones (u ∩ full n)
   unfolding NotOver
   tight-at u whole h = rw all-of (omega (arith, carried-full n cs below, size-full n, count))
-  tight-at u (less {u = v} x p q two) h =
-      elim (bit (at x (v ∩ full n)) (at-le x (v ∩ full n))) [
-        | inl z ↦ let e = cut-out v x q z in rw e (tight-at v p (rw e at h))
-        | inr z ↦ let e = cut-in v x q z in
-            let s = size-less x (v ∩ full n) z in
-            let k : 2 ≤ ones ((v ∩ full n) - 2 ^ x) = rw e at h in
-            rw e (omega (
-              arith,
-              tight-at v p (omega arith),
-              fine ((v ∩ full n) - 2 ^ x) k,
-              near-counts x (v ∩ full n) z cs near simple is-near (at-below 64 x v (peeled-small v p) q),
-              size-le (getD near x 0 ∩ v) (getD near x 0 ∩ (v ∩ full n))
-                  (and-most (and-l (getD near x 0) (v ∩ full n)) (sub-trans (and-r (getD near x 0) (v ∩ full n)) (and-l v (full n)))),
-              two,
-            ))
-      ]
+  tight-at u (less {u = v} x p q two) h = elim (bit (at x (v ∩ full n)) (at-le x (v ∩ full n))) [
+    | inl z ↦ let e = cut-out v x q z in rw e (tight-at v p (rw e at h))
+    | inr z ↦ let e = cut-in v x q z in
+        let s = size-less x (v ∩ full n) z in
+        let k : 2 ≤ ones ((v ∩ full n) - 2 ^ x) = rw e at h in
+        rw e (omega (
+          arith,
+          tight-at v p (omega arith),
+          fine ((v ∩ full n) - 2 ^ x) k,
+          near-counts x (v ∩ full n) z cs near simple is-near (at-below 64 x v (peeled-small v p) q),
+          size-le (getD near x 0 ∩ v) (getD near x 0 ∩ (v ∩ full n))
+              (and-most (and-l (getD near x 0) (v ∩ full n)) (sub-trans (and-r (getD near x 0) (v ∩ full n)) (and-l v (full n)))),
+          two,
+        ))
+  ]
 
   -- ---- all elements put back, from what is left on
 
@@ -99,13 +98,12 @@ module _ (cs near : List ℕ) (simple : Simple cs) (is-near : Near cs near) (n :
 
   -- an element that is none of the n has no neighbour
   lone : (v x : ℕ) → x < 64 → at x v ≡ 1 → at x (v ∩ full n) ≡ 0 → ones (getD near x 0 ∩ v) ≡ 0
-  lone v x l xv z =
-      elim (ones (getD near x 0 ∩ v)) as (λ (k : ℕ). ones (getD near x 0 ∩ v) ≡ k → ones (getD near x 0 ∩ v) ≡ 0) [
-        | zero ↦ λ e. e
-        | suc k ↦ λ e. let y = some (getD near x 0 ∩ v) (omega arith) in
-            let i = is-near .says x (y .0) l .0 (in-both (y .0) (getD near x 0) v (y .1) .0) in
-            absurd (omega (arith, both x v (full n) xv (pair-ends x (y .0) (full n) (inside (pair x (y .0)) i) .0), z))
-      ] refl
+  lone v x l xv z = elim (ones (getD near x 0 ∩ v)) as (λ (k : ℕ). ones (getD near x 0 ∩ v) ≡ k → ones (getD near x 0 ∩ v) ≡ 0) [
+    | zero ↦ λ e. e
+    | suc k ↦ λ e. let y = some (getD near x 0 ∩ v) (omega arith) in
+        let i = is-near .says x (y .0) l .0 (in-both (y .0) (getD near x 0) v (y .1) .0) in
+        absurd (omega (arith, both x v (full n) xv (pair-ends x (y .0) (full n) (inside (pair x (y .0)) i) .0), z))
+  ] refl
 
   corner-few : (v x : ℕ) → x < 64 → at x v ≡ 1 → at x (v ∩ full n) ≡ 0 → ones (corner near v x) ≢ 3
   corner-few v x l xv z e = omega (arith, e, size-or (2 ^ x) (getD near x 0 ∩ v), size-pow x, lone v x l xv z)

@@ -86,16 +86,15 @@ module _ (cs : List ℕ) (pairs : Pairs cs) (fine : NotOver cs) (H : Fam) (good 
       go (no n) = absurd (omega (arith, share cs fine good y z hy hz ne, two-in (y ∩ z) p q (both p y z py pz) (both q y z qy qz) n))
 
   one-shared : (y z p : ℕ) → H y → H z → y ≢ z → at p y ≡ 1 → at p z ≡ 1 → ones (y ∩ z) ≡ 1
-  one-shared y z p hy hz ne py pz =
-      elim (ones (y ∩ z)) as (λ (k : ℕ). ones (y ∩ z) ≡ k → ones (y ∩ z) ≡ 1) [
-        | zero ↦ λ e. absurd (omega (
-          arith,
-          both p y z py pz,
-          at-zero p,
-          ap (at p) (sym (size-eq (y ∩ z) 0 (record { le = λ x. omega (arith, at-zero x) }) (omega (arith, size-zero)))),
-        ))
-        | suc k ↦ λ e. omega (arith, share cs fine good y z hy hz ne)
-      ] refl
+  one-shared y z p hy hz ne py pz = elim (ones (y ∩ z)) as (λ (k : ℕ). ones (y ∩ z) ≡ k → ones (y ∩ z) ≡ 1) [
+    | zero ↦ λ e. absurd (omega (
+      arith,
+      both p y z py pz,
+      at-zero p,
+      ap (at p) (sym (size-eq (y ∩ z) 0 (record { le = λ x. omega (arith, at-zero x) }) (omega (arith, size-zero)))),
+    ))
+    | suc k ↦ λ e. omega (arith, share cs fine good y z hy hz ne)
+  ] refl
 
   -- three clusters that meet in three different elements are open
   corner : (y u v p q x : ℕ) → H y → H u → H v → at x y ≡ 0 → p ≢ q → at p y ≡ 1 → at p u ≡ 1 → at q y ≡ 1 → at q v ≡ 1 → at x u ≡ 1 → at x v ≡ 1 → ⊥
@@ -119,14 +118,13 @@ module _ (cs : List ℕ) (pairs : Pairs cs) (fine : NotOver cs) (H : Fam) (good 
       uv e = n (same-shared y u p q hy hu yu py pu qy (ap (at q) e ∙ qv))
 
       none : y ∩ u ∩ v ≡ 0
-      none =
-          zero-ext (y ∩ u ∩ v) (λ z. elim (bit (at z (y ∩ u ∩ v)) (at-le z (y ∩ u ∩ v))) [
-            | inl e ↦ e
-            | inr e ↦ let i = in-both z (y ∩ u) v e in
-                let j = in-both z y u (i .0) in
-                let s : z ≡ x = same-shared u v z x hu hv uv (j .1) (i .1) xu xv in
-                absurd (omega (arith, j .0, ap (λ (w : ℕ). at w y) s, out))
-          ])
+      none = zero-ext (y ∩ u ∩ v) (λ z. elim (bit (at z (y ∩ u ∩ v)) (at-le z (y ∩ u ∩ v))) [
+        | inl e ↦ e
+        | inr e ↦ let i = in-both z (y ∩ u) v e in
+            let j = in-both z y u (i .0) in
+            let s : z ≡ x = same-shared u v z x hu hv uv (j .1) (i .1) xu xv in
+            absurd (omega (arith, j .0, ap (λ (w : ℕ). at w y) s, out))
+      ])
 
   module _ (loose : Loose cs) where
     -- one element more
@@ -183,18 +181,17 @@ module _ (cs : List ℕ) (pairs : Pairs cs) (fine : NotOver cs) (H : Fam) (good 
     within : (k a : ℕ) → ones a ≤ k → a < 2 ^ 64 → 2 ≤ ones a → carried cs a + 3 ≡ 2 * ones a → (y : ℕ) × H y × (a ⊑ y)
     unfolding Pairs NotOver
     within zero a h l two e = absurd (omega arith)
-    within (suc k) a h l two e =
-        elim (decLe 3 (ones a)) [
-          | yes three ↦ let r = loose .least a l (omega arith) in
-              let s = size-less (r .0) a (r .1) in
-              let f = fine (a - 2 ^ r .0) (omega arith) in
-              let i = within k (a - 2 ^ r .0) (omega arith) (omega arith) (omega arith) (omega (arith, r .2, f, s)) in
-              grown a (r .0) (r .1) (omega (arith, f, s)) (i .0) (i .1) (i .2)
-          | no n ↦ let r = one-between cs a 0 (omega (arith, carried-small cs pairs 0 (omega (arith, size-zero)))) in
-              let q : r .0 ≡ a = size-eq a (r .0) (r .1 .in-a) (omega (arith, pairs (r .0) (r .1 .among))) in
-              let c = covered (r .0) (r .1 .among) in
-              (c .0, c .1, subst (λ (z : ℕ). z ⊑ c .0) q (c .2))
-        ]
+    within (suc k) a h l two e = elim (decLe 3 (ones a)) [
+      | yes three ↦ let r = loose .least a l (omega arith) in
+          let s = size-less (r .0) a (r .1) in
+          let f = fine (a - 2 ^ r .0) (omega arith) in
+          let i = within k (a - 2 ^ r .0) (omega arith) (omega arith) (omega arith) (omega (arith, r .2, f, s)) in
+          grown a (r .0) (r .1) (omega (arith, f, s)) (i .0) (i .1) (i .2)
+      | no n ↦ let r = one-between cs a 0 (omega (arith, carried-small cs pairs 0 (omega (arith, size-zero)))) in
+          let q : r .0 ≡ a = size-eq a (r .0) (r .1 .in-a) (omega (arith, pairs (r .0) (r .1 .among))) in
+          let c = covered (r .0) (r .1 .among) in
+          (c .0, c .1, subst (λ (z : ℕ). z ⊑ c .0) q (c .2))
+    ]
 
 -- ---- lists of merges
 

@@ -1,18 +1,19 @@
 -- Elements with two neighbours at most. Assumes nothing.
 use mathlib.Core.Path.{_≡_, sym, ap, _∙_, subst}
-use mathlib.Core.Logic.{⊎-elim}
+use mathlib.Core.Logic.{_≢_, _⊎_, inl, inr, ⊎-elim}
 use mathlib.Core.List.{List}
 use Prim.Native.Nat.{ℕ, _-_, _^_, _≤_, _<_}
-use native.Mathlib.Decide.{ℕ-discrete}
+use native.Mathlib.Decide.{ℕ-discrete, decLe}
 use native.Mathlib.Omega.{arith}
 use lib.Bits.{bitAnd, bitOr}
 use lib.Count.{ones}
 use lib.ListN.{getD}
 use lib.Pow.{pow-lt}
 use Rattle.theory.specs.Set.{_∩_, _∪_, _⊑_, at, full}
-use Rattle.theory.specs.Set.Laws.{at-or, at-le, at-zero, at-same, at-other, bit, size-zero, size-le, sub-refl, and-l, and-mono, below-full}
-use Rattle.theory.specs.Set.Less.{less-same, less-other, less-sub}
-use Rattle.peeling.specs.Core.{Light}
+use Rattle.theory.specs.Set.Laws.{at-or, at-le, at-zero, at-same, at-other, bit, size-zero, size-none, size-le, sub-refl, and-l, and-comm, and-mono}
+use Rattle.theory.specs.Set.Laws.{sub-and, both, out, cut-below, below-full}
+use Rattle.theory.specs.Set.Less.{at-below, less-same, less-other, less-sub, less-out, less-in}
+use Rattle.peeling.specs.Core.{Light, Heavy, Mutual}
 
 pub near-sub : (m u v : ℕ) → u ⊑ v → ones (m ∩ u) ≤ ones (m ∩ v)
 near-sub m u v h = size-le (m ∩ v) (m ∩ u) (and-mono (sub-refl m) h)
@@ -20,6 +21,9 @@ near-sub m u v h = size-le (m ∩ v) (m ∩ u) (and-mono (sub-refl m) h)
 -- without its two lowest elements a set is empty
 pub two-most : (k p q : ℕ) → ones p ≡ ones k - 1 → ones q ≡ ones p - 1 → q ≡ 0 → ones k ≤ 2
 two-most k p q ep eq z = omega (arith, ap ones z, size-zero)
+
+pub three-least : (k p q : ℕ) → ones p ≡ ones k - 1 → ones q ≡ ones p - 1 → q ≢ 0 → 3 ≤ ones k
+three-least k p q ep eq n = elim (decLe 1 (ones q)) [ yes h ↦ omega arith | no h ↦ absurd (n (size-none q (omega arith))) ]
 
 pub full-at : (n x : ℕ) → x < n → at x (full n) ≡ 1
 full-at n x l = omega (arith, below-full n (2 ^ x) (pow-lt l) .le x, at-same x, at-le x (full n))
@@ -62,11 +66,54 @@ light-or near u s t f g = record {
 
 -- those that are left when x is taken away are light still
 pub light-rest : (near : List ℕ) (u todo x : ℕ) → Light near u todo → at x u ≡ 1 → at x todo ≡ 1 → Light near (u - 2 ^ x) (todo - 2 ^ x)
-light-rest near u todo x t e h =
-    record {
-      light = λ y q. elim (ℕ-discrete y x) [
-        | yes p ↦ absurd (omega (arith, q, ap (λ (z : ℕ). at z (todo - 2 ^ x)) p, less-same x todo h))
-        | no n ↦ let o = t .light y (sym (less-other x y todo h n) ∙ q) in
-            (less-other x y u e n ∙ o .0, omega (arith, o .1, near-sub (getD near y 0) (u - 2 ^ x) u (less-sub x u e)))
+light-rest near u todo x t e h = record {
+  light = λ y q. elim (ℕ-discrete y x) [
+    | yes p ↦ absurd (omega (arith, q, ap (λ (z : ℕ). at z (todo - 2 ^ x)) p, less-same x todo h))
+    | no n ↦ let o = t .light y (sym (less-other x y todo h n) ∙ q) in
+        (less-other x y u e n ∙ o .0, omega (arith, o .1, near-sub (getD near y 0) (u - 2 ^ x) u (less-sub x u e)))
+  ];
+}
+
+-- ---- those with three neighbours
+
+-- x is tried: it is noted, or it has three
+pub heavy-tried : (P Q : ℕ → Type 0) (todo x : ℕ) {new : ℕ} → ((y : ℕ) → P y → at y todo ≡ 0 → Q y)
+    → (new ≡ bitOr todo (2 ^ x)) ⊎ ((new ≡ todo) × Q x) → (y : ℕ) → (y ≢ x → P y) → at y new ≡ 0 → Q y
+unfolding _∪_
+heavy-tried P Q todo x {new} f d y i z = elim (ℕ-discrete y x) [
+  | yes q ↦ elim d [
+    | inl w ↦ absurd (omega (arith, z, ap (at y) w, at-or y todo (2 ^ x), ap (λ (k : ℕ). at k (2 ^ x)) q, at-same x))
+    | inr w ↦ subst Q (sym q) (w .1)
+  ]
+  | no n ↦ f y (i n) (elim d [ inl w ↦ omega (arith, z, ap (at y) w, at-or y todo (2 ^ x)) | inr w ↦ ap (at y) (sym (w .0)) ∙ z ])
+]
+
+-- at the start every element is left
+pub heavy-start : (near : List ℕ) (todo : ℕ) → Mutual near → ((x : ℕ) → x < 64 → at x todo ≡ 0 → 3 ≤ ones (getD near x 0))
+    → Heavy near (full 64) (full 64) todo
+heavy-start near todo m f = record {
+  heavy = λ x i o.
+      let l : x < 64 = at-below 64 x (full 64) (rw (sub-and (full 64) (full 64) (sub-refl (full 64))) at (cut-below 64 (full 64))) i in
+      rw (sub-and (getD near x 0) (full 64) (record {
+        le = λ y. elim (bit (at y (getD near x 0)) (at-le y (getD near x 0))) [
+          | inl e ↦ omega arith
+          | inr e ↦ omega (arith, full-at 64 y (m .below x y l e))
+        ];
+      })) (f x l o);
+}
+
+-- x is taken away, and its neighbours are tried
+pub heavy-next : (near : List ℕ) (u todo x r : ℕ) → u < 2 ^ 64 → Mutual near → Heavy near u u todo → at x u ≡ 1 → at x todo ≡ 1
+    → Heavy near (u - 2 ^ x) (getD near x 0 ∩ (u - 2 ^ x)) r → Heavy near (u - 2 ^ x) (u - 2 ^ x) ((todo - 2 ^ x) ∪ r)
+heavy-next near u todo x r small both-ways h e t g = record {
+  heavy = λ y i o.
+      let there = less-in x y u e i in
+      let not-todo : at y todo ≡ 0 = sym (less-other x y todo t (λ q. there .1 (sym q))) ∙ omega (arith, at-or y (todo - 2 ^ x) r) in
+      elim (bit (at y (getD near x 0)) (at-le y (getD near x 0))) [
+        | inl n ↦
+            let apart : at x (getD near y 0) ≡ 0 = out x (getD near y 0)
+            (λ k. omega (arith, n, both-ways .back y x (at-below 64 y u small (there .0)) (at-below 64 x u small e) k)) in
+            rw (and-comm (getD near y 0) (u - 2 ^ x), less-out x u (getD near y 0) e apart, and-comm u (getD near y 0)) (h .heavy y (there .0) not-todo)
+        | inr n ↦ g .heavy y (both y (getD near x 0) (u - 2 ^ x) n i) (omega (arith, at-or y (todo - 2 ^ x) r))
       ];
-    }
+}

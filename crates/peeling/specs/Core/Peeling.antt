@@ -6,23 +6,28 @@ use mathlib.Core.List.{List}
 use Prim.Native.Nat.{ℕ, _+_, _*_, _-_, _^_, _≤_, _<_}
 use native.Mathlib.Decide.{decLe}
 use native.Mathlib.Omega.{arith}
-use lib.Bits.{bitOr}
+use lib.Bits.{bitAnd, bitOr}
 use lib.Count.{ones}
 use lib.ListN.{length, take, getD}
 use lib.Seq.{take-length}
 use lib.Pow.{pow-pos}
 use Rattle.theory.specs.Set.{_∩_, _∪_, _⊑_, at, full}
-use Rattle.theory.specs.Set.Laws.{at-and, at-le, bit, size-zero, size-le, sub-trans, and-l, and-r, and-comm, below-full}
+use Rattle.theory.specs.Set.Laws.{at-and, at-le, bit, size-zero, size-le, sub-trans, and-l, and-r, and-comm, out, below-full}
 use Rattle.theory.specs.Set.Less.{at-below, at-room, less-same, less-sub, less-and, less-out, size-less, sub-less}
-use Rattle.theory.specs.Constraints.{carried, NotOver, NotOverIn}
-use Rattle.theory.specs.Constraints.Laws.{carried-cut, not-over-in}
+use Rattle.theory.specs.Constraints.{pair, Below, carried, NotOver, NotOverIn}
+use Rattle.theory.specs.Constraints.Laws.{carried-cut, not-over-in, at-end, pair-comm}
 use Rattle.theory.specs.Over.Laws.{pairs-take, below-take}
 use Rattle.theory.specs.Near.{Simple, Near}
 use Rattle.theory.specs.Near.Laws.{simple-take, near-counts-take, near-counts, carried-one}
-use Rattle.peeling.specs.Core.{Few, Loose, Core, Light, Peeled, whole, less}
-use Rattle.peeling.specs.Core.Neighbours.{near-sub, light-or, light-rest}
+use Rattle.peeling.specs.Core.{Few, Loose, Core, Dense, Largest, Light, Heavy, Mutual, Peeled, whole, less}
+use Rattle.peeling.specs.Core.Neighbours.{near-sub, light-or, light-rest, heavy-next}
 
 -- ---- one element taken away
+
+pub peeled-small : {near : List ℕ} (u : ℕ) → Peeled near u → u < 2 ^ 64
+unfolding full
+peeled-small u whole = omega (arith, pow-pos 64)
+peeled-small u (less {u = v} x p q h) = omega (arith, peeled-small v p)
 
 module _ (near : List ℕ) (left todo x s : ℕ) (p : Peeled near left) (t : Light near left todo) (e : at x todo ≡ 1) (es : s ≡ 2 ^ x) where
   in-left : at x left ≡ 1
@@ -43,12 +48,13 @@ module _ (near : List ℕ) (left todo x s : ℕ) (p : Peeled near left) (t : Lig
       light-or near (left - s) (todo - s) r
       (subst (λ (z : ℕ). Light near (left - z) (todo - z)) (sym es) (light-rest near left todo x t in-left e)) g
 
--- ---- the core
+  pub heavy-left : (r i : ℕ) → i ≡ x → (Mutual near → Heavy near left left todo) → Heavy near (left - s) (bitAnd (getD near i 0) (left - s)) r
+      → Mutual near → Heavy near (left - s) (left - s) (bitOr (todo - s) r)
+  unfolding _∪_ _∩_
+  heavy-left r i ei h g m =
+      rw es (heavy-next near left todo x r (peeled-small left p) m (h m) in-left e (rw (es, ei) at g))
 
-pub peeled-small : {near : List ℕ} (u : ℕ) → Peeled near u → u < 2 ^ 64
-unfolding full
-peeled-small u whole = omega (arith, pow-pos 64)
-peeled-small u (less {u = v} x p q h) = omega (arith, peeled-small v p)
+-- ---- the core
 
 module _ (cs near : List ℕ) (simple : Simple cs) (is-near : Near cs near) where
   -- an element with two neighbours at most in v has two constraints at most in each set within v
@@ -97,12 +103,11 @@ module _ (cs near : List ℕ) (simple : Simple cs) (is-near : Near cs near) wher
           → (a ⊑ v - 2 ^ x) ⊎ ((y : ℕ) × (at y a ≡ 1) × (carried cs a ≤ carried cs (a - 2 ^ y) + 2))
       go (inr r) i = inr r
       go (inl s) (inl z) = inl (sub-less x v a q s z)
-      go (inl s) (inr z) =
-          inr (
-            x,
-            z,
-            omega (arith, near-counts x a z cs near simple is-near (at-below 64 x v (peeled-small v p) q), near-sub (getD near x 0) a v s, two),
-          )
+      go (inl s) (inr z) = inr (
+        x,
+        z,
+        omega (arith, near-counts x a z cs near simple is-near (at-below 64 x v (peeled-small v p) q), near-sub (getD near x 0) a v s, two),
+      )
 
   all-loose : (u : ℕ) → Peeled near u → u ≡ 0 → Loose cs
   all-loose u p z =
@@ -110,6 +115,23 @@ module _ (cs near : List ℕ) (simple : Simple cs) (is-near : Near cs near) wher
 
   pub core-peeled : (u : ℕ) → Peeled near u → Core cs u
   core-peeled u p = record { small = peeled-small u p; fine = peeled-fine u p; cut = peeled-cut u p; loose = all-loose u p }
+
+  -- the largest set with three neighbours at each element
+  peeled-all : (u : ℕ) → Peeled near u → (a : ℕ) → a < 2 ^ 64 → Dense near a → a ⊑ u
+  peeled-all u whole a l d = below-full 64 a l
+  peeled-all u (less {u = v} x p q two) a l d =
+      let s = peeled-all v p a l d in
+      sub-less x v a q s (out x a (λ e. omega (arith, d .three x e, near-sub (getD near x 0) a v s, two)))
+
+  pub peeled-largest : (u : ℕ) → Peeled near u → (Mutual near → Dense near u) → Largest near u
+  unfolding Below
+  peeled-largest u p d = record {
+    dense = d (record {
+      below = λ x y l e. let i = is-near .says x y l .0 e in at-below 64 y (pair x y) (simple .below (pair x y) i) (at-end x y .1);
+      back = λ x y lx ly e. is-near .says y x ly .1 (rw (pair-comm y x) (is-near .says x y lx .0 e));
+    });
+    largest = peeled-all u p;
+  }
 
 -- an empty core: the list is not over
 pub core-none : (cs : List ℕ) → Core cs 0 → NotOver cs

@@ -20,12 +20,11 @@ loop-holds : tie.Need-loop-holds Inv-loop μ-loop
 loop-holds c = (omega arith, free-none)
 
 loop-again : tie.Need-loop-again Inv-loop μ-loop
-loop-again c =
-    let l = c .before .before .loop in (
-      omega arith,
-      subst (λ (i : ℕ). FreeBelow (l .x + 1) (set (l .own) i (l .x ∷ l .x ∷ []))) (sym (c .wide .ensures))
-          (free-next (l .x) (l .own) (omega arith) (l .inv .1)),
-    )
+loop-again c = let l = c .before .before .loop in (
+  omega arith,
+  subst (λ (i : ℕ). FreeBelow (l .x + 1) (set (l .own) i (l .x ∷ l .x ∷ []))) (sym (c .wide .ensures))
+      (free-next (l .x) (l .own) (omega arith) (l .inv .1)),
+)
 
 returns : tie.Need-returns Inv-loop μ-loop
 returns c = let l = c .before .loop in subst (λ (n : ℕ). FreeBelow n (l .own)) (omega arith) (l .inv .1)

@@ -14,12 +14,12 @@ returns c =
     let cs = take (s .args .e) (s .args .start .now) in
     λ n below.
     answer-not (s .pre .0 .simple) n below
-    (core-none cs (subst (Core cs) (c .if1 .taken) (c .before .core-of .ensures cs (s .pre .0 .simple) (s .pre .1))))
+    (core-none cs (subst (Core cs) (c .if1 .taken) (c .before .core-of .ensures cs (s .pre .0 .simple) (s .pre .1) .0)))
 
 search-requires : tie.Need-search-requires
 search-requires c κs =
     let s = c .before .before in
-    (s .pre .0, c .before .core-of .ensures (take (s .args .e) (s .args .start .now)) (s .pre .0 .simple) (s .pre .1))
+    (s .pre .0, c .before .core-of .ensures (take (s .args .e) (s .args .start .now)) (s .pre .0 .simple) (s .pre .1) .0)
 
 pub find-over-spec : {M : Type 1} → statement M
 find-over-spec = tie.close (tie.spec (λ c κs. search needs) returns search-requires (λ c. search needs))

@@ -14,14 +14,13 @@ add-result-2 : tie.Need-add-result-2
 add-result-2 c = omega (arith, same-bit _ _ _ (c .before .before .one-if-same3 .ensures), same-bit _ _ _ (c .one-if-same4 .ensures))
 
 add-result-3 : tie.Need-add-result-3
-add-result-3 c =
-    omega (
-      arith,
-      same-bit _ _ _ (c .before .before .before .before .before .before .one-if-same .ensures),
-      same-bit _ _ _ (c .before .before .before .before .one-if-same2 .ensures),
-      same-bit _ _ _ (c .before .before .one-if-same3 .ensures),
-      same-bit _ _ _ (c .one-if-same4 .ensures),
-    )
+add-result-3 c = omega (
+  arith,
+  same-bit _ _ _ (c .before .before .before .before .before .before .one-if-same .ensures),
+  same-bit _ _ _ (c .before .before .before .before .one-if-same2 .ensures),
+  same-bit _ _ _ (c .before .before .one-if-same3 .ensures),
+  same-bit _ _ _ (c .one-if-same4 .ensures),
+)
 
 returns : tie.Need-returns
 returns c =

@@ -23,11 +23,10 @@ abbrev μ-loop : tie.MeasureT-loop
 μ-loop start e core own₀ queue₀ from₀ once₀ twice₀ c₀ own queue from once twice c = e - c
 
 loop-holds : tie.Need-loop-holds Inv-loop μ-loop
-loop-holds c =
-    let s = c .before in (
-      kept-start (take (s .args .e) (s .args .start .now)) (s .args .core) (c .all-free .result) (s .pre .1 .small) (c .all-free .ensures),
-      record { places = refl; places′ = refl },
-    )
+loop-holds c = let s = c .before in (
+  kept-start (take (s .args .e) (s .args .start .now)) (s .args .core) (c .all-free .result) (s .pre .1 .small) (c .all-free .ensures),
+  record { places = refl; places′ = refl },
+)
 
 mul-pair : tie.Need-mul-pair Inv-loop μ-loop
 mul-pair c = omega (arith, c .loop-test .taken, c .before .before .before .pre .0 .few)

@@ -17,13 +17,12 @@ abbrev μ-loop : tie.MeasureT-loop
 μ-loop queue₀ from₀ a b own f₀ p₀ queue from f p = 64 - p
 
 loop-holds : tie.Need-loop-holds Inv-loop μ-loop
-loop-holds c =
-    let s = c .before .before in (
-      begun-with (s .args .t1) (s .args .a) (s .args .b) (s .pre .1) (s .pre .2) (s .pre .3) (s .pre .4) (c .before .single .result)
-          (c .single2 .result) (c .before .single .ensures) (c .single2 .ensures),
-      scanned-none (s .args .t1) _ _,
-      omega arith,
-    )
+loop-holds c = let s = c .before .before in (
+  begun-with (s .args .t1) (s .args .a) (s .args .b) (s .pre .1) (s .pre .2) (s .pre .3) (s .pre .4) (c .before .single .result)
+      (c .single2 .result) (c .before .single .ensures) (c .single2 .ensures),
+  scanned-none (s .args .t1) _ _,
+  omega arith,
+)
 
 element-copy-out-x : tie.Need-element-copy-out-x Inv-loop μ-loop
 element-copy-out-x c = omega (arith, reached-most (c .before .before .loop .inv .0))
@@ -54,12 +53,11 @@ returns c =
     (c .before .before .before .before .wide .ensures) (l .inv .1) (c .before .opens .result) (c .if2 .taken) (c .before .opens .ensures)
 
 cast-visit : tie.Need-cast-visit Inv-loop μ-loop
-cast-visit c =
-    omega (
-      arith,
-      reached-most (c .before .before .before .before .before .before .before .before .before .before .loop .inv .0),
-      c .before .before .before .before .before .before .before .before .if1 .taken,
-    )
+cast-visit c = omega (
+  arith,
+  reached-most (c .before .before .before .before .before .before .before .before .before .before .loop .inv .0),
+  c .before .before .before .before .before .before .before .before .if1 .taken,
+)
 
 visit-requires : tie.Need-visit-requires Inv-loop μ-loop
 visit-requires c κs =
@@ -70,12 +68,11 @@ visit-requires c κs =
     (scan-low (s .pre .0) (l .inv .0) (l .p) h e 0 (zero-lt-suc 1), l .inv .0 .size)
 
 cast-visit-2 : tie.Need-cast-visit-2 Inv-loop μ-loop
-cast-visit-2 c =
-    omega (
-      arith,
-      reached-most (c .before .before .before .before .before .before .before .before .before .before .before .before .before .loop .inv .0),
-      c .before .before .before .before .before .before .before .before .before .before .before .if1 .taken,
-    )
+cast-visit-2 c = omega (
+  arith,
+  reached-most (c .before .before .before .before .before .before .before .before .before .before .before .before .before .loop .inv .0),
+  c .before .before .before .before .before .before .before .before .before .before .before .if1 .taken,
+)
 
 visit-requires-2 : tie.Need-visit-requires-2 Inv-loop μ-loop
 visit-requires-2 c κs =
@@ -86,20 +83,18 @@ visit-requires-2 c κs =
     (scan-low (s .pre .0) (l .inv .0) (l .p) h e 1 (le-refl 2), mid-size (s .pre .0) (l .inv .0) (l .p) h e (c .before .before .visit .ensures))
 
 add-p : tie.Need-add-p Inv-loop μ-loop
-add-p c =
-    omega (
-      arith,
-      reached-most (c .before .before .before .before .before .before .before .before .before .before .before .before .before .before .loop .inv .0),
-      c .before .before .before .before .before .before .before .before .before .before .before .before .if1 .taken,
-    )
+add-p c = omega (
+  arith,
+  reached-most (c .before .before .before .before .before .before .before .before .before .before .before .before .before .before .loop .inv .0),
+  c .before .before .before .before .before .before .before .before .before .before .before .before .if1 .taken,
+)
 
 loop-less : tie.Need-loop-less Inv-loop μ-loop
-loop-less c =
-    omega (
-      arith,
-      reached-most (c .before .before .before .before .before .before .before .before .before .before .before .before .before .before .loop .inv .0),
-      c .before .before .before .before .before .before .before .before .before .before .before .before .if1 .taken,
-    )
+loop-less c = omega (
+  arith,
+  reached-most (c .before .before .before .before .before .before .before .before .before .before .before .before .before .before .loop .inv .0),
+  c .before .before .before .before .before .before .before .before .before .before .before .before .if1 .taken,
+)
 
 loop-again : tie.Need-loop-again Inv-loop μ-loop
 loop-again c =

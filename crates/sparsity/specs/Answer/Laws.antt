@@ -152,11 +152,10 @@ module _ {cs : List ℕ} {u : ℕ} (simple : Simple cs) (core : Core cs u) (c : 
     -- four free entries
     pub four-fine : 4 ≤ free own a + free own b → NotOver new
     unfolding NotOver
-    four-fine four =
-        core .fine (suc c) (λ x h two. elim (has-dec m x) [
-          | outside n q ↦ omega (arith, more x, right x two)
-          | inside i q ↦ let o = pair-ends a b x i in omega (arith, more x, bound x h, frees-two own x (low x h) a b (ends .apart) (o .0) (o .1))
-        ])
+    four-fine four = core .fine (suc c) (λ x h two. elim (has-dec m x) [
+      | outside n q ↦ omega (arith, more x, right x two)
+      | inside i q ↦ let o = pair-ends a b x i in omega (arith, more x, bound x h, frees-two own x (low x h) a b (ends .apart) (o .0) (o .1))
+    ])
 
     -- an end with one constraint at most
     module _ (x0 : ℕ) (end : at x0 m ≡ 1) (few : Few old u x0 1) where

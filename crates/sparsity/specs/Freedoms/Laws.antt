@@ -22,24 +22,22 @@ module _ (own : List (List ℕ)) (a : ℕ) (la : a < 2 ^ 64) where
   -- two entries for each element
   pub kept-le : kept own a ≤ 2 * ones a
   unfolding kept
-  kept-le =
-      omega (
-        arith,
-        over-le a (λ x. at (entry own x 0) a + at (entry own x 1) a) (λ x. 2)
-            (λ x l e. omega (arith, at-le (entry own x 0) a, at-le (entry own x 1) a)),
-        over-size a la,
-      )
+  kept-le = omega (
+    arith,
+    over-le a (λ x. at (entry own x 0) a + at (entry own x 1) a) (λ x. 2)
+        (λ x l e. omega (arith, at-le (entry own x 0) a, at-le (entry own x 1) a)),
+    over-size a la,
+  )
 
   pub closed-kept : Closed own a → kept own a ≡ 2 * ones a
   unfolding kept
-  closed-kept c =
-      omega (
-        arith,
-        kept-le,
-        over-le a (λ x. 2) (λ x. at (entry own x 0) a + at (entry own x 1) a)
-            (λ x l e. omega (arith, c .stays x 0 e (zero-lt-suc 1), c .stays x 1 e (le-refl 2))),
-        over-size a la,
-      )
+  closed-kept c = omega (
+    arith,
+    kept-le,
+    over-le a (λ x. 2) (λ x. at (entry own x 0) a + at (entry own x 1) a)
+        (λ x l e. omega (arith, c .stays x 0 e (zero-lt-suc 1), c .stays x 1 e (le-refl 2))),
+    over-size a la,
+  )
 
   pub kept-closed : 2 * ones a ≤ kept own a → Closed own a
   unfolding kept
@@ -113,14 +111,13 @@ module _ (own : List (List ℕ)) (f : FreeBelow 64 own) where
 
   pub free-balanced : (u : ℕ) → Balanced [] u own
   unfolding carried frees kept free
-  free-balanced u =
-      record {
-        all = λ a h. zero-add (over a (free own)) ∙ over-same a (free own) (λ x. at (entry own x 0) a + at (entry own x 1) a) (λ x l e. omega (
-          arith,
-          ap (λ (i : ℕ). same i x) (f .own-free x 0 l (zero-lt-suc 1)),
-          ap (λ (i : ℕ). same i x) (f .own-free x 1 l (le-refl 2)),
-          same-refl x,
-          ap (λ (i : ℕ). at i a) (f .own-free x 0 l (zero-lt-suc 1)),
-          ap (λ (i : ℕ). at i a) (f .own-free x 1 l (le-refl 2)),
-        ));
-      }
+  free-balanced u = record {
+    all = λ a h. zero-add (over a (free own)) ∙ over-same a (free own) (λ x. at (entry own x 0) a + at (entry own x 1) a) (λ x l e. omega (
+      arith,
+      ap (λ (i : ℕ). same i x) (f .own-free x 0 l (zero-lt-suc 1)),
+      ap (λ (i : ℕ). same i x) (f .own-free x 1 l (le-refl 2)),
+      same-refl x,
+      ap (λ (i : ℕ). at i a) (f .own-free x 0 l (zero-lt-suc 1)),
+      ap (λ (i : ℕ). at i a) (f .own-free x 1 l (le-refl 2)),
+    ));
+  }

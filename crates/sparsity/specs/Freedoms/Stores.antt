@@ -44,12 +44,11 @@ module _ (own : List (List ℕ)) (t : Table own) (x s y : ℕ) (lx : x < 64) (ls
   stored-table ly = record { rows = length-set own x _ ∙ t .rows; two = two; low = cases (λ z r e. z < 64 → r < 2 → e < 64) (λ m k. ly) (t .low) }
     where
       two : (z : ℕ) → z < 64 → length (getD (stored own x s y) z []) ≡ 2
-      two z l =
-          elim (ℕ-discrete z x) [
-            | yes e ↦ subst (λ (i : ℕ). length (getD (stored own x s y) i []) ≡ 2) (sym e)
-                (ap length row-same ∙ length-set (getD own x []) s y ∙ t .two x lx)
-            | no n ↦ ap length (getD-set-other own x z (set (getD own x []) s y) [] n) ∙ t .two z l
-          ]
+      two z l = elim (ℕ-discrete z x) [
+        | yes e ↦ subst (λ (i : ℕ). length (getD (stored own x s y) i []) ≡ 2) (sym e)
+            (ap length row-same ∙ length-set (getD own x []) s y ∙ t .two x lx)
+        | no n ↦ ap length (getD-set-other own x z (set (getD own x []) s y) [] n) ∙ t .two z l
+      ]
 
   -- a set that is closed stays so
   pub stored-closed : (u : ℕ) → (at x u ≡ 1 → at y u ≡ 1) → Closed own u → Closed (stored own x s y) u
@@ -73,13 +72,12 @@ module _ (own : List (List ℕ)) (t : Table own) (x s y : ℕ) (lx : x < 64) (ls
 
     held-in : (a : ℕ) → over a (held (stored own x s y)) + at x a * h x (entry own x s) ≡ over a (held own) + at x a * h x y
     unfolding held
-    held-in a =
-        omega (
-          arith,
-          over-change a (held (stored own x s y)) (held own) x lx
-              (λ z n. ap₂ (λ (i j : ℕ). h z i + h z j) (entry-row own x s y z 0 n) (entry-row own x s y z 1 n)),
-          ap (λ (i : ℕ). at x a * i) held-own,
-        )
+    held-in a = omega (
+      arith,
+      over-change a (held (stored own x s y)) (held own) x lx
+          (λ z n. ap₂ (λ (i j : ℕ). h z i + h z j) (entry-row own x s y z 0 n) (entry-row own x s y z 1 n)),
+      ap (λ (i : ℕ). at x a * i) held-own,
+    )
 
   pub free-stored : free (stored own x s y) x + same (entry own x s) x ≡ free own x + same y x
   unfolding free held

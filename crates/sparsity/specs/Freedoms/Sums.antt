@@ -70,13 +70,12 @@ module _ (a : ℕ) (f g : ℕ → ℕ) where
   -- where no term of f is above that of g, and the sum is not below, each term is the same
   pub over-tight : ((x : ℕ) → x < 64 → at x a ≡ 1 → f x ≤ g x) → over a g ≤ over a f → (x : ℕ) → x < 64 → at x a ≡ 1 → g x ≤ f x
   unfolding over
-  over-tight h t x l e =
-      omega (
-        arith,
-        sum-tight 64 (λ x. at x a * f x) (λ x. at x a * g x) (λ x l. le-times x (h x l)) t x l,
-        one-times (at x a) (f x) e,
-        one-times (at x a) (g x) e,
-      )
+  over-tight h t x l e = omega (
+    arith,
+    sum-tight 64 (λ x. at x a * f x) (λ x. at x a * g x) (λ x l. le-times x (h x l)) t x l,
+    one-times (at x a) (f x) e,
+    one-times (at x a) (g x) e,
+  )
 
 pub over-two : (a : ℕ) (f : ℕ → ℕ) (x y : ℕ) → x < 64 → y < 64 → x ≢ y → at x a ≡ 1 → at y a ≡ 1 → f x + f y ≤ over a f
 unfolding over
@@ -86,28 +85,26 @@ over-two a f x y lx ly n ex ey = omega (arith, sum-two 64 (λ x. at x a * f x) x
 pub over-only : (a : ℕ) (f : ℕ → ℕ) (x y : ℕ) → x < 64 → y < 64 → x ≢ y → at x a ≡ 1 → at y a ≡ 1
     → ((z : ℕ) → z < 64 → at z a ≡ 1 → z ≢ x → z ≢ y → f z ≡ 0) → over a f ≡ f x + f y
 unfolding over
-over-only a f x y lx ly n ex ey h =
-    omega (
-      arith,
-      sum-change₂ 64 (λ x. at x a * f x) (λ x. 0) x y lx ly n
-          (λ z l p q. ⊎-elim
-          (λ (e : at z a ≡ 0). no-times (at z a) (f z) e)
-          (λ (e : at z a ≡ 1). one-times (at z a) (f z) e ∙ h z l e p q) (bit (at z a) (at-le z a))),
-      sum-zero 64 (λ x. 0) (λ x l. refl),
-      one-times (at x a) (f x) ex,
-      one-times (at y a) (f y) ey,
-    )
+over-only a f x y lx ly n ex ey h = omega (
+  arith,
+  sum-change₂ 64 (λ x. at x a * f x) (λ x. 0) x y lx ly n
+      (λ z l p q. ⊎-elim
+      (λ (e : at z a ≡ 0). no-times (at z a) (f z) e)
+      (λ (e : at z a ≡ 1). one-times (at z a) (f z) e ∙ h z l e p q) (bit (at z a) (at-le z a))),
+  sum-zero 64 (λ x. 0) (λ x l. refl),
+  one-times (at x a) (f x) ex,
+  one-times (at y a) (f y) ey,
+)
 
 -- one element taken out
 pub over-less : (a : ℕ) (f : ℕ → ℕ) (x : ℕ) → x < 64 → at x a ≡ 1 → over a f ≡ over (a - 2 ^ x) f + f x
 unfolding over
-over-less a f x l e =
-    omega (
-      arith,
-      sum-change 64 (λ z. at z a * f z) (λ z. at z (a - 2 ^ x) * f z) x l (λ z h n. ap (λ (i : ℕ). i * f z) (sym (less-other x z a e n))),
-      one-times (at x a) (f x) e,
-      no-times (at x (a - 2 ^ x)) (f x) (less-same x a e),
-    )
+over-less a f x l e = omega (
+  arith,
+  sum-change 64 (λ z. at z a * f z) (λ z. at z (a - 2 ^ x) * f z) x l (λ z h n. ap (λ (i : ℕ). i * f z) (sym (less-other x z a e n))),
+  one-times (at x a) (f x) e,
+  no-times (at x (a - 2 ^ x)) (f x) (less-same x a e),
+)
 
 -- two for each element
 pub over-size : (a : ℕ) → a < 2 ^ 64 → over a (λ x. 2) ≡ 2 * ones a

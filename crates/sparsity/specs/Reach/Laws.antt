@@ -183,16 +183,15 @@ linked-within own queue from count back link u ea eb c i l = go (suc i) i (lt-su
   where
     go : (m i : ℕ) → i < m → i < count → at (item queue i) u ≡ 1
     go zero i h l = absurd (not-suc-le-zero h)
-    go (suc m) i h l =
-        elim (decLt i 2) [
-          | yes k ↦ ⊎-elim
-              (λ (e : i ≡ 0). ap (λ (j : ℕ). at (item queue j) u) e ∙ ea)
-              (λ (e : i ≡ 1). ap (λ (j : ℕ). at (item queue j) u) e ∙ eb) (bit i (le-of-suc-le-suc k))
-          | no k ↦ let two : 2 ≤ i = omega arith in
-              let o = link i two l in
-              let b = back i two l in
-              ap (λ (x : ℕ). at x u) (sym (o .2)) ∙ c .stays (item queue (item from i)) (o .0) (go m (item from i) (omega arith) (omega arith)) (o .1)
-        ]
+    go (suc m) i h l = elim (decLt i 2) [
+      | yes k ↦ ⊎-elim
+          (λ (e : i ≡ 0). ap (λ (j : ℕ). at (item queue j) u) e ∙ ea)
+          (λ (e : i ≡ 1). ap (λ (j : ℕ). at (item queue j) u) e ∙ eb) (bit i (le-of-suc-le-suc k))
+      | no k ↦ let two : 2 ≤ i = omega arith in
+          let o = link i two l in
+          let b = back i two l in
+          ap (λ (x : ℕ). at x u) (sym (o .2)) ∙ c .stays (item queue (item from i)) (o .0) (go m (item from i) (omega arith) (omega arith)) (o .1)
+    ]
 
 -- what is reached lies in every closed set that holds a and b
 pub reached-within : (own : List (List ℕ)) (a b : ℕ) (queue from : List ℕ) (seen count : ℕ) → Reached own a b queue from seen count
@@ -248,17 +247,16 @@ module _ {own : List (List ℕ)} {a b : ℕ} {queue from : List ℕ} {seen count
 -- where no more can be had, the search finds none
 pub stuck-none : {own : List (List ℕ)} {a b : ℕ} {queue from : List ℕ} {seen count place : ℕ} → Found own a b queue from seen count place
     → Stuck own a b → count ≤ place
-stuck-none {own} {a} {b} {queue} {from} {seen} {count} {place} f s =
-    elim (decLt place count) [
-      | no n ↦ omega arith
-      | yes l ↦ let r = f .reached in
-          let o = f .open-at l in
-          absurd
-          (omega (
-            arith,
-            o .1,
-            s .none (item queue place) (reached-within own a b queue from seen count r (s .set) (s .first) (s .second) (s .closed) place l)
-                (λ e. r .apart 0 place (omega (arith, o .0)) l (r .start ∙ sym e))
-                (λ e. r .apart 1 place (o .0) l (r .start′ ∙ sym e)),
-          ))
-    ]
+stuck-none {own} {a} {b} {queue} {from} {seen} {count} {place} f s = elim (decLt place count) [
+  | no n ↦ omega arith
+  | yes l ↦ let r = f .reached in
+      let o = f .open-at l in
+      absurd
+      (omega (
+        arith,
+        o .1,
+        s .none (item queue place) (reached-within own a b queue from seen count r (s .set) (s .first) (s .second) (s .closed) place l)
+            (λ e. r .apart 0 place (omega (arith, o .0)) l (r .start ∙ sym e))
+            (λ e. r .apart 1 place (o .0) l (r .start′ ∙ sym e)),
+      ))
+]

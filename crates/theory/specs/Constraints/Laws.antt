@@ -42,11 +42,10 @@ pub has-mono : (m x y : ℕ) → x ⊑ y → has m x ≤ has m y
 has-mono m x y h = elim (has-dec m x) [ inside i e ↦ omega (arith, has-in m y (sub-trans i h)) | outside n e ↦ omega arith ]
 
 pub has-and : (m x y : ℕ) → has m x + has m y ≤ has m (x ∩ y) + 1
-has-and m x y =
-    elim (has-dec m x) [
-      | inside i e ↦ elim (has-dec m y) [ inside j f ↦ omega (arith, has-in m (x ∩ y) (and-most i j)) | outside n f ↦ omega arith ]
-      | outside n e ↦ elim (has-dec m y) [ inside j f ↦ omega arith | outside k f ↦ omega arith ]
-    ]
+has-and m x y = elim (has-dec m x) [
+  | inside i e ↦ elim (has-dec m y) [ inside j f ↦ omega (arith, has-in m (x ∩ y) (and-most i j)) | outside n f ↦ omega arith ]
+  | outside n e ↦ elim (has-dec m y) [ inside j f ↦ omega arith | outside k f ↦ omega arith ]
+]
 
 has-two : (m x y : ℕ) → has m x + has m y ≤ has m (x ∪ y) + has m (x ∩ y)
 has-two m x y =
@@ -197,11 +196,10 @@ pair-below n u v hu hv = or-lt n (2 ^ u) (2 ^ v) (pow-lt hu) (pow-lt hv)
 -- x is an end of the pair
 pub at-pair : (x u v : ℕ) → at x (pair u v) ≡ 1 → (x ≡ u) ⊎ (x ≡ v)
 unfolding pair
-at-pair x u v e =
-    elim (ℕ-discrete x u) [
-      | yes p ↦ inl p
-      | no p ↦ elim (ℕ-discrete x v) [ yes q ↦ inr q | no q ↦ absurd (omega (arith, at-or x (2 ^ u) (2 ^ v), at-other x u p, at-other x v q)) ]
-    ]
+at-pair x u v e = elim (ℕ-discrete x u) [
+  | yes p ↦ inl p
+  | no p ↦ elim (ℕ-discrete x v) [ yes q ↦ inr q | no q ↦ absurd (omega (arith, at-or x (2 ^ u) (2 ^ v), at-other x u p, at-other x v q)) ]
+]
 
 pub at-end : (u v : ℕ) → (at u (pair u v) ≡ 1) × (at v (pair u v) ≡ 1)
 unfolding pair
@@ -209,11 +207,10 @@ at-end u v = (omega (arith, at-or u (2 ^ u) (2 ^ v), at-same u, at-le u (2 ^ v))
 
 -- two pairs are the same set only if they are the same pair
 pub pair-one : (u v u′ v′ : ℕ) → u < v → u′ < v′ → pair u v ≡ pair u′ v′ → (u ≡ u′) × (v ≡ v′)
-pair-one u v u′ v′ h h′ e =
-    elim (at-pair u u′ v′ (ap (at u) (sym e) ∙ at-end u v .0)) [
-      | inl p ↦ elim (at-pair v u′ v′ (ap (at v) (sym e) ∙ at-end u v .1)) [ inr q ↦ (p, q) | inl q ↦ absurd (omega arith) ]
-      | inr p ↦ elim (at-pair v u′ v′ (ap (at v) (sym e) ∙ at-end u v .1)) [ inl q ↦ absurd (omega arith) | inr q ↦ absurd (omega arith) ]
-    ]
+pair-one u v u′ v′ h h′ e = elim (at-pair u u′ v′ (ap (at u) (sym e) ∙ at-end u v .0)) [
+  | inl p ↦ elim (at-pair v u′ v′ (ap (at v) (sym e) ∙ at-end u v .1)) [ inr q ↦ (p, q) | inl q ↦ absurd (omega arith) ]
+  | inr p ↦ elim (at-pair v u′ v′ (ap (at v) (sym e) ∙ at-end u v .1)) [ inl q ↦ absurd (omega arith) | inr q ↦ absurd (omega arith) ]
+]
 
 -- ---- a pair in a set
 

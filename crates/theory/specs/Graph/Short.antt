@@ -31,12 +31,11 @@ joint-three (m ∷ p) s v j (inr i) = joint-three p (put s m) (v .1) j i
 
 -- two lines or fewer make no joint of three
 pub not-angled : (lines : ℕ) → ones lines ≤ 2 → (s : List ℕ) (p : List Merge) → Valid s p → angled lines (joints s p) ≡ false
-not-angled lines few s p v =
-    elim (angled lines (joints s p)) as (λ (b : Bool). angled lines (joints s p) ≡ b → angled lines (joints s p) ≡ false) [
-      | true ↦ λ e. let a = angled-is lines (joints s p) (subst T (sym e) tt) in
-          absurd (omega (arith, joint-three p s v (a .0) (a .1), size-le lines (a .0) (a .2)))
-      | false ↦ λ e. e
-    ] refl
+not-angled lines few s p v = elim (angled lines (joints s p)) as (λ (b : Bool). angled lines (joints s p) ≡ b → angled lines (joints s p) ≡ false) [
+  | true ↦ λ e. let a = angled-is lines (joints s p) (subst T (sym e) tt) in
+      absurd (omega (arith, joint-three p s v (a .0) (a .1), size-le lines (a .0) (a .2)))
+  | false ↦ λ e. e
+] refl
 
 module _ (g : Graph) where
   -- more constraints than 2n-3

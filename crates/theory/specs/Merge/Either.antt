@@ -51,13 +51,12 @@ stands s m n = go (isPart n m) refl
 
 module _ (cs : List ℕ) (fine : NotOver cs) (s : List ℕ) (g : Good cs (live s)) (d : Distinct s) where
   stand-slot : (m : Merge) → OpenAt s m → (n : ℕ) → slot s n ≢ 0 → slot (put s m) (stand s m n) ≡ absorb (union (three s m)) (slot s n)
-  stand-slot m o n h =
-      elim (stands s m n) [
-        | new i e ↦ ap (slot (put s m)) e ∙ put-new s m
-            ∙ sym (absorb-part cs fine g (three s m) (merge-at s m o) (slot s n) (n, refl, h) (part-in s m n i))
-        | old k e ↦ ap (slot (put s m)) e ∙ put-old s m n (alive-lt s n h) ∙ cleared-other s m n k
-            ∙ sym (absorb-other cs fine g (three s m) (merge-at s m o) (slot s n) (n, refl, h) (λ i. k (in-part s d m n h i)))
-      ]
+  stand-slot m o n h = elim (stands s m n) [
+    | new i e ↦ ap (slot (put s m)) e ∙ put-new s m
+        ∙ sym (absorb-part cs fine g (three s m) (merge-at s m o) (slot s n) (n, refl, h) (part-in s m n i))
+    | old k e ↦ ap (slot (put s m)) e ∙ put-old s m n (alive-lt s n h) ∙ cleared-other s m n k
+        ∙ sym (absorb-other cs fine g (three s m) (merge-at s m o) (slot s n) (n, refl, h) (λ i. k (in-part s d m n h i)))
+  ]
 
   moved-three : (m r : Merge) → OpenAt s m → OpenAt s r → three (put s m) (moved s m r) ≡ movedIn (three s m) (three s r)
   unfolding moved movedIn
@@ -87,19 +86,18 @@ module _ (cs : List ℕ) (fine : NotOver cs) (s : List ℕ) (g : Good cs (live s
       alive (inr (inr e)) z = o .livek (ap (slot s) (sym e) ∙ z)
 
   pub round : (m r : Merge) → OpenAt s m → OpenAt s r → Differ m r → EitherWay s m r
-  round m r o u ne =
-      elim (meeting cs fine g (three s m) (merge-at s m o) (three s r) (merge-at s r u)) [
-        | coincide ins j same ↦ absurd (ne (λ n. (part-by m r o (λ x. ins x .0) n, part-by r m u (λ x. ins x .1) n)))
-        | commute h k js jt same ↦ let p = still-open m r o u h in
-            let q = still-open r m u o k in
-            record {
-              still = p;
-              still′ = q;
-              same-joint = ap joint (moved-three m r o u) ∙ js;
-              same-joint′ = ap joint (moved-three r m u o) ∙ jt;
-              ends = λ x. Iff·trans (two-on m r o u p x) (Iff·trans (same x) (Iff·symm (two-on r m u o q x)));
-            }
-      ]
+  round m r o u ne = elim (meeting cs fine g (three s m) (merge-at s m o) (three s r) (merge-at s r u)) [
+    | coincide ins j same ↦ absurd (ne (λ n. (part-by m r o (λ x. ins x .0) n, part-by r m u (λ x. ins x .1) n)))
+    | commute h k js jt same ↦ let p = still-open m r o u h in
+        let q = still-open r m u o k in
+        record {
+          still = p;
+          still′ = q;
+          same-joint = ap joint (moved-three m r o u) ∙ js;
+          same-joint′ = ap joint (moved-three r m u o) ∙ jt;
+          ends = λ x. Iff·trans (two-on m r o u p x) (Iff·trans (same x) (Iff·symm (two-on r m u o q x)));
+        }
+  ]
 
 -- after any number of a list's merges
 pub either-way : (cs : List ℕ) → Pairs cs → NotOver cs → (p : List Merge) → Valid cs p → (m r : Merge)

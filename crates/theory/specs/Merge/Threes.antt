@@ -12,18 +12,17 @@ use Rattle.theory.specs.Set.Laws.{and-most, sub-refl, and-comm}
 
 pub size-union : (t : Three) → Open (t .a) (t .b) (t .c) → ones (union t) + 3 ≡ ones (t .a) + ones (t .b) + ones (t .c)
 unfolding union
-size-union t o =
-    omega (
-      arith,
-      size-or (t .a) (t .b),
-      size-or (t .a ∪ t .b) (t .c),
-      ap ones (and-or (t .a) (t .b) (t .c)),
-      size-or (t .a ∩ t .c) (t .b ∩ t .c),
-      singles-apart (t .a ∩ t .c) (t .b ∩ t .c) (o .ac) (o .bc) (Ne·symm (o .bc≢ac)),
-      o .ab,
-      o .bc,
-      o .ac,
-    )
+size-union t o = omega (
+  arith,
+  size-or (t .a) (t .b),
+  size-or (t .a ∪ t .b) (t .c),
+  ap ones (and-or (t .a) (t .b) (t .c)),
+  size-or (t .a ∩ t .c) (t .b ∩ t .c),
+  singles-apart (t .a ∩ t .c) (t .b ∩ t .c) (o .ac) (o .bc) (Ne·symm (o .bc≢ac)),
+  o .ab,
+  o .bc,
+  o .ac,
+)
 
 pub size-joint : (t : Three) → Open (t .a) (t .b) (t .c) → ones (joint t) ≡ 3
 unfolding joint

@@ -113,12 +113,11 @@ module _ (cs near : List ℕ) (n : Near cs near) (a b : ℕ) (la : a < 64) (lb :
   says-end x z y l ne e g = (to, back)
     where
       to : at y (getD new x 0) ≡ 1 → Among (pair x y) (cs ++ pair a b ∷ [])
-      to i =
-          elim (ℕ-discrete y z) [
-            | yes p ↦ among-back (pair x y) cs (pair a b ∷ []) (inl (ap (pair x) p ∙ sym e))
-            | no p ↦ among-front (pair x y) cs (pair a b ∷ [])
-                (n .says x y l .0 (omega (arith, i, ap (at y) g, at-or y (getD near x 0) (2 ^ z), at-other y z p)))
-          ]
+      to i = elim (ℕ-discrete y z) [
+        | yes p ↦ among-back (pair x y) cs (pair a b ∷ []) (inl (ap (pair x) p ∙ sym e))
+        | no p ↦ among-front (pair x y) cs (pair a b ∷ [])
+            (n .says x y l .0 (omega (arith, i, ap (at y) g, at-or y (getD near x 0) (2 ^ z), at-other y z p)))
+      ]
 
       back : Among (pair x y) (cs ++ pair a b ∷ []) → at y (getD new x 0) ≡ 1
       back h = ap (at y) g ∙ ⊎-elim
@@ -137,18 +136,17 @@ module _ (cs near : List ℕ) (n : Near cs near) (a b : ℕ) (la : a < 64) (lb :
   )
 
   pub near-more : Near (cs ++ pair a b ∷ []) new
-  near-more =
-      record {
-        places = length-set mid b (getD near b 0 ∪ 2 ^ a) ∙ length-set near a (getD near a 0 ∪ 2 ^ b) ∙ n .places;
-        says = λ x y l. elim (ℕ-discrete x a) [
-          | yes p ↦ subst (λ (z : ℕ). (at y (getD new z 0) ≡ 1) ↔ Among (pair z y) (cs ++ pair a b ∷ [])) (sym p) (says-end a b y la a≢b refl at-a)
-          | no p ↦ elim (ℕ-discrete x b) [
-            | yes q ↦ subst (λ (z : ℕ). (at y (getD new z 0) ≡ 1) ↔ Among (pair z y) (cs ++ pair a b ∷ [])) (sym q)
-                (says-end b a y lb (Ne·symm a≢b) (pair-comm a b) at-b)
-            | no q ↦ says-neither x y l p q
-          ]
-        ];
-      }
+  near-more = record {
+    places = length-set mid b (getD near b 0 ∪ 2 ^ a) ∙ length-set near a (getD near a 0 ∪ 2 ^ b) ∙ n .places;
+    says = λ x y l. elim (ℕ-discrete x a) [
+      | yes p ↦ subst (λ (z : ℕ). (at y (getD new z 0) ≡ 1) ↔ Among (pair z y) (cs ++ pair a b ∷ [])) (sym p) (says-end a b y la a≢b refl at-a)
+      | no p ↦ elim (ℕ-discrete x b) [
+        | yes q ↦ subst (λ (z : ℕ). (at y (getD new z 0) ≡ 1) ↔ Among (pair z y) (cs ++ pair a b ∷ [])) (sym q)
+            (says-end b a y lb (Ne·symm a≢b) (pair-comm a b) at-b)
+        | no q ↦ says-neither x y l p q
+      ]
+    ];
+  }
 
   -- the same of what the code has: both sets read, then both stored
   pub near-stored : {i j sa sb : ℕ} → i ≡ a → j ≡ b → sa ≡ 2 ^ a → sb ≡ 2 ^ b
@@ -204,12 +202,11 @@ carried-none (m ∷ cs) pairs x two n = go (has-dec m x) (carried-none cs (λ y 
 one-most : (cs : List ℕ) → Pairs cs → Once cs → (x : ℕ) → ones x ≡ 2 → carried cs x ≤ 1
 unfolding carried Pairs
 one-most [] pairs once x two = omega arith
-one-most (m ∷ cs) pairs once x two =
-    let r = one-most cs (λ y h. pairs y (inr h)) (once .1) x two in elim (has-dec m x) [
-      | inside i q ↦ let e : m ≡ x = size-eq x m i (omega (arith, two, pairs m (inl refl))) in
-          omega (arith, carried-none cs (λ y h. pairs y (inr h)) x two (λ h. once .0 (subst (λ (z : ℕ). Among z cs) (sym e) h)))
-      | outside k q ↦ omega arith
-    ]
+one-most (m ∷ cs) pairs once x two = let r = one-most cs (λ y h. pairs y (inr h)) (once .1) x two in elim (has-dec m x) [
+  | inside i q ↦ let e : m ≡ x = size-eq x m i (omega (arith, two, pairs m (inl refl))) in
+      omega (arith, carried-none cs (λ y h. pairs y (inr h)) x two (λ h. once .0 (subst (λ (z : ℕ). Among z cs) (sym e) h)))
+  | outside k q ↦ omega arith
+]
 
 -- no more than one
 pub carried-one : (cs : List ℕ) → Simple cs → (x : ℕ) → ones x ≡ 2 → carried cs x ≤ 1

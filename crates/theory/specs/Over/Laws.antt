@@ -174,11 +174,10 @@ any-none (suc k) t e x l h = go (t k) refl e (any-none k t)
 pub any-some : (k : ℕ) (t : ℕ → Bool) → T (anyBelow k t) → (x : ℕ) × (x < k) × T (t x)
 unfolding anyBelow
 any-some zero t h = absurd h
-any-some (suc k) t h =
-    elim (t k) as (λ (b : Bool). t k ≡ b → T (elim b [ true ↦ true | false ↦ anyBelow k t ]) → (x : ℕ) × (x < suc k) × T (t x)) [
-      | true ↦ λ q h. (k, lt-suc-self k, subst T (sym q) tt)
-      | false ↦ λ q h. let r = any-some k t h in (r .0, le-step (r .1), r .2)
-    ] refl h
+any-some (suc k) t h = elim (t k) as (λ (b : Bool). t k ≡ b → T (elim b [ true ↦ true | false ↦ anyBelow k t ]) → (x : ℕ) × (x < suc k) × T (t x)) [
+  | true ↦ λ q h. (k, lt-suc-self k, subst T (sym q) tt)
+  | false ↦ λ q h. let r = any-some k t h in (r .0, le-step (r .1), r .2)
+] refl h
 
 -- the test of "over" is right
 pub isOver-over : (n : ℕ) (cs : List ℕ) → isOver n cs ≡ true → IsOver cs

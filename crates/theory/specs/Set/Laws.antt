@@ -250,29 +250,27 @@ other a y h = go (ℕ-discrete (two a h .0) y)
 
 -- adding an element
 pub size-add : (a x : ℕ) → at x a ≡ 0 → ones (2 ^ x ∪ a) ≡ suc (ones a)
-size-add a x e =
-    let apart : 2 ^ x ∩ a ≡ zero = ext (2 ^ x ∩ a) zero (λ y. elim (ℕ-discrete y x) [
-      | yes p ↦ omega (arith, at-and y (2 ^ x) a, at-zero y, ap (λ (z : ℕ). at z a) p)
-      | no n ↦ omega (arith, at-and y (2 ^ x) a, at-zero y, at-other y x n)
-    ]) in omega (arith, size-or (2 ^ x) a, size-pow x, ap ones apart, size-zero)
+size-add a x e = let apart : 2 ^ x ∩ a ≡ zero = ext (2 ^ x ∩ a) zero (λ y. elim (ℕ-discrete y x) [
+  | yes p ↦ omega (arith, at-and y (2 ^ x) a, at-zero y, ap (λ (z : ℕ). at z a) p)
+  | no n ↦ omega (arith, at-and y (2 ^ x) a, at-zero y, at-other y x n)
+]) in omega (arith, size-or (2 ^ x) a, size-pow x, ap ones apart, size-zero)
 
 -- two different elements make two or more
 pub two-in : (a x y : ℕ) → at x a ≡ 1 → at y a ≡ 1 → x ≢ y → 2 ≤ ones a
-two-in a x y p q n =
-    omega (
-      arith,
-      size-le a (2 ^ x ∪ 2 ^ y) (record {
-        le = λ z. elim (ℕ-discrete z x) [
-          | yes e ↦ omega (arith, ap (λ (w : ℕ). at w a) e, at-le z (2 ^ x ∪ 2 ^ y))
-          | no m ↦ elim (ℕ-discrete z y) [
-            | yes e ↦ omega (arith, ap (λ (w : ℕ). at w a) e, at-le z (2 ^ x ∪ 2 ^ y))
-            | no k ↦ omega (arith, at-or z (2 ^ x) (2 ^ y), at-other z x m, at-other z y k)
-          ]
-        ];
-      }),
-      size-add (2 ^ y) x (at-other x y n),
-      size-pow y,
-    )
+two-in a x y p q n = omega (
+  arith,
+  size-le a (2 ^ x ∪ 2 ^ y) (record {
+    le = λ z. elim (ℕ-discrete z x) [
+      | yes e ↦ omega (arith, ap (λ (w : ℕ). at w a) e, at-le z (2 ^ x ∪ 2 ^ y))
+      | no m ↦ elim (ℕ-discrete z y) [
+        | yes e ↦ omega (arith, ap (λ (w : ℕ). at w a) e, at-le z (2 ^ x ∪ 2 ^ y))
+        | no k ↦ omega (arith, at-or z (2 ^ x) (2 ^ y), at-other z x m, at-other z y k)
+      ]
+    ];
+  }),
+  size-add (2 ^ y) x (at-other x y n),
+  size-pow y,
+)
 
 pub both : (x a b : ℕ) → at x a ≡ 1 → at x b ≡ 1 → at x (a ∩ b) ≡ 1
 both x a b p q = omega (arith, at-and x a b)

@@ -13,12 +13,11 @@ use Rattle.theory.specs.Set.Laws.{at-and, at-or, at-le, at-zero, at-div,
 
 -- an element of a set below 2 ^ n is below n
 pub at-below : (n x a : ℕ) → a < 2 ^ n → at x a ≡ 1 → x < n
-at-below n x a l e =
-    elim (decLt x n) [
-      | yes h ↦ h
-      | no h ↦ let p : 2 ^ n ≤ 2 ^ x = pow-le-pow-right (zero-lt-suc 1) (omega arith) in
-          absurd (omega (arith, at-div x a, ap (λ (z : ℕ). z % 2) (div-eq-of-lt (lt-of-lt-of-le l p)), zero-mod 2))
-    ]
+at-below n x a l e = elim (decLt x n) [
+  | yes h ↦ h
+  | no h ↦ let p : 2 ^ n ≤ 2 ^ x = pow-le-pow-right (zero-lt-suc 1) (omega arith) in
+      absurd (omega (arith, at-div x a, ap (λ (z : ℕ). z % 2) (div-eq-of-lt (lt-of-lt-of-le l p)), zero-mod 2))
+]
 
 -- a part of a set below 2 ^ n is below 2 ^ n
 pub sub-below : (n a b : ℕ) → a ⊑ b → b < 2 ^ n → a < 2 ^ n
@@ -92,12 +91,11 @@ less-out x a b e z = ext ((a - 2 ^ x) ∩ b) (a ∩ b) (λ y. go y (ℕ-discrete
 
 -- put back
 pub less-or : (x a : ℕ) → at x a ≡ 1 → 2 ^ x ∪ (a - 2 ^ x) ≡ a
-less-or x a e =
-    ext (2 ^ x ∪ (a - 2 ^ x)) a (λ y. elim (ℕ-discrete y x) [
-      | yes q ↦ subst (λ (z : ℕ). at z (2 ^ x ∪ (a - 2 ^ x)) ≡ at z a) (sym q)
-          (omega (arith, at-or x (2 ^ x) (a - 2 ^ x), at-same x, less-same x a e))
-      | no n ↦ omega (arith, at-or y (2 ^ x) (a - 2 ^ x), at-other y x n, less-other x y a e n)
-    ])
+less-or x a e = ext (2 ^ x ∪ (a - 2 ^ x)) a (λ y. elim (ℕ-discrete y x) [
+  | yes q ↦ subst (λ (z : ℕ). at z (2 ^ x ∪ (a - 2 ^ x)) ≡ at z a) (sym q)
+      (omega (arith, at-or x (2 ^ x) (a - 2 ^ x), at-same x, less-same x a e))
+  | no n ↦ omega (arith, at-or y (2 ^ x) (a - 2 ^ x), at-other y x n, less-other x y a e n)
+])
 
 pub size-less : (x a : ℕ) → at x a ≡ 1 → suc (ones (a - 2 ^ x)) ≡ ones a
 size-less x a e = sym (size-add (a - 2 ^ x) x (less-same x a e)) ∙ ap ones (less-or x a e)
@@ -135,14 +133,13 @@ trailing-at (suc k) a h l = go (a % 2) refl (λ z. trailing-at k (a / 2) (omega 
 
 -- a set without its lowest element
 pub drop-low : (a : ℕ) → 0 < a → suc (ones (bitAnd a (a - 1))) ≡ ones a
-drop-low =
-    bin-ind (λ (a : ℕ). 0 < a → suc (ones (bitAnd a (a - 1))) ≡ ones a) (λ h. absurd (omega arith)) (λ a ih h. elim (ℕ-discrete (a % 2) 1) [
-      | yes e ↦ let half : (a - 1) / 2 ≡ a / 2 = omega arith in
-          let b : ℕ = bitAnd a (a - 1) in
-          let s : b / 2 ≡ a / 2 = omega (arith, and-step a (a - 1), ap (bitAnd (a / 2)) half ∙ and-self (a / 2)) in
-          omega (arith, ones-step a, ones-step b, ap ones s, and-step a (a - 1))
-      | no n ↦ let half : (a - 1) / 2 ≡ a / 2 - 1 = omega arith in
-          let b : ℕ = bitAnd a (a - 1) in
-          let s : b / 2 ≡ bitAnd (a / 2) (a / 2 - 1) = omega (arith, and-step a (a - 1), ap (bitAnd (a / 2)) half) in
-          omega (arith, ones-step a, ones-step b, ap ones s, and-step a (a - 1), ih (omega arith))
-    ])
+drop-low = bin-ind (λ (a : ℕ). 0 < a → suc (ones (bitAnd a (a - 1))) ≡ ones a) (λ h. absurd (omega arith)) (λ a ih h. elim (ℕ-discrete (a % 2) 1) [
+  | yes e ↦ let half : (a - 1) / 2 ≡ a / 2 = omega arith in
+      let b : ℕ = bitAnd a (a - 1) in
+      let s : b / 2 ≡ a / 2 = omega (arith, and-step a (a - 1), ap (bitAnd (a / 2)) half ∙ and-self (a / 2)) in
+      omega (arith, ones-step a, ones-step b, ap ones s, and-step a (a - 1))
+  | no n ↦ let half : (a - 1) / 2 ≡ a / 2 - 1 = omega arith in
+      let b : ℕ = bitAnd a (a - 1) in
+      let s : b / 2 ≡ bitAnd (a / 2) (a / 2 - 1) = omega (arith, and-step a (a - 1), ap (bitAnd (a / 2)) half) in
+      omega (arith, ones-step a, ones-step b, ap ones s, and-step a (a - 1), ih (omega arith))
+])

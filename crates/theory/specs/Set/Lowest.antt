@@ -33,12 +33,11 @@ lowest-below k x l n = at-below k x (trailingZeros k x) l (lowest-in k x l n)
 rest-gone : (k x : ℕ) → x < 2 ^ k → x ≢ 0 → at (trailingZeros k x) (x - 1) ≡ 0
 unfolding at trailingZeros
 rest-gone zero x l n = absurd (n (omega arith))
-rest-gone (suc k) x l n =
-    elim (x % 2) as (λ (d : ℕ). x % 2 ≡ d → at (under d (trailingZeros k (x / 2))) (x - 1) ≡ 0) [
-      | zero ↦ λ e. let h : (x - 1) / 2 ≡ x / 2 - 1 = omega arith in
-          ap (at (trailingZeros k (x / 2))) h ∙ rest-gone k (x / 2) (omega arith) (λ z. n (omega arith))
-      | suc d ↦ λ e. omega arith
-    ] refl
+rest-gone (suc k) x l n = elim (x % 2) as (λ (d : ℕ). x % 2 ≡ d → at (under d (trailingZeros k (x / 2))) (x - 1) ≡ 0) [
+  | zero ↦ λ e. let h : (x - 1) / 2 ≡ x / 2 - 1 = omega arith in
+      ap (at (trailingZeros k (x / 2))) h ∙ rest-gone k (x / 2) (omega arith) (λ z. n (omega arith))
+  | suc d ↦ λ e. omega arith
+] refl
 
 rest-kept : (k x y : ℕ) → x < 2 ^ k → x ≢ 0 → y ≢ trailingZeros k x → min (at y x) (at y (x - 1)) ≡ at y x
 unfolding at trailingZeros

@@ -61,26 +61,25 @@ module _ (cs : List ℕ) (fine : NotOver cs) where
   rest : (p : List Three) {F : Fam} → Good cs F → ValidIn F p → EndedIn (finalIn F p) → (s : Three) → OpenIn F s → Rest F p s
   unfolding EndedIn
   rest [] g v end s k = absurd (end s k)
-  rest (t ∷ p) {F} g v end s k =
-      elim (meeting cs fine g t (v .0) s k) [
-        | coincide ins j same ↦ record {
-          plan = p;
-          valid = valid-same same p (v .1);
-          ends = final-same same p;
-          steps = refl;
-          same-joints = λ x. (⊎-elim (λ e. inl (e ∙ sym j)) inr, ⊎-elim (λ e. inl (e ∙ j)) inr);
-        }
-        | commute n o js jt same ↦ let r = rest p (good-after cs fine g t (v .0)) (v .1) end (movedIn t s) n in record {
-          plan = movedIn s t ∷ r .plan;
-          valid = (o, valid-same same (r .plan) (r .valid));
-          ends = λ x. Iff·trans (r .ends x) (final-same same (r .plan) x);
-          steps = ap suc (r .steps);
-          same-joints = λ x. (
-            ⊎-elim (λ e. inr (inl (e ∙ sym jt))) (λ h. ⊎-elim (λ e. inl (e ∙ js)) (λ i. inr (inr i)) (r .same-joints x .0 h)),
-            ⊎-elim (λ e. inr (r .same-joints x .1 (inl (e ∙ sym js)))) (⊎-elim (λ e. inl (e ∙ jt)) (λ i. inr (r .same-joints x .1 (inr i)))),
-          );
-        }
-      ]
+  rest (t ∷ p) {F} g v end s k = elim (meeting cs fine g t (v .0) s k) [
+    | coincide ins j same ↦ record {
+      plan = p;
+      valid = valid-same same p (v .1);
+      ends = final-same same p;
+      steps = refl;
+      same-joints = λ x. (⊎-elim (λ e. inl (e ∙ sym j)) inr, ⊎-elim (λ e. inl (e ∙ j)) inr);
+    }
+    | commute n o js jt same ↦ let r = rest p (good-after cs fine g t (v .0)) (v .1) end (movedIn t s) n in record {
+      plan = movedIn s t ∷ r .plan;
+      valid = (o, valid-same same (r .plan) (r .valid));
+      ends = λ x. Iff·trans (r .ends x) (final-same same (r .plan) x);
+      steps = ap suc (r .steps);
+      same-joints = λ x. (
+        ⊎-elim (λ e. inr (inl (e ∙ sym jt))) (λ h. ⊎-elim (λ e. inl (e ∙ js)) (λ i. inr (inr i)) (r .same-joints x .0 h)),
+        ⊎-elim (λ e. inr (r .same-joints x .1 (inl (e ∙ sym js)))) (⊎-elim (λ e. inl (e ∙ jt)) (λ i. inr (r .same-joints x .1 (inr i)))),
+      );
+    }
+  ]
 
   pub unique : (q p : List Three) {F : Fam} → Good cs F → ValidIn F p → EndedIn (finalIn F p) → ValidIn F q → EndedIn (finalIn F q) → AlikeIn F F p q
   unfolding EndedIn
