@@ -1,18 +1,17 @@
 -- The report of a sheet's graph. Document 01, "The report", and "Clusters and merges": the answer to an accepted saved plan is the report for that
 -- plan, its steps in the saved order.
-use Prim.Native.Nat.{ℕ, zero, suc}
-use mathlib.Core.List.{List}
+use Prim.Native.Nat.{ℕ}
+use mathlib.Core.List.{List, []}
 use lib.ListN.{length}
 use Rattle.theory.specs.Merge.{Merge, final}
 use Rattle.theory.specs.Plan.{planOf}
 use Rattle.theory.specs.Graph.{Graph, findingOf, listVerdict, stepsOf}
 use Rattle.theory.specs.declared.Finding.{Finding}
 use Rattle.theory.specs.declared.Finding.the-variants.{Fine, First}
+use Rattle.sheet.specs.Field.{Field, value}
 use Rattle.sheet.specs.Rules.{or-else}
+use Rattle.sheet.specs.Answer.{byRule}
 use Rattle.sheet.specs.Graph.{overFault}
-use Rattle.space.specs.declared.Written.{Written}
-use Rattle.space.specs.declared.Written.the-variants.{Refused}
-use Rattle.space.specs.Space.{answer, after}
 use Rattle.plans.specs.Check.{savedSteps, planFault}
 use Rattle.report.specs.Report.{report, overReport}
 pub mod Laws
@@ -37,17 +36,6 @@ reportOf g = reportBy g (findingOf g)
 unfoldable pub savedFault : Graph → List ℕ → ℕ
 savedFault g l = or-else (overFault g) (planFault (g .clusters) l)
 
--- the report for an accepted one, into lent space
-abbrev pub answerBy : Graph → List ℕ → List ℕ → ℕ → Written
-answerBy g l space zero = answer (listReport g (savedSteps l)) space
-answerBy g l space (suc rule) = Refused (suc rule)
-
-abbrev pub afterBy : Graph → List ℕ → List ℕ → ℕ → List ℕ
-afterBy g l space zero = after (listReport g (savedSteps l)) space
-afterBy g l space (suc rule) = space
-
-unfoldable pub savedAnswer : Graph → List ℕ → List ℕ → Written
-savedAnswer g l space = answerBy g l space (savedFault g l)
-
-unfoldable pub savedAfter : Graph → List ℕ → List ℕ → List ℕ
-savedAfter g l space = afterBy g l space (savedFault g l)
+-- the report for it, or the rule of the plan check that refuses it
+abbrev pub savedField : Graph → List ℕ → Field (List ℕ)
+savedField g l = byRule (planFault (g .clusters) l) (value (listReport g (savedSteps l)) [])

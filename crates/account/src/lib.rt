@@ -7,10 +7,11 @@ ghost use Rattle.theory.specs.declared.Finding.the-variants.{Fine};
 ghost use Rattle.theory.specs.Graph.{findingOf};
 ghost use Rattle.sheet.specs.Facts.{factsOf};
 ghost use Rattle.sheet.specs.Rules.{sheetFault};
-ghost use Rattle.sheet.specs.Graph.{graphOf};
+ghost use Rattle.sheet.specs.Answer.{byRule, Answers};
+ghost use Rattle.sheet.specs.Graph.{graphOf, overFault};
 ghost use Rattle.merges.specs.Run.{runOf, Merged};
 ghost use Rattle.space.specs.Space.{answer, after};
-ghost use Rattle.account.specs.Account.{listReport, reportOf, savedAnswer, savedAfter};
+ghost use Rattle.account.specs.Account.{listReport, reportOf, savedField};
 use merges::Run;
 use plans::Outcome;
 use sheet::Sheet;
@@ -59,8 +60,7 @@ pub fn report(s: Sheet, out: &mut [u8]) -> Written
 // The check of a saved plan against a sheet that is not over, and the report for that plan.
 fn check_listed(s: Sheet, plan: &[u16], out: &mut [u8]) -> Written
     requires { ⌜ (sheetFault s ≡ 0) × (findingOf (graphOf (factsOf s)) ≡ Fine) ⌝ }
-    ensures { λ r. ⌜ (r ≡ savedAnswer (graphOf (factsOf s)) (now (plan .entry)) (now (out .entry)))
-        × (now (out .exit) ≡ savedAfter (graphOf (factsOf s)) (now (plan .entry)) (now (out .entry))) ⌝ }
+    ensures { λ r. ⌜ Answers (savedField (graphOf (factsOf s)) (now (plan .entry))) (now (out .entry)) r (now (out .exit)) ⌝ }
 {
     let e = s.e;
     let cs = s.constraints;
@@ -77,8 +77,8 @@ fn check_listed(s: Sheet, plan: &[u16], out: &mut [u8]) -> Written
 // The check of a saved plan, and the report for it: 11, then 12 to 16, then 17.
 pub fn check_plan(s: Sheet, plan: &[u16], out: &mut [u8]) -> Written
     requires { ⌜ sheetFault s ≡ 0 ⌝ }
-    ensures { λ r. ⌜ (r ≡ savedAnswer (graphOf (factsOf s)) (now (plan .entry)) (now (out .entry)))
-        × (now (out .exit) ≡ savedAfter (graphOf (factsOf s)) (now (plan .entry)) (now (out .entry))) ⌝ }
+    ensures { λ r. ⌜ Answers (byRule (overFault (graphOf (factsOf s))) (savedField (graphOf (factsOf s)) (now (plan .entry)))) (now (out .entry)) r
+        (now (out .exit)) ⌝ }
 {
     let found = judge::over_of(s);
     let Finding::Fine = found else {

@@ -2,38 +2,29 @@
 use Prim.Native.Nat.{ℕ}
 use mathlib.Core.Path.{_≡_}
 use mathlib.Core.List.{List}
-use Rattle.space.specs.declared.Written.{Written}
 use Rattle.theory.specs.Graph.{Graph}
-use Rattle.sheet.specs.declared.Constraint.{Constraint}
 use Rattle.sheet.specs.Facts.{Facts}
 use Rattle.sheet.specs.Field.{value, Bytes}
 use Rattle.sheet.specs.Decode.{readSheet}
 use Rattle.sheet.specs.WithoutTags.{dropTags, withoutTags}
-use Rattle.pattern.specs.Sheets.{rewriteAnswer, rewriteAfter, itemsAnswer, itemsAfter}
-use Rattle.pattern.specs.Judgements.{judgementOf}
-use Rattle.pattern.specs.Plans.{checkAnswer, checkAfter}
-use Rattle.pattern.specs.Sketches.{heldSheet, lastConstraint, extendAnswer, extendAfter}
+use Rattle.pattern.specs.Entries.{itemsField, rewriteField, verdictField, heldSheet, checkField, longer, extendField}
 pub mod Proof
 
--- an entry point over lent space answers both alike, and leaves the same in it
-abbrev pub Alike : (List ℕ → List ℕ → Written) → (List ℕ → List ℕ → List ℕ) → List ℕ → List ℕ → Type 0
-Alike answer after a b = (space : List ℕ) → (answer a space ≡ answer b space) × (after a space ≡ after b space)
-
--- two sheets that no entry point tells apart, whatever else it is given
+-- two sheets that no entry point tells apart, whatever else it is given: a call's answer, and what it leaves in lent space, go by its field alone
 pub record SameAnswers (a b : List ℕ) : Type 0 where
   pub read : readSheet a ≡ readSheet b
-  pub verdict : judgementOf a ≡ judgementOf b
+  pub verdict : verdictField a ≡ verdictField b
   -- over, plan, clusters and report
-  pub items : (what : Graph → List ℕ) → Alike (itemsAnswer what) (itemsAfter what) a b
-  pub rewrite : Alike rewriteAnswer rewriteAfter a b
-  pub check : (plan : List ℕ) → Alike (λ s. checkAnswer s plan) (λ s. checkAfter s plan) a b
+  pub items : (what : Graph → List ℕ) → itemsField what a ≡ itemsField what b
+  pub rewrite : rewriteField a ≡ rewriteField b
+  pub check : (plan : List ℕ) → checkField a plan ≡ checkField b plan
   pub hold : heldSheet a ≡ heldSheet b
-  pub extend : (more : List ℕ) → Alike (λ s. extendAnswer s more) (λ s. extendAfter s more) a b
+  pub extend : (more : List ℕ) → extendField a more ≡ extendField b more
 
 pub record Untagged : Type 0 where
   -- an accepted sheet is answered as the sheet without its tags
   pub sheet : (bytes : List ℕ) (f : Facts) (rest : List ℕ) → Bytes bytes → readSheet bytes ≡ value f rest → SameAnswers bytes (withoutTags bytes)
   -- and one more constraint given as bytes as the one without its tag
   pub constraint : (bytes : List ℕ) (f : Facts) (rest : List ℕ) → heldSheet bytes ≡ value f rest
-      → (more : List ℕ) (c : Constraint) (end : List ℕ) → Bytes more → lastConstraint f more ≡ value c end
-      → Alike (extendAnswer bytes) (extendAfter bytes) more (dropTags 1 more)
+      → (more : List ℕ) (g : Facts) (end : List ℕ) → Bytes more → longer f more ≡ value g end
+      → extendField bytes more ≡ extendField bytes (dropTags 1 more)

@@ -1,20 +1,19 @@
 // The public crate: every entry point that a user calls, each with its whole contract and no precondition. specs/ says what each answers.
 ghost use mathlib.Core.Path.{_≡_};
+ghost use mathlib.Core.List.{[], _∷_};
 ghost use Prim.Native.Nat.{_<_};
+ghost use Rattle.space.specs.Space.{answer, after};
+ghost use Rattle.sheet.specs.Answer.{Answers};
 ghost use Rattle.sheet.specs.Decode.{readSheet};
 ghost use Rattle.sheet.specs.Facts.{factsOf};
 ghost use Rattle.sheet.specs.Rules.{sheetFault};
 ghost use Rattle.reader.specs.Answers.{asReading};
-ghost use Rattle.sketch.specs.Sketch.{addedOf};
-ghost use Rattle.pattern.specs.Sketches.{heldSheet, longer, extendAnswer, extendAfter};
-ghost use Rattle.writer.specs.Write.{writeAnswer, writeAfter};
-ghost use mathlib.Core.List.{[], _∷_};
-ghost use Rattle.space.specs.Space.{answer, after};
+ghost use Rattle.writer.specs.Write.{writeField};
 ghost use Rattle.judge.specs.Judged.{planNumbers, finalClusters};
+ghost use Rattle.sketch.specs.Sketch.{addedOf};
 ghost use Rattle.account.specs.Account.{reportOf};
-ghost use Rattle.pattern.specs.Plans.{checkAnswer, checkAfter};
-ghost use Rattle.pattern.specs.Judgements.{judgementOf};
-ghost use Rattle.pattern.specs.Sheets.{rewriteAnswer, rewriteAfter, itemsAnswer, itemsAfter, overNumbers};
+ghost use Rattle.pattern.specs.Entries.{itemsField, rewriteField, verdictField, asJudgement, overNumbers};
+ghost use Rattle.pattern.specs.Entries.{heldSheet, checkField, longer, extendField};
 use graph::Head;
 use reader::Cursor;
 use reader::GraphRead;
@@ -36,15 +35,14 @@ pub fn read(bytes: &[u8]) -> Reading
 
 // A sheet's facts as bytes in lent space, or the rule of 3, 5 to 9 and 17 that refuses them.
 pub fn write(sheet: Sheet, out: &mut [u8]) -> Written
-    ensures { λ r. ⌜ (r ≡ writeAnswer sheet (now (out .entry))) × (now (out .exit) ≡ writeAfter sheet (now (out .entry))) ⌝ }
+    ensures { λ r. ⌜ Answers (writeField sheet) (now (out .entry)) r (now (out .exit)) ⌝ }
 {
     writer::write_sheet(sheet, out)
 }
 
 // A sheet read and written again: the same sheet without its tags, or the rule of 1 to 10 and 17 that refuses it.
 pub fn rewrite(bytes: &[u8], out: &mut [u8]) -> Written
-    ensures { λ r. ⌜ (r ≡ rewriteAnswer (now (bytes .entry)) (now (out .entry)))
-        × (now (out .exit) ≡ rewriteAfter (now (bytes .entry)) (now (out .entry))) ⌝ }
+    ensures { λ r. ⌜ Answers (rewriteField (now (bytes .entry))) (now (out .entry)) r (now (out .exit)) ⌝ }
 {
     let mut near = [0u64; 64];
     let mut start = [0u64; 200];
@@ -70,8 +68,7 @@ fn put_two(a: u64, b: u64, out: &mut [u64]) -> Written
 
 // Whether a sheet is over: the first constraint that makes it so and the smallest set, or no item where it is not over.
 pub fn over(bytes: &[u8], out: &mut [u64]) -> Written
-    ensures { λ r. ⌜ (r ≡ itemsAnswer overNumbers (now (bytes .entry)) (now (out .entry)))
-        × (now (out .exit) ≡ itemsAfter overNumbers (now (bytes .entry)) (now (out .entry))) ⌝ }
+    ensures { λ r. ⌜ Answers (itemsField overNumbers (now (bytes .entry))) (now (out .entry)) r (now (out .exit)) ⌝ }
 {
     let reading = reader::read_sheet(bytes);
     let outcome = reading.outcome;
@@ -94,7 +91,7 @@ pub enum Judgement {
 
 // The verdict of a sheet.
 pub fn verdict(bytes: &[u8]) -> Judgement
-    ensures { λ r. ⌜ r ≡ judgementOf (now (bytes .entry)) ⌝ }
+    ensures { λ r. ⌜ r ≡ asJudgement (verdictField (now (bytes .entry))) ⌝ }
 {
     let reading = reader::read_sheet(bytes);
     let outcome = reading.outcome;
@@ -108,8 +105,7 @@ pub fn verdict(bytes: &[u8]) -> Judgement
 
 // The engine's plan, three numbers a step, ascending; no number of an over sheet.
 pub fn plan(bytes: &[u8], out: &mut [u16]) -> Written
-    ensures { λ r. ⌜ (r ≡ itemsAnswer planNumbers (now (bytes .entry)) (now (out .entry)))
-        × (now (out .exit) ≡ itemsAfter planNumbers (now (bytes .entry)) (now (out .entry))) ⌝ }
+    ensures { λ r. ⌜ Answers (itemsField planNumbers (now (bytes .entry))) (now (out .entry)) r (now (out .exit)) ⌝ }
 {
     let reading = reader::read_sheet(bytes);
     let outcome = reading.outcome;
@@ -124,8 +120,7 @@ pub fn plan(bytes: &[u8], out: &mut [u16]) -> Written
 
 // The final clusters as sets, by number; none of an over sheet.
 pub fn clusters(bytes: &[u8], out: &mut [u64]) -> Written
-    ensures { λ r. ⌜ (r ≡ itemsAnswer finalClusters (now (bytes .entry)) (now (out .entry)))
-        × (now (out .exit) ≡ itemsAfter finalClusters (now (bytes .entry)) (now (out .entry))) ⌝ }
+    ensures { λ r. ⌜ Answers (itemsField finalClusters (now (bytes .entry))) (now (out .entry)) r (now (out .exit)) ⌝ }
 {
     let reading = reader::read_sheet(bytes);
     let outcome = reading.outcome;
@@ -141,8 +136,7 @@ pub fn clusters(bytes: &[u8], out: &mut [u64]) -> Written
 
 // The report of a sheet, as bytes in lent space.
 pub fn report(bytes: &[u8], out: &mut [u8]) -> Written
-    ensures { λ r. ⌜ (r ≡ itemsAnswer reportOf (now (bytes .entry)) (now (out .entry)))
-        × (now (out .exit) ≡ itemsAfter reportOf (now (bytes .entry)) (now (out .entry))) ⌝ }
+    ensures { λ r. ⌜ Answers (itemsField reportOf (now (bytes .entry))) (now (out .entry)) r (now (out .exit)) ⌝ }
 {
     let reading = reader::read_sheet(bytes);
     let outcome = reading.outcome;
@@ -155,8 +149,7 @@ pub fn report(bytes: &[u8], out: &mut [u8]) -> Written
 
 // The check of a saved plan, three numbers a step, against a sheet; the report for that plan, or the rule of 1 to 17 that refuses.
 pub fn check_plan(bytes: &[u8], plan: &[u16], out: &mut [u8]) -> Written
-    ensures { λ r. ⌜ (r ≡ checkAnswer (now (bytes .entry)) (now (plan .entry)) (now (out .entry)))
-        × (now (out .exit) ≡ checkAfter (now (bytes .entry)) (now (plan .entry)) (now (out .entry))) ⌝ }
+    ensures { λ r. ⌜ Answers (checkField (now (bytes .entry)) (now (plan .entry))) (now (out .entry)) r (now (out .exit)) ⌝ }
 {
     let reading = reader::read_sheet(bytes);
     let outcome = reading.outcome;
@@ -230,8 +223,7 @@ fn read_more(sheet: Sheet, bytes: &[u8]) -> Reading
 
 // A sheet with one more constraint, both as bytes, or the rule of 1 to 11 and 17 that refuses them.
 pub fn extend(bytes: &[u8], constraint: &[u8], out: &mut [u8]) -> Written
-    ensures { λ r. ⌜ (r ≡ extendAnswer (now (bytes .entry)) (now (constraint .entry)) (now (out .entry)))
-        × (now (out .exit) ≡ extendAfter (now (bytes .entry)) (now (constraint .entry)) (now (out .entry))) ⌝ }
+    ensures { λ r. ⌜ Answers (extendField (now (bytes .entry)) (now (constraint .entry))) (now (out .entry)) r (now (out .exit)) ⌝ }
 {
     let reading = hold(bytes);
     let outcome = reading.outcome;

@@ -1,8 +1,12 @@
 -- An answer as one number: the count of items written, or minus the number of the rule that refuses.
-use mathlib.Core.Bool.{cond}
 use Prim.Native.Nat.{ℕ}
+use mathlib.Core.Bool.{cond}
+use mathlib.Core.Path.{_≡_}
+use mathlib.Core.List.{List}
 use lib.Dec.{ltb}
 use lib.IntN.{ℤ, pos, negℤ}
+use Rattle.sheet.specs.Field.{Field}
+use Rattle.sheet.specs.Answer.{answerTo, afterTo}
 use Rattle.theory.specs.Verdict.{verdictNumber}
 use Rattle.pattern.specs.declared.Judgement.{Judgement}
 use Rattle.pattern.specs.declared.Judgement.the-variants.{Is, Refused as No}
@@ -22,3 +26,8 @@ asCount (Refused k) = minus k
 abbrev pub asNumber : Judgement → Written
 asNumber (Is v) = Done (verdictNumber v)
 asNumber (No k) = Refused k
+
+-- what a call that gives the items, or the rule that refuses, answers as a number, and what it leaves in the space
+pub record AnswersCount (x : Field (List ℕ)) (space : List ℕ) (r : ℤ) (left : List ℕ) : Type 0 where
+  pub answer-is : r ≡ asCount (answerTo x space)
+  pub left-is : left ≡ afterTo x space

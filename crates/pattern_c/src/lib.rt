@@ -2,14 +2,11 @@
 // items written, or minus the number of the rule that refuses; specs/ says it.
 ghost use mathlib.Core.Path.{_≡_};
 ghost use lib.ListN.{getD};
-ghost use Rattle.pattern.specs.Sheets.{rewriteAnswer, rewriteAfter, itemsAnswer, itemsAfter, overNumbers};
-ghost use Rattle.writer.specs.Write.{writeAnswer, writeAfter};
-ghost use Rattle.account.specs.Account.{reportOf};
-ghost use Rattle.pattern.specs.Plans.{checkAnswer, checkAfter};
-ghost use Rattle.pattern.specs.Judgements.{judgementOf};
-ghost use Rattle.pattern.specs.Sketches.{extendAnswer, extendAfter};
+ghost use Rattle.writer.specs.Write.{writeField};
 ghost use Rattle.judge.specs.Judged.{planNumbers, finalClusters};
-ghost use Rattle.pattern_c.specs.Numbers.{asCount, asNumber};
+ghost use Rattle.account.specs.Account.{reportOf};
+ghost use Rattle.pattern.specs.Entries.{itemsField, rewriteField, verdictField, asJudgement, overNumbers, checkField, extendField};
+ghost use Rattle.pattern_c.specs.Numbers.{asCount, asNumber, AnswersCount};
 ghost use Rattle.pattern_c.specs.Columns.{sizeIn, constraintIn, constraintsIn, sheetIn};
 use pattern::Judgement;
 use sheet::Constraint;
@@ -30,8 +27,7 @@ fn count(w: Written) -> i32
 // A sheet read and written again: the same sheet without its tags, or the rule of 1 to 10 and 17 that refuses it.
 #[no_mangle]
 pub extern "C" fn pattern_rewrite(sheet: &[u8], out: &mut [u8]) -> i32
-    ensures { λ r. ⌜ (r ≡ asCount (rewriteAnswer (now (sheet .entry)) (now (out .entry))))
-        × (now (out .exit) ≡ rewriteAfter (now (sheet .entry)) (now (out .entry))) ⌝ }
+    ensures { λ r. ⌜ AnswersCount (rewriteField (now (sheet .entry))) (now (out .entry)) r (now (out .exit)) ⌝ }
 {
     count(pattern::rewrite(sheet, out))
 }
@@ -97,10 +93,9 @@ pub extern "C" fn pattern_write(
     sizes: &[i32],
     out: &mut [u8],
 ) -> i32
-    ensures { λ r. ⌜ (r ≡ asCount
-        (writeAnswer (sheetIn n e lines (now (firsts .entry)) (now (seconds .entry)) (now (maps .entry)) (now (sizes .entry))) (now (out .entry))))
-        × (now (out .exit) ≡ writeAfter (sheetIn n e lines (now (firsts .entry)) (now (seconds .entry)) (now (maps .entry)) (now (sizes .entry)))
-        (now (out .entry))) ⌝ }
+    ensures { λ r. ⌜ AnswersCount
+        (writeField (sheetIn n e lines (now (firsts .entry)) (now (seconds .entry)) (now (maps .entry)) (now (sizes .entry)))) (now (out .entry)) r
+        (now (out .exit)) ⌝ }
 {
     let elements = sheet::elements_of(64, lines);
     let constraints = constraints_in(firsts, seconds, maps, sizes);
@@ -117,8 +112,7 @@ pub extern "C" fn pattern_write(
 // no item where it is not over.
 #[no_mangle]
 pub extern "C" fn pattern_over(sheet: &[u8], out: &mut [u64]) -> i32
-    ensures { λ r. ⌜ (r ≡ asCount (itemsAnswer overNumbers (now (sheet .entry)) (now (out .entry))))
-        × (now (out .exit) ≡ itemsAfter overNumbers (now (sheet .entry)) (now (out .entry))) ⌝ }
+    ensures { λ r. ⌜ AnswersCount (itemsField overNumbers (now (sheet .entry))) (now (out .entry)) r (now (out .exit)) ⌝ }
 {
     count(pattern::over(sheet, out))
 }
@@ -136,7 +130,7 @@ fn verdict_number(j: Judgement) -> Written
 // The verdict of a sheet, 0 over, 1 angle, 2 well, 3 stuck, 4 under; or minus the rule of 1 to 10 that refuses it.
 #[no_mangle]
 pub extern "C" fn pattern_verdict(sheet: &[u8]) -> i32
-    ensures { λ r. ⌜ r ≡ asCount (asNumber (judgementOf (now (sheet .entry)))) ⌝ }
+    ensures { λ r. ⌜ r ≡ asCount (asNumber (asJudgement (verdictField (now (sheet .entry))))) ⌝ }
 {
     count(verdict_number(pattern::verdict(sheet)))
 }
@@ -144,8 +138,7 @@ pub extern "C" fn pattern_verdict(sheet: &[u8]) -> i32
 // The engine's plan, three numbers a step, ascending; no number of an over sheet.
 #[no_mangle]
 pub extern "C" fn pattern_plan(sheet: &[u8], out: &mut [u16]) -> i32
-    ensures { λ r. ⌜ (r ≡ asCount (itemsAnswer planNumbers (now (sheet .entry)) (now (out .entry))))
-        × (now (out .exit) ≡ itemsAfter planNumbers (now (sheet .entry)) (now (out .entry))) ⌝ }
+    ensures { λ r. ⌜ AnswersCount (itemsField planNumbers (now (sheet .entry))) (now (out .entry)) r (now (out .exit)) ⌝ }
 {
     count(pattern::plan(sheet, out))
 }
@@ -153,8 +146,7 @@ pub extern "C" fn pattern_plan(sheet: &[u8], out: &mut [u16]) -> i32
 // The final clusters as sets, element i as bit i, by cluster number; none of an over sheet.
 #[no_mangle]
 pub extern "C" fn pattern_clusters(sheet: &[u8], out: &mut [u64]) -> i32
-    ensures { λ r. ⌜ (r ≡ asCount (itemsAnswer finalClusters (now (sheet .entry)) (now (out .entry))))
-        × (now (out .exit) ≡ itemsAfter finalClusters (now (sheet .entry)) (now (out .entry))) ⌝ }
+    ensures { λ r. ⌜ AnswersCount (itemsField finalClusters (now (sheet .entry))) (now (out .entry)) r (now (out .exit)) ⌝ }
 {
     count(pattern::clusters(sheet, out))
 }
@@ -162,8 +154,7 @@ pub extern "C" fn pattern_clusters(sheet: &[u8], out: &mut [u64]) -> i32
 // The report of a sheet, as bytes; or the rule of 1 to 10 and 17 that refuses it.
 #[no_mangle]
 pub extern "C" fn pattern_report(sheet: &[u8], out: &mut [u8]) -> i32
-    ensures { λ r. ⌜ (r ≡ asCount (itemsAnswer reportOf (now (sheet .entry)) (now (out .entry))))
-        × (now (out .exit) ≡ itemsAfter reportOf (now (sheet .entry)) (now (out .entry))) ⌝ }
+    ensures { λ r. ⌜ AnswersCount (itemsField reportOf (now (sheet .entry))) (now (out .entry)) r (now (out .exit)) ⌝ }
 {
     count(pattern::report(sheet, out))
 }
@@ -171,8 +162,7 @@ pub extern "C" fn pattern_report(sheet: &[u8], out: &mut [u8]) -> i32
 // The check of a saved plan, three numbers a step: the report for that plan, or the rule of 1 to 17 that refuses.
 #[no_mangle]
 pub extern "C" fn pattern_check_plan(sheet: &[u8], plan: &[u16], out: &mut [u8]) -> i32
-    ensures { λ r. ⌜ (r ≡ asCount (checkAnswer (now (sheet .entry)) (now (plan .entry)) (now (out .entry))))
-        × (now (out .exit) ≡ checkAfter (now (sheet .entry)) (now (plan .entry)) (now (out .entry))) ⌝ }
+    ensures { λ r. ⌜ AnswersCount (checkField (now (sheet .entry)) (now (plan .entry))) (now (out .entry)) r (now (out .exit)) ⌝ }
 {
     count(pattern::check_plan(sheet, plan, out))
 }
@@ -180,8 +170,7 @@ pub extern "C" fn pattern_check_plan(sheet: &[u8], plan: &[u16], out: &mut [u8])
 // The sheet with one more constraint, given as its bytes in a sheet, or the rule of 1 to 11 and 17 that refuses them.
 #[no_mangle]
 pub extern "C" fn pattern_add(sheet: &[u8], constraint: &[u8], out: &mut [u8]) -> i32
-    ensures { λ r. ⌜ (r ≡ asCount (extendAnswer (now (sheet .entry)) (now (constraint .entry)) (now (out .entry))))
-        × (now (out .exit) ≡ extendAfter (now (sheet .entry)) (now (constraint .entry)) (now (out .entry))) ⌝ }
+    ensures { λ r. ⌜ AnswersCount (extendField (now (sheet .entry)) (now (constraint .entry))) (now (out .entry)) r (now (out .exit)) ⌝ }
 {
     count(pattern::extend(sheet, constraint, out))
 }

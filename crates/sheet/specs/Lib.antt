@@ -8,6 +8,7 @@ pub mod Encode
 pub mod WithoutTags
 pub mod Noted
 pub mod Accepted
+pub mod Answer
 pub mod RoundTrip
 pub mod Graph
 pub mod Refusals

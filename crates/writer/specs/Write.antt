@@ -1,20 +1,12 @@
--- The writer on the blocks of a sheet and a lent space (document 01, "Refused": the writer tries 3, 5, each constraint by 6 to 9, then 17; a refusal
--- gives its number alone and leaves the lent space; after an accepted call the space beyond the answer is unchanged).
-use mathlib.Core.Bool.{cond}
+-- The writer on the blocks of a sheet (document 01, "Refused": the writer tries 3, 5, each constraint by 6 to 9, then 17).
 use Prim.Native.Nat.{ℕ}
-use mathlib.Core.List.{List}
-use lib.Dec.{eqb}
+use mathlib.Core.List.{List, []}
 use Rattle.sheet.specs.declared.Sheet.{Sheet}
 use Rattle.sheet.specs.Facts.{factsOf}
+use Rattle.sheet.specs.Field.{Field, value}
 use Rattle.sheet.specs.Rules.{sheetFault}
 use Rattle.sheet.specs.Encode.{sheetBytes}
-use Rattle.space.specs.declared.Written.{Written}
-use Rattle.space.specs.declared.Written.the-variants.{Refused}
-use Rattle.space.specs.Space.{answer, after}
-pub mod Laws
+use Rattle.sheet.specs.Answer.{byRule}
 
-unfoldable pub writeAnswer : Sheet → List ℕ → Written
-writeAnswer s space = cond (eqb (sheetFault s) 0) (answer (sheetBytes (factsOf s)) space) (Refused (sheetFault s))
-
-unfoldable pub writeAfter : Sheet → List ℕ → List ℕ
-writeAfter s space = cond (eqb (sheetFault s) 0) (after (sheetBytes (factsOf s)) space) space
+abbrev pub writeField : Sheet → Field (List ℕ)
+writeField s = byRule (sheetFault s) (value (sheetBytes (factsOf s)) [])

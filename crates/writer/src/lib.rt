@@ -10,7 +10,8 @@ ghost use Rattle.sheet.specs.Encode.{sizeBit, sizeBytes, constraintBytes, sheet
 ghost use Rattle.sheet.specs.Rules.{sheetFault};
 ghost use Rattle.sheet.specs.WithoutTags.{withoutTags};
 ghost use Rattle.space.specs.Space.{Put, answer, after};
-ghost use Rattle.writer.specs.Write.{writeAnswer, writeAfter};
+ghost use Rattle.sheet.specs.Answer.{Answers};
+ghost use Rattle.writer.specs.Write.{writeField};
 use sheet::Constraint;
 use sheet::Sheet;
 use sheet::Size;
@@ -135,7 +136,7 @@ pub fn write_accepted(s: Sheet, out: &mut [u8]) -> Written
 
 // The facts in their blocks as bytes, or the first rule that refuses them.
 pub fn write_sheet(s: Sheet, out: &mut [u8]) -> Written
-    ensures { λ r. ⌜ (r ≡ writeAnswer s (now (out .entry))) × (now (out .exit) ≡ writeAfter s (now (out .entry))) ⌝ }
+    ensures { λ r. ⌜ Answers (writeField s) (now (out .entry)) r (now (out .exit)) ⌝ }
 {
     let fault = sheet::sheet_fault(s);
     if fault != 0 {

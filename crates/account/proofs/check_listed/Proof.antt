@@ -5,6 +5,7 @@ use mathlib.Core.Path.{_≡_, sym, ap, _∙_, subst}
 use mathlib.Core.List.{List}
 use Rattle.sheet.specs.Facts.{factsOf}
 use Rattle.sheet.specs.Graph.{graphOf}
+use Rattle.sheet.specs.Answer.Laws.{answers-refused, answers-items}
 use Rattle.theory.specs.Constraints.{NotOver}
 use Rattle.theory.specs.Over.Laws.{overOf-fine}
 use Rattle.plans.specs.Check.{checkOf}
@@ -46,29 +47,20 @@ module _ (c : tie.After-put-list-arg) where
   abbrev start : tie.Start
   start = c .before .before .before .before .before .before .before .before .before .before
 
-  took : Took (graphOf (factsOf (start .args .s))) (start .args .plan .now) (start .args .out .now) (start .pre .1)
-      (c .before .before .before .before .check-plan .result) (checked (c .before .before .before .before))
-  took =
-      saved-taken (graphOf (factsOf (start .args .s))) (start .args .plan .now) (start .args .out .now) (start .pre .1)
-      (c .before .before .before .before .check-plan .result) (checked (c .before .before .before .before))
-      (c .before .enum-told .given .1)
+  took : Took (graphOf (factsOf (start .args .s))) (start .args .plan .now) (c .before .before .before .before .check-plan .result)
+      (checked (c .before .before .before .before))
+  took = saved-taken _ _ _ _ (c .before .enum-told .given .1)
 
 put-list-requires : tie.Need-put-list-requires
 put-list-requires c κs = (start c .pre .0, sheet-fits (start c) .notOver, record { p = _; valid = took c .valid; is = took c .is })
 
 returns : tie.Need-returns
 returns c =
-    let k = c .before .before .before .before in
-    let o = asked k in
     let g = c .before .outcome .given in
-    saved-refused (graphOf (factsOf (o .args .s))) (o .args .plan .now) (o .args .out .now) (o .pre .1)
-    (k .check-plan .result) (checked k) (g .0 .0) (g .1)
+    answers-refused (saved-refused _ _ _ (checked (c .before .before .before .before)) (g .0 .0) (g .1))
 
 returns-2 : tie.Need-returns-2
-returns-2 c =
-    let t = took (c .before .before .before) in
-    let w = c .before .before .put-list .ensures _ (t .valid) (t .is) in
-    (w .0 ∙ t .answer-is, w .1 ∙ t .after-is)
+returns-2 c = let t = took (c .before .before .before) in answers-items (c .before .before .put-list .ensures _ (t .valid) (t .is)) (t .gives)
 
 pub check-listed-spec : {M : Type 1} → statement M
 check-listed-spec =

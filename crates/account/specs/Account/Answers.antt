@@ -3,7 +3,7 @@ use Prim.Native.Nat.{ℕ, zero, suc, _<_}
 use native.Mathlib.Omega.{arith}
 use mathlib.Core.Path.{_≡_, refl, sym, ap, _∙_}
 use mathlib.Core.Logic.{_≢_}
-use mathlib.Core.List.{List}
+use mathlib.Core.List.{List, []}
 use lib.ListN.{length}
 use Rattle.theory.specs.Constraints.{Pairs, Below, NotOver}
 use Rattle.theory.specs.Over.Laws.{overOf-fine, overOf-first}
@@ -11,13 +11,14 @@ use Rattle.theory.specs.Merge.{Valid}
 use Rattle.theory.specs.Plan.{planOf}
 use Rattle.theory.specs.Plan.Laws.{plan-of-maximal}
 use Rattle.theory.specs.Verdict.{verdictNumber}
-use Rattle.space.specs.declared.Written.the-variants.{Refused}
-use Rattle.space.specs.Space.{answer, after}
 use Rattle.theory.specs.declared.Finding.{Finding}
 use Rattle.theory.specs.declared.Finding.the-variants.{Fine, First}
 use Rattle.theory.specs.Graph.{Graph, findingOf}
 use Rattle.theory.specs.Graph.Laws.{list-not-over}
 use Rattle.theory.specs.Verdict.Laws.{number-over}
+use Rattle.sheet.specs.Field.{value, refused}
+use Rattle.sheet.specs.Rules.{or-else}
+use Rattle.sheet.specs.Answer.{byRule}
 use Rattle.sheet.specs.Graph.{overFault}
 use Rattle.merges.specs.Run.{runOf}
 use Rattle.judge.specs.declared.Judged.{Judged}
@@ -27,7 +28,7 @@ use Rattle.plans.specs.declared.Checked.{Checked}
 use Rattle.plans.specs.Check.{savedSteps, planFault, answerOf, checkOf}
 use Rattle.plans.specs.Check.Laws.{accepted-maximal}
 use Rattle.report.specs.Report.{overReport}
-use Rattle.account.specs.Account.{listReport, reportBy, reportOf, savedFault, answerBy, afterBy, savedAnswer, savedAfter}
+use Rattle.account.specs.Account.{listReport, reportBy, reportOf, savedFault, savedField}
 
 -- ---- the judgement
 
@@ -74,36 +75,42 @@ module _ (g : Graph) (paired : Pairs (g .clusters)) (below : Below (g .n) (g .cl
 
 -- ---- the check of a saved plan
 
-module _ (g : Graph) (l space : List ℕ) where
-  pub saved-over : (c x : ℕ) → findingOf g ≡ First c x → (Refused 11 ≡ savedAnswer g l space) × (space ≡ savedAfter g l space)
-  unfolding savedAnswer savedAfter savedFault overFault
-  saved-over c x q = rw q (refl, refl)
+pub rule-11 : (g : Graph) {c x : ℕ} → findingOf g ≡ First c x → overFault g ≡ 11
+unfolding overFault
+rule-11 g q = rw q
 
-  module _ (q : findingOf g ≡ Fine) (r : Checked) (e : r ≡ checkOf (g .clusters) l) where
-    pub saved-refused : (k : ℕ) → r .outcome ≡ Stopped k → (Refused k ≡ savedAnswer g l space) × (space ≡ savedAfter g l space)
-    unfolding savedAnswer savedAfter savedFault overFault checkOf
-    saved-refused k o = rw q (go (planFault (g .clusters) l) (sym o ∙ ap (λ (x : Checked). x .outcome) e))
-      where
-        go : (rule : ℕ) → Stopped k ≡ answerOf rule (runOf (g .clusters) (savedSteps l)) .outcome
-            → (Refused k ≡ answerBy g l space rule) × (space ≡ afterBy g l space rule)
-        go zero h = absurd (let z : _≡_ {A = ℕ} 0 1 = cc in omega arith)
-        go (suc rule) h = let n : k ≡ suc rule = cc in (ap Refused n, refl)
+-- 11, and then the rules of the plan check, are the rules that refuse a saved plan
+pub saved-rule : (g : Graph) (l : List ℕ) → byRule (overFault g) (savedField g l) ≡ byRule (savedFault g l) (value (listReport g (savedSteps l)) [])
+unfolding savedFault
+saved-rule g l = by (overFault g)
+  where
+    by : (k : ℕ) → byRule k (savedField g l) ≡ byRule (or-else k (planFault (g .clusters) l)) (value (listReport g (savedSteps l)) [])
+    by zero = refl
+    by (suc k) = refl
 
-    pub record Took : Type 0 where
-      pub valid : Valid (g .clusters) (savedSteps l)
-      pub is : r .run ≡ runOf (g .clusters) (savedSteps l)
-      pub answer-is : answer (listReport g (savedSteps l)) space ≡ savedAnswer g l space
-      pub after-is : after (listReport g (savedSteps l)) space ≡ savedAfter g l space
+module _ (g : Graph) (l : List ℕ) (r : Checked) (e : r ≡ checkOf (g .clusters) l) where
+  pub saved-refused : (k : ℕ) → r .outcome ≡ Stopped k → savedField g l ≡ refused k
+  unfolding checkOf
+  saved-refused k o = by (planFault (g .clusters) l) (sym o ∙ ap (λ (x : Checked). x .outcome) e)
+    where
+      by : (rule : ℕ) → Stopped k ≡ answerOf rule (runOf (g .clusters) (savedSteps l)) .outcome
+          → byRule rule (value (listReport g (savedSteps l)) []) ≡ refused k
+      by zero h = absurd (let z : _≡_ {A = ℕ} 0 1 = cc in omega arith)
+      by (suc rule) h = let n : suc rule ≡ k = cc in ap refused n
 
-    pub saved-taken : r .outcome ≡ Accepted → Took
-    unfolding savedAnswer savedAfter savedFault overFault checkOf
-    saved-taken o = go (planFault (g .clusters) l) refl (sym o ∙ ap (λ (x : Checked). x .outcome) e)
-      where
-        go : (rule : ℕ) → planFault (g .clusters) l ≡ rule → Accepted ≡ answerOf rule (runOf (g .clusters) (savedSteps l)) .outcome → Took
-        go zero p h = record {
-          valid = accepted-maximal (g .clusters) l .0 p .1 .valid;
-          is = ap (λ (x : Checked). x .run) (e ∙ ap (λ (k : ℕ). answerOf k (runOf (g .clusters) (savedSteps l))) p);
-          answer-is = rw (q, p);
-          after-is = rw (q, p);
-        }
-        go (suc rule) p h = absurd (let z : _≡_ {A = ℕ} 0 1 = cc in omega arith)
+  pub record Took : Type 0 where
+    pub valid : Valid (g .clusters) (savedSteps l)
+    pub is : r .run ≡ runOf (g .clusters) (savedSteps l)
+    pub gives : savedField g l ≡ value (listReport g (savedSteps l)) []
+
+  pub saved-taken : r .outcome ≡ Accepted → Took
+  unfolding checkOf
+  saved-taken o = by (planFault (g .clusters) l) refl (sym o ∙ ap (λ (x : Checked). x .outcome) e)
+    where
+      by : (rule : ℕ) → planFault (g .clusters) l ≡ rule → Accepted ≡ answerOf rule (runOf (g .clusters) (savedSteps l)) .outcome → Took
+      by zero p h = record {
+        valid = accepted-maximal (g .clusters) l .0 p .1 .valid;
+        is = ap (λ (x : Checked). x .run) (e ∙ ap (λ (k : ℕ). answerOf k (runOf (g .clusters) (savedSteps l))) p);
+        gives = rw p;
+      }
+      by (suc rule) p h = absurd (let z : _≡_ {A = ℕ} 0 1 = cc in omega arith)

@@ -3,7 +3,7 @@ use borrow.Author.Tests.{lt-ltb}
 use mathlib.Core.Path.{refl}
 use mathlib.Core.List.{[], _∷_}
 use Rattle.space.specs.Space.{answer, after}
-use Rattle.pattern.specs.Sheets.Laws.{stored-items}
+use Rattle.pattern.specs.Entries.Reading.{stored-items}
 use Rattle.pattern.proofs.put_two.Statement.{statement}
 use Rattle.pattern.proofs.put_two.Tie as tie
 

@@ -15,7 +15,8 @@ use Rattle.graph.specs.declared.Head.{Head}
 use Rattle.graph.specs.Lent.{headOf}
 use Rattle.reader.specs.Answers.{outcomeNumber, ListRead}
 use Rattle.sketch.specs.Sketch.{extended}
-use Rattle.pattern.specs.Sketches.Laws.{list-refused, list-taken, last-taken, longer-taken, extended-accepted}
+use Rattle.pattern.specs.Entries.{longer}
+use Rattle.pattern.specs.Entries.Sketches.{list-refused, list-taken, last, extended-accepted}
 use Rattle.pattern.proofs.read_more.Statement.{statement}
 use Rattle.pattern.proofs.read_more.Tie as tie
 
@@ -75,13 +76,12 @@ module _ (c : tie.After-read-constraints) where
       (filled .fill .ensures .1))
 
 returns : tie.Need-returns
+unfolding longer
 returns c =
     let k = c .before .before .before .before in
     let t = c .before .before .enum-told2 .given in
-    c .refuse .ensures
-    ∙ rw (
-      list-refused (facts (k .before .before .before .before))
-          (k .before .before .before .before .before .before .before .before .before .args .bytes .now) (read k) (t .0 .0) (t .1),
+    c .refuse .ensures ∙ rw (
+      list-refused (constraints (facts (filled k) .elements) 1 (facts (filled k) .constraints) _) (sym (read k .answers) ∙ t .1),
       c .before .refusal .ensures ∙ ap outcomeNumber (t .1),
     )
 
@@ -104,19 +104,21 @@ sheet-of-requires c κs = (
 )
 
 returns-2 : tie.Need-returns-2
+unfolding longer
 returns-2 c =
     let k = c .before .before .before .before .before in
-    let f = facts (k .before .before .before .before) in
+    let f = facts (filled k) in
     let bytes = k .before .before .before .before .before .before .before .before .before .args .bytes .now in
     let all : Bytes bytes =
     record { each = λ i. k .before .before .before .before .before .before .before .before .shared-slice-known .given i .fits } in
-    let (d, t, e, h) = list-taken f bytes (read k) (c .before .before .before .enum-told .given .1) in
-    let ok = extended-accepted f d (accepted (k .before .before .before .before)) (few (k .before .before .before .before) .1)
-    (last-taken f bytes d t all e) in
+    let (cs, t, e) = list-taken _ (sym (read k .answers) ∙ c .before .before .before .enum-told .given .1) in
+    let l = last (f .elements) (f .constraints) bytes cs t all e in
+    let ok = extended-accepted f (l .c) (accepted (filled k)) (few (filled k) .1) (l .taken) in
     rw (
-      longer-taken f bytes d t e,
-      c .sheet-of .ensures (extended f d) _ ok
-          (one-longer (k .before .before .before .before .fill .result) f d (head-is (k .before .before .before .before))) h,
+      e,
+      l .is,
+      c .sheet-of .ensures (extended f (l .c)) _ ok (one-longer (filled k .fill .result) f (l .c) (head-is (filled k)))
+          (rw (l .is) at (read k .holds cs t e)),
     )
 
 pub read-more-spec : {M : Type 1} → statement M

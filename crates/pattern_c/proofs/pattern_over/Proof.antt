@@ -1,12 +1,10 @@
 use borrow.Author.Needs.{needs}
-use Rattle.pattern_c.specs.Numbers.Laws.{counted}
+use Rattle.pattern_c.specs.Numbers.Laws.{counts}
 use Rattle.pattern_c.proofs.pattern_over.Statement.{statement}
 use Rattle.pattern_c.proofs.pattern_over.Tie as tie
 
 returns : tie.Need-returns
-returns c =
-    let w = c .before .before .before .over in
-    (counted (c .count .result) (w .result) _ (record { sfits = c .count .ok }) (c .count .ensures) (w .ensures .0), w .ensures .1)
+returns c = counts (c .count .result) _ (record { sfits = c .count .ok }) (c .count .ensures) (c .before .before .before .over .ensures)
 
 pub pattern-over-spec : {M : Type 1} → statement M
 pattern-over-spec = tie.close (tie.spec (λ c κs. search needs) (λ c κs. search needs) (λ c. search needs) returns)

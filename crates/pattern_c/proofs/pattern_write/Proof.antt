@@ -1,9 +1,6 @@
 use borrow.Author.Needs.{needs}
-use mathlib.Core.Path.{ap, _∙_}
-use Rattle.sheet.specs.declared.Sheet.{Sheet}
-use Rattle.writer.specs.Write.{writeAnswer, writeAfter}
 use Rattle.pattern_c.specs.Columns.Laws.{sheet-in}
-use Rattle.pattern_c.specs.Numbers.Laws.{counted}
+use Rattle.pattern_c.specs.Numbers.Laws.{counts}
 use Rattle.pattern_c.proofs.pattern_write.Statement.{statement}
 use Rattle.pattern_c.proofs.pattern_write.Tie as tie
 
@@ -13,11 +10,9 @@ returns c =
     let w = c .before .before .before .write in
     let e = sheet-in (a .firsts .now) (a .seconds .now) (a .maps .now) (a .sizes .now) (a .n) (a .e) (a .lines) _ _
     (c .before .before .before .before .before .before .elements-of .ensures)
-    (c .before .before .before .before .before .constraints-in .ensures) in (
-      counted (c .count .result) (w .result) _ (record { sfits = c .count .ok }) (c .count .ensures)
-          (w .ensures .0 ∙ ap (λ (s : Sheet). writeAnswer s (a .out .now)) e),
-      w .ensures .1 ∙ ap (λ (s : Sheet). writeAfter s (a .out .now)) e,
-    )
+    (c .before .before .before .before .before .constraints-in .ensures) in
+    counts (c .count .result) (w .result) (record { sfits = c .count .ok }) (c .count .ensures)
+    (rw (← e) (w .ensures))
 
 pub pattern-write-spec : {M : Type 1} → statement M
 pattern-write-spec =

@@ -2,13 +2,16 @@
 use Prim.Native.Nat.{ℕ, zero, suc, _<_}
 use native.Mathlib.Omega.{arith}
 use mathlib.Core.Path.{_≡_, refl, ap, _∙_}
+use mathlib.Core.List.{List}
 use borrow.Author.Tests.{lt-ltb}
 use lib.IntN.{ℤ, pos, negsuc, _-ℤ_}
 use mir.Syntax.{w32}
 use mir.Val.{SFits, toZ, ofZ}
 use mir.Facts.{toZ-ofZ}
 use Rattle.space.specs.declared.Written.{Written}
-use Rattle.pattern_c.specs.Numbers.{minus, asCount}
+use Rattle.sheet.specs.Field.{Field}
+use Rattle.sheet.specs.Answer.{Answers}
+use Rattle.pattern_c.specs.Numbers.{minus, asCount, AnswersCount}
 
 pub zero-minus : (k : ℕ) → pos 0 -ℤ pos k ≡ minus k
 zero-minus zero = refl
@@ -21,3 +24,7 @@ minus-fits (suc k) h = record { sfits = omega arith }
 -- what a function answers that counts what it has written
 pub counted : (z : ℤ) (w v : Written) → SFits w32 z → z ≡ asCount w → w ≡ v → toZ w32 (ofZ w32 z) ≡ asCount v
 counted z w v fits e f = toZ-ofZ fits ∙ e ∙ ap asCount f
+
+pub counts : {x : Field (List ℕ)} {space left : List ℕ} (z : ℤ) (w : Written) → SFits w32 z → z ≡ asCount w → Answers x space w left
+    → AnswersCount x space (toZ w32 (ofZ w32 z)) left
+counts z w fits e a = record { answer-is = counted z w _ fits e (a .answer-is); left-is = a .left-is }

@@ -1,0 +1,72 @@
+-- What each entry point answers, by the bytes that it is given: a value, or the rule that refuses. `sheet` Answer says what items, or a refusal, give
+-- over lent space.
+use Prim.Native.Nat.{ℕ}
+use mathlib.Core.List.{List, [], _∷_}
+use Rattle.theory.specs.Graph.{Graph, findingOf, verdictOf}
+use Rattle.theory.specs.declared.Finding.{Finding}
+use Rattle.theory.specs.declared.Finding.the-variants.{Fine, First}
+use Rattle.theory.specs.declared.Verdict.{Verdict}
+use Rattle.sheet.specs.Facts.{Facts}
+use Rattle.sheet.specs.Field.{Field, value, refused, next}
+use Rattle.sheet.specs.Decode.{constraints, readSheet}
+use Rattle.sheet.specs.Encode.{sheetBytes}
+use Rattle.sheet.specs.WithoutTags.{withoutTags}
+use Rattle.sheet.specs.Graph.{graphOf, overFault}
+use Rattle.sheet.specs.Answer.{byRule}
+use Rattle.account.specs.Account.{savedField}
+use Rattle.pattern.specs.declared.Judgement.{Judgement}
+use Rattle.pattern.specs.declared.Judgement.the-variants.{Is, Refused}
+pub mod Reading
+pub mod Judging
+pub mod Sketches
+pub mod Agree
+
+-- ---- an accepted sheet (document 01, "Refused": 1 to 10)
+
+-- the items that its graph gives
+abbrev pub itemsField : (Graph → List ℕ) → List ℕ → Field (List ℕ)
+itemsField what bytes = next (readSheet bytes) (λ f rest. value (what (graphOf f)) [])
+
+-- reading and writing again gives the same sheet with bit 1 clear and the tag bytes gone (document 02, 2026-11)
+abbrev pub rewriteField : List ℕ → Field (List ℕ)
+rewriteField bytes = next (readSheet bytes) (λ f rest. value (withoutTags bytes) [])
+
+-- its verdict (document 01, "Verdict names")
+abbrev pub verdictField : List ℕ → Field Verdict
+verdictField bytes = next (readSheet bytes) (λ f rest. value (verdictOf (graphOf f)) [])
+
+abbrev pub asJudgement : Field Verdict → Judgement
+asJudgement (value v rest) = Is v
+asJudgement (refused k) = Refused k
+
+-- of an over one the first constraint and the smallest set; no item where it is not over
+abbrev pub overItems : Finding → List ℕ
+overItems Fine = []
+overItems (First c x) = c ∷ x ∷ []
+
+abbrev pub overNumbers : Graph → List ℕ
+overNumbers g = overItems (findingOf g)
+
+-- ---- an accepted sheet that is not over (document 01, "Refused": 11)
+
+abbrev pub held : Facts → List ℕ → Field Facts
+held f rest = byRule (overFault (graphOf f)) (value f rest)
+
+unfoldable pub heldSheet : List ℕ → Field Facts
+heldSheet bytes = next (readSheet bytes) held
+
+-- a saved plan checked against it: 12 to 16 of the plan
+abbrev pub checkField : List ℕ → List ℕ → Field (List ℕ)
+checkField bytes plan = next (heldSheet bytes) (λ f rest. savedField (graphOf f) plan)
+
+-- the facts with one more constraint, its bytes as a sheet has them: 2 and 6 to 9 of its fields, 10 of bytes that follow them
+unfoldable pub longer : Facts → List ℕ → Field Facts
+longer f bytes =
+    next (constraints (f .elements) 1 (f .constraints) bytes) (λ cs end. value (record { elements = f .elements; constraints = cs }) end)
+
+-- the held sketch with that constraint (document 01, "A held sketch"), and its sheet
+abbrev pub extendedSheet : List ℕ → List ℕ → Field Facts
+extendedSheet bytes more = next (heldSheet bytes) (λ f rest. next (longer f more) held)
+
+abbrev pub extendField : List ℕ → List ℕ → Field (List ℕ)
+extendField bytes more = next (extendedSheet bytes more) (λ f rest. value (sheetBytes f) [])
