@@ -1,3 +1,2 @@
--- A sheet's constraints as lists of numbers, and its constraint graph in lent arrays.
-pub mod Arrays
+-- The constraint graph of a sheet in lent arrays of numbers.
 pub mod Lent

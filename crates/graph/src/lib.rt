@@ -1,19 +1,15 @@
 // The constraint graph of a sheet in lent arrays of numbers: near, who is constrained with whom; start, the initial clusters; sizes. A sheet by value
 // is packed into them and out again. Contracts cite this crate's specs.
 ghost use mathlib.Core.Path.{_≡_};
-ghost use mathlib.Core.List.{List, _∷_, [], _++_, map};
+ghost use mathlib.Core.List.{List, _∷_, [], _++_};
 ghost use Prim.Native.Nat.{ℕ, _^_, _<_, _≤_};
-ghost use Rattle.theory.specs.Block.{block};
-ghost use Rattle.theory.specs.Constraints.{pair, Pairs};
-ghost use Rattle.theory.specs.Near.{Near};
+ghost use Rattle.theory.specs.Constraints.{pair};
 ghost use lib.IntN.{pos};
-ghost use lib.ListN.{length, take, replicate};
+ghost use lib.ListN.{length, replicate};
 ghost use Rattle.sheet.specs.Facts.{Facts, factsOf, sheetOf};
 ghost use Rattle.sheet.specs.Rules.{sheetFault};
-ghost use Rattle.sheet.specs.Accepted.{Accepted};
 ghost use Rattle.sheet.specs.Graph.{sizeOf};
-ghost use Rattle.graph.specs.Lent.{headOf, InArrays, Packed, Unpacks};
-ghost use Rattle.graph.specs.Arrays.{constraintSize, endPair, EndsBelow64};
+ghost use Rattle.graph.specs.Lent.{InArrays, SheetIn, Packed, Unpacks};
 use sheet::Constraint;
 use sheet::Sheet;
 use sheet::Size;
@@ -25,29 +21,14 @@ pub struct Head {
     pub lines: u64,
 }
 
-fn size_of(size: Size) -> i32
+// The size of a constraint, 0 for a missing one.
+pub fn size_of(size: Size) -> i32
     ensures { λ r. ⌜ r ≡ sizeOf size ⌝ }
 {
     match size {
         Size::Given(z) => z,
         Size::Missing => 0,
     }
-}
-
-// The sizes of the first e constraints, 0 for a missing one and beyond them.
-pub fn sizes_of(cs: [Constraint; 200], e: usize) -> [i32; 200]
-    requires { ⌜ e ≤ 200 ⌝ }
-    ensures { λ r. ⌜ r ≡ block 200 (pos 0) (map constraintSize (take e cs)) ⌝ }
-{
-    let mut sizes = [0i32; 200];
-    let mut i: usize = 0;
-    while i < e {
-        let c = cs[i];
-        let z = c.size;
-        sizes[i] = size_of(z);
-        i += 1;
-    }
-    sizes
 }
 
 // The set of one element.
@@ -64,48 +45,6 @@ fn pair_of(a: u8, b: u8) -> u64
     ensures { λ r. ⌜ r ≡ pair a b ⌝ }
 {
     single(a) | single(b)
-}
-
-// The initial clusters: the sets of two ends of the first e constraints, 0 beyond them.
-pub fn start_of(cs: [Constraint; 200], e: usize) -> [u64; 200]
-    requires { ⌜ (e ≤ 200) × EndsBelow64 (take e cs) ⌝ }
-    ensures { λ r. ⌜ r ≡ block 200 0 (map endPair (take e cs)) ⌝ }
-{
-    let mut start = [0u64; 200];
-    let mut i: usize = 0;
-    while i < e {
-        let c = cs[i];
-        start[i] = pair_of(c.first, c.second);
-        i += 1;
-    }
-    start
-}
-
-// A byte as an index.
-fn wide(x: u8) -> usize
-    ensures { λ r. ⌜ r ≡ x ⌝ }
-{
-    x as usize
-}
-
-// For each element the set of the elements that are constrained with it by the first e constraints.
-pub fn near_of(cs: [Constraint; 200], e: usize) -> [u64; 64]
-    requires { ⌜ (e ≤ 200) × EndsBelow64 (take e cs) × Pairs (map endPair (take e cs)) ⌝ }
-    ensures { λ r. ⌜ Near (map endPair (take e cs)) r ⌝ }
-{
-    let mut near = [0u64; 64];
-    let mut i: usize = 0;
-    while i < e {
-        let c = cs[i];
-        let a = wide(c.first);
-        let b = wide(c.second);
-        let with_a = near[a] | single(c.second);
-        let with_b = near[b] | single(c.first);
-        near[a] = with_a;
-        near[b] = with_b;
-        i += 1;
-    }
-    near
 }
 
 // Notes constraint i, between a and b; z is its size, 0 if it is missing.
@@ -131,7 +70,7 @@ pub fn note(
 // The constraint graph of a sheet's facts, in arrays that were blank.
 pub fn fill(s: Sheet, near: &mut [u64; 64], start: &mut [u64; 200], sizes: &mut [i32; 200]) -> Head
     requires { ⌜ (sheetFault s ≡ 0) × (now near ≡ replicate 64 0) × (now start ≡ replicate 200 0) × (now sizes ≡ replicate 200 (pos 0)) ⌝ }
-    ensures { λ r. ⌜ (r ≡ headOf (factsOf s)) × InArrays (factsOf s .constraints) (now (near .exit)) (now (start .exit)) (now (sizes .exit)) ⌝ }
+    ensures { λ r. ⌜ SheetIn (factsOf s) r (now (near .exit)) (now (start .exit)) (now (sizes .exit)) ⌝ }
 {
     let n = s.n;
     let e = s.e;
@@ -176,8 +115,7 @@ fn constraint_in(m: u64, z: i32) -> Constraint
 // The sheet whose constraint graph stands in the arrays.
 pub fn sheet_of(h: Head, start: &[u64; 200], sizes: &[i32; 200]) -> Sheet
     requires { ⌜ (h .n ≤ 64) × (h .e ≤ 200) ⌝ }
-    ensures { λ r. ⌜ ((f : Facts) (near : List ℕ) → Accepted f → h ≡ headOf f
-        → InArrays (f .constraints) near (now (start .entry)) (now (sizes .entry)) → r ≡ sheetOf f) ⌝ }
+    ensures { λ r. ⌜ ((f : Facts) (near : List ℕ) → SheetIn f h near (now (start .entry)) (now (sizes .entry)) → r ≡ sheetOf f) ⌝ }
 {
     let n = h.n;
     let e = h.e;

@@ -12,7 +12,6 @@ use Rattle.merges.specs.Run.{flat, runOf}
 use Rattle.engine.specs.Lists.{livingOf}
 use Rattle.judge.specs.declared.Judged.{Judged}
 pub mod Laws
-pub mod Found
 pub mod Lists
 pub mod Short
 

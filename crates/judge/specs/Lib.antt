@@ -1,3 +1,2 @@
--- The judgement of an accepted sheet.
-pub mod Listing
+-- The judgement of a constraint graph.
 pub mod Judged

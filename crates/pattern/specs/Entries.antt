@@ -17,7 +17,6 @@ use Rattle.account.specs.Account.{savedField}
 use Rattle.pattern.specs.declared.Judgement.{Judgement}
 use Rattle.pattern.specs.declared.Judgement.the-variants.{Is, Refused}
 pub mod Reading
-pub mod Judging
 pub mod Sketches
 pub mod Agree
 

@@ -1,19 +1,16 @@
 // The public crate: every entry point that a user calls, each with its whole contract and no precondition. specs/ says what each answers.
 ghost use mathlib.Core.Path.{_≡_};
 ghost use mathlib.Core.List.{[], _∷_};
-ghost use Prim.Native.Nat.{_<_};
 ghost use Rattle.space.specs.Space.{answer, after};
 ghost use Rattle.sheet.specs.Answer.{Answers};
 ghost use Rattle.sheet.specs.Decode.{readSheet};
-ghost use Rattle.sheet.specs.Facts.{factsOf};
-ghost use Rattle.sheet.specs.Rules.{sheetFault};
 ghost use Rattle.reader.specs.Answers.{asReading};
 ghost use Rattle.writer.specs.Write.{writeField};
 ghost use Rattle.judge.specs.Judged.{planNumbers, finalClusters};
 ghost use Rattle.sketch.specs.Sketch.{addedOf};
 ghost use Rattle.account.specs.Account.{reportOf};
 ghost use Rattle.pattern.specs.Entries.{itemsField, rewriteField, verdictField, asJudgement, overNumbers};
-ghost use Rattle.pattern.specs.Entries.{heldSheet, checkField, longer, extendField};
+ghost use Rattle.pattern.specs.Entries.{heldSheet, checkField, extendField};
 use graph::Head;
 use reader::Cursor;
 use reader::GraphRead;
@@ -70,13 +67,14 @@ fn put_two(a: u64, b: u64, out: &mut [u64]) -> Written
 pub fn over(bytes: &[u8], out: &mut [u64]) -> Written
     ensures { λ r. ⌜ Answers (itemsField overNumbers (now (bytes .entry))) (now (out .entry)) r (now (out .exit)) ⌝ }
 {
-    let reading = reader::read_sheet(bytes);
-    let outcome = reading.outcome;
-    let Outcome::Accepted = outcome else {
-        return Written::Refused(reader::refusal(outcome));
+    let mut near = [0u64; 64];
+    let mut start = [0u64; 200];
+    let mut sizes = [0i32; 200];
+    let got = reader::read_graph(bytes, &mut near, &mut start, &mut sizes);
+    let GraphRead::Value(head) = got else {
+        return Written::Refused(got.refusal());
     };
-    let sheet = reading.sheet;
-    let found = judge::over_of(sheet);
+    let found = judge::over_of(head, &near, &start);
     let Finding::First { constraint, set } = found else {
         return Written::Done(0);
     };
@@ -93,13 +91,14 @@ pub enum Judgement {
 pub fn verdict(bytes: &[u8]) -> Judgement
     ensures { λ r. ⌜ r ≡ asJudgement (verdictField (now (bytes .entry))) ⌝ }
 {
-    let reading = reader::read_sheet(bytes);
-    let outcome = reading.outcome;
-    let Outcome::Accepted = outcome else {
-        return Judgement::Refused(reader::refusal(outcome));
+    let mut near = [0u64; 64];
+    let mut start = [0u64; 200];
+    let mut sizes = [0i32; 200];
+    let got = reader::read_graph(bytes, &mut near, &mut start, &mut sizes);
+    let GraphRead::Value(head) = got else {
+        return Judgement::Refused(got.refusal());
     };
-    let sheet = reading.sheet;
-    let is = judge::verdict_of(sheet);
+    let is = judge::verdict_of(head, &near, &start);
     Judgement::Is(is)
 }
 
@@ -107,13 +106,14 @@ pub fn verdict(bytes: &[u8]) -> Judgement
 pub fn plan(bytes: &[u8], out: &mut [u16]) -> Written
     ensures { λ r. ⌜ Answers (itemsField planNumbers (now (bytes .entry))) (now (out .entry)) r (now (out .exit)) ⌝ }
 {
-    let reading = reader::read_sheet(bytes);
-    let outcome = reading.outcome;
-    let Outcome::Accepted = outcome else {
-        return Written::Refused(reader::refusal(outcome));
+    let mut near = [0u64; 64];
+    let mut start = [0u64; 200];
+    let mut sizes = [0i32; 200];
+    let got = reader::read_graph(bytes, &mut near, &mut start, &mut sizes);
+    let GraphRead::Value(head) = got else {
+        return Written::Refused(got.refusal());
     };
-    let sheet = reading.sheet;
-    let judged = judge::judge(sheet);
+    let judged = judge::judge(head, &near, &start);
     let run = judged.run;
     engine::put_plan(run, out)
 }
@@ -122,13 +122,14 @@ pub fn plan(bytes: &[u8], out: &mut [u16]) -> Written
 pub fn clusters(bytes: &[u8], out: &mut [u64]) -> Written
     ensures { λ r. ⌜ Answers (itemsField finalClusters (now (bytes .entry))) (now (out .entry)) r (now (out .exit)) ⌝ }
 {
-    let reading = reader::read_sheet(bytes);
-    let outcome = reading.outcome;
-    let Outcome::Accepted = outcome else {
-        return Written::Refused(reader::refusal(outcome));
+    let mut near = [0u64; 64];
+    let mut start = [0u64; 200];
+    let mut sizes = [0i32; 200];
+    let got = reader::read_graph(bytes, &mut near, &mut start, &mut sizes);
+    let GraphRead::Value(head) = got else {
+        return Written::Refused(got.refusal());
     };
-    let sheet = reading.sheet;
-    let judged = judge::judge(sheet);
+    let judged = judge::judge(head, &near, &start);
     let run = judged.run;
     let slots = run.slots;
     engine::put_clusters(&slots, 192, out)
@@ -138,26 +139,28 @@ pub fn clusters(bytes: &[u8], out: &mut [u64]) -> Written
 pub fn report(bytes: &[u8], out: &mut [u8]) -> Written
     ensures { λ r. ⌜ Answers (itemsField reportOf (now (bytes .entry))) (now (out .entry)) r (now (out .exit)) ⌝ }
 {
-    let reading = reader::read_sheet(bytes);
-    let outcome = reading.outcome;
-    let Outcome::Accepted = outcome else {
-        return Written::Refused(reader::refusal(outcome));
+    let mut near = [0u64; 64];
+    let mut start = [0u64; 200];
+    let mut sizes = [0i32; 200];
+    let got = reader::read_graph(bytes, &mut near, &mut start, &mut sizes);
+    let GraphRead::Value(head) = got else {
+        return Written::Refused(got.refusal());
     };
-    let sheet = reading.sheet;
-    account::report(sheet, out)
+    account::report(head, &near, &start, &sizes, out)
 }
 
 // The check of a saved plan, three numbers a step, against a sheet; the report for that plan, or the rule of 1 to 17 that refuses.
 pub fn check_plan(bytes: &[u8], plan: &[u16], out: &mut [u8]) -> Written
     ensures { λ r. ⌜ Answers (checkField (now (bytes .entry)) (now (plan .entry))) (now (out .entry)) r (now (out .exit)) ⌝ }
 {
-    let reading = reader::read_sheet(bytes);
-    let outcome = reading.outcome;
-    let Outcome::Accepted = outcome else {
-        return Written::Refused(reader::refusal(outcome));
+    let mut near = [0u64; 64];
+    let mut start = [0u64; 200];
+    let mut sizes = [0i32; 200];
+    let got = reader::read_graph(bytes, &mut near, &mut start, &mut sizes);
+    let GraphRead::Value(head) = got else {
+        return Written::Refused(got.refusal());
     };
-    let sheet = reading.sheet;
-    account::check_plan(sheet, plan, out)
+    account::check_plan(head, &near, &start, &sizes, plan, out)
 }
 
 // ---- a held sketch
@@ -166,17 +169,22 @@ pub fn check_plan(bytes: &[u8], plan: &[u16], out: &mut [u8]) -> Written
 pub fn hold(bytes: &[u8]) -> Reading
     ensures { λ r. ⌜ r ≡ asReading (heldSheet (now (bytes .entry))) ⌝ }
 {
-    let reading = reader::read_sheet(bytes);
-    let outcome = reading.outcome;
-    let Outcome::Accepted = outcome else {
-        return reading;
+    let mut near = [0u64; 64];
+    let mut start = [0u64; 200];
+    let mut sizes = [0i32; 200];
+    let got = reader::read_graph(bytes, &mut near, &mut start, &mut sizes);
+    let GraphRead::Value(head) = got else {
+        return reader::refuse(got.refusal());
     };
-    let sheet = reading.sheet;
-    let over = sketch::over_fault(sheet);
+    let over = judge::over_fault(head, &near, &start);
     if over != 0 {
         return reader::refuse(over);
     }
-    reading
+    let sheet = graph::sheet_of(head, &start, &sizes);
+    Reading {
+        outcome: Outcome::Accepted,
+        sheet,
+    }
 }
 
 // A held sketch with one more constraint and its verdict, or the rule of 6 to 9 and 11 that refuses it; of a value that no sketch may hold, the rule
@@ -187,21 +195,27 @@ pub fn add(held: Sheet, c: Constraint) -> Added
     sketch::add(held, c)
 }
 
-// A sheet with one more constraint as bytes, or the rule of 2 and 6 to 10 that refuses it.
-fn read_more(sheet: Sheet, bytes: &[u8]) -> Reading
-    requires { ⌜ (sheetFault sheet ≡ 0) × (sheet .e < 200) ⌝ }
-    ensures { λ r. ⌜ r ≡ asReading (longer (factsOf sheet) (now (bytes .entry))) ⌝ }
+// A sheet with one more constraint, both as bytes, or the rule of 1 to 11 and 17 that refuses them.
+pub fn extend(bytes: &[u8], constraint: &[u8], out: &mut [u8]) -> Written
+    ensures { λ r. ⌜ Answers (extendField (now (bytes .entry)) (now (constraint .entry))) (now (out .entry)) r (now (out .exit)) ⌝ }
 {
     let mut near = [0u64; 64];
     let mut start = [0u64; 200];
     let mut sizes = [0i32; 200];
-    let head = graph::fill(sheet, &mut near, &mut start, &mut sizes);
+    let got = reader::read_graph(bytes, &mut near, &mut start, &mut sizes);
+    let GraphRead::Value(head) = got else {
+        return Written::Refused(got.refusal());
+    };
+    let held = judge::over_fault(head, &near, &start);
+    if held != 0 {
+        return Written::Refused(held);
+    }
     let n = head.n;
     let e = head.e;
     let lines = head.lines;
     let front = Cursor { at: 0 };
-    let got = reader::read_constraints(
-        bytes,
+    let last = reader::read_constraints(
+        constraint,
         front,
         n,
         lines,
@@ -211,35 +225,14 @@ fn read_more(sheet: Sheet, bytes: &[u8]) -> Reading
         &mut start,
         &mut sizes,
     );
-    let Outcome::Accepted = got else {
-        return reader::refuse(reader::refusal(got));
-    };
-    let more = graph::sheet_of(Head { n, e: e + 1, lines }, &start, &sizes);
-    Reading {
-        outcome: Outcome::Accepted,
-        sheet: more,
-    }
-}
-
-// A sheet with one more constraint, both as bytes, or the rule of 1 to 11 and 17 that refuses them.
-pub fn extend(bytes: &[u8], constraint: &[u8], out: &mut [u8]) -> Written
-    ensures { λ r. ⌜ Answers (extendField (now (bytes .entry)) (now (constraint .entry))) (now (out .entry)) r (now (out .exit)) ⌝ }
-{
-    let reading = hold(bytes);
-    let outcome = reading.outcome;
-    let Outcome::Accepted = outcome else {
-        return Written::Refused(reader::refusal(outcome));
-    };
-    let sheet = reading.sheet;
-    let extended = read_more(sheet, constraint);
-    let last = extended.outcome;
     let Outcome::Accepted = last else {
         return Written::Refused(reader::refusal(last));
     };
-    let more = extended.sheet;
-    let fault = sketch::over_fault(more);
+    let next = Head { n, e: e + 1, lines };
+    let fault = judge::over_fault(next, &near, &start);
     if fault != 0 {
         return Written::Refused(fault);
     }
+    let more = graph::sheet_of(next, &start, &sizes);
     writer::write_accepted(more, out)
 }

@@ -2,13 +2,10 @@
 // rule refuses, what is answered and what the sketch is then.
 ghost use mathlib.Core.Path.{_≡_};
 ghost use Prim.Native.Nat.{_<_};
-ghost use Rattle.sheet.specs.Facts.{factsOf};
-ghost use Rattle.sheet.specs.Rules.{constraintFault, sheetFault};
-ghost use Rattle.sheet.specs.Graph.{graphOf, overFault};
-ghost use Rattle.sketch.specs.Sketch.{holdFault, stored, addedOf};
+ghost use Rattle.sketch.specs.Sketch.{stored, addedOf};
+use graph::Head;
 use sheet::Constraint;
 use sheet::Sheet;
-use theory::Finding;
 use theory::Verdict;
 
 // The answer to an addition: the verdict of the sketch with the constraint, or the rule that refuses it.
@@ -23,46 +20,8 @@ pub struct Added {
     pub sketch: Sheet,
 }
 
-// Rule 11: 11 of an over sheet, else 0.
-pub fn over_fault(s: Sheet) -> u8
-    requires { ⌜ sheetFault s ≡ 0 ⌝ }
-    ensures { λ r. ⌜ r ≡ overFault (graphOf (factsOf s)) ⌝ }
-{
-    let found = judge::over_of(s);
-    match found {
-        Finding::First {
-            constraint: _,
-            set: _,
-        } => 11,
-        Finding::Fine => 0,
-    }
-}
-
-// The rule of 3, 5 to 9 and 11 that refuses to hold a sketch from the facts, or 0.
-pub fn hold_fault(s: Sheet) -> u8
-    ensures { λ r. ⌜ r ≡ holdFault s ⌝ }
-{
-    let k = sheet::sheet_fault(s);
-    if k != 0 {
-        return k;
-    }
-    over_fault(s)
-}
-
-// The rule of 6 to 9 that refuses one more constraint, or 0.
-fn last_fault(s: Sheet, c: Constraint) -> u8
-    requires { ⌜ sheetFault s ≡ 0 ⌝ }
-    ensures { λ r. ⌜ r ≡ constraintFault (factsOf s .elements) (factsOf s .constraints) c ⌝ }
-{
-    let mut near = [0u64; 64];
-    let mut start = [0u64; 200];
-    let mut sizes = [0i32; 200];
-    let head = graph::fill(s, &mut near, &mut start, &mut sizes);
-    sheet::constraint_fault(&near, head.n, head.lines, c)
-}
-
 // The sheet with one constraint more, the last.
-pub fn store(s: Sheet, c: Constraint) -> Sheet
+fn store(s: Sheet, c: Constraint) -> Sheet
     requires { ⌜ s .e < 200 ⌝ }
     ensures { λ r. ⌜ r ≡ stored s c ⌝ }
 {
@@ -87,19 +46,44 @@ fn refused(s: Sheet, k: u8) -> Added
 pub fn add(s: Sheet, c: Constraint) -> Added
     ensures { λ r. ⌜ r ≡ addedOf s c ⌝ }
 {
-    let held = hold_fault(s);
+    let facts = sheet::sheet_fault(s);
+    if facts != 0 {
+        return refused(s, facts);
+    }
+    let mut near = [0u64; 64];
+    let mut start = [0u64; 200];
+    let mut sizes = [0i32; 200];
+    let head = graph::fill(s, &mut near, &mut start, &mut sizes);
+    let held = judge::over_fault(head, &near, &start);
     if held != 0 {
         return refused(s, held);
     }
-    let last = last_fault(s, c);
+    let last = sheet::constraint_fault(&near, head.n, head.lines, c);
     if last != 0 {
         return refused(s, last);
     }
+    let e = head.e;
+    let size = c.size;
+    graph::note(
+        &mut near,
+        &mut start,
+        &mut sizes,
+        e,
+        c.first,
+        c.second,
+        graph::size_of(size),
+    );
+    let next = Head {
+        n: head.n,
+        e: e + 1,
+        lines: head.lines,
+    };
     let more = store(s, c);
-    let verdict = judge::verdict_of(more);
-    if verdict.number() == 0 {
-        return refused(s, 11);
+    let over = judge::over_fault(next, &near, &start);
+    if over != 0 {
+        return refused(s, over);
     }
+    let verdict = judge::verdict_of(next, &near, &start);
     Added {
         answer: Taken::Is(verdict),
         sketch: more,

@@ -5,9 +5,8 @@ use mathlib.Core.Path.{_≡_, refl, sym, ap, _∙_}
 use mathlib.Core.Logic.{_≢_}
 use mathlib.Core.List.{List, []}
 use lib.ListN.{length}
-use Rattle.theory.specs.Constraints.{Pairs, Below, NotOver}
-use Rattle.theory.specs.Over.Laws.{overOf-fine, overOf-first}
-use Rattle.theory.specs.Merge.{Valid}
+use Rattle.theory.specs.Constraints.{NotOver}
+use Rattle.theory.specs.Over.Laws.{overOf-first}
 use Rattle.theory.specs.Plan.{planOf}
 use Rattle.theory.specs.Plan.Laws.{plan-of-maximal}
 use Rattle.theory.specs.Verdict.{verdictNumber}
@@ -20,7 +19,9 @@ use Rattle.sheet.specs.Field.{value, refused}
 use Rattle.sheet.specs.Rules.{or-else}
 use Rattle.sheet.specs.Answer.{byRule}
 use Rattle.sheet.specs.Graph.{overFault}
-use Rattle.merges.specs.Run.{runOf}
+use Rattle.graph.specs.Lent.{Sound}
+use Rattle.graph.specs.Lent.Sheets.{found-fine}
+use Rattle.merges.specs.Run.{runOf, Merged}
 use Rattle.judge.specs.declared.Judged.{Judged}
 use Rattle.judge.specs.Judged.{listed, overFound, judgedBy, judgedOf}
 use Rattle.plans.specs.declared.Outcome.the-variants.{Accepted, Refused as Stopped}
@@ -32,7 +33,7 @@ use Rattle.account.specs.Account.{listReport, reportBy, reportOf, savedF
 
 -- ---- the judgement
 
-module _ (g : Graph) (paired : Pairs (g .clusters)) (below : Below (g .n) (g .clusters)) (j : Judged) (e : j ≡ judgedOf g) where
+module _ (g : Graph) (sound : Sound (g .n) (g .clusters)) (j : Judged) (e : j ≡ judgedOf g) where
   -- an over sheet
   pub record OverFound : Type 0 where
     pub first-below : j .first < length (g .clusters)
@@ -40,44 +41,42 @@ module _ (g : Graph) (paired : Pairs (g .clusters)) (below : Below (g .n) (g .cl
 
   pub over-found : verdictNumber (j .verdict) ≡ 0 → OverFound
   unfolding judgedOf reportOf listed
-  over-found v = go (findingOf g) refl
+  over-found v = by-finding (findingOf g) refl
     where
-      go : (o : Finding) → findingOf g ≡ o → OverFound
-      go Fine q =
+      by-finding : (o : Finding) → findingOf g ≡ o → OverFound
+      by-finding Fine q =
           absurd
           (list-not-over g (planOf (g .clusters)) (number-over _ (sym (ap (λ (x : Judged). verdictNumber (x .verdict)) (e ∙ ap (judgedBy g) q)) ∙ v)))
-      go (First c x) q =
+      by-finding (First c x) q =
           let i : j ≡ overFound c x = e ∙ ap (judgedBy g) q in
           record {
-            first-below = rw i (omega (arith, overOf-first (g .n) (g .clusters) paired below c x q .listed));
+            first-below = rw i (omega (arith, overOf-first (g .n) (g .clusters) (sound .simple .pairs) (sound .below) c x q .listed));
             report-is = ap (λ (y : Judged). overReport (g .n) (length (g .clusters)) (y .first) (y .set)) i ∙ sym (ap (reportBy g) q);
           }
 
   -- one that is not
   pub record PlanFound : Type 0 where
     pub notOver : NotOver (g .clusters)
-    pub valid : Valid (g .clusters) (planOf (g .clusters))
-    pub is : j .run ≡ runOf (g .clusters) (planOf (g .clusters))
-    pub report-is : listReport g (planOf (g .clusters)) ≡ reportOf g
+    pub merged : Merged (g .clusters) (j .run)
+    pub report-is : listReport g (merged .p) ≡ reportOf g
 
   pub plan-found : verdictNumber (j .verdict) ≢ 0 → PlanFound
   unfolding judgedOf reportOf listed
-  plan-found v = go (findingOf g) refl
+  plan-found v = by-finding (findingOf g) refl
     where
-      go : (o : Finding) → findingOf g ≡ o → PlanFound
-      go Fine q = record {
-        notOver = overOf-fine (g .n) (g .clusters) paired below q;
-        valid = plan-of-maximal (g .clusters) paired .valid;
-        is = ap (λ (x : Judged). x .run) (e ∙ ap (judgedBy g) q);
+      by-finding : (o : Finding) → findingOf g ≡ o → PlanFound
+      by-finding Fine q = record {
+        notOver = found-fine sound q;
+        merged = record {
+          p = planOf (g .clusters);
+          valid = plan-of-maximal (g .clusters) (sound .simple .pairs) .valid;
+          is = ap (λ (x : Judged). x .run) (e ∙ ap (judgedBy g) q);
+        };
         report-is = sym (ap (reportBy g) q);
       }
-      go (First c x) q = absurd (v (ap (λ (x : Judged). verdictNumber (x .verdict)) (e ∙ ap (judgedBy g) q)))
+      by-finding (First c x) q = absurd (v (ap (λ (x : Judged). verdictNumber (x .verdict)) (e ∙ ap (judgedBy g) q)))
 
 -- ---- the check of a saved plan
-
-pub rule-11 : (g : Graph) {c x : ℕ} → findingOf g ≡ First c x → overFault g ≡ 11
-unfolding overFault
-rule-11 g q = rw q
 
 -- 11, and then the rules of the plan check, are the rules that refuse a saved plan
 pub saved-rule : (g : Graph) (l : List ℕ) → byRule (overFault g) (savedField g l) ≡ byRule (savedFault g l) (value (listReport g (savedSteps l)) [])
@@ -99,9 +98,8 @@ module _ (g : Graph) (l : List ℕ) (r : Checked) (e : r ≡ checkOf (g .cluster
       by (suc rule) h = let n : suc rule ≡ k = cc in ap refused n
 
   pub record Took : Type 0 where
-    pub valid : Valid (g .clusters) (savedSteps l)
-    pub is : r .run ≡ runOf (g .clusters) (savedSteps l)
-    pub gives : savedField g l ≡ value (listReport g (savedSteps l)) []
+    pub merged : Merged (g .clusters) (r .run)
+    pub gives : savedField g l ≡ value (listReport g (merged .p)) []
 
   pub saved-taken : r .outcome ≡ Accepted → Took
   unfolding checkOf
@@ -109,8 +107,11 @@ module _ (g : Graph) (l : List ℕ) (r : Checked) (e : r ≡ checkOf (g .cluster
     where
       by : (rule : ℕ) → planFault (g .clusters) l ≡ rule → Accepted ≡ answerOf rule (runOf (g .clusters) (savedSteps l)) .outcome → Took
       by zero p h = record {
-        valid = accepted-maximal (g .clusters) l .0 p .1 .valid;
-        is = ap (λ (x : Checked). x .run) (e ∙ ap (λ (k : ℕ). answerOf k (runOf (g .clusters) (savedSteps l))) p);
+        merged = record {
+          p = savedSteps l;
+          valid = accepted-maximal (g .clusters) l .0 p .1 .valid;
+          is = ap (λ (x : Checked). x .run) (e ∙ ap (λ (k : ℕ). answerOf k (runOf (g .clusters) (savedSteps l))) p);
+        };
         gives = rw p;
       }
       by (suc rule) p h = absurd (let z : _≡_ {A = ℕ} 0 1 = cc in omega arith)

@@ -7,12 +7,12 @@ use mathlib.Core.Path.{_≡_, refl, sym, _∙_}
 use lib.IntN.{pos}
 use mir.Facts.{toZ-ofZ}
 use mir.Syntax.{w32}
-use lib.ListN.{length, take, getD}
+use lib.ListN.{length, take, getD, length-map}
 use lib.Seq.{take-suc, getD-take, length-take-le}
-use Rattle.sheet.proofs.Passed.{elements-long, constraints-long}
 use Rattle.sheet.specs.declared.Constraint.{Constraint}
 use Rattle.sheet.specs.declared.Size.the-variants.{Given}
 use Rattle.sheet.specs.Facts.{factsOf}
+use Rattle.sheet.specs.Accepted.{Accepted}
 use Rattle.sheet.specs.Rules.Laws.{constraints-most, elements-most}
 use Rattle.sheet.specs.Accepted.Laws.{sheetFault-none, factsOf-accepted}
 use Rattle.graph.specs.Lent.{InArrays, Unpacks}
@@ -31,20 +31,25 @@ abbrev μ-loop : tie.MeasureT-loop
 μ-loop near₀ start₀ sizes₀ s n e i₀ near start sizes i = s .e - i
 
 module _ (c : tie.Start Inv-loop μ-loop) where
-  long : length (c .args .t1 .constraints) ≡ 200
-  long = constraints-long (c .args .t1) (c .good .0)
+  long : (length (c .args .t1 .elements) ≡ 64) × (length (c .args .t1 .constraints) ≡ 200)
+  long = (
+    sym (length-map (c .args .t1 .elements) _) ∙ c .good .0 .1 .1 .1 .1 .0 .1 .0 .1,
+    sym (length-map (c .args .t1 .constraints) _) ∙ c .good .0 .1 .1 .1 .1 .1 .0 .1 .0 .1,
+  )
+
+  accepted : Accepted (factsOf (c .args .t1))
+  accepted = factsOf-accepted (c .args .t1) (long .0) (long .1) (c .pre .0)
 
   few : (c .args .t1 .n ≤ 64) × (c .args .t1 .e ≤ 200)
   few = let h = sheetFault-none (c .args .t1) (c .pre .0) in (elements-most _ (h .0), constraints-most _ (h .1))
 
   counted : length (take (c .args .t1 .e) (c .args .t1 .constraints)) ≡ c .args .t1 .e
-  counted = length-take-le (c .args .t1 .e) (c .args .t1 .constraints) (rw long (few .1))
+  counted = length-take-le (c .args .t1 .e) (c .args .t1 .constraints) (rw (long .1) (few .1))
 
   unpacks : (i : ℕ) → i < c .args .t1 .e → Unpacks (getD (c .args .t1 .constraints) i zeros)
   unpacks i l =
       let s = c .args .t1 in
-      let ok = factsOf-accepted s (elements-long s (c .good .0)) long (c .pre .0) in
-      rw (getD-take (s .e) (s .constraints) i zeros l) at (accepted-unpack (factsOf s) i zeros ok (rw counted l))
+      rw (getD-take (s .e) (s .constraints) i zeros l) at (accepted-unpack (factsOf s) i zeros accepted (rw counted l))
 
 loop-holds : tie.Need-loop-holds Inv-loop μ-loop
 loop-holds c = (omega arith, rw (c .pre .1, c .pre .2, c .pre .3) in-arrays-none)
@@ -69,7 +74,7 @@ loop-again c =
     let s = c .before .before .before .before .before .before .before .before in
     let a = c .before .before .before .before .before .before .before .loop in
     let cs = s .args .t1 .constraints in
-    let i : a .i < length cs = omega (arith, few s, long s) in (
+    let i : a .i < length cs = omega (arith, few s, long s .1) in (
       omega arith,
       rw (add-one, take-suc cs (a .i) zeros i)
           (c .note .ensures (take (a .i) cs) (getD cs (a .i) zeros) (length-take-le (a .i) cs (omega arith))
@@ -88,8 +93,8 @@ returns c =
     let a = c .before .before .before .loop in
     let same : a .i ≡ s .args .t1 .e = omega arith in
     let n : length (take (s .args .t1 .n) (s .args .t1 .elements)) ≡ s .args .t1 .n =
-    length-take-le (s .args .t1 .n) (s .args .t1 .elements) (rw (elements-long (s .args .t1) (s .good .0)) (few s .0)) in
-    (cc (c .lines-of .ensures, counted s), rw (← same) (a .inv .1))
+    length-take-le (s .args .t1 .n) (s .args .t1 .elements) (rw (long s .0) (few s .0)) in
+    record { accepted = accepted s; head-is = cc (c .lines-of .ensures, counted s); arrays = rw (← same) (a .inv .1) }
 
 pub fill-spec : {M : Type 1} → statement M
 fill-spec =

@@ -13,10 +13,9 @@ use lib.Seq.{take-suc, take-suc-set, take-all}
 use Rattle.sheet.specs.declared.Constraint.{Constraint}
 use Rattle.sheet.specs.Facts.{Facts, blankConstraint, sheetOf}
 use Rattle.sheet.specs.Facts.Laws.{elementsOf-linesOf, still-blank, filled}
-use Rattle.sheet.specs.Accepted.{Accepted}
 use Rattle.sheet.specs.Graph.{sizeOf}
 use Rattle.graph.specs.declared.Head.{Head}
-use Rattle.graph.specs.Lent.{headOf, InArrays}
+use Rattle.graph.specs.Lent.{SheetIn}
 use Rattle.graph.specs.Lent.Laws.{pair-in-start, size-in-sizes, accepted-unpack}
 use Rattle.graph.proofs.sheet_of.Statement.{statement}
 use Rattle.graph.proofs.sheet_of.Tie as tie
@@ -25,7 +24,7 @@ record Turn (h : Head) (start : List ℕ) (sizes : List ℤ) (cs : List Constrai
   turns : i ≤ h .e
   places : length cs ≡ 200
   blank : drop i cs ≡ replicate (200 - i) blankConstraint
-  out : (f : Facts) (near : List ℕ) → Accepted f → h ≡ headOf f → InArrays (f .constraints) near start sizes → take i cs ≡ take i (f .constraints)
+  out : (f : Facts) (near : List ℕ) → SheetIn f h near start sizes → take i cs ≡ take i (f .constraints)
 
 abbrev Inv-loop : tie.InvT-loop
 Inv-loop h start sizes n e cs₀ i₀ cs i = Turn h start sizes cs i
@@ -42,24 +41,26 @@ loop-again c =
       turns = omega arith;
       places = rw length-set (a .inv .places);
       blank = still-blank (a .cs) 200 (a .i) blankConstraint _ (omega (arith, s .pre .1)) (a .inv .blank);
-      out = λ f near ok is h.
-          let m : a .i < length (f .constraints) = omega (arith, ap (λ (x : Head). x .e) is) in
+      out = λ f near in-arrays.
+          let m : a .i < length (f .constraints) = omega (arith, ap (λ (x : Head). x .e) (in-arrays .head-is)) in
+          let h = in-arrays .arrays in
           let d = blankConstraint in
           let k = getD (f .constraints) (a .i) d in
           let z : sizeOf (k .size) ≡ _ =
           sym (toZ-ofZ {w = w32} {z = getD (s .args .sizes .now) (a .i) (pos 0)} (search needs) ∙ size-in-sizes h (a .i) d m) in
-          let got = c .constraint-in .ensures k (accepted-unpack f (a .i) d ok m) (pair-in-start h (a .i) d m) z in
-          rw (add-one, take-suc-set (a .cs) (a .i) _ l, take-suc (f .constraints) (a .i) d m, a .inv .out f near ok is h, got);
+          let got = c .constraint-in .ensures k (accepted-unpack f (a .i) d (in-arrays .accepted) m) (pair-in-start h (a .i) d m) z in
+          rw (add-one, take-suc-set (a .cs) (a .i) _ l, take-suc (f .constraints) (a .i) d m, a .inv .out f near in-arrays, got);
     }
 
 returns : tie.Need-returns Inv-loop μ-loop
 unfolding sheetOf
-returns c = λ f near ok is h.
+returns c = λ f near in-arrays.
     let s = c .before .before .before in
     let a = c .before .before .loop in
+    let is = in-arrays .head-is in
     let e : a .i ≡ length (f .constraints) = omega (arith, ap (λ (x : Head). x .e) is) in
     let l : a .i ≤ length (a .cs) = omega (arith, s .pre .1) in
-    let all : take (a .i) (a .cs) ≡ f .constraints = a .inv .out f near ok is h ∙ take-all (a .i) (f .constraints) (omega arith) in
+    let all : take (a .i) (a .cs) ≡ f .constraints = a .inv .out f near in-arrays ∙ take-all (a .i) (f .constraints) (omega arith) in
     let cs = filled (a .cs) 200 (a .i) blankConstraint l (a .inv .blank) in
     rw (is, c .elements-of .ensures, ap (λ (x : Head). x .n) is, ap (λ (x : Head). x .lines) is, elementsOf-linesOf (f .elements), cs, all)
 
@@ -67,6 +68,6 @@ pub sheet-of-spec : {M : Type 1} → statement M
 sheet-of-spec =
     tie.close
     (tie.spec Inv-loop μ-loop
-    (λ c. record { turns = omega arith; places = refl; blank = refl; out = λ f near ok is h. refl })
+    (λ c. record { turns = omega arith; places = refl; blank = refl; out = λ f near in-arrays. refl })
     (λ c. search needs) (λ c. search needs) (λ c. search needs) (λ c. search needs) (λ c κs. search needs) (λ c. search needs) (λ c. search needs)
     (λ c. search needs) (λ c. search needs) loop-again (λ c κs. c .before .before .pre .0) returns)

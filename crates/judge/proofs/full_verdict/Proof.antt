@@ -1,27 +1,23 @@
+-- `judge::full_verdict` meets its contract: what peels off to the last element is well, or angle where three lines went so. Assumes nothing.
 use borrow.Author.Needs.{needs}
 use native.Mathlib.Omega.{arith}
 use mathlib.Core.Path.{sym}
-use Rattle.judge.specs.Judged.Short.{Whole, whole, angle-peeled, well-peeled}
+use Rattle.graph.specs.Lent.Sheets.{counted}
+use Rattle.judge.specs.Judged.Short.{angle-peeled, well-peeled}
 use Rattle.judge.proofs.full_verdict.Statement.{statement}
 use Rattle.judge.proofs.full_verdict.Tie as tie
 
-sheet : (c : tie.Start) → Whole (c .args .s)
-sheet c =
-    whole (c .args .s) (c .good .0) (c .pre .0)
-
 returns-2 : tie.Need-returns-2
 returns-2 c =
-    let s = c .before .before .before .before in
-    let p = c .before .before .before .peels in
-    sym (angle-peeled (s .args .s) (sheet s) (s .args .lines) (p .result .left) (p .result .angle) (s .pre .1) (s .pre .2) (p .ensures)
-    (omega (arith, c .before .if1 .left)) (c .if2 .taken))
+    let s = c .before .before .before .before .pre in
+    let t = c .before .before .before .peel-of .ensures _ (s .0 .sound .simple) (s .0 .near-is) .0 in
+    λ z. sym (angle-peeled _ (s .0 .sound) (omega (arith, s .1, counted (s .0))) t (omega (arith, c .before .if1 .left)) (c .if2 .taken))
 
 returns-3 : tie.Need-returns-3
 returns-3 c =
-    let s = c .before .before .before .before in
-    let p = c .before .before .before .peels in
-    sym (well-peeled (s .args .s) (sheet s) (s .args .lines) (p .result .left) (p .result .angle) (s .pre .1) (s .pre .2) (p .ensures)
-    (omega (arith, c .before .if1 .left)) (c .if2 .left))
+    let s = c .before .before .before .before .pre in
+    let t = c .before .before .before .peel-of .ensures _ (s .0 .sound .simple) (s .0 .near-is) .0 in
+    λ z. sym (well-peeled _ (s .0 .sound) (omega (arith, s .1, counted (s .0))) t (omega (arith, c .before .if1 .left)) (c .if2 .left))
 
 pub full-verdict-spec : {M : Type 1} → statement M
 full-verdict-spec =

@@ -1,47 +1,52 @@
+-- `judge::judge` meets its contract: what is found decides. Assumes nothing.
 use borrow.Author.Needs.{needs}
 use native.Mathlib.Omega.{arith}
-use mathlib.Core.Path.{sym, _∙_}
-use Rattle.sheet.specs.Facts.{factsOf}
-use Rattle.sheet.specs.Graph.{graphOf}
-use Rattle.judge.specs.Judged.Found.{not-found, first-found, not-over}
-use Rattle.judge.specs.Judged.Short.{Whole, whole}
+use mathlib.Core.Path.{refl, sym, _∙_}
+use mathlib.Core.List.{[]}
+use lib.ListN.{take}
+use Rattle.theory.specs.Constraints.{NotOver}
+use Rattle.graph.specs.Lent.{graphIn}
+use Rattle.graph.specs.Lent.Sheets.{counted, found-fine, fine-few}
+use Rattle.judge.specs.Judged.Laws.{starts, steps-few}
+use Rattle.judge.specs.Judged.Short.{first-judged, fine-judged}
 use Rattle.judge.proofs.judge.Statement.{statement}
 use Rattle.judge.proofs.judge.Tie as tie
 
-sheet : (c : tie.Start) → Whole (c .args .s)
-sheet c =
-    whole (c .args .s) (c .good .0) (c .pre)
+-- none is found
+module _ (c : tie.After-enum-told) where
+  abbrev start : tie.Start
+  start = c .before .before .before .before .before .before
 
-add-if1 : tie.Need-add-if1
-add-if1 c = omega (arith, sheet (c .before) .in-blocks .most)
+  fine : NotOver (take (start .args .h .e) (start .args .start .now))
+  fine = found-fine (start .pre .sound) (sym (c .before .before .over-of .ensures []) ∙ c .enum-told .given .1)
 
-mul-if1 : tie.Need-mul-if1
-mul-if1 c = omega (arith, sheet (c .before .before) .in-blocks .elements-most)
+merge-all-requires : tie.Need-merge-all-requires
+merge-all-requires c κs = let d = start c .pre in starts d (omega (arith, fine-few (d .sound) (fine c), counted d))
 
-plan-of-requires : tie.Need-plan-of-requires
-plan-of-requires c κs =
-    let s = c .before .before .before .before .before .before in
-    let o = c .before .before .over-of in (
-      s .pre,
-      not-over (graphOf (factsOf (s .args .s))) (o .result) (o .ensures) (sheet s .in-blocks .paired) (sheet s .in-blocks .below)
-          (c .enum-told .given .1),
+listed-requires : tie.Need-listed-requires
+listed-requires c κs =
+    let d = start (c .before) .pre in (
+      d .sound .most,
+      omega (arith, fine-few (d .sound) (fine (c .before)), counted d),
+      omega (arith, steps-few _ (d .sound .simple .pairs) (c .merge-all .ensures .merged), counted d),
     )
 
 returns-2 : tie.Need-returns-2
-returns-2 c =
-    let g = c .before .before .found .given in
-    let o = c .before .before .before .before .over-of in
-    c .over-found .ensures ∙ sym (first-found (graphOf (factsOf (c .before .before .before .before .before .before .before .before .args .s)))
-    (o .result) (o .ensures) (g .0 .0) (g .0 .1 .0) (g .1))
+returns-2 c = λ z.
+    let k = c .before in
+    let s = start (k .before) in
+    let d = s .pre in
+    c .listed .ensures _ (k .merge-all .ensures .merged) (d .sound .simple .pairs) refl refl (counted d)
+    ∙ fine-judged (graphIn (s .args .h) (s .args .start .now) z) (d .sound) (k .merge-all .ensures) (fine (k .before))
 
 returns-3 : tie.Need-returns-3
-returns-3 c =
-    let o = c .before .before .before .over-of in
-    c .plan-of .ensures ∙ sym (not-found (graphOf (factsOf (c .before .before .before .before .before .before .before .args .s))) (o .result)
-    (o .ensures) (c .before .enum-told .given .1))
+returns-3 c = λ z.
+    let s = c .before .before .before .before .before .before .before .before in
+    c .over-found .ensures
+    ∙ sym (first-judged _ (s .pre .sound) (sym (c .before .before .before .before .over-of .ensures z) ∙ c .before .before .found .given .1))
 
 pub judge-spec : {M : Type 1} → statement M
 judge-spec =
     tie.close
-    (tie.spec add-if1 mul-if1 (λ c κs. search needs) (λ c. search needs) (λ c κs. search needs) (λ c. search needs)
-    (λ c κs. search needs) (λ c. search needs) plan-of-requires returns-2 returns-3)
+    (tie.spec (λ c. search needs) (λ c. search needs) (λ c κs. search needs) (λ c. search needs) (λ c κs. search needs)
+    (λ c. search needs) (λ c. search needs) merge-all-requires listed-requires returns-2 (λ c κs. search needs) returns-3)

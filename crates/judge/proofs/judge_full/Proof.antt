@@ -1,65 +1,65 @@
+-- `judge::judge_full` meets its contract: one cluster left shows that it is not over, else what is found decides. Assumes nothing.
 use borrow.Author.Needs.{needs}
+use Prim.Native.Nat.{_*_, _≤_}
 use native.Mathlib.Omega.{arith}
-use mathlib.Core.Path.{sym, _∙_}
-use Rattle.sheet.specs.Facts.{factsOf}
-use Rattle.sheet.specs.Graph.{graphOf}
-use Rattle.judge.specs.Judged.Found.{not-found, first-found, not-over}
-use Rattle.judge.specs.Judged.Short.{Whole, whole, steps-room, one-left, fine-judged}
+use mathlib.Core.Path.{_≡_, refl, sym, _∙_}
+use mathlib.Core.List.{List}
+use lib.IntN.{ℤ}
+use lib.ListN.{take}
+use Rattle.theory.specs.Constraints.{NotOver}
+use Rattle.graph.specs.Lent.{graphIn}
+use Rattle.graph.specs.Lent.Sheets.{counted, found-fine}
+use Rattle.judge.specs.Judged.{judgedOf, listed}
+use Rattle.judge.specs.Judged.Laws.{starts, steps-few}
+use Rattle.judge.specs.Judged.Short.{first-judged, fine-judged, one-left}
 use Rattle.judge.proofs.judge_full.Statement.{statement}
 use Rattle.judge.proofs.judge_full.Tie as tie
 
-sheet : (c : tie.Start) → Whole (c .args .s)
-sheet c =
-    whole (c .args .s) (c .good .0) (c .pre .0)
+merge-all-requires : tie.Need-merge-all-requires
+merge-all-requires c κs = starts (c .pre .0) (omega (arith, c .pre .1, c .pre .0 .sound .most))
 
-run-of-requires : tie.Need-run-of-requires
-run-of-requires c κs = (c .pre .0, omega (arith, c .pre .1, sheet c .in-blocks .elements-most))
+-- the engine's merges
+module _ (c : tie.After-merge-all) where
+  abbrev start : tie.Start
+  start = c .before
 
-mul-if1 : tie.Need-mul-if1
-mul-if1 c =
-    let s = c .before .before in
-    omega (arith, steps-room (s .args .s) (sheet s) (c .before .run-of .result) (c .before .run-of .ensures .merged), sheet s .in-blocks .most)
+  room : (start .args .h .n ≤ 64) × (start .args .h .e ≤ 125) × (2 * c .merge-all .result .steps ≤ start .args .h .e)
+  room =
+      let d = start .pre .0 in (
+        d .sound .most,
+        omega (arith, start .pre .1, d .sound .most),
+        omega (arith, steps-few _ (d .sound .simple .pairs) (c .merge-all .ensures .merged), counted d),
+      )
 
-add-if1 : tie.Need-add-if1
-add-if1 c =
-    let s = c .before .before in
-    omega (arith, steps-room (s .args .s) (sheet s) (c .before .run-of .result) (c .before .run-of .ensures .merged), sheet s .in-blocks .most)
-
-listed-by-requires : tie.Need-listed-by-requires
-listed-by-requires c κs =
-    let s = c .before .before .before .before in
-    (s .pre .0, omega (arith, s .pre .1, sheet s .in-blocks .elements-most), c .before .before .before .run-of .ensures)
+  judged-is : NotOver (take (start .args .h .e) (start .args .start .now)) → (z : List ℤ)
+      → listed (graphIn (start .args .h) (start .args .start .now) z) (c .merge-all .ensures .merged .p)
+      ≡ judgedOf (graphIn (start .args .h) (start .args .start .now) z)
+  judged-is fine z = fine-judged (graphIn (start .args .h) (start .args .start .now) z) (start .pre .0 .sound) (c .merge-all .ensures) fine
 
 returns : tie.Need-returns
-returns c =
-    let s = c .before .before .before .before .before in
-    let r = c .before .before .before .before .run-of in
-    let fine = one-left (s .args .s) (sheet s) (r .result) (r .ensures .merged) (c .before .if1 .taken) in
-    c .listed-by .ensures fine ∙ sym (fine-judged (s .args .s) (sheet s) fine)
-
-listed-by-requires-2 : tie.Need-listed-by-requires-2
-listed-by-requires-2 c κs =
-    let s = c .before .before .before .before .before .before .before in
-    (s .pre .0, omega (arith, s .pre .1, sheet s .in-blocks .elements-most), c .before .before .before .before .before .before .run-of .ensures)
+returns c = λ z.
+    let k = c .before .before .before .before in
+    let d = start k .pre .0 in
+    let fine = one-left (graphIn (start k .args .h) (start k .args .start .now) z) (d .sound) (k .merge-all .ensures .merged)
+    (c .before .if1 .taken ∙ sym (counted d)) in
+    c .listed .ensures _ (k .merge-all .ensures .merged) (d .sound .simple .pairs) refl refl (counted d) ∙ judged-is k fine z
 
 returns-2 : tie.Need-returns-2
-returns-2 c =
-    let g = c .before .before .found .given in
-    let o = c .before .before .before .before .over-of in
-    c .over-found .ensures ∙ sym (first-found (graphOf (factsOf (c .before .before .before .before .before .before .before .before .before .args .s)))
-    (o .result) (o .ensures) (g .0 .0) (g .0 .1 .0) (g .1))
+returns-2 c = λ z.
+    let s = c .before .before .before .before .before .before .before .before .before in
+    c .over-found .ensures
+    ∙ sym (first-judged _ (s .pre .0 .sound) (sym (c .before .before .before .before .over-of .ensures z) ∙ c .before .before .constraint .given .1))
 
 returns-3 : tie.Need-returns-3
-returns-3 c =
-    let s = c .before .before .before .before .before .before .before .before in
-    let o = c .before .before .before .over-of in
-    let g = graphOf (factsOf (s .args .s)) in
-    let t = c .before .enum-told .given .1 in
-    c .listed-by2 .ensures (not-over g (o .result) (o .ensures) (sheet s .in-blocks .paired) (sheet s .in-blocks .below) t)
-    ∙ sym (not-found g (o .result) (o .ensures) t)
+returns-3 c = λ z.
+    let k = c .before .before .before .before .before .before .before in
+    let d = start k .pre .0 in
+    let fine = found-fine (d .sound) (sym (c .before .before .before .over-of .ensures z) ∙ c .before .enum-told .given .1) in
+    c .listed2 .ensures _ (k .merge-all .ensures .merged) (d .sound .simple .pairs) refl refl (counted d) ∙ judged-is k fine z
 
 pub judge-full-spec : {M : Type 1} → statement M
 judge-full-spec =
     tie.close
-    (tie.spec run-of-requires mul-if1 add-if1 listed-by-requires returns (λ c κs. search needs) (λ c. search needs)
-    (λ c κs. search needs) (λ c. search needs) listed-by-requires-2 returns-2 returns-3)
+    (tie.spec merge-all-requires (λ c. omega (arith, room (c .before))) (λ c. omega (arith, room (c .before))) (λ c κs. room (c .before .before .before))
+    returns (λ c κs. search needs) (λ c. search needs) (λ c κs. search needs) (λ c. search needs)
+    (λ c κs. room (c .before .before .before .before .before .before)) returns-2 returns-3)

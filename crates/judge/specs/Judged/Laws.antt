@@ -1,91 +1,42 @@
--- The arrays of a sheet's constraints are where the merging begins, and its verdict is the list's own. Assumes nothing.
+-- A list of merges in arrays: how many steps it has, and its own verdict from what they hold. Assumes nothing.
 use Prim.Native.Nat.{ℕ, _+_, _*_, _≤_}
 use native.Mathlib.Omega.{arith}
 use mathlib.Core.Path.{_≡_, sym, ap, _∙_}
-use mathlib.Core.List.{List, [], map}
-use lib.ListN.{length, take, length-map, length-append, length-replicate}
-use Rattle.theory.specs.Block.{block}
+use mathlib.Core.List.{List}
+use lib.ListN.{length, take}
 use Rattle.theory.specs.Block.Laws.{take-block}
-use Rattle.theory.specs.Constraints.{NotOver, Pairs}
-use Rattle.theory.specs.Over.Laws.{fine-most}
-use Rattle.theory.specs.Merge.{Merge, Valid, final, joints, left}
+use Rattle.theory.specs.Constraints.{Pairs}
+use Rattle.theory.specs.Merge.{final, joints, left}
 use Rattle.theory.specs.Merge.Count.{steps-left}
 use Rattle.theory.specs.Verdict.{judged}
 use Rattle.theory.specs.declared.Verdict.{Verdict}
-use Rattle.theory.specs.Graph.{listVerdict}
-use Rattle.sheet.specs.Facts.{Facts}
-use Rattle.sheet.specs.Rules.{constraintsFault}
-use Rattle.sheet.specs.Graph.{graphOf}
-use Rattle.sheet.specs.Graph.Laws.{length-clusters, clusters-pairs, clusters-below}
-use Rattle.graph.specs.Arrays.{endPair, EndsBelow64}
-use Rattle.merges.specs.Run.{runOf, Start}
+use Rattle.theory.specs.Graph.{Graph, listVerdict}
+use Rattle.graph.specs.declared.Head.{Head}
+use Rattle.merges.specs.Run.{runOf, Start, Merged}
 use Rattle.merges.specs.Run.Laws.{length-joints}
 use Rattle.merges.specs.declared.Run.{Run}
-use Rattle.judge.specs.Judged.{listed}
-use Rattle.judge.specs.Listing.Laws.{each-ends}
+use Rattle.graph.specs.Lent.{Drawn}
+use Rattle.graph.specs.Lent.Sheets.{counted}
 
-module _ (f : Facts) (elements : length (f .elements) ≤ 64) (constraints : length (f .constraints) ≤ 200)
-    (none : constraintsFault (f .elements) [] (f .constraints) ≡ 0) where
-  pub ends-in-64 : EndsBelow64 (f .constraints)
-  ends-in-64 = record {
-    firsts = λ i d l. let h = each-ends (f .elements) (f .constraints) [] none i d l in omega (arith, h);
-    seconds = λ i d l. let h = each-ends (f .elements) (f .constraints) [] none i d l in omega (arith, h);
-  }
+-- where the merging begins
+pub starts : {h : Head} {near start : List ℕ} → Drawn h near start → h .e ≤ 125 → Start start (h .e)
+starts d few = record { few = few; count = counted d; pairs = d .sound .simple .pairs }
 
-  -- the array of initial clusters
-  module _ (slots : List ℕ) (e : ℕ) (count : e ≡ length (f .constraints)) (are : slots ≡ block 200 0 (map endPair (f .constraints))) where
-    pub start-list : take e slots ≡ graphOf f .clusters
-    start-list =
-        ap (take e) are ∙ take-block 200 0 (map endPair (f .constraints)) e (count ∙ sym (simp length-map))
+module _ (cs : List ℕ) (paired : Pairs cs) {run : Run} (m : Merged cs run) where
+  pub steps-are : left (final cs (m .p)) + 2 * run .steps ≡ length cs
+  unfolding runOf
+  steps-are = omega (arith, steps-left cs paired (m .p) (m .valid), ap (λ (r : Run). r .steps) (m .is))
 
-    pub starts : length (f .constraints) ≤ 125 → Start slots e
-    starts most = record {
-      few = rw count most;
-      count = rw (start-list, count) (simp length-map);
-      pairs = rw start-list (clusters-pairs f none);
-    }
-
-module _ (f : Facts) (elements : length (f .elements) ≤ 64) (two : 2 ≤ length (f .elements)) (constraints : length (f .constraints) ≤ 200)
-    (none : constraintsFault (f .elements) [] (f .constraints) ≡ 0) (notOver : NotOver (graphOf f .clusters)) where
-  pub few : length (f .constraints) ≤ 125
-  few =
-      let m = fine-most (graphOf f .n) (graphOf f .clusters) two (clusters-below f none) notOver in
-      omega (arith, m, length-clusters f)
-
-  pub ends-below-64 : EndsBelow64 (f .constraints)
-  ends-below-64 = ends-in-64 f elements constraints none
-
-  module _ (slots : List ℕ) (e : ℕ) (count : e ≡ length (f .constraints)) (are : slots ≡ block 200 0 (map endPair (f .constraints))) where
-    pub fine-list : take e slots ≡ graphOf f .clusters
-    fine-list = start-list f elements constraints none slots e count are
-
-    pub fine-starts : Start slots e
-    fine-starts = starts f elements constraints none slots e count are few
-
--- ---- the judgement of a list of merges in arrays
-
-module _ (f : Facts) (p : List Merge) (paired : Pairs (graphOf f .clusters)) (valid : Valid (graphOf f .clusters) p) (run : Run)
-    (is : run ≡ runOf (graphOf f .clusters) p) where
   -- two clusters fewer at each step
-  pub steps-few : 2 * run .steps ≤ length (f .constraints)
-  unfolding runOf
-  steps-few = rw is (omega (arith, steps-left (graphOf f .clusters) paired p valid, length-clusters f))
+  pub steps-few : 2 * run .steps ≤ length cs
+  steps-few = omega (arith, steps-are)
 
-  pub joints-long : length (f .constraints) ≤ 125 → length (run .joints) ≡ 64
-  unfolding runOf
-  joints-long few =
-      let l : length (joints (graphOf f .clusters) p) ≤ 64 =
-      omega (arith, steps-left (graphOf f .clusters) paired p valid, length-clusters f, length-joints p (graphOf f .clusters)) in
-      rw (is, length-append, length-replicate) (omega arith)
-
-  pub settled : (lines n e : ℕ) (v : Verdict) → lines ≡ graphOf f .lines → n ≡ graphOf f .n → e ≡ length (f .constraints)
-      → ((finals : List ℕ) → left finals + 2 * run .steps ≡ e → v ≡ judged lines n e (take (run .steps) (run .joints)) finals)
-      → record { verdict = v; first = 0; set = 0; run = run } ≡ listed (graphOf f) p
-  unfolding runOf listed listVerdict
-  settled lines n e v l m k h =
-      let cs = graphOf f .clusters in
-      let tie : left (final cs p) + 2 * run .steps ≡ e =
-      omega (arith, steps-left cs paired p valid, ap (λ (r : Run). r .steps) is, length-clusters f) in
-      let a : v ≡ listVerdict (graphOf f) p =
-      h (final cs p) tie ∙ rw (is, l, m, k, ← length-clusters f, take-block 64 0 (joints cs p) (length p) (sym (length-joints p cs))) in
-      cc
+pub listed-verdict : (g : Graph) → Pairs (g .clusters) → {run : Run} (m : Merged (g .clusters) run) {h : Head} {v : Verdict}
+    → g .n ≡ h .n → g .lines ≡ h .lines → length (g .clusters) ≡ h .e
+    → ((finals : List ℕ) → left finals + 2 * run .steps ≡ h .e → v ≡ judged (h .lines) (h .n) (h .e) (take (run .steps) (run .joints)) finals)
+    → v ≡ listVerdict g (m .p)
+unfolding runOf listVerdict
+listed-verdict g paired m n lines e is =
+    let cs = g .clusters in
+    is (final cs (m .p)) (steps-are cs paired m ∙ e)
+    ∙ rw (m .is, ← lines, ← n, ← e, take-block 64 0 (joints cs (m .p)) (length (m .p)) (sym (length-joints (m .p) cs)))

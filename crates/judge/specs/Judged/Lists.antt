@@ -7,8 +7,6 @@ use lib.ListN.{length, take, replicate}
 use lib.Seq.{take-all}
 use Rattle.theory.specs.Block.{block}
 use Rattle.theory.specs.Block.Laws.{length-block, take-block}
-use Rattle.theory.specs.Constraints.{Pairs, Below, NotOver}
-use Rattle.theory.specs.Over.Laws.{overOf-fine}
 use Rattle.theory.specs.Merge.{final, joints}
 use Rattle.theory.specs.Merge.Count.{steps-left}
 use Rattle.theory.specs.Plan.{planOf, ascending}
@@ -17,6 +15,8 @@ use Rattle.theory.specs.declared.Finding.{Finding}
 use Rattle.theory.specs.declared.Finding.the-variants.{Fine, First}
 use Rattle.theory.specs.Graph.{Graph, findingOf, verdictOf}
 use Rattle.theory.specs.Graph.Laws.{first-verdict, fine-verdict}
+use Rattle.graph.specs.Lent.{Sound}
+use Rattle.graph.specs.Lent.Sheets.{found-fine, fine-few}
 use Rattle.merges.specs.Run.{flat, runOf}
 use Rattle.merges.specs.Run.Laws.{length-numbers, length-final}
 use Rattle.engine.specs.Lists.{livingOf}
@@ -35,8 +35,7 @@ living-append [] k = living-none k
 living-append (zero ∷ l) k = living-append l k
 living-append (suc x ∷ l) k = ap (λ (r : List ℕ). suc x ∷ r) (living-append l k)
 
-module _ (g : Graph) (paired : Pairs (g .clusters)) (below : Below (g .n) (g .clusters))
-    (few : NotOver (g .clusters) → length (g .clusters) ≤ 125) where
+module _ (g : Graph) (sound : Sound (g .n) (g .clusters)) where
   pub record Held (j : Judged) : Type 0 where
     pub steps-most : j .run .steps ≤ 62
     pub parts-long : length (j .run .parts) ≡ 192
@@ -50,9 +49,8 @@ module _ (g : Graph) (paired : Pairs (g .clusters)) (below : Below (g .n) (g .cl
   plan-held q =
       let cs = g .clusters in
       let p = planOf cs in
-      let v = plan-of-maximal cs paired .valid in
-      let s = steps-left cs paired p v in
-      let e = few (overOf-fine (g .n) cs paired below q) in
+      let s = steps-left cs (sound .simple .pairs) p (plan-of-maximal cs (sound .simple .pairs) .valid) in
+      let e = fine-few sound (found-fine sound q) in
       let l : length (flat (map ascending p)) ≡ 3 * length p = length-numbers p in
       let m : length (final cs p) ≡ length cs + length p = length-final p cs in
       record {
@@ -78,10 +76,10 @@ module _ (g : Graph) (paired : Pairs (g .clusters)) (below : Below (g .n) (g .cl
         verdict-is = sym (first-verdict g q);
       }
 
-  pub judged-held : Held (judgedOf g)
+  pub judged-held : {j : Judged} → j ≡ judgedOf g → Held j
   unfolding judgedOf
-  judged-held = go (findingOf g) refl
+  judged-held e = subst Held (sym e) (by-finding (findingOf g) refl)
     where
-      go : (o : Finding) → findingOf g ≡ o → Held (judgedBy g (findingOf g))
-      go Fine q = subst (λ (o : Finding). Held (judgedBy g o)) (sym q) (plan-held q)
-      go (First c x) q = subst (λ (o : Finding). Held (judgedBy g o)) (sym q) (over-held c x q)
+      by-finding : (o : Finding) → findingOf g ≡ o → Held (judgedBy g (findingOf g))
+      by-finding Fine q = subst (λ (o : Finding). Held (judgedBy g o)) (sym q) (plan-held q)
+      by-finding (First c x) q = subst (λ (o : Finding). Held (judgedBy g o)) (sym q) (over-held c x q)

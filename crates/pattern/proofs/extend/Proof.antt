@@ -1,94 +1,174 @@
--- `pattern::extend` meets its contract, step by step: the sketch is held, the constraint is read, rule 11, and the bytes. Assumes nothing.
+-- `pattern::extend` meets its contract: 11 of the graph that is read, one more constraint after it, 11 of both, and the bytes. Assumes nothing.
 use borrow.Author.Needs.{needs}
-use Prim.Native.Nat.{ℕ}
-use mathlib.Core.Path.{_≡_, sym, ap, _∙_, subst}
-use mathlib.Core.List.{List}
-use Rattle.sheet.specs.Facts.{Facts}
+use Prim.Native.Nat.{_<_, _+_, _-_}
+use native.Mathlib.Omega.{arith}
+use mathlib.Core.Path.{_≡_, refl, sym, ap, _∙_}
+use lib.ListN.{length}
+use Rattle.sheet.specs.Facts.{Facts, factsOf}
 use Rattle.sheet.specs.Field.{value, Bytes}
-use Rattle.sheet.specs.Accepted.{Accepted}
+use Rattle.sheet.specs.Rules.{sheetFault}
+use Rattle.sheet.specs.Decode.{constraints}
 use Rattle.sheet.specs.Graph.{graphOf, overFault}
 use Rattle.sheet.specs.Answer.Laws.{rule-some, answers-refused, answers-items}
-use Rattle.reader.specs.Answers.{asReading}
+use Rattle.sheet.specs.Accepted.Laws.{factsOf-sheetOf, sheetOf-fault}
+use Rattle.graph.specs.declared.Head.{Head}
+use Rattle.graph.specs.Lent.{SheetIn}
+use Rattle.graph.specs.Lent.Sheets.{graph-is, drawn}
+use Rattle.reader.specs.Answers.{outcomeNumber, ListRead}
+use Rattle.sketch.specs.Sketch.{extended}
+use Rattle.sketch.specs.Sketch.Laws.{extended-in}
 use Rattle.pattern.specs.Entries.{heldSheet, longer}
 use Rattle.pattern.specs.Entries.Reading.{FactsRead, refused-read, facts-read}
-use Rattle.pattern.specs.Entries.Sketches.{held-accepted, few-constraints, room, extended-accepted, longer-last}
+use Rattle.pattern.specs.Entries.Sketches.{few-constraints, list-refused, list-taken, Last, last}
 use Rattle.pattern.proofs.extend.Statement.{statement}
 use Rattle.pattern.proofs.extend.Tie as tie
 
 returns : tie.Need-returns
+unfolding heldSheet
 returns c =
-    let r = c .before .before .before .hold in
-    let t = c .before .enum-told2 .given in
-    answers-refused (rw (refused-read (heldSheet _) (r .result) (r .ensures) (t .0 .0) _ (t .1) (c .refusal .ensures)))
+    answers-refused (rw (refused-read _ (c .before .before .before .read-graph .ensures) (c .before .enum-told .given .1) (c .refusal .ensures)))
 
--- the sketch that is held
-module _ (c : tie.After-sheet) where
-  abbrev start : tie.Start
-  start = c .before .before .before .before .before .before .before
+-- the facts of the sheet
+read : (c : tie.After-start2)
+    → FactsRead (c .before .before .before .before .before .before .before .before .before .before .before .before .args .bytes .now) (c .before .before .before .got .given .0 .0)
+    (c .before .before .before .before .before .read-graph .last .1 .0) (c .before .before .before .before .before .read-graph .last .1 .1 .0) (c .before .before .before .before .before .read-graph .last .1 .1 .1 .0)
+read c =
+    let all : Bytes (c .before .before .before .before .before .before .before .before .before .before .before .before .args .bytes .now) = record { each = λ i. c .before .before .before .before .before .before .before .before .before .before .before .shared-slice-known .given i .fits } in
+    facts-read _ (c .before .before .before .before .before .read-graph .ensures) all (c .before .before .before .got .given .1)
 
-  all : Bytes (start .args .bytes .now)
-  all = record { each = λ i. c .before .before .before .before .before .before .shared-slice-known .given i .fits }
-
-  sketch : FactsRead (heldSheet (start .args .bytes .now)) (c .before .before .before .hold .result)
-  sketch =
-      facts-read _ _ (c .before .before .before .hold .ensures) (λ f rest e. held-accepted (start .args .bytes .now) f rest all e .0)
-      (c .before .enum-told .given .1)
-
-  no-over : overFault (graphOf (sketch .facts)) ≡ 0
-  no-over = held-accepted (start .args .bytes .now) (sketch .facts) (sketch .rest) all (sketch .reads) .1
-
-read-more-requires : tie.Need-read-more-requires
-read-more-requires c κs =
-    let h = sketch c in (h .no-fault, room (h .facts) (h .accepted) (no-over c) _ (h .sheet-is))
-
--- what is read of the constraint
-longer-is : (c : tie.After-read-more)
-    → c .read-more .result ≡ asReading (longer (sketch (c .before) .facts) (start (c .before) .args .constraint .now))
-longer-is c =
-    c .read-more .ensures ∙ ap (λ (f : Facts). asReading (longer f (start (c .before) .args .constraint .now))) (sketch (c .before) .facts-are)
+over-is : (c : tie.After-over-fault) → c .over-fault .result ≡ overFault (graphOf (read (c .before) .facts))
+over-is c = c .over-fault .ensures _ ∙ ap overFault (read (c .before) .graph-read)
 
 returns-2 : tie.Need-returns-2
+unfolding heldSheet
 returns-2 c =
-    let k = c .before .before .before in
-    let t = c .before .enum-told4 .given in
-    answers-refused
-    (rw (sketch (k .before) .reads, refused-read (longer _ _) (k .read-more .result) (longer-is k) (t .0 .0) _ (t .1) (c .refusal2 .ensures)))
+    let f = read (c .before .before) in
+    answers-refused (rw (f .reads, rule-some (value (f .facts) (f .rest)) _ (over-is (c .before)) (c .if1 .taken)))
 
--- the facts with the constraint
-module _ (c : tie.After-more) where
-  abbrev held : tie.After-sheet
+-- a sketch that may be held
+module _ (c : tie.Else1) where
+  abbrev sheet-read : tie.After-start2
+  sheet-read = c .before .before
+
+  abbrev facts : Facts
+  facts = read sheet-read .facts
+
+  not-over : overFault (graphOf facts) ≡ 0
+  not-over = sym (over-is (c .before)) ∙ c .if1 .left
+
+  few : length (facts .constraints) < 200
+  few = few-constraints facts (read sheet-read .sheet-in .accepted) not-over
+
+  count : sheet-read .before .before .before .got .given .0 .0 .e ≡ length (facts .constraints)
+  count = ap (λ (h : Head). h .e) (read sheet-read .sheet-in .head-is)
+
+read-constraints-requires : tie.Need-read-constraints-requires
+read-constraints-requires c κs =
+    let e = c .before .before .before in (read (sheet-read e) .drawn-is .sound .most, omega arith, omega (arith, count e, few e))
+
+-- what is read after its constraints
+module _ (c : tie.After-read-constraints) where
+  abbrev held : tie.Else1
   held = c .before .before .before .before
 
-  taken : (g : Facts) {t : List ℕ} → longer (sketch held .facts) (start held .args .constraint .now) ≡ value g t → Accepted g
-  taken g e =
-      let h = sketch held in
-      let all-more : Bytes (start held .args .constraint .now) =
-      record { each = λ i. held .before .before .before .before .before .shared-slice-known2 .given i .fits } in
-      let (d, reads, k, is) = longer-last (h .facts) (start held .args .constraint .now) all-more e in
-      subst Accepted (sym is) (extended-accepted (h .facts) d (h .accepted) (few-constraints (h .facts) (h .accepted) (no-over held)) k)
-
-  more : FactsRead (longer (sketch held .facts) (start held .args .constraint .now)) (c .before .before .before .read-more .result)
-  more = facts-read _ _ (longer-is (c .before .before .before)) (λ g t e. taken g e) (c .before .enum-told3 .given .1)
-
-over-is : (c : tie.After-over-fault) → c .over-fault .result ≡ overFault (graphOf (more (c .before) .facts))
-over-is c = c .over-fault .ensures ∙ ap (λ (x : Facts). overFault (graphOf x)) (more (c .before) .facts-are)
+  listed : ListRead (constraints (facts held .elements) 1 (facts held .constraints) (sheet-read held .before .before .before .before .before .before .before .before .before .before .before .before .args .constraint .now))
+      (c .read-constraints .result) (c .read-constraints .last .1 .1 .1 .1 .1 .1 .0) (c .read-constraints .last .1 .1 .1 .1 .1 .1 .1 .0)
+      (c .read-constraints .last .1 .1 .1 .1 .1 .1 .1 .1 .0)
+  listed =
+      let h = read (sheet-read held) .sheet-in in
+      let k = sheet-read held .before .before .before .got .given .0 .0 .e in
+      let one : k + 1 - k ≡ 1 = omega arith in
+      rw one at
+      (c .read-constraints .ensures (facts held .elements) (facts held .constraints) (ap (λ (x : Head). x .n) (h .head-is))
+      (ap (λ (x : Head). x .lines) (h .head-is)) (sym (count held)) (h .arrays))
 
 returns-3 : tie.Need-returns-3
+unfolding heldSheet longer
 returns-3 c =
-    let m = more (c .before .before) in
+    let k = c .before .before .before in
+    let f = read (sheet-read (held k)) in
     answers-refused
-    (rw (sketch (held (c .before .before)) .reads, m .reads, rule-some (value (m .facts) (m .rest)) _ (over-is (c .before)) (c .if1 .taken)))
+    (rw (
+      f .reads,
+      not-over (held k),
+      list-refused (constraints (f .facts .elements) 1 (f .facts .constraints) _) (sym (listed k .answers) ∙ c .before .enum-told3 .given .1),
+      c .refusal2 .ensures ∙ ap outcomeNumber (c .before .enum-told3 .given .1),
+    ))
+
+-- the facts with the constraint
+module _ (c : tie.After-enum-told2) where
+  abbrev taken : tie.After-read-constraints
+  taken = c .before .before
+
+  abbrev old : Facts
+  old = facts (held taken)
+
+  got : (cs : _) × (t : _) × (constraints (old .elements) 1 (old .constraints) (sheet-read (held taken) .before .before .before .before .before .before .before .before .before .before .before .before .args .constraint .now) ≡ value cs t)
+  got = list-taken _ (sym (listed taken .answers) ∙ c .enum-told2 .given .1)
+
+  ends : Last (old .elements) (old .constraints) (sheet-read (held taken) .before .before .before .before .before .before .before .before .before .before .before .before .args .constraint .now) (got .0) (got .1)
+  ends =
+      last (old .elements) (old .constraints) _ (got .0) (got .1)
+      (record { each = λ i. sheet-read (held taken) .before .before .before .before .before .before .before .before .before .before .shared-slice-known2 .given i .fits }) (got .2)
+
+  abbrev more : Facts
+  more = extended old (ends .c)
+
+  more-in : SheetIn more (record {
+    n = sheet-read (held taken) .before .before .before .got .given .0 .0 .n;
+    e = sheet-read (held taken) .before .before .before .got .given .0 .0 .e + 1;
+    lines = sheet-read (held taken) .before .before .before .got .given .0 .0 .lines;
+  }) (taken .read-constraints .last .1 .1 .1 .1 .1 .1 .0) (taken .read-constraints .last .1 .1 .1 .1 .1 .1 .1 .0)
+      (taken .read-constraints .last .1 .1 .1 .1 .1 .1 .1 .1 .0)
+  more-in =
+      extended-in (ends .c) (read (sheet-read (held taken)) .sheet-in) (few (held taken)) (ends .taken)
+      (rw (ends .is) at (listed taken .holds (got .0) (got .1) (got .2)))
+
+more-over : (c : tie.After-over-fault2) → c .over-fault2 .result ≡ overFault (graphOf (more (c .before .before .before)))
+more-over c = c .over-fault2 .ensures _ ∙ ap overFault (graph-is (more-in (c .before .before .before)))
 
 returns-4 : tie.Need-returns-4
+unfolding heldSheet longer
 returns-4 c =
-    let o = c .before .before .before .before .before in
-    let m = more (o .before) in
+    let m = c .before .before .before .before in
+    answers-refused
+    (rw (
+      read (sheet-read (held (taken m))) .reads,
+      not-over (held (taken m)),
+      got m .2,
+      ends m .is,
+      rule-some (value (more m) (got m .1)) _ (more-over (c .before)) (c .if2 .taken),
+    ))
+
+module _ (c : tie.After-sheet-of) where
+  abbrev noted : tie.After-enum-told2
+  noted = c .before .before .before .before .before .before .before
+
+  sheet-is : factsOf (c .sheet-of .result) ≡ more noted
+  sheet-is = ap factsOf (c .sheet-of .ensures (more noted) _ (more-in noted)) ∙ factsOf-sheetOf (more noted)
+
+  no-fault : sheetFault (c .sheet-of .result) ≡ 0
+  no-fault = ap sheetFault (c .sheet-of .ensures (more noted) _ (more-in noted)) ∙ sheetOf-fault (more noted) (more-in noted .accepted)
+
+returns-5 : tie.Need-returns-5
+unfolding heldSheet longer
+returns-5 c =
+    let o = c .before .before .before .before in
+    let m = noted o in
     answers-items (c .before .before .write-accepted .ensures)
-    (rw (sketch (held (o .before)) .reads, m .reads, sym (over-is o) ∙ c .before .before .before .before .if1 .left, m .facts-are))
+    (rw (
+      read (sheet-read (held (taken m))) .reads,
+      not-over (held (taken m)),
+      got m .2,
+      ends m .is,
+      sym (more-over (o .before .before .before .before)) ∙ o .before .before .before .if2 .left,
+      sheet-is o,
+    ))
 
 pub extend-spec : {M : Type 1} → statement M
 extend-spec =
     tie.close
-    (tie.spec (λ c κs. search needs) (λ c. search needs) (λ c. search needs) (λ c κs. search needs) returns
-    read-more-requires (λ c. search needs) (λ c. search needs) (λ c κs. search needs) returns-2 (λ c κs. more c .no-fault)
-    returns-3 (λ c κs. more (c .before .before .before) .no-fault) (λ c. search needs) returns-4)
+    (tie.spec (λ c κs. (refl, refl, refl)) (λ c. search needs) (λ c. search needs) (λ c κs. search needs) returns
+    (λ c κs. read c .drawn-is) returns-2 (λ c. omega (arith, count c, few c)) read-constraints-requires (λ c. search needs) (λ c. search needs)
+    (λ c κs. search needs) returns-3 (λ c. let e = held (taken c) in omega (arith, count e, few e)) (λ c κs. drawn (more-in (c .before .before))) returns-4
+    (λ c κs. let d = drawn (more-in (c .before .before .before .before .before .before)) in (d .sound .most, d .few)) (λ c κs. no-fault (c .before)) (λ c. search needs) returns-5)

@@ -1,50 +1,51 @@
+-- `pattern::hold` meets its contract: 11 of the graph that is read, else the sheet out of the arrays. Assumes nothing.
 use borrow.Author.Needs.{needs}
 use mathlib.Core.Path.{_≡_, refl, sym, ap, _∙_}
-use Rattle.sheet.specs.Facts.{Facts}
+use Rattle.sheet.specs.declared.Sheet.{Sheet}
 use Rattle.sheet.specs.Field.{Bytes}
-use Rattle.sheet.specs.Decode.{readSheet}
 use Rattle.sheet.specs.Graph.{graphOf, overFault}
 use Rattle.sheet.specs.Answer.Laws.{rule-some}
+use Rattle.reader.specs.declared.Outcome.the-variants.{Accepted}
 use Rattle.reader.specs.Answers.{asReading}
 use Rattle.pattern.specs.Entries.{heldSheet}
-use Rattle.pattern.specs.Entries.Reading.{FactsRead, refused-read, sheet-read}
+use Rattle.pattern.specs.Entries.Reading.{FactsRead, refused-read, facts-read}
 use Rattle.pattern.proofs.hold.Statement.{statement}
 use Rattle.pattern.proofs.hold.Tie as tie
 
 returns : tie.Need-returns
 unfolding heldSheet
 returns c =
-    let r = c .before .before .read-sheet in
-    let t = c .enum-told2 .given in
-    let q = refused-read (readSheet _) (r .result) (r .ensures) (t .0 .0) _ (t .1) refl in
-    rw q (r .ensures ∙ ap asReading q)
+    rw (refused-read _ (c .before .before .before .before .read-graph .ensures) (c .before .before .enum-told .given .1) (c .before .refusal .ensures))
+    (c .refuse .ensures)
 
 -- the facts of the sheet
-read : (c : tie.After-sheet)
-    → FactsRead (readSheet (c .before .before .before .before .before .args .bytes .now)) (c .before .before .before .read-sheet .result)
+read : (c : tie.After-start2)
+    → FactsRead (c .before .before .before .before .before .before .before .before .before .before .args .bytes .now) (c .before .before .before .got .given .0 .0)
+    (c .before .before .before .before .before .read-graph .last .1 .0) (c .before .before .before .before .before .read-graph .last .1 .1 .0) (c .before .before .before .before .before .read-graph .last .1 .1 .1 .0)
 read c =
-    let all : Bytes (c .before .before .before .before .before .args .bytes .now) =
-    record { each = λ i. c .before .before .before .before .shared-slice-known .given i .fits } in
-    sheet-read _ _ all (c .before .before .before .read-sheet .ensures) (c .before .enum-told .given .1)
+    let all : Bytes (c .before .before .before .before .before .before .before .before .before .before .args .bytes .now) = record { each = λ i. c .before .before .before .before .before .before .before .before .before .shared-slice-known .given i .fits } in
+    facts-read _ (c .before .before .before .before .before .read-graph .ensures) all (c .before .before .before .got .given .1)
 
 over-is : (c : tie.After-over-fault) → c .over-fault .result ≡ overFault (graphOf (read (c .before) .facts))
-over-is c = c .over-fault .ensures ∙ ap (λ (x : Facts). overFault (graphOf x)) (read (c .before) .facts-are)
+over-is c = c .over-fault .ensures _ ∙ ap overFault (read (c .before) .graph-read)
 
 returns-2 : tie.Need-returns-2
 unfolding heldSheet
 returns-2 c =
     rw (read (c .before .before .before) .reads)
-    (c .refuse .ensures ∙ ap asReading (sym (rule-some _ _ (over-is (c .before .before)) (c .before .if1 .taken))))
+    (c .refuse2 .ensures ∙ ap asReading (sym (rule-some _ _ (over-is (c .before .before)) (c .before .if1 .taken))))
 
 returns-3 : tie.Need-returns-3
 unfolding heldSheet
 returns-3 c =
-    let f = read (c .before .before) in
-    rw (f .reads, sym (over-is (c .before)) ∙ c .if1 .left)
-    (c .before .before .before .before .before .read-sheet .ensures ∙ ap asReading (f .reads))
+    let o = c .before .before .before .before in
+    let f = read (o .before) in
+    rw (f .reads, sym (over-is o) ∙ c .before .before .before .if1 .left)
+    (ap (λ (s : Sheet). record { outcome = Accepted; sheet = s }) (c .sheet-of .ensures (f .facts) _ (f .sheet-in)))
 
 pub hold-spec : {M : Type 1} → statement M
 hold-spec =
     tie.close
-    (tie.spec (λ c κs. search needs) (λ c. search needs) (λ c. search needs) returns (λ c κs. read c .no-fault)
-    (λ c κs. search needs) returns-2 returns-3)
+    (tie.spec (λ c κs. (refl, refl, refl)) (λ c. search needs) (λ c. search needs) (λ c κs. search needs) (λ c κs. search needs) returns
+    (λ c κs. read c .drawn-is) (λ c κs. search needs) returns-2
+    (λ c κs. let d = read (c .before .before .before .before) .drawn-is in (d .sound .most, d .few)) returns-3)

@@ -1,39 +1,34 @@
+-- `pattern::over` meets its contract: what is found of the graph that is read. Assumes nothing.
 use borrow.Author.Needs.{needs}
 use native.Mathlib.Omega.{arith}
-use mathlib.Core.Path.{_≡_, sym, ap, _∙_}
+use mathlib.Core.Path.{_≡_, refl, sym, ap, _∙_}
 use mathlib.Core.List.{[]}
-use Rattle.theory.specs.Graph.{findingOf}
-use Rattle.sheet.specs.Facts.{Facts}
-use Rattle.sheet.specs.Field.{Bytes}
+use Rattle.theory.specs.Graph.{Graph, findingOf}
 use Rattle.sheet.specs.Graph.{graphOf}
-use Rattle.sheet.specs.Decode.{readSheet}
+use Rattle.sheet.specs.Field.{Bytes}
 use Rattle.sheet.specs.Answer.Laws.{answers-refused, answers-items}
-use Rattle.pattern.specs.Entries.Reading.{FactsRead, refused-read, sheet-read, stored-items}
+use Rattle.pattern.specs.Entries.Reading.{FactsRead, refused-read, facts-read, stored-items}
 use Rattle.pattern.proofs.over.Statement.{statement}
 use Rattle.pattern.proofs.over.Tie as tie
 
 returns : tie.Need-returns
-returns c =
-    let r = c .before .before .before .read-sheet in
-    let t = c .before .enum-told2 .given in
-    answers-refused (rw (refused-read (readSheet _) (r .result) (r .ensures) (t .0 .0) _ (t .1) (c .refusal .ensures)))
+returns c = answers-refused (rw (refused-read _ (c .before .before .before .read-graph .ensures) (c .before .enum-told .given .1) (c .refusal .ensures)))
 
 -- the facts of the sheet
-read : (c : tie.After-sheet)
-    → FactsRead (readSheet (c .before .before .before .before .before .before .args .bytes .now)) (c .before .before .before .read-sheet .result)
+read : (c : tie.After-start2)
+    → FactsRead (c .before .before .before .before .before .before .before .before .before .before .before .args .bytes .now) (c .before .before .before .got .given .0 .0)
+    (c .before .before .before .before .before .read-graph .last .1 .0) (c .before .before .before .before .before .read-graph .last .1 .1 .0) (c .before .before .before .before .before .read-graph .last .1 .1 .1 .0)
 read c =
-    let all : Bytes (c .before .before .before .before .before .before .args .bytes .now) =
-    record { each = λ i. c .before .before .before .before .before .shared-slice-known .given i .fits } in
-    sheet-read _ _ all (c .before .before .before .read-sheet .ensures) (c .before .enum-told .given .1)
+    let all : Bytes (c .before .before .before .before .before .before .before .before .before .before .before .args .bytes .now) = record { each = λ i. c .before .before .before .before .before .before .before .before .before .before .shared-slice-known .given i .fits } in
+    facts-read _ (c .before .before .before .before .before .read-graph .ensures) all (c .before .before .before .got .given .1)
 
--- what is found is the definition's, of the facts that were read
 found : (c : tie.After-over-of) → findingOf (graphOf (read (c .before) .facts)) ≡ c .over-of .result
-found c = sym (c .over-of .ensures ∙ ap (λ (f : Facts). findingOf (graphOf f)) (read (c .before) .facts-are))
+found c = sym (c .over-of .ensures [] ∙ ap (λ (g : Graph). findingOf g) (read (c .before) .graph-read))
 
 returns-2 : tie.Need-returns-2
 returns-2 c =
     let o = c .before .before in
-    answers-items (stored-items _ [] (omega arith)) (rw (read (o .before) .reads, found o ∙ c .enum-told3 .given .1))
+    answers-items (stored-items _ [] (omega arith)) (rw (read (o .before) .reads, found o ∙ c .enum-told2 .given .1))
 
 returns-3 : tie.Need-returns-3
 returns-3 c =
@@ -44,6 +39,6 @@ returns-3 c =
 pub over-spec : {M : Type 1} → statement M
 over-spec =
     tie.close
-    (tie.spec (λ c κs. search needs) (λ c. search needs) (λ c. search needs) (λ c κs. search needs) returns
-    (λ c κs. read c .no-fault) (λ c. search needs) (λ c. search needs) returns-2 (λ c κs. search needs) (λ c. search needs)
+    (tie.spec (λ c κs. (refl, refl, refl)) (λ c. search needs) (λ c. search needs) (λ c κs. search needs) returns
+    (λ c κs. read c .drawn-is) (λ c. search needs) (λ c. search needs) returns-2 (λ c κs. search needs) (λ c. search needs)
     returns-3)

@@ -1,9 +1,8 @@
 -- What is held and extended, step by step. Assumes nothing.
-use Prim.Native.Nat.{ℕ, zero, suc, _+_, _<_}
+use Prim.Native.Nat.{ℕ, zero, suc, _<_}
 use native.Mathlib.Omega.{arith}
 use mathlib.Core.Path.{_≡_, refl, sym, ap, _∙_}
 use mathlib.Core.List.{List, [], _∷_, _++_}
-use borrow.Author.Tests.{le-leb}
 use lib.ListN.{length, length-append, length-replicate}
 use Rattle.sheet.specs.declared.Element.{Element}
 use Rattle.sheet.specs.declared.Constraint.{Constraint}
@@ -15,7 +14,7 @@ use Rattle.sheet.specs.Rules.{constraintFault}
 use Rattle.sheet.specs.Rules.Laws.{constraints-most}
 use Rattle.sheet.specs.Decode.{constraint, constraints, readSheet}
 use Rattle.sheet.specs.Accepted.{Accepted}
-use Rattle.sheet.specs.Accepted.Laws.{accepted-two, accepted-most, factsOf-sheetOf}
+use Rattle.sheet.specs.Accepted.Laws.{factsOf-sheetOf}
 use Rattle.sheet.specs.Graph.{graphOf, overFault}
 use Rattle.sheet.specs.Answer.{byRule}
 use Rattle.sheet.specs.Answer.Laws.{next-rule}
@@ -25,7 +24,7 @@ use Rattle.reader.specs.declared.Outcome.the-variants.{Accepted as Took, Refuse
 use Rattle.reader.specs.Answers.{asOutcome}
 use Rattle.plans.specs.Check.{savedSteps}
 use Rattle.sketch.specs.Sketch.{extended, stored}
-use Rattle.sketch.specs.Sketch.Laws.{few-held, extended-none, stored-facts}
+use Rattle.sketch.specs.Sketch.Laws.{few-held, stored-facts}
 use Rattle.account.specs.Account.{listReport, savedFault, savedField}
 use Rattle.account.specs.Account.Answers.{saved-rule}
 use Rattle.pattern.specs.Entries.{held, heldSheet, checkField, longer}
@@ -91,16 +90,6 @@ pub longer-read : (f : Facts) (bytes : List ℕ) {c : Constraint} → constraint
 unfolding longer constraints
 longer-read f bytes e = rw e
 
--- no rule refuses the facts with it
-pub extended-accepted : (f : Facts) (c : Constraint) → Accepted f → length (f .constraints) < 200
-    → constraintFault (f .elements) (f .constraints) c ≡ 0
-    → Accepted (extended f c)
-extended-accepted f c h l k = record {
-  elements-in-range = h .elements-in-range;
-  constraints-in-range = rw length-append (le-leb (length (f .constraints) + 1) 200 (omega arith));
-  no-fault = extended-none f c (h .no-fault) k;
-}
-
 pub longer-last : (f : Facts) (bytes : List ℕ) {g : Facts} {t : List ℕ} → Bytes bytes → longer f bytes ≡ value g t
     → (c : Constraint) × (constraint (f .elements) (f .constraints) bytes ≡ value c []) × (constraintFault (f .elements) (f .constraints) c ≡ 0)
     × (g ≡ extended f c)
@@ -114,14 +103,7 @@ longer-last f bytes all e =
 
 -- a sketch has room for one more
 pub few-constraints : (f : Facts) → Accepted f → overFault (graphOf f) ≡ 0 → length (f .constraints) < 200
-few-constraints f h o =
-    let m = few-held f (record {
-      two = accepted-two f h;
-      elements = accepted-most f h;
-      constraints = constraints-most (length (f .constraints)) (h .constraints-in-range);
-      none = h .no-fault;
-    }) o in
-    omega (arith, m)
+few-constraints f h o = omega (arith, few-held f h o)
 
 -- the constraint stored in the blocks of the sheet
 module _ (f : Facts) (h : Accepted f) (o : overFault (graphOf f) ≡ 0) (s : Sheet) (is : s ≡ sheetOf f) where

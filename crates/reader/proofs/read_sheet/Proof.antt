@@ -53,7 +53,7 @@ returns-2 c =
     let k = c .before in
     let f = found k in
     let h = k .before .before .before .before .before .read-graph .ensures .holds (f .0) (f .1) (f .2) in
-    rw (f .2, c .sheet-of .ensures (f .0) _ (accepted k) (f .3) h)
+    rw (f .2, c .sheet-of .ensures (f .0) _ (record { accepted = accepted k; head-is = f .3; arrays = h }))
 
 pub read-sheet-spec : {M : Type 1} → statement M
 read-sheet-spec =

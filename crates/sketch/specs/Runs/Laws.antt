@@ -5,7 +5,7 @@ use mathlib.Core.Path.{_≡_, refl, sym, ap, _∙_, subst}
 use mathlib.Core.Logic.{_⊎_, inl, inr}
 use mathlib.Core.Bool.{Bool, true, false, cond, not}
 use mathlib.Core.List.{List, [], _∷_, _++_, append-nil, append-assoc}
-use lib.ListN.{length, length-set}
+use lib.ListN.{length, length-set, length-take}
 use Rattle.theory.specs.Constraints.{Among}
 use Rattle.theory.specs.declared.Finding.{Finding}
 use Rattle.theory.specs.declared.Finding.the-variants.{Fine, First}
@@ -23,9 +23,8 @@ use Rattle.sheet.specs.Rules.Laws.{none-else}
 use Rattle.sheet.specs.Accepted.Laws.{factsOf-accepted}
 use Rattle.sheet.specs.Graph.{graphOf, overRule, overFault}
 use Rattle.sheet.specs.Graph.Laws.{fault-none}
-use Rattle.judge.specs.Listing.Blocks.{Blocks, blocks}
 use Rattle.sketch.specs.Sketch.{holdFault, extended, nextFault, addFault, addAnswer, stored, addAfter}
-use Rattle.sketch.specs.Sketch.Laws.{blocks-sound, few-held, hold-none, stored-facts, stored-fault, refused-added, taken-added}
+use Rattle.sketch.specs.Sketch.Laws.{few-held, hold-none, stored-facts, stored-fault, refused-added, taken-added}
 use Rattle.sketch.specs.Runs.{Held, afterAll, takenBy, takenOf, Next, takes, refuses, Run}
 
 -- ---- no other rule refuses
@@ -64,11 +63,18 @@ named k (inr h) = h
 -- ---- one constraint more
 
 module _ (s : Sheet) (h : Held s) where
-  held-blocks : Blocks s
-  held-blocks = blocks s (h .elements-long) (h .constraints-long) (hold-none s (h .no-fault) .0)
+  -- its facts are a sheet's
+  held-accepted : Accepted (factsOf s)
+  held-accepted = factsOf-accepted s (h .elements-long) (h .constraints-long) (hold-none s (h .no-fault) .0)
 
   room : s .e < 200
-  room = omega (arith, held-blocks .count, few-held (factsOf s) (blocks-sound s held-blocks) (hold-none s (h .no-fault) .1))
+  room =
+      omega (
+        arith,
+        length-take (s .e) (s .constraints),
+        h .constraints-long,
+        few-held (factsOf s) held-accepted (hold-none s (h .no-fault) .1),
+      )
 
   held-fault : (c : Constraint) → addFault s c ≡ nextFault (factsOf s) c
   unfolding addFault
@@ -105,10 +111,6 @@ module _ (s : Sheet) (h : Held s) where
       go : Next s c → Held (addAfter s c)
       go (takes e a f) = subst Held (taken-added s c (held-fault c ∙ e) .1) (stored-held c e)
       go (refuses k r e a f) = subst Held (sym f) h
-
-  -- and its facts are a sheet's
-  held-accepted : Accepted (factsOf s)
-  held-accepted = factsOf-accepted s (h .elements-long) (h .constraints-long) (hold-none s (h .no-fault) .0)
 
 -- ---- every list offered
 

@@ -6,54 +6,32 @@ use mathlib.Core.Path.{_≡_, refl, _∙_}
 use mathlib.Core.Bool.{true}
 use mathlib.Core.List.{List, [], _∷_, _++_, append-nil, append-assoc}
 use borrow.Author.Tests.{le-leb}
-use lib.ListN.{length}
+use lib.IntN.{ℤ}
+use lib.ListN.{length, length-append}
 use lib.Seq.{take-suc-set}
-use Rattle.theory.specs.Constraints.{Pairs, Below, NotOver}
-use Rattle.theory.specs.Over.Laws.{overOf-fine}
 use Rattle.sheet.specs.declared.Element.{Element}
 use Rattle.sheet.specs.declared.Constraint.{Constraint}
 use Rattle.sheet.specs.declared.Sheet.{Sheet}
 use Rattle.sheet.specs.Facts.{Facts, factsOf}
 use Rattle.sheet.specs.Rules.{or-else, constraintsInRange, constraintFault, constraintsFault, sheetFault}
 use Rattle.sheet.specs.Rules.Laws.{or-else-some, none-else}
+use Rattle.sheet.specs.Accepted.{Accepted}
 use Rattle.sheet.specs.Accepted.Laws.{sheetFault-none}
 use Rattle.sheet.specs.Graph.{graphOf, overFault}
-use Rattle.sheet.specs.Graph.Laws.{clusters-pairs, clusters-below, fault-none}
+use Rattle.sheet.specs.Graph.Laws.{length-clusters, fault-none}
 use Rattle.theory.specs.Graph.{verdictOf}
-use Rattle.judge.specs.Listing.Blocks.{Blocks}
-use Rattle.judge.specs.Judged.Laws.{few}
+use Rattle.graph.specs.declared.Head.{Head}
+use Rattle.graph.specs.Lent.{InArrays, SheetIn}
+use Rattle.graph.specs.Lent.Sheets.{accepted-sound, found-fine, fine-few}
 use Rattle.sketch.specs.declared.Taken.the-variants.{Is, Refused}
 use Rattle.sketch.specs.Sketch.{holdFault, extended, nextFault, addFault, addAnswer, stored, addAfter}
 
--- ---- facts that rules 3 and 5 to 9 take
+-- ---- facts that are not over have few constraints
 
-pub record Sound (f : Facts) : Type 0 where
-  pub two : 2 ≤ length (f .elements)
-  pub elements : length (f .elements) ≤ 64
-  pub constraints : length (f .constraints) ≤ 200
-  pub none : constraintsFault (f .elements) [] (f .constraints) ≡ 0
-
-pub blocks-sound : (s : Sheet) → Blocks s → Sound (factsOf s)
-blocks-sound s b = record {
-  two = rw (b .elements-count) (b .elements-two);
-  elements = rw (b .elements-count) (b .elements-most);
-  constraints = rw (b .count) (b .most);
-  none = b .fine;
-}
-
-module _ (f : Facts) (h : Sound f) where
-  paired : Pairs (graphOf f .clusters)
-  paired = clusters-pairs f (h .none)
-
-  below : Below (graphOf f .n) (graphOf f .clusters)
-  below = clusters-below f (h .none)
-
-  -- facts that are not over have few constraints
-  few-fine : NotOver (graphOf f .clusters) → length (f .constraints) ≤ 125
-  few-fine = few f (h .elements) (h .two) (h .constraints) (h .none)
-
-  pub few-held : overFault (graphOf f) ≡ 0 → length (f .constraints) ≤ 125
-  few-held e = few-fine (overOf-fine (graphOf f .n) (graphOf f .clusters) paired below (fault-none (graphOf f) e))
+pub few-held : (f : Facts) → Accepted f → overFault (graphOf f) ≡ 0 → length (f .constraints) ≤ 125
+few-held f a o =
+    let s = accepted-sound f a in
+    omega (arith, fine-few s (found-fine s (fault-none (graphOf f) o)), length-clusters f)
 
 -- ---- one constraint more
 
@@ -78,6 +56,26 @@ pub extended-none : (f : Facts) (c : Constraint) → constraintsFault (f .elemen
     → constraintsFault (f .elements) [] (f .constraints ++ c ∷ []) ≡ 0
 extended-none f c e k = rw (faults-more (f .elements) (f .constraints) [] c, e, k)
 
+-- no rule refuses the facts with it
+pub extended-accepted : (f : Facts) (c : Constraint) → Accepted f → length (f .constraints) < 200
+    → constraintFault (f .elements) (f .constraints) c ≡ 0
+    → Accepted (extended f c)
+extended-accepted f c h l k = record {
+  elements-in-range = h .elements-in-range;
+  constraints-in-range = rw length-append (le-leb (length (f .constraints) + 1) 200 (omega arith));
+  no-fault = extended-none f c (h .no-fault) k;
+}
+
+-- nor the arrays with it
+pub extended-in : {f : Facts} {h : Head} {near start near′ start′ : List ℕ} {sizes sizes′ : List ℤ} (c : Constraint) → SheetIn f h near start sizes
+    → length (f .constraints) < 200 → constraintFault (f .elements) (f .constraints) c ≡ 0 → InArrays (f .constraints ++ c ∷ []) near′ start′ sizes′
+    → SheetIn (extended f c) (record { n = h .n; e = h .e + 1; lines = h .lines }) near′ start′ sizes′
+extended-in {f} c a l k more = record {
+  accepted = extended-accepted f c (a .accepted) l k;
+  head-is = rw (a .head-is, length-append);
+  arrays = more;
+}
+
 -- the constraint in the block
 module _ (s : Sheet) (c : Constraint) (long : length (s .constraints) ≡ 200) (room : s .e < 200) where
   pub stored-facts : factsOf (stored s c) ≡ extended (factsOf s) c
@@ -100,10 +98,18 @@ pub hold-none : (s : Sheet) → holdFault s ≡ 0 → (sheetFault s ≡ 0) × (o
 unfolding holdFault
 hold-none s e = none-else (sheetFault s) (overFault (graphOf (factsOf s))) e
 
+pub none-held : (s : Sheet) → sheetFault s ≡ 0 → overFault (graphOf (factsOf s)) ≡ 0 → holdFault s ≡ 0
+unfolding holdFault
+none-held s e o = rw (e, o)
+
 module _ (s : Sheet) (c : Constraint) where
-  pub add-unheld : (holdFault s ≡ 0 → ⊥) → addFault s c ≡ holdFault s
-  unfolding addFault
-  add-unheld n = or-else-some (holdFault s) (nextFault (factsOf s) c) n
+  pub add-unsound : (sheetFault s ≡ 0 → ⊥) → addFault s c ≡ sheetFault s
+  unfolding addFault holdFault
+  add-unsound n = rw (or-else-some (sheetFault s) (overFault (graphOf (factsOf s))) n) (or-else-some (sheetFault s) (nextFault (factsOf s) c) n)
+
+  pub add-over : sheetFault s ≡ 0 → (overFault (graphOf (factsOf s)) ≡ 0 → ⊥) → addFault s c ≡ overFault (graphOf (factsOf s))
+  unfolding addFault holdFault
+  add-over e n = rw e (or-else-some _ _ n)
 
   pub add-refused : holdFault s ≡ 0 → (constraintFault (factsOf s .elements) (factsOf s .constraints) c ≡ 0 → ⊥)
       → addFault s c ≡ constraintFault (factsOf s .elements) (factsOf s .constraints) c

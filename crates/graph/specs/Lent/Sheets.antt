@@ -1,0 +1,125 @@
+-- The arrays that hold an accepted sheet's facts are drawn, and hold its constraint graph: rules 6 and 7 make its constraints a simple graph. Assumes
+-- nothing.
+use Prim.Native.Nat.{ℕ, _<_, _≤_}
+use native.Mathlib.Omega.{arith}
+use borrow.Author.Tests.{eq-eqb}
+use mathlib.Core.Path.{_≡_, refl, sym, ap, ap₂, _∙_, subst}
+use mathlib.Core.Logic.{inl, inr}
+use mathlib.Core.Bool.{Bool, true, false, _&&_, _||_}
+use mathlib.Core.List.{List, [], _∷_, _++_, map}
+use lib.Dec.{T, eqb}
+use lib.IntN.{ℤ, pos}
+use lib.ListN.{length, take, length-map}
+use lib.Pow.{pow-mono}
+use lib.Seq.{length-take-le}
+use Rattle.theory.specs.Block.Laws.{length-block, take-block}
+use Rattle.theory.specs.Constraints.{pair, Among, Below, NotOver}
+use Rattle.theory.specs.Constraints.Laws.{pair-one}
+use Rattle.theory.specs.Graph.{Graph}
+use Rattle.theory.specs.Near.{Once, Near, Standing}
+use Rattle.theory.specs.Over.{overOf}
+use Rattle.theory.specs.Over.Laws.{fine-most, overOf-fine}
+use Rattle.theory.specs.declared.Finding.the-variants.{Fine}
+use Rattle.sheet.specs.declared.Element.{Element}
+use Rattle.sheet.specs.declared.Constraint.{Constraint}
+use Rattle.sheet.specs.Facts.{Facts}
+use Rattle.sheet.specs.Rules.{stands, constraintFault, constraintsFault}
+use Rattle.sheet.specs.Rules.Laws.{ends-true, stands-more, none-else, constraints-most}
+use Rattle.sheet.specs.Accepted.{Accepted}
+use Rattle.sheet.specs.Accepted.Laws.{taken, accepted-two, accepted-most}
+use Rattle.sheet.specs.Graph.{clusterOf, sizeOf, graphOf}
+use Rattle.sheet.specs.Graph.Laws.{clusters-pairs, clusters-below}
+use Rattle.graph.specs.declared.Head.{Head}
+use Rattle.graph.specs.Lent.{graphIn, SheetIn, Sound, Drawn}
+
+-- ---- no constraint stands twice
+
+-- what stands before a list stands in it
+stands-before : (done : List Constraint) (c : Constraint) (a b : ℕ) → stands done a b ≡ true → stands (done ++ c ∷ []) a b ≡ true
+stands-before done c a b e = stands-more done c a b ∙ ap (λ (t : Bool). t || (eqb (c .first) a && eqb (c .second) b)) e
+
+or-true : (x : Bool) → x || true ≡ true
+or-true true = refl
+or-true false = refl
+
+stands-here : (done : List Constraint) (c : Constraint) → stands (done ++ c ∷ []) (c .first) (c .second) ≡ true
+stands-here done c =
+    stands-more done c (c .first) (c .second)
+    ∙ ap₂ (λ (x y : Bool). stands done (c .first) (c .second) || (x && y)) (eq-eqb (c .first) (c .first) refl) (eq-eqb (c .second) (c .second) refl)
+    ∙ or-true (stands done (c .first) (c .second))
+
+module _ (es : List Element) where
+  -- a pair that stands before is none of the list's
+  fresh : (cs done : List Constraint) → constraintsFault es done cs ≡ 0 → (a b : ℕ) → a < b → stands done a b ≡ true
+      → Among (pair a b) (map clusterOf cs) → ⊥
+  unfolding constraintsFault
+  fresh (c ∷ cs) done e a b h s (inl q) =
+      let t = taken es done c (none-else (constraintFault es done c) (constraintsFault es (done ++ c ∷ []) cs) e .0) in
+      let p = pair-one a b (c .first) (c .second) h (ends-true (length es) (c .first) (c .second) (t .ends-ascend) .0) q in
+      subst T (sym s ∙ ap₂ (stands done) (p .0) (p .1) ∙ t .is-new) tt
+  fresh (c ∷ cs) done e a b h s (inr i) =
+      fresh cs (done ++ c ∷ []) (none-else (constraintFault es done c) (constraintsFault es (done ++ c ∷ []) cs) e .1) a b h
+      (stands-before done c a b s) i
+
+  each-once : (cs done : List Constraint) → constraintsFault es done cs ≡ 0 → Once (map clusterOf cs)
+  unfolding constraintsFault
+  each-once [] done e = tt
+  each-once (c ∷ cs) done e =
+      let h = none-else (constraintFault es done c) (constraintsFault es (done ++ c ∷ []) cs) e in
+      let l = ends-true (length es) (c .first) (c .second) (taken es done c (h .0) .ends-ascend) in
+      (fresh cs (done ++ c ∷ []) (h .1) (c .first) (c .second) (l .0) (stands-here done c), each-once cs (done ++ c ∷ []) (h .1))
+
+-- ---- an accepted sheet
+
+pub accepted-sound : (f : Facts) → Accepted f → Sound (graphOf f .n) (graphOf f .clusters)
+unfolding Below
+accepted-sound f a = record {
+  two = accepted-two f a;
+  most = accepted-most f a;
+  simple = record {
+    pairs = clusters-pairs f (a .no-fault);
+    below = λ x i. omega (arith, clusters-below f (a .no-fault) x i, pow-mono (accepted-most f a));
+    once = each-once (f .elements) (f .constraints) [] (a .no-fault);
+  };
+  below = clusters-below f (a .no-fault);
+}
+
+module _ {n : ℕ} {cs : List ℕ} (s : Sound n cs) where
+  pub found-fine : overOf n cs ≡ Fine → NotOver cs
+  found-fine e = overOf-fine n cs (s .simple .pairs) (s .below) e
+
+  -- one that is not over has few constraints
+  pub fine-few : NotOver cs → length cs ≤ 125
+  fine-few fine = omega (arith, fine-most n cs (s .two) (s .below) fine, s .most)
+
+-- ---- in arrays
+
+module _ {f : Facts} {h : Head} {near start : List ℕ} {sizes : List ℤ} (a : SheetIn f h near start sizes) where
+  most : length (f .constraints) ≤ 200
+  most = constraints-most (length (f .constraints)) (a .accepted .constraints-in-range)
+
+  clusters-are : take (h .e) start ≡ graphOf f .clusters
+  clusters-are =
+      ap₂ take (ap (λ (x : Head). x .e) (a .head-is)) (a .arrays .start-is)
+      ∙ take-block 200 0 (map clusterOf (f .constraints)) (length (f .constraints)) (sym (length-map (f .constraints) _))
+
+  pub graph-is : graphIn h start sizes ≡ graphOf f
+  graph-is =
+      let sizes-are : take (h .e) sizes ≡ graphOf f .sizes = ap₂ take (ap (λ (x : Head). x .e) (a .head-is)) (a .arrays .sizes-are)
+      ∙ take-block 200 (pos 0) (map (λ c. sizeOf (c .size)) (f .constraints)) (length (f .constraints)) (sym (length-map (f .constraints) _)) in
+      λ z. record { n = a .head-is z .n; lines = a .head-is z .lines; clusters = clusters-are z; sizes = sizes-are z }
+
+  pub drawn : Drawn h near start
+  drawn = record {
+    sound = subst (λ (g : Graph). Sound (g .n) (g .clusters)) (sym graph-is) (accepted-sound f (a .accepted));
+    few = rw (a .head-is) most;
+    places = ap length (a .arrays .start-is) ∙ length-block 200 0 (map clusterOf (f .constraints)) (rw length-map most);
+    near-is = subst (λ (cs : List ℕ). Near cs near) (sym clusters-are) (a .arrays .noted .pairs);
+  }
+
+module _ {h : Head} {near start : List ℕ} (d : Drawn h near start) where
+  pub counted : length (take (h .e) start) ≡ h .e
+  counted = length-take-le (h .e) start (rw (d .places) (d .few))
+
+  pub standing : Standing start (h .e)
+  standing = record { places = d .places; few = d .few; simple = d .sound .simple }
