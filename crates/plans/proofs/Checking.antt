@@ -16,7 +16,7 @@ use Rattle.theory.specs.Plan.{ascending, firstOf, isSome}
 use Rattle.merges.specs.Run.{Start, runOf}
 use Rattle.merges.specs.Run.Laws.{final-snoc}
 use Rattle.merges.specs.Going.{Going, Made}
-use Rattle.merges.specs.Going.Laws.{slots-same, steps-are, steps-few, going-start, going-next, going-run}
+use Rattle.merges.specs.Going.Laws.{slots-same, going-start, going-next, going-run}
 use Rattle.plans.specs.Check.{faultOf, stepFault, savedSteps, stepsFault, planFault, answerOf, checkOf}
 use Rattle.plans.specs.Check.Laws.{fault-open}
 use Rattle.plans.specs.declared.Outcome.the-variants.{Accepted}
@@ -65,11 +65,8 @@ pub checking-start : {start slots l : List ℕ} {e : ℕ} → Start start e → 
 checking-start b h = record { p = []; going = going-start b h; at-is = refl; within = omega arith; rest = refl; told = refl }
 
 module _ {cs : List ℕ} {e : ℕ} {l slots parts joints : List ℕ} {steps at : ℕ} (w : Checking cs e l slots parts joints steps at) where
-  pub check-few : steps ≤ 62
-  check-few = omega (arith, steps-are (w .going), steps-few (w .going .clusters))
-
   -- three numbers are left, or none
-  pub three-left : length l % 3 ≡ 0 → at < length l → at + 2 < length l
+  three-left : length l % 3 ≡ 0 → at < length l → at + 2 < length l
   three-left m h = omega (arith, w .at-is)
 
   fault-same : (m : Merge) → stepFault slots m ≡ stepFault (final cs (w .p)) m

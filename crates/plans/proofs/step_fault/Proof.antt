@@ -1,27 +1,23 @@
 -- `plans::step_fault` meets its contract: the rules are tried in the paper's order. Assumes nothing.
 use mathlib.Core.Path.{sym, _∙_}
-use Rattle.theory.specs.Merge.{merge}
-use Rattle.plans.proofs.Faults.{fault-13, fault-none, fault-15}
+use Rattle.plans.specs.Check.{faultOf}
 use borrow.Author.Needs.{needs}
 use Rattle.plans.proofs.step_fault.Statement.{statement}
 use Rattle.plans.proofs.step_fault.Tie as tie
 
 returns : tie.Need-returns
-returns c =
-    let a = c .before .before .args in
-    fault-13 (a .a) (a .b) (a .c) (merge (a .i) (a .j) (a .k)) (sym (c .before .misnamed .ensures) ∙ c .if1 .taken)
+unfolding faultOf
+returns c = simp (faultOf, sym (c .before .misnamed .ensures) ∙ c .if1 .taken)
 
 returns-2 : tie.Need-returns-2
+unfolding faultOf
 returns-2 c =
-    let a = c .before .before .before .before .args in
-    fault-none (a .a) (a .b) (a .c) (merge (a .i) (a .j) (a .k))
-    (sym (c .before .before .before .misnamed .ensures) ∙ c .before .before .if1 .left) (sym (c .before .open3 .ensures) ∙ c .if2 .taken)
+    simp (faultOf, sym (c .before .before .before .misnamed .ensures) ∙ c .before .before .if1 .left, sym (c .before .open3 .ensures) ∙ c .if2 .taken)
 
 returns-3 : tie.Need-returns-3
+unfolding faultOf
 returns-3 c =
-    let a = c .before .before .before .before .args in
-    fault-15 (a .a) (a .b) (a .c) (merge (a .i) (a .j) (a .k))
-    (sym (c .before .before .before .misnamed .ensures) ∙ c .before .before .if1 .left) (sym (c .before .open3 .ensures) ∙ c .if2 .left)
+    simp (faultOf, sym (c .before .before .before .misnamed .ensures) ∙ c .before .before .if1 .left, sym (c .before .open3 .ensures) ∙ c .if2 .left)
 
 pub step-fault-spec : {M : Type 1} → statement M
 step-fault-spec = tie.close (tie.spec (λ c κs. search needs) returns (λ c κs. search needs) returns-2 returns-3)
