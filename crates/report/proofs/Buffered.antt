@@ -13,6 +13,7 @@ module _ {items buffer filled : List ℕ} {len : ℕ} (room : length items ≤ l
   kept : take (len - 0) filled ≡ items
   kept = ap (take (len - 0)) (p .after-is (omega arith) ∙ sets-front items buffer room) ∙ take-at items _ (len - 0) (omega (arith, p .next-is))
 
-  pub buffered : (space : List ℕ) {left : List ℕ} {r : Written} → (r ≡ answer (take (len - 0) filled) space) × (left ≡ after (take (len - 0) filled) space)
+  pub buffered : (space : List ℕ) {left : List ℕ} {r : Written}
+      → (r ≡ answer (take (len - 0) filled) space) × (left ≡ after (take (len - 0) filled) space)
       → (r ≡ answer items space) × (left ≡ after items space)
   buffered space q = rw kept at q

@@ -45,7 +45,8 @@ fn put_set(out: &mut [u8], at: usize, set: u64) -> usize
 // A word and a number.
 fn put_entry(out: &mut [u8], at: usize, word: &[u8], n: usize) -> usize
     requires { ⌜ (n < 1000) × (at + length (now word) + 4 < 2 ^ 64) ⌝ }
-    ensures { λ r. ⌜ Put (now (out .entry)) at (now (word .entry) ++ 32 ∷ decimal n) r (now (out .exit)) × (r ≤ at + length (now (word .entry)) + 4) ⌝ }
+    ensures { λ r. ⌜ Put (now (out .entry)) at (now (word .entry) ++ 32 ∷ decimal n) r (now (out .exit))
+        × (r ≤ at + length (now (word .entry)) + 4) ⌝ }
 {
     let a1 = put_text(out, at, word);
     put_number(out, a1, n)
