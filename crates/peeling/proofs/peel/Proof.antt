@@ -15,7 +15,8 @@ use Rattle.peeling.proofs.peel.Statement.{statement}
 use Rattle.peeling.proofs.peel.Tie as tie
 
 abbrev Inv-loop : tie.InvT-loop
-Inv-loop near low lines left₀ todo₀ angle₀ left todo angle = Taken near lines left angle × Light near left todo × (Mutual near → Heavy near left left todo)
+Inv-loop near low lines left₀ todo₀ angle₀ left todo angle =
+    Taken near lines left angle × Light near left todo × (Mutual near → Heavy near left left todo)
 
 abbrev μ-loop : tie.MeasureT-loop
 μ-loop near low lines left₀ todo₀ angle₀ left todo angle = left

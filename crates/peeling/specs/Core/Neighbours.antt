@@ -113,7 +113,8 @@ heavy-next near u todo x r small both-ways h e t g = record {
         | inl n ↦
             let apart : at x (getD near y 0) ≡ 0 = out x (getD near y 0)
             (λ k. omega (arith, n, both-ways .back y x (at-below 64 y u small (there .0)) (at-below 64 x u small e) k)) in
-            rw (and-comm (getD near y 0) (u - 2 ^ x), less-out x u (getD near y 0) e apart, and-comm u (getD near y 0)) (h .heavy y (there .0) not-todo)
+            rw (and-comm (getD near y 0) (u - 2 ^ x), less-out x u (getD near y 0) e apart, and-comm u (getD near y 0))
+            (h .heavy y (there .0) not-todo)
         | inr n ↦ g .heavy y (both y (getD near x 0) (u - 2 ^ x) n i) (omega (arith, at-or y (todo - 2 ^ x) r))
       ];
 }
