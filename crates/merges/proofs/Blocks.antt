@@ -8,8 +8,8 @@ use native.Mathlib.Decide.{ℕ-discrete}
 use lib.Bits.{bitOr}
 use lib.ListN.{length, getD, set, length-set}
 use lib.Seq.{getD-set-same, getD-set-other}
-use Rattle.theory.specs.Set.{_∩_, _∪_, at}
-use Rattle.theory.specs.Set.Laws.{at-zero, in-both, in-either, or-left, or-right, element, meets}
+use Rattle.theory.specs.Set.{_∈_, _∩_, _∪_, at}
+use Rattle.theory.specs.Set.Laws.{at-zero, ∈-∩⁻, ∈-∪⁻, ∈-∪ˡ, ∈-∪ʳ, element, meets}
 use Rattle.theory.specs.Merge.{slot, Merge, cleared, Part}
 use Rattle.theory.specs.Merge.Numbered.{cleared-other}
 use Rattle.merges.specs.Going.{Made}
@@ -20,8 +20,8 @@ use Rattle.merges.specs.Search.Sums.{Sum, Sums, Resums}
 pub record Summing (s : List ℕ) (b all c : ℕ) : Type 0 where
   pub low : 8 * b ≤ c
   pub high : c ≤ 8 * b + 8
-  pub only : (p : ℕ) → at p all ≡ 1 → (d : ℕ) × (d / 8 ≡ b) × (at p (slot s d) ≡ 1)
-  pub every : (d p : ℕ) → d / 8 ≡ b → d < c → at p (slot s d) ≡ 1 → at p all ≡ 1
+  pub only : (p : ℕ) → p ∈ all → (d : ℕ) × (d / 8 ≡ b) × (p ∈ slot s d)
+  pub every : (d p : ℕ) → d / 8 ≡ b → d < c → p ∈ slot s d → p ∈ all
 
 pub summing-none : {s : List ℕ} {b : ℕ} → Summing s b 0 (8 * b)
 summing-none = record {
@@ -37,13 +37,13 @@ module _ {s : List ℕ} {b all c : ℕ} (w : Summing s b all c) where
   summing-next h = record {
     low = omega (arith, w .low);
     high = omega arith;
-    only = λ p e. ⊎-elim (λ i. w .only p i) (λ i. (c, omega (arith, w .low), i)) (in-either p all (slot s c) e);
+    only = λ p e. ⊎-elim (λ i. w .only p i) (λ i. (c, omega (arith, w .low), i)) (∈-∪⁻ p all (slot s c) e);
     every = λ d p e l i. by d p e l i (ℕ-discrete d c);
   }
     where
-      by : (d p : ℕ) → d / 8 ≡ b → d < c + 1 → at p (slot s d) ≡ 1 → Dec (d ≡ c) → at p (all ∪ slot s c) ≡ 1
-      by d p e l i (yes z) = or-right p all (slot s c) (subst (λ (n : ℕ). at p (slot s n) ≡ 1) z i)
-      by d p e l i (no n) = or-left p all (slot s c) (w .every d p e (omega arith) i)
+      by : (d p : ℕ) → d / 8 ≡ b → d < c + 1 → p ∈ slot s d → Dec (d ≡ c) → p ∈ all ∪ slot s c
+      by d p e l i (yes z) = ∈-∪ʳ p all (slot s c) (subst (λ (n : ℕ). p ∈ slot s n) z i)
+      by d p e l i (no n) = ∈-∪ˡ p all (slot s c) (w .every d p e (omega arith) i)
 
   pub summing-all : 8 * b + 8 ≤ c → Sum s b all
   summing-all h = record { only = w .only; every = λ d p e i. w .every d p e (omega arith) i }
@@ -54,7 +54,7 @@ module _ {s sums : List ℕ} (w : Sums s sums) where
   block-meets : (a c : ℕ) → c < 192 → slot s c ∩ a ≢ 0 → slot sums (c / 8) ∩ a ≢ 0
   block-meets a c h n =
       let e = element (slot s c ∩ a) n in
-      let i = in-both (e .0) (slot s c) a (e .1) in
+      let i = ∈-∩⁻ (e .0) (slot s c) a (e .1) in
       meets (slot sums (c / 8)) a (e .0) (w .each (c / 8) (omega arith) .every c (e .0) refl (i .0)) (i .1)
 
   -- so none is skipped

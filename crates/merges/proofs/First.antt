@@ -7,8 +7,8 @@ use Prim.Native.Nat.{ℕ, _+_, _≤_, _<_}
 use native.Mathlib.Omega.{arith}
 use native.Mathlib.Decide.{ℕ-discrete, decLe, decLt}
 use lib.Count.{ones}
-use Rattle.theory.specs.Set.{_∩_, at}
-use Rattle.theory.specs.Set.Laws.{at-le, in-both, size-zero, filled, element, meets}
+use Rattle.theory.specs.Set.{_∈_, _∩_, at}
+use Rattle.theory.specs.Set.Laws.{at-le, ∈-∩⁻, size-zero, filled, element, meets}
 use Rattle.theory.specs.Set.Lowest.{at-beyond}
 use Rattle.theory.specs.Merge.{slot, Merge, merge, Open, OpenAt, Ended}
 use Rattle.theory.specs.Merge.Threes.{big-a, big-b, big-c}
@@ -42,15 +42,15 @@ least {r = r} c l h p = by (decLe r c)
     by (no n) = absurd (l .none c h (omega arith) p)
 
 -- an element of a beyond b
-beyond-in : (a b p : ℕ) → at p a ≡ 1 → at p b ≡ 0 → at p (beyond a b) ≡ 1
+beyond-in : (a b p : ℕ) → p ∈ a → at p b ≡ 0 → p ∈ beyond a b
 beyond-in a b p i o = omega (arith, at-beyond p a b)
 
-beyond-of : (a b p : ℕ) → at p (beyond a b) ≡ 1 → (at p a ≡ 1) × (at p b ≡ 0)
+beyond-of : (a b p : ℕ) → p ∈ beyond a b → (p ∈ a) × (at p b ≡ 0)
 beyond-of a b p e = let h = at-beyond p a b in (omega (arith, at-le p a), omega (arith, at-le p a))
 
 module _ {s links : List ℕ} {used from last : ℕ} (ready : Searchable s links used from last) where
   -- a living cluster stands below `used`
-  within : (c p : ℕ) → at p (slot s c) ≡ 1 → c < used
+  within : (c p : ℕ) → p ∈ slot s c → c < used
   within c p e = by (decLt c used)
     where
       by : Dec (c < used) → c < used
@@ -94,15 +94,15 @@ module _ {s links : List ℕ} {used from last : ℕ} (ready : Searchable s links
           omega (arith, second (u .0) (u .1) (u .2), within (u .0) (k .p) (k .p-j))
 
       -- j shares an element with i
-      shared : (p : ℕ) × (at p (slot s j) ≡ 1) × (at p (slot s i) ≡ 1)
+      shared : (p : ℕ) × (p ∈ slot s j) × (p ∈ slot s i)
       shared = let e = element (slot s j ∩ slot s i) (lj .here j-used .0) in
-          let b = in-both (e .0) (slot s j) (slot s i) (e .1) in (e .0, b .0, b .1)
+          let b = ∈-∩⁻ (e .0) (slot s j) (slot s i) (e .1) in (e .0, b .0, b .1)
 
       -- and a third cluster after it closes the merge
       third : (k : ℕ) × OpenAt s (merge i j k) × (j < k)
       third =
           let e = element (slot s j ∩ o) (lj .here j-used .1) in
-          let b = in-both (e .0) (slot s j) o (e .1) in
+          let b = ∈-∩⁻ (e .0) (slot s j) o (e .1) in
           let u = closed (ready .linking) (ready .apart) i j (shared .0) (e .0) (shared .2) (shared .1) (b .0) (outs .only (e .0) (b .1)) in
           let d : j ≢ u .0 = u .1 .j≢k in (u .0, u .1, omega (arith, second (u .0) j (open-bc s i j (u .0) (u .1)), d))
 
@@ -129,8 +129,8 @@ module _ {s links : List ℕ} {used from last : ℕ} (ready : Searchable s links
             let m = lk .here k-used in
             let e = element (slot s k ∩ A) (m .0) in
             let f = element (slot s k ∩ B) (m .1) in
-            let eq = in-both (e .0) (slot s k) A (e .1) in
-            let fr = in-both (f .0) (slot s k) B (f .1) in
+            let eq = ∈-∩⁻ (e .0) (slot s k) A (e .1) in
+            let fr = ∈-∩⁻ (f .0) (slot s k) B (f .1) in
             let q = beyond-of (slot s i) (slot s j) (e .0) (eq .1) in
             let r = beyond-of (slot s j) (slot s i) (f .0) (fr .1) in
             let p = shared in

@@ -9,8 +9,8 @@ use lib.Bits.{bitAnd, bitOr, and-le-l}
 use lib.Count.{trailingZeros}
 use lib.ListN.{length, set, length-set}
 use lib.Seq.{getD-set-same, getD-set-other}
-use Rattle.theory.specs.Set.{_∩_, _∪_, at}
-use Rattle.theory.specs.Set.Laws.{at-zero, in-both}
+use Rattle.theory.specs.Set.{_∈_, _∩_, _∪_, at}
+use Rattle.theory.specs.Set.Laws.{at-zero, ∈-∩⁻}
 use Rattle.theory.specs.Set.Lowest.{lowest-in, lowest-below, rest-lowest, rest-other}
 use Rattle.merges.specs.Search.Links.{linked, Linking}
 
@@ -19,9 +19,9 @@ pub record Partly (links : List ℕ) (u : ℕ) (now : List ℕ) (rest : ℕ) : T
   pub fits : rest < 2 ^ 64
   pub long : length now ≡ length links
   pub room : length links ≡ 64
-  pub within : (p : ℕ) → at p rest ≡ 1 → at p u ≡ 1
-  pub done : (p : ℕ) → at p u ≡ 1 → at p rest ≡ 0 → linked now p ≡ linked links p ∪ u
-  pub waiting : (p : ℕ) → at p rest ≡ 1 → linked now p ≡ linked links p
+  pub within : (p : ℕ) → p ∈ rest → p ∈ u
+  pub done : (p : ℕ) → p ∈ u → at p rest ≡ 0 → linked now p ≡ linked links p ∪ u
+  pub waiting : (p : ℕ) → p ∈ rest → linked now p ≡ linked links p
   pub other : (p : ℕ) → at p u ≡ 0 → linked now p ≡ linked links p
 
 pub partly-none : {links : List ℕ} {u : ℕ} → u < 2 ^ 64 → length links ≡ 64 → Partly links u links u
@@ -43,22 +43,22 @@ module _ {links : List ℕ} {u : ℕ} {now : List ℕ} {rest : ℕ} (w : Partly 
       fits = omega (arith, w .fits, and-le-l rest (rest - 1));
       long = length-set now p₀ (linked now p₀ ∪ u) ∙ w .long;
       room = w .room;
-      within = λ p e. w .within p (in-both p rest (rest - 1) e .0);
+      within = λ p e. w .within p (∈-∩⁻ p rest (rest - 1) e .0);
       done = λ p i o. done-at p i o (ℕ-discrete p p₀);
-      waiting = λ p e. getD-set-other now p₀ p (linked now p₀ ∪ u) 0 (λ z. waits p e z) ∙ w .waiting p (in-both p rest (rest - 1) e .0);
+      waiting = λ p e. getD-set-other now p₀ p (linked now p₀ ∪ u) 0 (λ z. waits p e z) ∙ w .waiting p (∈-∩⁻ p rest (rest - 1) e .0);
       other = λ p o. getD-set-other now p₀ p (linked now p₀ ∪ u) 0 (λ z. omega (arith, ap (λ (y : ℕ). at y u) z, w .within p₀ p₀-in)) ∙ w .other p o;
     }
       where
         p₀ : ℕ
         p₀ = trailingZeros 64 rest
 
-        p₀-in : at p₀ rest ≡ 1
+        p₀-in : p₀ ∈ rest
         p₀-in = lowest-in 64 rest (w .fits) some
 
-        waits : (p : ℕ) → at p (bitAnd rest (rest - 1)) ≡ 1 → p ≡ p₀ → ⊥
+        waits : (p : ℕ) → p ∈ bitAnd rest (rest - 1) → p ≡ p₀ → ⊥
         waits p e z = omega (arith, rest-lowest rest (w .fits) some, ap (λ (y : ℕ). at y (bitAnd rest (rest - 1))) z)
 
-        done-at : (p : ℕ) → at p u ≡ 1 → at p (bitAnd rest (rest - 1)) ≡ 0 → Dec (p ≡ p₀)
+        done-at : (p : ℕ) → p ∈ u → at p (bitAnd rest (rest - 1)) ≡ 0 → Dec (p ≡ p₀)
             → linked (set now p₀ (linked now p₀ ∪ u)) p ≡ linked links p ∪ u
         done-at p i o (yes e) =
             ap (linked (set now p₀ (linked now p₀ ∪ u))) e

@@ -9,8 +9,8 @@ use native.Mathlib.Decide.{ℕ-discrete}
 use lib.ListN.{length, replicate, length-append, List·getD-append, List·getD-eq-default}
 use lib.Seq.{getD-append-seam}
 use Rattle.theory.specs.Block.Laws.{getD-blank}
-use Rattle.theory.specs.Set.{_∩_, at}
-use Rattle.theory.specs.Set.Laws.{at-le, at-zero, in-either, or-left, or-right, filled, meets}
+use Rattle.theory.specs.Set.{_∈_, _∩_, at}
+use Rattle.theory.specs.Set.Laws.{at-le, at-zero, ∈-∪⁻, ∈-∪ˡ, ∈-∪ʳ, filled, meets}
 use Rattle.theory.specs.Constraints.{NotOver}
 use Rattle.theory.specs.Merge.{slot, Merge, merge, three, OpenAt, union, put, Part, final, Ended}
 use Rattle.theory.specs.Merge.Family.{Distinct}
@@ -43,7 +43,7 @@ first-of-same a b same = by (firstOf 0 a) (first-found a)
 -- ---- the links after a merge
 
 -- an element of one of the three lies in the union
-in-union : (s : List ℕ) (m : Merge) (c p : ℕ) → Part c m → at p (slot s c) ≡ 1 → at p (union (three s m)) ≡ 1
+in-union : (s : List ℕ) (m : Merge) (c p : ℕ) → Part c m → p ∈ slot s c → p ∈ union (three s m)
 in-union s m c p h e = omega (arith, le h, at-le p (union (three s m)))
   where
     le : Part c m → at p (slot s c) ≤ at p (union (three s m))
@@ -53,28 +53,28 @@ in-union s m c p h e = omega (arith, le h, at-le p (union (three s m)))
 
 -- the clusters s become s′: the union u stands at `made`, an old cluster lies in it or stays, and none but these stands in s′
 module _ (s s′ : List ℕ) {links next : List ℕ} {u : ℕ} (made : ℕ) (ls : Links s links) (ln : Linking links u next) (is : slot s′ made ≡ u)
-    (kept : (c p : ℕ) → at p (slot s c) ≡ 1 → ((q : ℕ) → at q (slot s c) ≡ 1 → at q u ≡ 1) ⊎ (slot s′ c ≡ slot s c))
-    (came : (c p : ℕ) → at p (slot s′ c) ≡ 1 → (slot s′ c ≡ u) ⊎ (slot s′ c ≡ slot s c)) where
+    (kept : (c p : ℕ) → p ∈ slot s c → ((q : ℕ) → q ∈ slot s c → q ∈ u) ⊎ (slot s′ c ≡ slot s c))
+    (came : (c p : ℕ) → p ∈ slot s′ c → (slot s′ c ≡ u) ⊎ (slot s′ c ≡ slot s c)) where
   links-grown : Links s′ next
   links-grown = record { only = λ p r e. only p r e (ℕ-discrete (at p u) 1); every = λ c p r i j. every c p r i j (came c p i) }
     where
-      new-one : (p r : ℕ) → at p u ≡ 1 → at r u ≡ 1 → (c : ℕ) × (at p (slot s′ c) ≡ 1) × (at r (slot s′ c) ≡ 1)
+      new-one : (p r : ℕ) → p ∈ u → r ∈ u → (c : ℕ) × (p ∈ slot s′ c) × (r ∈ slot s′ c)
       new-one p r i j = (made, ap (at p) is ∙ i, ap (at r) is ∙ j)
 
-      old-one : (p r : ℕ) → (c : ℕ) × (at p (slot s c) ≡ 1) × (at r (slot s c) ≡ 1) → (c : ℕ) × (at p (slot s′ c) ≡ 1) × (at r (slot s′ c) ≡ 1)
+      old-one : (p r : ℕ) → (c : ℕ) × (p ∈ slot s c) × (r ∈ slot s c) → (c : ℕ) × (p ∈ slot s′ c) × (r ∈ slot s′ c)
       old-one p r (c, i, j) = ⊎-elim (λ h. new-one p r (h p i) (h r j)) (λ e. (c, ap (at p) e ∙ i, ap (at r) e ∙ j)) (kept c p i)
 
-      only : (p r : ℕ) → at r (linked next p) ≡ 1 → Dec (at p u ≡ 1) → (c : ℕ) × (at p (slot s′ c) ≡ 1) × (at r (slot s′ c) ≡ 1)
+      only : (p r : ℕ) → r ∈ linked next p → Dec (p ∈ u) → (c : ℕ) × (p ∈ slot s′ c) × (r ∈ slot s′ c)
       only p r e (yes i) =
-          ⊎-elim (λ h. old-one p r (ls .only p r h)) (λ h. new-one p r i h) (in-either r (linked links p) u (sym (ap (at r) (ln .inside p i)) ∙ e))
+          ⊎-elim (λ h. old-one p r (ls .only p r h)) (λ h. new-one p r i h) (∈-∪⁻ r (linked links p) u (sym (ap (at r) (ln .inside p i)) ∙ e))
       only p r e (no n) = old-one p r (ls .only p r (sym (ap (at r) (ln .outside p (omega (arith, at-le p u)))) ∙ e))
 
-      link-old : (p r : ℕ) → at r (linked links p) ≡ 1 → Dec (at p u ≡ 1) → at r (linked next p) ≡ 1
-      link-old p r e (yes i) = ap (at r) (ln .inside p i) ∙ or-left r (linked links p) u e
+      link-old : (p r : ℕ) → r ∈ linked links p → Dec (p ∈ u) → r ∈ linked next p
+      link-old p r e (yes i) = ap (at r) (ln .inside p i) ∙ ∈-∪ˡ r (linked links p) u e
       link-old p r e (no n) = ap (at r) (ln .outside p (omega (arith, at-le p u))) ∙ e
 
-      every : (c p r : ℕ) → at p (slot s′ c) ≡ 1 → at r (slot s′ c) ≡ 1 → (slot s′ c ≡ u) ⊎ (slot s′ c ≡ slot s c) → at r (linked next p) ≡ 1
-      every c p r i j (inl f) = ap (at r) (ln .inside p (sym (ap (at p) f) ∙ i)) ∙ or-right r (linked links p) u (sym (ap (at r) f) ∙ j)
+      every : (c p r : ℕ) → p ∈ slot s′ c → r ∈ slot s′ c → (slot s′ c ≡ u) ⊎ (slot s′ c ≡ slot s c) → r ∈ linked next p
+      every c p r i j (inl f) = ap (at r) (ln .inside p (sym (ap (at p) f) ∙ i)) ∙ ∈-∪ʳ r (linked links p) u (sym (ap (at r) f) ∙ j)
       every c p r i j (inr f) = link-old p r (ls .every c p r (sym (ap (at p) f) ∙ i) (sym (ap (at r) f) ∙ j)) (ℕ-discrete (at p u) 1)
 
 -- a merge
@@ -83,8 +83,8 @@ links-put s m ls ln =
     links-grown s (put s m) (length s) ls ln (put-new s m) (λ c p i. kept c p i (part-dec c m))
     (λ c p i. came c (place s m c (filled (slot (put s m) c) p i)))
   where
-    kept : (c p : ℕ) → at p (slot s c) ≡ 1 → Dec (Part c m)
-        → ((q : ℕ) → at q (slot s c) ≡ 1 → at q (union (three s m)) ≡ 1) ⊎ (slot (put s m) c ≡ slot s c)
+    kept : (c p : ℕ) → p ∈ slot s c → Dec (Part c m)
+        → ((q : ℕ) → q ∈ slot s c → q ∈ union (three s m)) ⊎ (slot (put s m) c ≡ slot s c)
     kept c p i (yes h) = inl (λ q e. in-union s m c q h e)
     kept c p i (no n) = inr (put-old s m c (alive-lt s c (filled (slot s c) p i)) ∙ cleared-other s m c n)
 
@@ -98,7 +98,7 @@ links-add {s} {links} {next} {x} ls ln =
     links-grown s (s ++ (x ∷ [])) (length s) ls ln (getD-append-seam s x [] 0)
     (λ c p i. inr (List·getD-append s (x ∷ []) 0 c (alive-lt s c (filled (slot s c) p i)))) (λ c p i. came c p i (ℕ-discrete c (length s)))
   where
-    came : (c p : ℕ) → at p (slot (s ++ (x ∷ [])) c) ≡ 1 → Dec (c ≡ length s) → (slot (s ++ (x ∷ [])) c ≡ x) ⊎ (slot (s ++ (x ∷ [])) c ≡ slot s c)
+    came : (c p : ℕ) → p ∈ slot (s ++ (x ∷ [])) c → Dec (c ≡ length s) → (slot (s ++ (x ∷ [])) c ≡ x) ⊎ (slot (s ++ (x ∷ [])) c ≡ slot s c)
     came c p i (yes e) = inl (ap (slot (s ++ (x ∷ []))) e ∙ getD-append-seam s x [] 0)
     came c p i (no n) =
         let h = alive-lt (s ++ (x ∷ [])) c (filled (slot (s ++ (x ∷ [])) c) p i) in
@@ -138,7 +138,7 @@ module _ {s : List ℕ} {m : Merge} (f : First s m) (i j k : ℕ) (o : OpenAt (p
   c = corners (put s m) i j k o
 
   -- the union's number shares a corner with i
-  made : (n p : ℕ) → n ≡ length s → at p (slot (put s m) i) ≡ 1 → at p (slot (put s m) n) ≡ 1 → slot (put s m) i ∩ union (three s m) ≢ 0
+  made : (n p : ℕ) → n ≡ length s → p ∈ slot (put s m) i → p ∈ slot (put s m) n → slot (put s m) i ∩ union (three s m) ≢ 0
   made n p e pi pn = meets (slot (put s m) i) (union (three s m)) p pi (sym (ap (at p) (ap (slot (put s m)) e ∙ put-new s m)) ∙ pn)
 
   before : NotAfter m (ascending (merge i j k)) → ⊥

@@ -7,8 +7,8 @@ use Prim.Native.Nat.{ℕ}
 use native.Mathlib.Omega.{arith}
 use native.Mathlib.Decide.{ℕ-discrete}
 use lib.Count.{ones}
-use Rattle.theory.specs.Set.{_∩_, at}
-use Rattle.theory.specs.Set.Laws.{some, two-in, both, in-both, filled, counted, out, same-single}
+use Rattle.theory.specs.Set.{_∈_, _∩_, at}
+use Rattle.theory.specs.Set.Laws.{some, two-in, both, ∈-∩⁻, filled, counted, out, same-single}
 use Rattle.theory.specs.Merge.{slot, merge, OpenAt, ShareOne}
 use Rattle.merges.specs.Search.Links.{Links, Reaches}
 
@@ -16,7 +16,7 @@ use Rattle.merges.specs.Search.Links.{Links, Reaches}
 
 module _ {s : List ℕ} (apart : ShareOne s) where
   -- one element in common
-  pub one-shared : (i j p : ℕ) → i ≢ j → at p (slot s i) ≡ 1 → at p (slot s j) ≡ 1 → ones (slot s i ∩ slot s j) ≡ 1
+  pub one-shared : (i j p : ℕ) → i ≢ j → p ∈ slot s i → p ∈ slot s j → ones (slot s i ∩ slot s j) ≡ 1
   one-shared i j p n a b =
       omega (
         arith,
@@ -25,7 +25,7 @@ module _ {s : List ℕ} (apart : ShareOne s) where
       )
 
   -- and no second
-  pub same-shared : (i j p q : ℕ) → i ≢ j → at p (slot s i) ≡ 1 → at p (slot s j) ≡ 1 → at q (slot s i) ≡ 1 → at q (slot s j) ≡ 1 → p ≡ q
+  pub same-shared : (i j p q : ℕ) → i ≢ j → p ∈ slot s i → p ∈ slot s j → q ∈ slot s i → q ∈ slot s j → p ≡ q
   same-shared i j p q n a b d e = by (ℕ-discrete p q)
     where
       by : Dec (p ≡ q) → p ≡ q
@@ -38,8 +38,8 @@ module _ {s : List ℕ} (apart : ShareOne s) where
           ))
 
   -- three clusters that meet in three different elements make an open merge
-  pub triangle : (i j k p q r : ℕ) → i ≢ j → j ≢ k → i ≢ k → p ≢ q → p ≢ r → q ≢ r → at p (slot s i) ≡ 1 → at p (slot s j) ≡ 1
-      → at q (slot s i) ≡ 1 → at q (slot s k) ≡ 1 → at r (slot s j) ≡ 1 → at r (slot s k) ≡ 1 → OpenAt s (merge i j k)
+  pub triangle : (i j k p q r : ℕ) → i ≢ j → j ≢ k → i ≢ k → p ≢ q → p ≢ r → q ≢ r → p ∈ slot s i → p ∈ slot s j
+      → q ∈ slot s i → q ∈ slot s k → r ∈ slot s j → r ∈ slot s k → OpenAt s (merge i j k)
   triangle i j k p q r ij jk ik pq pr qr pi pj qi qk rj rk = record {
     i≢j = ij;
     j≢k = jk;
@@ -58,24 +58,24 @@ module _ {s : List ℕ} (apart : ShareOne s) where
   }
     where
       -- what two share is what two others share
-      moved : (p a b c d : ℕ) → slot s a ∩ slot s b ≡ slot s c ∩ slot s d → at p (slot s a) ≡ 1 → at p (slot s b) ≡ 1
-          → (at p (slot s c) ≡ 1) × (at p (slot s d) ≡ 1)
+      moved : (p a b c d : ℕ) → slot s a ∩ slot s b ≡ slot s c ∩ slot s d → p ∈ slot s a → p ∈ slot s b
+          → (p ∈ slot s c) × (p ∈ slot s d)
       moved p a b c d e pa pb =
-          in-both p (slot s c) (slot s d) (subst (λ (z : ℕ). at p z ≡ 1) e (both p (slot s a) (slot s b) pa pb))
+          ∈-∩⁻ p (slot s c) (slot s d) (subst (λ (z : ℕ). p ∈ z) e (both p (slot s a) (slot s b) pa pb))
 
 -- the three elements of an open merge
 pub record Corners (s : List ℕ) (i j k : ℕ) : Type 0 where
   pub p : ℕ
   pub q : ℕ
   pub r : ℕ
-  pub p-i : at p (slot s i) ≡ 1
-  pub p-j : at p (slot s j) ≡ 1
+  pub p-i : p ∈ slot s i
+  pub p-j : p ∈ slot s j
   pub p-k : at p (slot s k) ≡ 0
-  pub q-i : at q (slot s i) ≡ 1
-  pub q-k : at q (slot s k) ≡ 1
+  pub q-i : q ∈ slot s i
+  pub q-k : q ∈ slot s k
   pub q-j : at q (slot s j) ≡ 0
-  pub r-j : at r (slot s j) ≡ 1
-  pub r-k : at r (slot s k) ≡ 1
+  pub r-j : r ∈ slot s j
+  pub r-k : r ∈ slot s k
   pub r-i : at r (slot s i) ≡ 0
 
 pub corners : (s : List ℕ) (i j k : ℕ) → OpenAt s (merge i j k) → Corners s i j k
@@ -87,9 +87,9 @@ corners s i j k o =
     let P = some (x ∩ y) (omega (arith, a .ab)) in
     let Q = some (x ∩ z) (omega (arith, a .ac)) in
     let R = some (y ∩ z) (omega (arith, a .bc)) in
-    let ip = in-both (P .0) x y (P .1) in
-    let iq = in-both (Q .0) x z (Q .1) in
-    let ir = in-both (R .0) y z (R .1) in
+    let ip = ∈-∩⁻ (P .0) x y (P .1) in
+    let iq = ∈-∩⁻ (Q .0) x z (Q .1) in
+    let ir = ∈-∩⁻ (R .0) y z (R .1) in
     record {
       p = P .0;
       q = Q .0;
@@ -109,7 +109,7 @@ corners s i j k o =
 
 module _ {s links : List ℕ} (ls : Links s links) where
   -- a cluster of an open merge reaches the element that the other two share
-  pub open-reached : (i j k : ℕ) → OpenAt s (merge i j k) → (r : ℕ) × Reaches links (slot s i) r × (at r (slot s j) ≡ 1)
+  pub open-reached : (i j k : ℕ) → OpenAt s (merge i j k) → (r : ℕ) × Reaches links (slot s i) r × (r ∈ slot s j)
   open-reached i j k o =
       let c = corners s i j k o in (
         c .r,
@@ -128,35 +128,35 @@ module _ {s links : List ℕ} (ls : Links s links) where
 
   module _ (apart : ShareOne s) where
     -- in and out
-    apart-by : (c d r : ℕ) → at r (slot s c) ≡ 1 → at r (slot s d) ≡ 0 → c ≢ d
+    apart-by : (c d r : ℕ) → r ∈ slot s c → at r (slot s d) ≡ 0 → c ≢ d
     apart-by c d r a b e = omega (arith, ap (λ (z : ℕ). at r (slot s z)) e)
 
-    other : (x p r : ℕ) → at p x ≡ 1 → at r x ≡ 0 → p ≢ r
+    other : (x p r : ℕ) → p ∈ x → at r x ≡ 0 → p ≢ r
     other x p r a b e = omega (arith, ap (λ (z : ℕ). at z x) e)
 
     -- a cluster j that shares p with i, and an element r that i reaches: a third cluster closes the merge, and holds r
-    pub closed : (i j p r : ℕ) → at p (slot s i) ≡ 1 → at p (slot s j) ≡ 1 → at r (slot s j) ≡ 1 → Reaches links (slot s i) r
-        → (k : ℕ) × OpenAt s (merge i j k) × (at r (slot s k) ≡ 1)
+    pub closed : (i j p r : ℕ) → p ∈ slot s i → p ∈ slot s j → r ∈ slot s j → Reaches links (slot s i) r
+        → (k : ℕ) × OpenAt s (merge i j k) × (r ∈ slot s k)
     closed i j p r pi pj rj h = close (ℕ-discrete p (h .p))
       where
         i≢j : i ≢ j
         i≢j = Ne·symm (apart-by j i r rj (h .out))
 
-        by : (q : ℕ) → p ≢ q → at q (slot s i) ≡ 1 → (k : ℕ) × (at q (slot s k) ≡ 1) × (at r (slot s k) ≡ 1)
-            → (k : ℕ) × OpenAt s (merge i j k) × (at r (slot s k) ≡ 1)
+        by : (q : ℕ) → p ≢ q → q ∈ slot s i → (k : ℕ) × (q ∈ slot s k) × (r ∈ slot s k)
+            → (k : ℕ) × OpenAt s (merge i j k) × (r ∈ slot s k)
         by q n qi (k, qk, rk) = (
           k,
-          triangle apart i j k p q r i≢j (λ e. n (same-shared apart i j p q i≢j pi pj qi (subst (λ (z : ℕ). at q (slot s z) ≡ 1) (sym e) qk)))
+          triangle apart i j k p q r i≢j (λ e. n (same-shared apart i j p q i≢j pi pj qi (subst (λ (z : ℕ). q ∈ slot s z) (sym e) qk)))
               (Ne·symm (apart-by k i r rk (h .out))) n (other (slot s i) p r pi (h .out)) (other (slot s i) q r qi (h .out)) pi pj qi qk rj rk,
           rk,
         )
 
-        close : Dec (p ≡ h .p) → (k : ℕ) × OpenAt s (merge i j k) × (at r (slot s k) ≡ 1)
+        close : Dec (p ≡ h .p) → (k : ℕ) × OpenAt s (merge i j k) × (r ∈ slot s k)
         close (yes e) = by (h .q) (λ f. h .differ (sym e ∙ f)) (h .q-in) (ls .only (h .q) r (h .by-q))
         close (no n) = by (h .p) n (h .p-in) (ls .only (h .p) r (h .by-p))
 
     -- a cluster that reaches an element takes part in an open merge
-    pub reached-open : (i r : ℕ) → Reaches links (slot s i) r → (j : ℕ) × (k : ℕ) × OpenAt s (merge i j k) × (at r (slot s j) ≡ 1)
+    pub reached-open : (i r : ℕ) → Reaches links (slot s i) r → (j : ℕ) × (k : ℕ) × OpenAt s (merge i j k) × (r ∈ slot s j)
     reached-open i r h =
         let a = ls .only (h .p) r (h .by-p) in
         let b = closed i (a .0) (h .p) r (h .p-in) (a .1) (a .2) h in (a .0, b .0, b .1, a .2)

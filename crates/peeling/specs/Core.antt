@@ -6,7 +6,7 @@ use Prim.Native.Nat.{ℕ, _+_, _*_, _-_, _^_, _≤_, _<_}
 use lib.Count.{ones}
 use lib.Dec.{eqb}
 use lib.ListN.{length, take, getD}
-use Rattle.theory.specs.Set.{_∩_, _∪_, _⊑_, at, full}
+use Rattle.theory.specs.Set.{_∈_, _∩_, _∪_, _⊑_, at, full}
 use Rattle.theory.specs.Constraints.{Below, carried, NotOver}
 use Rattle.theory.specs.Merge.{joints}
 use Rattle.theory.specs.Plan.{planOf}
@@ -21,11 +21,11 @@ pub mod Angle
 
 -- within u, element x has at most k constraints
 pub record Few (cs : List ℕ) (u x k : ℕ) : Type 0 where
-  pub few : (a : ℕ) → a ⊑ u → at x a ≡ 1 → carried cs a ≤ carried cs (a - 2 ^ x) + k
+  pub few : (a : ℕ) → a ⊑ u → x ∈ a → carried cs a ≤ carried cs (a - 2 ^ x) + k
 
 -- every set has an element with at most two constraints in it
 pub record Loose (cs : List ℕ) : Type 0 where
-  pub least : (a : ℕ) → a < 2 ^ 64 → 1 ≤ ones a → (x : ℕ) × (at x a ≡ 1) × (carried cs a ≤ carried cs (a - 2 ^ x) + 2)
+  pub least : (a : ℕ) → a < 2 ^ 64 → 1 ≤ ones a → (x : ℕ) × (x ∈ a) × (carried cs a ≤ carried cs (a - 2 ^ x) + 2)
 
 -- the sets within u tell whether the first c constraints are over, and a set's part within u carries all but two for each element that it lacks;
 -- where nothing is left, the constraints are loose
@@ -37,7 +37,7 @@ pub record Core (cs : List ℕ) (u : ℕ) : Type 0 where
 
 -- each element of u has three neighbours in it
 pub record Dense (near : List ℕ) (u : ℕ) : Type 0 where
-  pub three : (x : ℕ) → at x u ≡ 1 → 3 ≤ ones (getD near x 0 ∩ u)
+  pub three : (x : ℕ) → x ∈ u → 3 ≤ ones (getD near x 0 ∩ u)
 
 -- and u is the largest such set
 pub record Largest (near : List ℕ) (u : ℕ) : Type 0 where
@@ -48,21 +48,21 @@ pub record Largest (near : List ℕ) (u : ℕ) : Type 0 where
 
 -- elements of u with at most two neighbours in u
 pub record Light (near : List ℕ) (u todo : ℕ) : Type 0 where
-  pub light : (x : ℕ) → at x todo ≡ 1 → (at x u ≡ 1) × (ones (getD near x 0 ∩ u) ≤ 2)
+  pub light : (x : ℕ) → x ∈ todo → (x ∈ u) × (ones (getD near x 0 ∩ u) ≤ 2)
 
 -- those of who that are not among todo have three neighbours in u
 pub record Heavy (near : List ℕ) (u who todo : ℕ) : Type 0 where
-  pub heavy : (x : ℕ) → at x who ≡ 1 → at x todo ≡ 0 → 3 ≤ ones (getD near x 0 ∩ u)
+  pub heavy : (x : ℕ) → x ∈ who → at x todo ≡ 0 → 3 ≤ ones (getD near x 0 ∩ u)
 
 -- neighbours are so both ways, and below 64
 pub record Mutual (near : List ℕ) : Type 0 where
-  pub below : (x y : ℕ) → x < 64 → at y (getD near x 0) ≡ 1 → y < 64
-  pub back : (x y : ℕ) → x < 64 → y < 64 → at y (getD near x 0) ≡ 1 → at x (getD near y 0) ≡ 1
+  pub below : (x y : ℕ) → x < 64 → y ∈ getD near x 0 → y < 64
+  pub back : (x y : ℕ) → x < 64 → y < 64 → y ∈ getD near x 0 → x ∈ getD near y 0
 
 -- what is left when elements with at most two neighbours among those left are taken away one by one
 pub data Peeled (near : List ℕ) : ℕ → Type 0 where
   whole : Peeled near (full 64)
-  less : {u : ℕ} (x : ℕ) → Peeled near u → at x u ≡ 1 → ones (getD near x 0 ∩ u) ≤ 2 → Peeled near (u - 2 ^ x)
+  less : {u : ℕ} (x : ℕ) → Peeled near u → x ∈ u → ones (getD near x 0 ∩ u) ≤ 2 → Peeled near (u - 2 ^ x)
 
 -- an element taken away, with its neighbours among those left
 abbrev pub corner : List ℕ → ℕ → ℕ → ℕ

@@ -8,7 +8,7 @@ ghost use mathlib.Core.Bool.{_&&_, _||_};
 ghost use lib.Count.{ones};
 ghost use lib.Dec.{eqb};
 ghost use lib.ListN.{getD};
-ghost use Rattle.theory.specs.Set.{_⊑_, at, full};
+ghost use Rattle.theory.specs.Set.{_∈_, _⊑_, at, full};
 ghost use Rattle.theory.specs.Near.{Simple, Near};
 ghost use Rattle.theory.specs.Verdict.{allLines};
 ghost use Rattle.peeling.specs.Core.{Core, Dense, Largest, Light, Heavy, Mutual, Taken, Told};
@@ -38,7 +38,7 @@ fn drop_low(m: u64) -> u64
 // The lowest element of a set.
 pub fn lowest(m: u64) -> u8
     requires { ⌜ 0 < m ⌝ }
-    ensures { λ r. ⌜ (r < 64) × (at r m ≡ 1) ⌝ }
+    ensures { λ r. ⌜ (r < 64) × (r ∈ m) ⌝ }
 {
     u64::trailing_zeros(m) as u8
 }

@@ -4,7 +4,7 @@ use mathlib.Core.Path.{_≡_}
 use mathlib.Core.List.{List, []}
 use Prim.Native.Nat.{ℕ, _+_, _*_, _-_, _<_}
 use lib.ListN.{length, getD, set}
-use Rattle.theory.specs.Set.{_⊑_, at}
+use Rattle.theory.specs.Set.{_∈_, _⊑_, at}
 use Rattle.theory.specs.Sum.{sum}
 use Rattle.theory.specs.Constraints.{carried}
 pub mod Sums
@@ -51,7 +51,7 @@ pub record Balanced (cs : List ℕ) (u : ℕ) (own : List (List ℕ)) : Type 0 w
 
 -- a set whose elements use no freedom towards another element
 pub record Closed (own : List (List ℕ)) (a : ℕ) : Type 0 where
-  pub stays : (x s : ℕ) → at x a ≡ 1 → s < 2 → at (entry own x s) a ≡ 1
+  pub stays : (x s : ℕ) → x ∈ a → s < 2 → entry own x s ∈ a
 
 -- 64 rows of two entries, and the freedoms of the elements below n are free
 pub record FreeBelow (n : ℕ) (own : List (List ℕ)) : Type 0 where

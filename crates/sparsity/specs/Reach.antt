@@ -5,7 +5,7 @@ use mathlib.Core.List.{List}
 use Prim.Native.Nat.{ℕ, _+_, _^_, _≤_, _<_}
 use lib.Count.{ones}
 use lib.ListN.{length, getD, set}
-use Rattle.theory.specs.Set.{_∪_, at}
+use Rattle.theory.specs.Set.{_∈_, _∪_, at}
 use Rattle.sparsity.specs.Freedoms.{entry, stored, free, Table, Balanced, Closed}
 pub mod Visits
 pub mod Laws
@@ -17,7 +17,7 @@ item l i = getD l i 0
 
 -- element y, met from the element at place p: known already, or put at the end of the queue
 pub data Visit (queue from : List ℕ) (seen count y p : ℕ) : List ℕ → List ℕ → ℕ → ℕ → Type 0 where
-  known : at y seen ≡ 1 → Visit queue from seen count y p queue from seen count
+  known : y ∈ seen → Visit queue from seen count y p queue from seen count
   fresh : at y seen ≡ 0 → Visit queue from seen count y p (set queue count y) (set from count p) (seen ∪ 2 ^ y) (count + 1)
 
 -- the two lists that the search is lent have 64 places
@@ -36,8 +36,8 @@ pub record Reached (own : List (List ℕ)) (a b : ℕ) (queue from : List ℕ) (
   pub back : (i : ℕ) → 2 ≤ i → i < count → item from i < i
   pub link : (i : ℕ) → 2 ≤ i → i < count → (s : ℕ) × (s < 2) × (entry own (item queue (item from i)) s ≡ item queue i)
   pub apart : (i j : ℕ) → i < j → j < count → item queue i ≢ item queue j
-  pub marked : (i : ℕ) → i < count → at (item queue i) seen ≡ 1
-  pub queued : (x : ℕ) → at x seen ≡ 1 → (i : ℕ) × (i < count) × (item queue i ≡ x)
+  pub marked : (i : ℕ) → i < count → item queue i ∈ seen
+  pub queued : (x : ℕ) → x ∈ seen → (i : ℕ) × (i < count) × (item queue i ≡ x)
   pub size : ones seen ≡ count
   pub small : seen < 2 ^ 64
 
@@ -45,11 +45,11 @@ pub record Reached (own : List (List ℕ)) (a b : ℕ) (queue from : List ℕ) (
 pub record Longer (queue : List ℕ) (seen count : ℕ) (queue′ : List ℕ) (seen′ count′ : ℕ) : Type 0 where
   pub more : count ≤ count′
   pub places : (i : ℕ) → i < count → item queue′ i ≡ item queue i
-  pub marks : (x : ℕ) → at x seen ≡ 1 → at x seen′ ≡ 1
+  pub marks : (x : ℕ) → x ∈ seen → x ∈ seen′
 
 -- the elements at the first p places use freedoms towards reached elements only, and none of them but the first two has a free entry
 pub record Scanned (own : List (List ℕ)) (queue : List ℕ) (seen p : ℕ) : Type 0 where
-  pub stays : (i s : ℕ) → i < p → s < 2 → at (entry own (item queue i) s) seen ≡ 1
+  pub stays : (i s : ℕ) → i < p → s < 2 → entry own (item queue i) s ∈ seen
   pub none : (i : ℕ) → 2 ≤ i → i < p → free own (item queue i) ≡ 0
 
 -- the whole search: an element with a free entry at a place below the count, or all is reached
@@ -63,7 +63,7 @@ pub record Found (own : List (List ℕ)) (a b : ℕ) (queue from : List ℕ) (se
 pub record Rebalanced (own : List (List ℕ)) (a b : ℕ) (new : List (List ℕ)) : Type 0 where
   pub table : Table new
   pub balanced : (cs : List ℕ) (u : ℕ) → Balanced cs u own → Balanced cs u new
-  pub closed : (u : ℕ) → at a u ≡ 1 → at b u ≡ 1 → Closed own u → Closed new u
+  pub closed : (u : ℕ) → a ∈ u → b ∈ u → Closed own u → Closed new u
 
 -- the way back from place p to the first two, and a free entry at its end
 pub record Way (own : List (List ℕ)) (queue from : List ℕ) (p : ℕ) : Type 0 where
@@ -93,10 +93,10 @@ pub record Gained (own : List (List ℕ)) (a b : ℕ) (new : List (List ℕ)) : 
 pub record Stuck (own : List (List ℕ)) (a b : ℕ) : Type 0 where
   pub set : ℕ
   pub small : set < 2 ^ 64
-  pub first : at a set ≡ 1
-  pub second : at b set ≡ 1
+  pub first : a ∈ set
+  pub second : b ∈ set
   pub closed : Closed own set
-  pub none : (x : ℕ) → at x set ≡ 1 → x ≢ a → x ≢ b → free own x ≡ 0
+  pub none : (x : ℕ) → x ∈ set → x ≢ a → x ≢ b → free own x ≡ 0
 
 -- four free entries on a and b, or as many as can be had
 pub record Gathered (own : List (List ℕ)) (a b : ℕ) (new : List (List ℕ)) : Type 0 where

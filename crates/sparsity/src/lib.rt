@@ -6,7 +6,7 @@ ghost use mathlib.Core.Logic.{_≢_};
 ghost use Prim.Native.Nat.{ℕ, _+_, _≤_, _<_};
 ghost use lib.Count.{ones};
 ghost use lib.ListN.{take};
-ghost use Rattle.theory.specs.Set.{at};
+ghost use Rattle.theory.specs.Set.{_∈_};
 ghost use Rattle.theory.specs.Constraints.{Below};
 ghost use Rattle.theory.specs.Near.{Standing, Near};
 ghost use Rattle.theory.specs.Over.{overOf};
@@ -194,8 +194,8 @@ fn place(own: [[u8; 2]; 64], a: u8, b: u8) -> [[u8; 2]; 64]
 
 // The other element of a set of two.
 fn other_end(pair: u64, a: u8) -> u8
-    requires { ⌜ (ones pair ≡ 2) × (a < 64) × (at a pair ≡ 1) ⌝ }
-    ensures { λ r. ⌜ (r < 64) × (at r pair ≡ 1) × (a ≢ r) ⌝ }
+    requires { ⌜ (ones pair ≡ 2) × (a < 64) × (a ∈ pair) ⌝ }
+    ensures { λ r. ⌜ (r < 64) × (r ∈ pair) × (a ≢ r) ⌝ }
 {
     peeling::lowest(pair - peeling::single(a))
 }

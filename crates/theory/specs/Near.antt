@@ -5,7 +5,7 @@ use mathlib.Core.Logic.{_↔_}
 use mathlib.Core.List.{List, [], _∷_}
 use Prim.Native.Nat.{ℕ, _≤_, _<_}
 use lib.ListN.{length, take, getD}
-use Rattle.theory.specs.Set.{at}
+use Rattle.theory.specs.Set.{_∈_}
 use Rattle.theory.specs.Constraints.{pair, Among, Pairs, Below}
 pub mod Laws
 
@@ -29,4 +29,4 @@ pub record Standing (start : List ℕ) (e : ℕ) : Type 0 where
 -- item x of near is the set of the elements that are constrained with x: y belongs to it if and only if the list has x and y for a constraint
 pub record Near (cs near : List ℕ) : Type 0 where
   pub places : length near ≡ 64
-  pub says : (x y : ℕ) → x < 64 → (at y (getD near x 0) ≡ 1) ↔ Among (pair x y) cs
+  pub says : (x y : ℕ) → x < 64 → (y ∈ getD near x 0) ↔ Among (pair x y) cs

@@ -10,7 +10,7 @@ use lib.Pow.{pow-pos}
 use lib.Count.{trailingZeros, under, leadingZeros, leading-unique}
 use lib.ListN.{length, getD, set, replicate, length-map, length-append, List·getD-append}
 use lib.Seq.{set-append-seam}
-use Rattle.theory.specs.Set.{at}
+use Rattle.theory.specs.Set.{_∈_, at}
 use Rattle.theory.specs.Set.Less.{trailing-at, at-room}
 use Rattle.theory.specs.Constraints.{pair}
 use Rattle.theory.specs.Constraints.Laws.{at-pair, at-end, pair-below}
@@ -81,7 +81,7 @@ module _ {cs : List Constraint} {near start : List ℕ} {sizes : List ℤ} (h : 
       rw (h .sizes-are)
       (List·getD-append (map (λ c. sizeOf (c .size)) cs) _ (pos 0) i k ∙ getD-mapped (λ c. sizeOf (c .size)) cs i (pos 0) d l)
 
-trailing-least : (k x a : ℕ) → at x a ≡ 1 → trailingZeros k a ≤ x
+trailing-least : (k x a : ℕ) → x ∈ a → trailingZeros k a ≤ x
 unfolding trailingZeros at
 trailing-least zero x a e = omega arith
 trailing-least (suc k) zero a e = rw e (omega arith)

@@ -6,7 +6,7 @@ use mathlib.Core.List.{List}
 use Prim.Native.Nat.{ℕ, _≤_, _<_}
 use lib.Bits.{bitAnd, bitXor}
 use lib.ListN.{length, getD}
-use Rattle.theory.specs.Set.{_∩_, _∪_, at}
+use Rattle.theory.specs.Set.{_∈_, _∩_, _∪_, at}
 use Rattle.theory.specs.Merge.{slot, merge, OpenAt, ShareOne}
 
 -- the elements linked to p
@@ -15,13 +15,13 @@ linked links p = getD links p 0
 
 -- two elements are linked where a living cluster holds both
 pub record Links (s links : List ℕ) : Type 0 where
-  pub only : (p r : ℕ) → at r (linked links p) ≡ 1 → (c : ℕ) × (at p (slot s c) ≡ 1) × (at r (slot s c) ≡ 1)
-  pub every : (c p r : ℕ) → at p (slot s c) ≡ 1 → at r (slot s c) ≡ 1 → at r (linked links p) ≡ 1
+  pub only : (p r : ℕ) → r ∈ linked links p → (c : ℕ) × (p ∈ slot s c) × (r ∈ slot s c)
+  pub every : (c p r : ℕ) → p ∈ slot s c → r ∈ slot s c → r ∈ linked links p
 
 -- the links with the elements of u linked to each other
 pub record Linking (links : List ℕ) (u : ℕ) (next : List ℕ) : Type 0 where
   pub long : length next ≡ length links
-  pub inside : (p : ℕ) → at p u ≡ 1 → linked next p ≡ linked links p ∪ u
+  pub inside : (p : ℕ) → p ∈ u → linked next p ≡ linked links p ∪ u
   pub outside : (p : ℕ) → at p u ≡ 0 → linked next p ≡ linked links p
 
 -- r lies outside x and is linked to two elements of x
@@ -29,16 +29,16 @@ pub record Reaches (links : List ℕ) (x r : ℕ) : Type 0 where
   pub p : ℕ
   pub q : ℕ
   pub differ : p ≢ q
-  pub p-in : at p x ≡ 1
-  pub q-in : at q x ≡ 1
-  pub by-p : at r (linked links p) ≡ 1
-  pub by-q : at r (linked links q) ≡ 1
+  pub p-in : p ∈ x
+  pub q-in : q ∈ x
+  pub by-p : r ∈ linked links p
+  pub by-q : r ∈ linked links q
   pub out : at r x ≡ 0
 
 -- o is the set of the elements that x reaches
 pub record Outs (links : List ℕ) (x o : ℕ) : Type 0 where
-  pub only : (r : ℕ) → at r o ≡ 1 → Reaches links x r
-  pub every : (r : ℕ) → Reaches links x r → at r o ≡ 1
+  pub only : (r : ℕ) → r ∈ o → Reaches links x r
+  pub every : (r : ℕ) → Reaches links x r → r ∈ o
 
 -- what a has beyond b
 abbrev pub beyond : ℕ → ℕ → ℕ

@@ -4,13 +4,13 @@ use mathlib.Core.Logic.{_≢_}
 use mathlib.Core.List.{List}
 use Prim.Native.Nat.{ℕ, _/_, _<_}
 use lib.ListN.{length, getD}
-use Rattle.theory.specs.Set.{at}
+use Rattle.theory.specs.Set.{_∈_}
 use Rattle.theory.specs.Merge.{slot}
 
 -- r is the union of the clusters of block b: the numbers 8b to 8b + 7
 pub record Sum (s : List ℕ) (b r : ℕ) : Type 0 where
-  pub only : (p : ℕ) → at p r ≡ 1 → (c : ℕ) × (c / 8 ≡ b) × (at p (slot s c) ≡ 1)
-  pub every : (c p : ℕ) → c / 8 ≡ b → at p (slot s c) ≡ 1 → at p r ≡ 1
+  pub only : (p : ℕ) → p ∈ r → (c : ℕ) × (c / 8 ≡ b) × (p ∈ slot s c)
+  pub every : (c p : ℕ) → c / 8 ≡ b → p ∈ slot s c → p ∈ r
 
 -- the union of each of the 24 blocks
 pub record Sums (s sums : List ℕ) : Type 0 where

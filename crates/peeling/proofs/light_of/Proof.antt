@@ -7,8 +7,8 @@ use lib.Bits.{bitAnd, bitOr}
 use lib.Count.{ones}
 use lib.ListN.{getD}
 use lib.Pow.{pow-pos}
-use Rattle.theory.specs.Set.{_∩_, _⊑_, at}
-use Rattle.theory.specs.Set.Laws.{at-le, at-zero, sub-trans}
+use Rattle.theory.specs.Set.{_∈_, _∩_, _⊑_, at}
+use Rattle.theory.specs.Set.Laws.{at-le, at-zero, ⊑-trans}
 use Rattle.theory.specs.Set.Less.{at-room, less-other, less-sub}
 use Rattle.peeling.specs.Core.{Light}
 use Rattle.peeling.specs.Core.Neighbours.{light-none, light-code, light-same, two-most, three-least, heavy-tried}
@@ -18,7 +18,7 @@ use Rattle.peeling.proofs.light_of.Tie as tie
 
 abbrev Inv-loop : tie.InvT-loop
 Inv-loop near left who todo₀ m₀ todo m =
-    (m ⊑ left) × Light near left todo × ((y : ℕ) → (at y who ≡ 1) × (at y m ≡ 0) → at y todo ≡ 0 → 3 ≤ ones (getD near y 0 ∩ left))
+    (m ⊑ left) × Light near left todo × ((y : ℕ) → (y ∈ who) × (at y m ≡ 0) → at y todo ≡ 0 → 3 ≤ ones (getD near y 0 ∩ left))
 
 abbrev μ-loop : tie.MeasureT-loop
 μ-loop near left who todo₀ m₀ todo m = m
@@ -62,13 +62,13 @@ loop-again c =
     let b = c .before .before .before .before .single in
     let p = c .before .before .drop-low in
     let q = c .before .drop-low2 in (
-      sub-trans (subst (λ (z : ℕ). l .m - z ⊑ l .m) (sym (b .ensures)) (less-sub (x .result) (l .m) (x .ensures .1))) (l .inv .0),
+      ⊑-trans (subst (λ (z : ℕ). l .m - z ⊑ l .m) (sym (b .ensures)) (less-sub (x .result) (l .m) (x .ensures .1))) (l .inv .0),
       ⊎-elim
           (λ w. light-code (a .near .now) (a .left) (l .todo) (l .inv .1)
           (omega (arith, l .inv .0 .le (x .result), x .ensures .1, at-le (x .result) (a .left))) (i .ensures) (b .ensures)
           (two-most (bitAnd (getD (a .near .now) (i .result) 0) (a .left)) (p .result) (q .result) (p .ensures) (q .ensures) (w .0 .taken)) (w .1))
           (λ w. light-same (a .near .now) (a .left) (w .1) (l .inv .1)) (c .if1 .came),
-      λ y o. heavy-tried (λ z. (at z (a .who) ≡ 1) × (at z (l .m) ≡ 0)) (λ z. 3 ≤ ones (bitAnd (getD (a .near .now) z 0) (a .left)))
+      λ y o. heavy-tried (λ z. (z ∈ a .who) × (at z (l .m) ≡ 0)) (λ z. 3 ≤ ones (bitAnd (getD (a .near .now) z 0) (a .left)))
           (l .todo) (x .result) (l .inv .2)
           (⊎-elim (λ w. inl (w .1 ∙ ap (bitOr (l .todo)) (b .ensures)))
           (λ w. inr (

@@ -8,7 +8,7 @@ use Rattle.peeling.specs.Core.Neighbours.{heavy-start}
 use Rattle.peeling.specs.Core.Peeling.{peel-room, todo-room, peel-less, light-next, heavy-left}
 use Rattle.peeling.specs.Core.Angle.{taken-next}
 use Rattle.theory.specs.Set.{_∩_, _∪_, at, full}
-use Rattle.theory.specs.Set.Laws.{at-zero, and-r}
+use Rattle.theory.specs.Set.Laws.{at-zero, a∩b⊑b}
 use Rattle.theory.specs.Verdict.{angled}
 use borrow.Author.Needs.{needs}
 use Rattle.peeling.proofs.peel.Statement.{statement}
@@ -62,7 +62,7 @@ unfolding _∩_
 light-of-requires c κs =
     let s = c .before .before .before .before .before .before .before .before .before in
     let l = c .before .before .before .before .before .before .before .before .loop in
-    and-r (getD (s .args .near .now) (c .before .before .before .before .before .wide .result) 0)
+    a∩b⊑b (getD (s .args .near .now) (c .before .before .before .before .before .wide .result) 0)
     (l .left - c .before .before .before .before .single .result)
 
 loop-less : tie.Need-loop-less Inv-loop μ-loop

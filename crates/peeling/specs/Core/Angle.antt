@@ -7,7 +7,7 @@ use Prim.Native.Nat.{ℕ, _+_, _*_, _^_, _-_, _≤_}
 use lib.Count.{ones}
 use lib.Dec.{eqb}
 use lib.ListN.{length, getD}
-use Rattle.theory.specs.Set.{_∩_, _∪_, at}
+use Rattle.theory.specs.Set.{_∈_, _∩_, _∪_}
 use Rattle.theory.specs.Constraints.{Below}
 use Rattle.theory.specs.Near.{Simple, Near}
 use Rattle.theory.specs.Merge.{joints}
@@ -20,7 +20,7 @@ use Rattle.peeling.specs.Core.Peeling.{core-peeled, core-none}
 use Rattle.peeling.specs.Core.Joints.{joints-are}
 
 -- one element more
-pub angle-more : (near : List ℕ) (lines v x : ℕ) (p : Peeled near v) (q : at x v ≡ 1) (h : ones (getD near x 0 ∩ v) ≤ 2)
+pub angle-more : (near : List ℕ) (lines v x : ℕ) (p : Peeled near v) (q : x ∈ v) (h : ones (getD near x 0 ∩ v) ≤ 2)
     → angled lines (corners (less x p q h)) ≡ (eqb (ones (corner near v x)) 3 && allLines lines (corner near v x)) || angled lines (corners p)
 unfolding corners angled
 angle-more near lines v x p q h =
@@ -45,7 +45,7 @@ all-told cs near simple is-near lines left angle t = record {
 -- ---- one element taken away
 
 module _ (near : List ℕ) (lines left todo : ℕ) (angle : Bool) (w : Taken near lines left angle) (l : Light near left todo) where
-  pub taken-next : (x s i : ℕ) → at x todo ≡ 1 → s ≡ 2 ^ x → i ≡ x → (three next : Bool)
+  pub taken-next : (x s i : ℕ) → x ∈ todo → s ≡ 2 ^ x → i ≡ x → (three next : Bool)
       → three ≡ (eqb (ones (s ∪ (getD near i 0 ∩ left))) 3 && allLines lines (s ∪ (getD near i 0 ∩ left))) → next ≡ three || angle
       → Taken near lines (left - s) next
   taken-next x s i e es ei three next t n =

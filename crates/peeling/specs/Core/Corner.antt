@@ -8,9 +8,9 @@ use native.Mathlib.Omega.{arith}
 use native.Mathlib.Decide.{ℕ-discrete}
 use lib.Count.{ones}
 use lib.ListN.{getD}
-use Rattle.theory.specs.Set.{_∩_, _∪_, _⊑_, at}
-use Rattle.theory.specs.Set.Laws.{at-or, at-le, at-same, at-other, bit, ext, zero-ext, size-eq, size-pow, size-or, sub-trans, sub-antisymm, or-least}
-use Rattle.theory.specs.Set.Laws.{other, two-in, both, in-both, in-either, or-left, or-right}
+use Rattle.theory.specs.Set.{_∈_, _∩_, _∪_, _⊑_, at}
+use Rattle.theory.specs.Set.Laws.{at-∪, at-le, at-same, at-other, bit, ext, zero-ext, ⊑-size-≡, size-pow, size-∪, ⊑-trans, ⊑-antisym, ∪-least}
+use Rattle.theory.specs.Set.Laws.{other, two-in, both, ∈-∩⁻, ∈-∪⁻, ∈-∪ˡ, ∈-∪ʳ}
 use Rattle.theory.specs.Constraints.{Among, Pairs}
 use Rattle.theory.specs.Constraints.Laws.{pairs-share}
 use Rattle.theory.specs.Near.{Simple, Near}
@@ -22,7 +22,7 @@ use Rattle.theory.specs.Set.Less.{less-same, less-other, less-sub, size-less, s
 use Rattle.peeling.specs.Core.{corner}
 
 -- a set that has just these two elements
-two-are : (s p q : ℕ) → p ≢ q → at p s ≡ 1 → at q s ≡ 1 → ones s ≤ 2 → (z : ℕ) → at z s ≡ 1 → (z ≡ p) ⊎ (z ≡ q)
+two-are : (s p q : ℕ) → p ≢ q → p ∈ s → q ∈ s → ones s ≤ 2 → (z : ℕ) → z ∈ s → (z ≡ p) ⊎ (z ≡ q)
 two-are s p q n i j h z k = go (ℕ-discrete z p) (ℕ-discrete z q)
   where
     go : Dec (z ≡ p) → Dec (z ≡ q) → (z ≡ p) ⊎ (z ≡ q)
@@ -43,11 +43,11 @@ module _ (cs near : List ℕ) (simple : Simple cs) (is-near : Near cs near) wher
   two-ends m i = simple .pairs m i
 
   -- a neighbour by a constraint
-  has-near : (x p m : ℕ) → x < 64 → Among m cs → at x m ≡ 1 → at p m ≡ 1 → p ≢ x → at p (getD near x 0) ≡ 1
+  has-near : (x p m : ℕ) → x < 64 → Among m cs → x ∈ m → p ∈ m → p ≢ x → p ∈ getD near x 0
   has-near x p m l i xm pm ne = is-near .says x p l .1 (subst (λ (z : ℕ). Among z cs) (pair-is m x p (two-ends m i) xm pm (Ne·symm ne)) i)
 
   -- an element x of a put back on what a is without it
-  module _ (v a x : ℕ) (small : x < 64) (within : a ⊑ v) (xa : at x a ≡ 1) (two : ones (getD near x 0 ∩ v) ≤ 2) where
+  module _ (v a x : ℕ) (small : x < 64) (within : a ⊑ v) (xa : x ∈ a) (two : ones (getD near x 0 ∩ v) ≤ 2) where
     abbrev b : ℕ
     b = a - 2 ^ x
 
@@ -57,7 +57,7 @@ module _ (cs near : List ℕ) (simple : Simple cs) (is-near : Near cs near) wher
     b-in-a : b ⊑ a
     b-in-a = less-sub x a xa
 
-    has-x : (m : ℕ) → m ⊑ a → (m ⊑ b → ⊥) → at x m ≡ 1
+    has-x : (m : ℕ) → m ⊑ a → (m ⊑ b → ⊥) → x ∈ m
     has-x m i o = elim (bit (at x m) (at-le x m)) [ inl e ↦ absurd (o (sub-less x a m xa i e)) | inr e ↦ e ]
 
     -- the other end of a constraint at x
@@ -65,19 +65,19 @@ module _ (cs near : List ℕ) (simple : Simple cs) (is-near : Near cs near) wher
       pub p : ℕ
       pub among : Among m cs
       pub in-a : m ⊑ a
-      pub x-in : at x m ≡ 1
-      pub p-in : at p m ≡ 1
+      pub x-in : x ∈ m
+      pub p-in : p ∈ m
       pub p≢x : p ≢ x
-      pub p-b : at p b ≡ 1
-      pub p-near : at p (getD near x 0 ∩ v) ≡ 1
-      pub only : (z : ℕ) → at z m ≡ 1 → (z ≡ x) ⊎ (z ≡ p)
+      pub p-b : p ∈ b
+      pub p-near : p ∈ getD near x 0 ∩ v
+      pub only : (z : ℕ) → z ∈ m → (z ≡ x) ⊎ (z ≡ p)
 
     pub end : (m : ℕ) → Among m cs → m ⊑ a → (m ⊑ b → ⊥) → End m
     unfolding Pairs
     end m i h o =
         let xm = has-x m h o in
         let p = other m x (omega (arith, two-ends m i)) in
-        let pa : at (p .0) a ≡ 1 = omega (arith, h .le (p .0), p .1, at-le (p .0) a) in
+        let pa : p .0 ∈ a = omega (arith, h .le (p .0), p .1, at-le (p .0) a) in
         record {
           p = p .0;
           among = i;
@@ -100,7 +100,7 @@ module _ (cs near : List ℕ) (simple : Simple cs) (is-near : Near cs near) wher
         arith,
         pairs-share m k (two-ends m (e .among)) (two-ends k (f .among)) r,
         two-in (m ∩ k) x (e .p) (both x m k (e .x-in) (f .x-in))
-            (both (e .p) m k (e .p-in) (subst (λ (w : ℕ). at w k ≡ 1) (sym q) (f .p-in))) (Ne·symm (e .p≢x)),
+            (both (e .p) m k (e .p-in) (subst (λ (w : ℕ). w ∈ k) (sym q) (f .p-in))) (Ne·symm (e .p≢x)),
       ))
     ]
 
@@ -109,16 +109,16 @@ module _ (cs near : List ℕ) (simple : Simple cs) (is-near : Near cs near) wher
       differ q = m≢k (same-end m k e f q)
 
       -- what the three have in common
-      in-bm : (z : ℕ) → at z b ≡ 1 → at z m ≡ 1 → z ≡ e .p
+      in-bm : (z : ℕ) → z ∈ b → z ∈ m → z ≡ e .p
       in-bm z i j = ⊎-elim (λ r. absurd (omega (arith, out, ap (λ (w : ℕ). at w b) r, i))) (λ r. r) (e .only z j)
 
-      in-bk : (z : ℕ) → at z b ≡ 1 → at z k ≡ 1 → z ≡ f .p
+      in-bk : (z : ℕ) → z ∈ b → z ∈ k → z ≡ f .p
       in-bk z i j = ⊎-elim (λ r. absurd (omega (arith, out, ap (λ (w : ℕ). at w b) r, i))) (λ r. r) (f .only z j)
 
-      in-mk : (z : ℕ) → at z m ≡ 1 → at z k ≡ 1 → z ≡ x
+      in-mk : (z : ℕ) → z ∈ m → z ∈ k → z ≡ x
       in-mk z i j = ⊎-elim (λ r. r) (λ r. ⊎-elim (λ s. s) (λ s. absurd (differ (sym r ∙ s))) (f .only z j)) (e .only z i)
 
-      one-of : (s p : ℕ) → at p s ≡ 1 → ((z : ℕ) → at z s ≡ 1 → z ≡ p) → ones s ≡ 1
+      one-of : (s p : ℕ) → p ∈ s → ((z : ℕ) → z ∈ s → z ≡ p) → ones s ≡ 1
       one-of s p i h = ap ones (ext s (2 ^ p) (λ z. elim (ℕ-discrete z p) [
         | yes r ↦ subst (λ (w : ℕ). at w s ≡ at w (2 ^ p)) (sym r) (omega (arith, i, at-same p))
         | no r ↦ elim (bit (at z s) (at-le z s)) [ inl c ↦ omega (arith, at-other z p r) | inr c ↦ absurd (r (h z c)) ]
@@ -129,50 +129,50 @@ module _ (cs near : List ℕ) (simple : Simple cs) (is-near : Near cs near) wher
 
       pub isopen : Open b m k
       isopen =
-          meet-open b m k (one-of (b ∩ m) (e .p) (both (e .p) b m (e .p-b) (e .p-in)) (λ z i. let r = in-both z b m i in in-bm z (r .0) (r .1)))
-          (one-of (m ∩ k) x (both x m k (e .x-in) (f .x-in)) (λ z i. let r = in-both z m k i in in-mk z (r .0) (r .1)))
-          (one-of (b ∩ k) (f .p) (both (f .p) b k (f .p-b) (f .p-in)) (λ z i. let r = in-both z b k i in in-bk z (r .0) (r .1)))
+          meet-open b m k (one-of (b ∩ m) (e .p) (both (e .p) b m (e .p-b) (e .p-in)) (λ z i. let r = ∈-∩⁻ z b m i in in-bm z (r .0) (r .1)))
+          (one-of (m ∩ k) x (both x m k (e .x-in) (f .x-in)) (λ z i. let r = ∈-∩⁻ z m k i in in-mk z (r .0) (r .1)))
+          (one-of (b ∩ k) (f .p) (both (f .p) b k (f .p-b) (f .p-in)) (λ z i. let r = ∈-∩⁻ z b k i in in-bk z (r .0) (r .1)))
           (zero-ext (b ∩ m ∩ k) (λ z. elim (bit (at z (b ∩ m ∩ k)) (at-le z (b ∩ m ∩ k))) [
             | inl i ↦ i
-            | inr i ↦ let r = in-both z (b ∩ m) k i in
-                let s = in-both z b m (r .0) in
+            | inr i ↦ let r = ∈-∩⁻ z (b ∩ m) k i in
+                let s = ∈-∩⁻ z b m (r .0) in
                 absurd (omega (arith, out, ap (λ (w : ℕ). at w b) (in-mk z (s .1) (r .1)), s .0))
           ]))
 
       union-is : union t ≡ a
       unfolding union
-      union-is = sub-antisymm (b ∪ m ∪ k) a (or-least (or-least b-in-a (e .in-a)) (f .in-a)) (record {
+      union-is = ⊑-antisym (b ∪ m ∪ k) a (∪-least (∪-least b-in-a (e .in-a)) (f .in-a)) (record {
         le = λ z. elim (ℕ-discrete z x) [
           | yes r ↦ subst (λ (w : ℕ). at w a ≤ at w (b ∪ m ∪ k)) (sym r)
-              (omega (arith, at-le x a, or-left x (b ∪ m) k (or-right x b m (e .x-in))))
-          | no r ↦ omega (arith, at-or z (b ∪ m) k, at-or z b m, less-other x z a xa r)
+              (omega (arith, at-le x a, ∈-∪ˡ x (b ∪ m) k (∈-∪ʳ x b m (e .x-in))))
+          | no r ↦ omega (arith, at-∪ z (b ∪ m) k, at-∪ z b m, less-other x z a xa r)
         ];
       })
 
       pub joint-is : joint t ≡ corner near v x
       unfolding joint
       joint-is =
-          size-eq (corner near v x) (joint t) (record { le = λ z. go z (bit (at z (joint t)) (at-le z (joint t))) })
-          (omega (arith, size-joint t isopen, size-or (2 ^ x) (getD near x 0 ∩ v), size-pow x, two))
+          ⊑-size-≡ (corner near v x) (joint t) (record { le = λ z. go z (bit (at z (joint t)) (at-le z (joint t))) })
+          (omega (arith, size-joint t isopen, size-∪ (2 ^ x) (getD near x 0 ∩ v), size-pow x, two))
         where
-          near-in : (z : ℕ) → at z (getD near x 0 ∩ v) ≡ 1 → at z (corner near v x) ≡ 1
-          near-in z i = or-right z (2 ^ x) (getD near x 0 ∩ v) i
+          near-in : (z : ℕ) → z ∈ getD near x 0 ∩ v → z ∈ corner near v x
+          near-in z i = ∈-∪ʳ z (2 ^ x) (getD near x 0 ∩ v) i
 
-          inner : (z : ℕ) → (at z (b ∩ m) ≡ 1) ⊎ (at z (m ∩ k) ≡ 1) → at z (corner near v x) ≡ 1
+          inner : (z : ℕ) → (z ∈ b ∩ m) ⊎ (z ∈ m ∩ k) → z ∈ corner near v x
           inner z (inl i) =
-              let r = in-both z b m i in near-in z (subst (λ (w : ℕ). at w (getD near x 0 ∩ v) ≡ 1) (sym (in-bm z (r .0) (r .1))) (e .p-near))
+              let r = ∈-∩⁻ z b m i in near-in z (subst (λ (w : ℕ). w ∈ getD near x 0 ∩ v) (sym (in-bm z (r .0) (r .1))) (e .p-near))
           inner z (inr i) =
-              let r = in-both z m k i in
-              or-left z (2 ^ x) (getD near x 0 ∩ v) (subst (λ (w : ℕ). at w (2 ^ x) ≡ 1) (sym (in-mk z (r .0) (r .1))) (at-same x))
+              let r = ∈-∩⁻ z m k i in
+              ∈-∪ˡ z (2 ^ x) (getD near x 0 ∩ v) (subst (λ (w : ℕ). w ∈ 2 ^ x) (sym (in-mk z (r .0) (r .1))) (at-same x))
 
-          outer : (z : ℕ) → (at z ((b ∩ m) ∪ (m ∩ k)) ≡ 1) ⊎ (at z (b ∩ k) ≡ 1) → at z (corner near v x) ≡ 1
-          outer z (inl i) = inner z (in-either z (b ∩ m) (m ∩ k) i)
+          outer : (z : ℕ) → (z ∈ (b ∩ m) ∪ (m ∩ k)) ⊎ (z ∈ b ∩ k) → z ∈ corner near v x
+          outer z (inl i) = inner z (∈-∪⁻ z (b ∩ m) (m ∩ k) i)
           outer z (inr i) =
-              let r = in-both z b k i in near-in z (subst (λ (w : ℕ). at w (getD near x 0 ∩ v) ≡ 1) (sym (in-bk z (r .0) (r .1))) (f .p-near))
+              let r = ∈-∩⁻ z b k i in near-in z (subst (λ (w : ℕ). w ∈ getD near x 0 ∩ v) (sym (in-bk z (r .0) (r .1))) (f .p-near))
 
-          go : (z : ℕ) → (at z (joint t) ≡ 0) ⊎ (at z (joint t) ≡ 1) → at z (joint t) ≤ at z (corner near v x)
+          go : (z : ℕ) → (at z (joint t) ≡ 0) ⊎ (z ∈ joint t) → at z (joint t) ≤ at z (corner near v x)
           go z (inl i) = omega arith
-          go z (inr i) = omega (arith, outer z (in-either z ((b ∩ m) ∪ (m ∩ k)) (b ∩ k) i))
+          go z (inr i) = omega (arith, outer z (∈-∪⁻ z ((b ∩ m) ∪ (m ∩ k)) (b ∩ k) i))
 
       -- no other constraint in a has x
       no-third : (y : ℕ) → End y → (y ≡ m) ⊎ (y ≡ k)
@@ -190,7 +190,7 @@ module _ (cs near : List ℕ) (simple : Simple cs) (is-near : Near cs near) wher
 
           from : Parted cs a y → after G t y
           from (inl q) = inl (q ∙ sym union-is)
-          from (inr (i, o)) = inr (s y .1 (inr (i, λ h. o (sub-trans h b-in-a))), not-in)
+          from (inr (i, o)) = inr (s y .1 (inr (i, λ h. o (⊑-trans h b-in-a))), not-in)
             where
               not-in : In y t → ⊥
               not-in (inl q) = o (subst (λ (w : ℕ). w ⊑ a) (sym q) b-in-a)

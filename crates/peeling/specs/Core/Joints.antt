@@ -12,9 +12,9 @@ use lib.Dec.{T, eqb, eqb→eq}
 use lib.ListN.{length, getD}
 use lib.Pow.{pow-pos, pow-mono}
 use Rattle.theory.specs.Tests.{eq-test}
-use Rattle.theory.specs.Set.{_∩_, _⊑_, at, full}
-use Rattle.theory.specs.Set.Laws.{at-and, at-le, at-other, bit, size-le, size-eq, size-zero, size-full, size-pow, size-or, sub-refl, sub-trans}
-use Rattle.theory.specs.Set.Laws.{sub-antisymm, and-l, and-r, and-most, sub-and, some, both, in-both, in-either, below-full}
+use Rattle.theory.specs.Set.{_∈_, _∩_, _⊑_, at, full}
+use Rattle.theory.specs.Set.Laws.{at-∩, at-le, at-other, bit, ⊑⇒size≤, ⊑-size-≡, size-zero, size-full, size-pow, size-∪, ⊑-refl, ⊑-trans}
+use Rattle.theory.specs.Set.Laws.{⊑-antisym, a∩b⊑a, a∩b⊑b, ∩-greatest, ⊑⇒∩≡, some, both, ∈-∩⁻, ∈-∪⁻, below-full}
 use Rattle.theory.specs.Constraints.{Among, Pairs, Below, pair, same, carried, NotOver}
 use Rattle.theory.specs.Constraints.Laws.{carried-small, carried-full, pair-ends}
 use Rattle.theory.specs.Merge.{Three, joint, Merge, Maximal, joints}
@@ -31,7 +31,7 @@ use Rattle.peeling.specs.Core.Merging.{one-between, two-between}
 use Rattle.peeling.specs.Core.Corner.{Parted, end, t, isopen, joint-is, merged}
 
 -- a step that takes away no corner of three, and one that does
-corners-few : {near : List ℕ} {v : ℕ} (x : ℕ) (p : Peeled near v) (q : at x v ≡ 1) (h : ones (getD near x 0 ∩ v) ≤ 2) → ones (corner near v x) ≢ 3
+corners-few : {near : List ℕ} {v : ℕ} (x : ℕ) (p : Peeled near v) (q : x ∈ v) (h : ones (getD near x 0 ∩ v) ≤ 2) → ones (corner near v x) ≢ 3
     → corners (less x p q h) ≡ corners p
 unfolding corners
 corners-few {near = near} {v = v} x p q h n = go (eqb (ones (corner near v x)) 3) refl
@@ -40,7 +40,7 @@ corners-few {near = near} {v = v} x p q h n = go (eqb (ones (corner near v x)) 3
     go true e = absurd (n (eqb→eq (ones (corner near v x)) 3 (subst T (sym e) tt)))
     go false e = refl
 
-corners-three : {near : List ℕ} {v : ℕ} (x : ℕ) (p : Peeled near v) (q : at x v ≡ 1) (h : ones (getD near x 0 ∩ v) ≤ 2) → ones (corner near v x) ≡ 3
+corners-three : {near : List ℕ} {v : ℕ} (x : ℕ) (p : Peeled near v) (q : x ∈ v) (h : ones (getD near x 0 ∩ v) ≤ 2) → ones (corner near v x) ≡ 3
     → corners (less x p q h) ≡ corner near v x ∷ corners p
 unfolding corners
 corners-three {near = near} {v = v} x p q h n = go (eqb (ones (corner near v x)) 3) (eq-test (ones (corner near v x)) 3 n)
@@ -60,17 +60,17 @@ module _ (cs near : List ℕ) (simple : Simple cs) (is-near : Near cs near) (n :
 
   -- ---- what is left of the n elements
 
-  cut-out : (v x : ℕ) → at x v ≡ 1 → at x (v ∩ full n) ≡ 0 → (v - 2 ^ x) ∩ full n ≡ v ∩ full n
-  cut-out v x e z = less-out x v (full n) e (omega (arith, at-and x v (full n), at-le x (full n)))
+  cut-out : (v x : ℕ) → x ∈ v → at x (v ∩ full n) ≡ 0 → (v - 2 ^ x) ∩ full n ≡ v ∩ full n
+  cut-out v x e z = less-out x v (full n) e (omega (arith, at-∩ x v (full n), at-le x (full n)))
 
-  cut-in : (v x : ℕ) → at x v ≡ 1 → at x (v ∩ full n) ≡ 1 → (v - 2 ^ x) ∩ full n ≡ (v ∩ full n) - 2 ^ x
-  cut-in v x e z = less-and x v (full n) e (in-both x v (full n) z .1)
+  cut-in : (v x : ℕ) → x ∈ v → x ∈ v ∩ full n → (v - 2 ^ x) ∩ full n ≡ (v ∩ full n) - 2 ^ x
+  cut-in v x e z = less-and x v (full n) e (∈-∩⁻ x v (full n) z .1)
 
   all-of : full 64 ∩ full n ≡ full n
   unfolding full
   all-of =
-      sub-antisymm (full 64 ∩ full n) (full n) (and-r (full 64) (full n))
-      (and-most (below-full 64 (full n) (omega (arith, pow-mono most, pow-pos n))) (sub-refl (full n)))
+      ⊑-antisym (full 64 ∩ full n) (full n) (a∩b⊑b (full 64) (full n))
+      (∩-greatest (below-full 64 (full n) (omega (arith, pow-mono most, pow-pos n))) (⊑-refl (full n)))
 
   tight-at : (u : ℕ) → Peeled near u → 2 ≤ ones (u ∩ full n) → carried cs (u ∩ full n) + 3 ≡ 2 * ones (u ∩ full n)
   unfolding NotOver
@@ -85,8 +85,8 @@ module _ (cs near : List ℕ) (simple : Simple cs) (is-near : Near cs near) (n :
           tight-at v p (omega arith),
           fine ((v ∩ full n) - 2 ^ x) k,
           near-counts x (v ∩ full n) z cs near simple is-near (at-below 64 x v (peeled-small v p) q),
-          size-le (getD near x 0 ∩ v) (getD near x 0 ∩ (v ∩ full n))
-              (and-most (and-l (getD near x 0) (v ∩ full n)) (sub-trans (and-r (getD near x 0) (v ∩ full n)) (and-l v (full n)))),
+          ⊑⇒size≤ (getD near x 0 ∩ v) (getD near x 0 ∩ (v ∩ full n))
+              (∩-greatest (a∩b⊑a (getD near x 0) (v ∩ full n)) (⊑-trans (a∩b⊑b (getD near x 0) (v ∩ full n)) (a∩b⊑a v (full n)))),
           two,
         ))
   ]
@@ -97,31 +97,31 @@ module _ (cs near : List ℕ) (simple : Simple cs) (is-near : Near cs near) (n :
   Merges u d G = (l : List Three) × ValidIn G l × Same (finalIn G l) (Parted cs (full n)) × ((y : ℕ) → Among y (jointsIn l) ↔ Among y (corners d))
 
   -- an element that is none of the n has no neighbour
-  lone : (v x : ℕ) → x < 64 → at x v ≡ 1 → at x (v ∩ full n) ≡ 0 → ones (getD near x 0 ∩ v) ≡ 0
+  lone : (v x : ℕ) → x < 64 → x ∈ v → at x (v ∩ full n) ≡ 0 → ones (getD near x 0 ∩ v) ≡ 0
   lone v x l xv z = elim (ones (getD near x 0 ∩ v)) as (λ (k : ℕ). ones (getD near x 0 ∩ v) ≡ k → ones (getD near x 0 ∩ v) ≡ 0) [
     | zero ↦ λ e. e
     | suc k ↦ λ e. let y = some (getD near x 0 ∩ v) (omega arith) in
-        let i = is-near .says x (y .0) l .0 (in-both (y .0) (getD near x 0) v (y .1) .0) in
+        let i = is-near .says x (y .0) l .0 (∈-∩⁻ (y .0) (getD near x 0) v (y .1) .0) in
         absurd (omega (arith, both x v (full n) xv (pair-ends x (y .0) (full n) (inside (pair x (y .0)) i) .0), z))
   ] refl
 
-  corner-few : (v x : ℕ) → x < 64 → at x v ≡ 1 → at x (v ∩ full n) ≡ 0 → ones (corner near v x) ≢ 3
-  corner-few v x l xv z e = omega (arith, e, size-or (2 ^ x) (getD near x 0 ∩ v), size-pow x, lone v x l xv z)
+  corner-few : (v x : ℕ) → x < 64 → x ∈ v → at x (v ∩ full n) ≡ 0 → ones (corner near v x) ≢ 3
+  corner-few v x l xv z e = omega (arith, e, size-∪ (2 ^ x) (getD near x 0 ∩ v), size-pow x, lone v x l xv z)
 
-  corner-within : (v x : ℕ) → x < 64 → at x v ≡ 1 → at x (v ∩ full n) ≡ 1 → corner near v x ⊑ v ∩ full n
+  corner-within : (v x : ℕ) → x < 64 → x ∈ v → x ∈ v ∩ full n → corner near v x ⊑ v ∩ full n
   corner-within v x l xv z = record { le = λ y. go y (bit (at y (corner near v x)) (at-le y (corner near v x))) }
     where
-      pick : (y : ℕ) → (at y (2 ^ x) ≡ 1) ⊎ (at y (getD near x 0 ∩ v) ≡ 1) → at y (v ∩ full n) ≡ 1
+      pick : (y : ℕ) → (y ∈ 2 ^ x) ⊎ (y ∈ getD near x 0 ∩ v) → y ∈ v ∩ full n
       pick y (inl e) = elim (ℕ-discrete y x) [ yes r ↦ ap (λ (w : ℕ). at w (v ∩ full n)) r ∙ z | no r ↦ absurd (omega (arith, at-other y x r, e)) ]
       pick y (inr e) =
-          let i = in-both y (getD near x 0) v e in
+          let i = ∈-∩⁻ y (getD near x 0) v e in
           both y v (full n) (i .1) (pair-ends x y (full n) (inside (pair x y) (is-near .says x y l .0 (i .0))) .1)
 
-      go : (y : ℕ) → (at y (corner near v x) ≡ 0) ⊎ (at y (corner near v x) ≡ 1) → at y (corner near v x) ≤ at y (v ∩ full n)
+      go : (y : ℕ) → (at y (corner near v x) ≡ 0) ⊎ (y ∈ corner near v x) → at y (corner near v x) ≤ at y (v ∩ full n)
       go y (inl e) = omega arith
-      go y (inr e) = omega (arith, pick y (in-either y (2 ^ x) (getD near x 0 ∩ v) e))
+      go y (inr e) = omega (arith, pick y (∈-∪⁻ y (2 ^ x) (getD near x 0 ∩ v) e))
 
-  module _ (v x : ℕ) (p : Peeled near v) (q : at x v ≡ 1) (two : ones (getD near x 0 ∩ v) ≤ 2) where
+  module _ (v x : ℕ) (p : Peeled near v) (q : x ∈ v) (two : ones (getD near x 0 ∩ v) ≤ 2) where
     small : x < 64
     small = at-below 64 x v (peeled-small v p) q
 
@@ -133,7 +133,7 @@ module _ (cs near : List ℕ) (simple : Simple cs) (is-near : Near cs near) (n :
       λ y. subst (λ (c : List ℕ). Among y (jointsIn l) ↔ Among y c) (sym (corners-few x p q two (corner-few v x small q z))) (js y),
     )
 
-    step-in : at x (v ∩ full n) ≡ 1 → 2 ≤ ones ((v - 2 ^ x) ∩ full n) → (G : Fam) → Same G (Parted cs ((v - 2 ^ x) ∩ full n))
+    step-in : x ∈ v ∩ full n → 2 ≤ ones ((v - 2 ^ x) ∩ full n) → (G : Fam) → Same G (Parted cs ((v - 2 ^ x) ∩ full n))
         → ((H : Fam) → Same H (Parted cs (v ∩ full n)) → Merges v p H) → Merges (v - 2 ^ x) (less x p q two) G
     unfolding Pairs NotOver Parted
     step-in z h G s ih =
@@ -147,15 +147,15 @@ module _ (cs near : List ℕ) (simple : Simple cs) (is-near : Near cs near) (n :
         let w = two-between cs a′ b′ more in
         let m≢k : w .m ≢ w .k =
         λ f. omega (arith, w .twice f, pairs (w .m) (w .m-is .among), fine (w .m) (omega (arith, pairs (w .m) (w .m-is .among)))) in
-        let em = end cs near simple is-near v (v ∩ full n) x small (and-l v (full n)) z two (w .m)
+        let em = end cs near simple is-near v (v ∩ full n) x small (a∩b⊑a v (full n)) z two (w .m)
         (w .m-is .among) (w .m-is .in-a) (w .m-is .not-b) in
-        let ek = end cs near simple is-near v (v ∩ full n) x small (and-l v (full n)) z two (w .k)
+        let ek = end cs near simple is-near v (v ∩ full n) x small (a∩b⊑a v (full n)) z two (w .k)
         (w .k-is .among) (w .k-is .in-a) (w .k-is .not-b) in
-        let t′ = t cs near simple is-near v (v ∩ full n) x small (and-l v (full n)) z two (w .m) (w .k) em ek m≢k in
+        let t′ = t cs near simple is-near v (v ∩ full n) x small (a∩b⊑a v (full n)) z two (w .m) (w .k) em ek m≢k in
         let s′ : Same G (Parted cs b′) = subst (λ (c : ℕ). Same G (Parted cs c)) e s in
-        let i = ih (after G t′) (merged cs near simple is-near v (v ∩ full n) x small (and-l v (full n)) z two (w .m) (w .k) em ek m≢k G s′) in
-        let kn = joint-is cs near simple is-near v (v ∩ full n) x small (and-l v (full n)) z two (w .m) (w .k) em ek m≢k in
-        let o = isopen cs near simple is-near v (v ∩ full n) x small (and-l v (full n)) z two (w .m) (w .k) em ek m≢k in (
+        let i = ih (after G t′) (merged cs near simple is-near v (v ∩ full n) x small (a∩b⊑a v (full n)) z two (w .m) (w .k) em ek m≢k G s′) in
+        let kn = joint-is cs near simple is-near v (v ∩ full n) x small (a∩b⊑a v (full n)) z two (w .m) (w .k) em ek m≢k in
+        let o = isopen cs near simple is-near v (v ∩ full n) x small (a∩b⊑a v (full n)) z two (w .m) (w .k) em ek m≢k in (
           t′ ∷ i .0,
           (
             record {
@@ -178,7 +178,7 @@ module _ (cs near : List ℕ) (simple : Simple cs) (is-near : Near cs near) (n :
   put-back u whole h G s = ([], tt, subst (λ (w : ℕ). Same G (Parted cs w)) all-of s, λ y. Iff·rfl)
   put-back u (less {u = v} x p q two) h G s = go (bit (at x (v ∩ full n)) (at-le x (v ∩ full n))) (λ k H r. put-back v p k H r)
     where
-      go : (at x (v ∩ full n) ≡ 0) ⊎ (at x (v ∩ full n) ≡ 1) → (2 ≤ ones (v ∩ full n) → (H : Fam) → Same H (Parted cs (v ∩ full n)) → Merges v p H)
+      go : (at x (v ∩ full n) ≡ 0) ⊎ (x ∈ v ∩ full n) → (2 ≤ ones (v ∩ full n) → (H : Fam) → Same H (Parted cs (v ∩ full n)) → Merges v p H)
           → Merges (v - 2 ^ x) (less x p q two) G
       go (inl z) ih = let e = cut-out v x q z in step-out v x p q two z G (ih (rw e at h) G (subst (λ (c : ℕ). Same G (Parted cs c)) e s))
       go (inr z) ih =
@@ -197,7 +197,7 @@ module _ (cs near : List ℕ) (simple : Simple cs) (is-near : Near cs near) (n :
             r .0,
             r .1,
             r .2,
-            corners-few x p q two (λ e. omega (arith, e, size-le (v ∩ full n) (corner near v x) (corner-within v x l q z), s)) ∙ r .3,
+            corners-few x p q two (λ e. omega (arith, e, ⊑⇒size≤ (v ∩ full n) (corner near v x) (corner-within v x l q z), s)) ∙ r .3,
           )
     ]
   ]
@@ -208,7 +208,7 @@ module _ (cs near : List ℕ) (simple : Simple cs) (is-near : Near cs near) (n :
   ended-one t o =
       let e = is (t .a) (o .ina) in
       let f = is (t .b) (o .inb) in
-      omega (arith, o .open3 .ab, ap ones (ap₂ _∩_ e f ∙ sub-and (full n) (full n) (sub-refl (full n))), size-full n)
+      omega (arith, o .open3 .ab, ap ones (ap₂ _∩_ e f ∙ ⊑⇒∩≡ (full n) (full n) (⊑-refl (full n))), size-full n)
     where
       is : (y : ℕ) → Parted cs (full n) y → y ≡ full n
       is y (inl q) = q
@@ -218,12 +218,12 @@ module _ (cs near : List ℕ) (simple : Simple cs) (is-near : Near cs near) (n :
   pub joints-are : (u : ℕ) (d : Peeled near u) → u ≡ 0 → (p : List Merge) → Maximal cs p → (y : ℕ) → Among y (joints cs p) ↔ Among y (corners d)
   unfolding Pairs Parted
   joints-are u d none p m y =
-      let f = last-two u d (omega (arith, size-le u (u ∩ full n) (and-l u (full n)), ap ones none, size-zero)) in
+      let f = last-two u d (omega (arith, ⊑⇒size≤ u (u ∩ full n) (a∩b⊑a u (full n)), ap ones none, size-zero)) in
       let v = f .0 in
       let a′ = v ∩ full n in
       let e = tight-at v (f .1) (omega (arith, f .2)) in
       let r = one-between cs a′ 0 (omega (arith, e, f .2, carried-small cs pairs 0 (omega (arith, size-zero)))) in
-      let q : r .0 ≡ a′ = size-eq a′ (r .0) (r .1 .in-a) (omega (arith, f .2, pairs (r .0) (r .1 .among))) in
+      let q : r .0 ≡ a′ = ⊑-size-≡ a′ (r .0) (r .1 .in-a) (omega (arith, f .2, pairs (r .0) (r .1 .among))) in
       let g = put-back v (f .1) (omega (arith, f .2)) (start cs) (first a′ (f .2) (subst (λ (z : ℕ). Among z cs) q (r .1 .among))) in
       let w =
       every-order-in cs pairs fine cs same (threes cs p) (g .0) (as-start cs pairs fine p (m .valid))
@@ -236,4 +236,4 @@ module _ (cs near : List ℕ) (simple : Simple cs) (is-near : Near cs near) (n :
         where
           go : Among z cs → Dec (z ≡ c) → Parted cs c z
           go h (yes q) = inl q
-          go h (no k) = inr (h, λ s. k (size-eq c z s (omega (arith, e, pairs z h))))
+          go h (no k) = inr (h, λ s. k (⊑-size-≡ c z s (omega (arith, e, pairs z h))))

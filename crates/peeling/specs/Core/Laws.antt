@@ -3,7 +3,7 @@ use mathlib.Core.Path.{_≡_}
 use mathlib.Core.List.{List, []}
 use Prim.Native.Nat.{ℕ, _+_, _-_, _^_, _≤_}
 use native.Mathlib.Omega.{arith}
-use Rattle.theory.specs.Set.{_⊑_, at}
+use Rattle.theory.specs.Set.{_∈_, _⊑_, at}
 use Rattle.theory.specs.Constraints.{has, carried}
 use Rattle.theory.specs.Constraints.Laws.{Has, inside, outside, has-dec, has-in, has-le}
 use Rattle.theory.specs.Set.Less.{sub-less}
@@ -20,7 +20,7 @@ module _ (cs ds : List ℕ) (m : ℕ) (more : (a : ℕ) → carried ds a ≡ car
   pub few-other : at x m ≡ 0 → Few ds u x k
   few-other z = record { few = λ a h e. omega (arith, f .few a h e, more a, more (a - 2 ^ x), go a e (has-dec m a)) }
     where
-      go : (a : ℕ) → at x a ≡ 1 → Has m a → has m a ≤ has m (a - 2 ^ x)
+      go : (a : ℕ) → x ∈ a → Has m a → has m a ≤ has m (a - 2 ^ x)
       go a e (inside i q) = omega (arith, has-le m a, has-in m (a - 2 ^ x) (sub-less x a m e i z))
       go a e (outside n q) = omega arith
 

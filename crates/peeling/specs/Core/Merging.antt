@@ -10,8 +10,8 @@ use lib.Count.{ones}
 use lib.ListN.{length, set}
 use lib.Pow.{pow-pos, pow-mono}
 use lib.Seq.{getD-set-other}
-use Rattle.theory.specs.Set.{_∩_, _⊑_, at, full}
-use Rattle.theory.specs.Set.Laws.{at-le, at-zero, bit, zero-ext, size-le, size-eq, size-zero, size-full, sub-refl, other, two-in, both, in-both}
+use Rattle.theory.specs.Set.{_∈_, _∩_, _⊑_, at, full}
+use Rattle.theory.specs.Set.Laws.{at-le, at-zero, bit, zero-ext, ⊑⇒size≤, ⊑-size-≡, size-zero, size-full, ⊑-refl, other, two-in, both, ∈-∩⁻}
 use Rattle.theory.specs.Constraints.{Among, Pairs, Below, carried, NotOver}
 use Rattle.theory.specs.Constraints.Laws.{Has, inside, outside, has-dec, has-in, carried-pos, carried-small, carried-full, pairs-share}
 use Rattle.theory.specs.Merge.{slot, Merge, Maximal, final, live, total, living, left, weight, weights}
@@ -68,7 +68,7 @@ two-between (m ∷ cs) a b h = go (has-dec m a) (has-dec m b) (two-between cs a 
           k = r .0;
           m-is = record { among = inl refl; in-a = i; not-b = n };
           k-is = later (r .1);
-          twice = λ q. omega (arith, has-in m m (sub-refl m), carried-pos cs m (subst (λ (z : ℕ). Among z cs) (sym q) (r .1 .among)));
+          twice = λ q. omega (arith, has-in m m (⊑-refl m), carried-pos cs m (subst (λ (z : ℕ). Among z cs) (sym q) (r .1 .among)));
         }
     go (inside i e) (inside j f) ih = further (ih (omega arith))
     go (outside n e) d ih = further (ih (omega arith))
@@ -78,26 +78,26 @@ two-between (m ∷ cs) a b h = go (has-dec m a) (has-dec m b) (two-between cs a 
 module _ (cs : List ℕ) (pairs : Pairs cs) (fine : NotOver cs) (H : Fam) (good : Good cs H) (ended : EndedIn H)
     (covered : (c : ℕ) → Among c cs → (y : ℕ) × H y × (c ⊑ y)) where
   -- the one element that two clusters share
-  same-shared : (y z p q : ℕ) → H y → H z → y ≢ z → at p y ≡ 1 → at p z ≡ 1 → at q y ≡ 1 → at q z ≡ 1 → p ≡ q
+  same-shared : (y z p q : ℕ) → H y → H z → y ≢ z → p ∈ y → p ∈ z → q ∈ y → q ∈ z → p ≡ q
   same-shared y z p q hy hz ne py pz qy qz = go (ℕ-discrete p q)
     where
       go : Dec (p ≡ q) → p ≡ q
       go (yes e) = e
       go (no n) = absurd (omega (arith, share cs fine good y z hy hz ne, two-in (y ∩ z) p q (both p y z py pz) (both q y z qy qz) n))
 
-  one-shared : (y z p : ℕ) → H y → H z → y ≢ z → at p y ≡ 1 → at p z ≡ 1 → ones (y ∩ z) ≡ 1
+  one-shared : (y z p : ℕ) → H y → H z → y ≢ z → p ∈ y → p ∈ z → ones (y ∩ z) ≡ 1
   one-shared y z p hy hz ne py pz = elim (ones (y ∩ z)) as (λ (k : ℕ). ones (y ∩ z) ≡ k → ones (y ∩ z) ≡ 1) [
     | zero ↦ λ e. absurd (omega (
       arith,
       both p y z py pz,
       at-zero p,
-      ap (at p) (sym (size-eq (y ∩ z) 0 (record { le = λ x. omega (arith, at-zero x) }) (omega (arith, size-zero)))),
+      ap (at p) (sym (⊑-size-≡ (y ∩ z) 0 (record { le = λ x. omega (arith, at-zero x) }) (omega (arith, size-zero)))),
     ))
     | suc k ↦ λ e. omega (arith, share cs fine good y z hy hz ne)
   ] refl
 
   -- three clusters that meet in three different elements are open
-  corner : (y u v p q x : ℕ) → H y → H u → H v → at x y ≡ 0 → p ≢ q → at p y ≡ 1 → at p u ≡ 1 → at q y ≡ 1 → at q v ≡ 1 → at x u ≡ 1 → at x v ≡ 1 → ⊥
+  corner : (y u v p q x : ℕ) → H y → H u → H v → at x y ≡ 0 → p ≢ q → p ∈ y → p ∈ u → q ∈ y → q ∈ v → x ∈ u → x ∈ v → ⊥
   unfolding EndedIn
   corner y u v p q x hy hu hv out n py pu qy qv xu xv =
       ended (record { a = y; b = u; c = v })
@@ -120,28 +120,28 @@ module _ (cs : List ℕ) (pairs : Pairs cs) (fine : NotOver cs) (H : Fam) (good 
       none : y ∩ u ∩ v ≡ 0
       none = zero-ext (y ∩ u ∩ v) (λ z. elim (bit (at z (y ∩ u ∩ v)) (at-le z (y ∩ u ∩ v))) [
         | inl e ↦ e
-        | inr e ↦ let i = in-both z (y ∩ u) v e in
-            let j = in-both z y u (i .0) in
+        | inr e ↦ let i = ∈-∩⁻ z (y ∩ u) v e in
+            let j = ∈-∩⁻ z y u (i .0) in
             let s : z ≡ x = same-shared u v z x hu hv uv (j .1) (i .1) xu xv in
             absurd (omega (arith, j .0, ap (λ (w : ℕ). at w y) s, out))
       ])
 
   module _ (loose : Loose cs) where
     -- one element more
-    grown : (a x : ℕ) → at x a ≡ 1 → carried cs (a - 2 ^ x) + 2 ≤ carried cs a → (y : ℕ) → H y → a - 2 ^ x ⊑ y → (z : ℕ) × H z × (a ⊑ z)
+    grown : (a x : ℕ) → x ∈ a → carried cs (a - 2 ^ x) + 2 ≤ carried cs a → (y : ℕ) → H y → a - 2 ^ x ⊑ y → (z : ℕ) × H z × (a ⊑ z)
     unfolding Pairs NotOver
     grown a x xa more y hy sub = go (bit (at x y) (at-le x y))
       where
         b : ℕ
         b = a - 2 ^ x
 
-        in-y : (z : ℕ) → at z a ≡ 1 → z ≢ x → at z y ≡ 1
+        in-y : (z : ℕ) → z ∈ a → z ≢ x → z ∈ y
         in-y z e n = omega (arith, sub .le z, less-other x z a xa n, at-le z y)
 
-        has-x : (m : ℕ) → Between cs a b m → at x m ≡ 1
+        has-x : (m : ℕ) → Between cs a b m → x ∈ m
         has-x m r = elim (bit (at x m) (at-le x m)) [ inl e ↦ absurd (r .not-b (sub-less x a m xa (r .in-a) e)) | inr e ↦ e ]
 
-        go : (at x y ≡ 0) ⊎ (at x y ≡ 1) → (z : ℕ) × H z × (a ⊑ z)
+        go : (at x y ≡ 0) ⊎ (x ∈ y) → (z : ℕ) × H z × (a ⊑ z)
         go (inr e) = (
           y,
           hy,
@@ -168,7 +168,7 @@ module _ (cs : List ℕ) (pairs : Pairs cs) (fine : NotOver cs) (H : Fam) (good 
               arith,
               pairs-share (t .m) (t .k) sm sk m≢k,
               two-in (t .m ∩ t .k) x (p .0) (both x (t .m) (t .k) xm xk)
-                  (both (p .0) (t .m) (t .k) (p .1) (subst (λ (w : ℕ). at w (t .k) ≡ 1) (sym f) (q .1))) (Ne·symm (p .2)),
+                  (both (p .0) (t .m) (t .k) (p .1) (subst (λ (w : ℕ). w ∈ t .k) (sym f) (q .1))) (Ne·symm (p .2)),
             ) in
             absurd (
             corner y (u .0) (v .0) (p .0) (q .0) x hy (u .1) (v .1) e n
@@ -188,7 +188,7 @@ module _ (cs : List ℕ) (pairs : Pairs cs) (fine : NotOver cs) (H : Fam) (good 
           let i = within k (a - 2 ^ r .0) (omega arith) (omega arith) (omega arith) (omega (arith, r .2, f, s)) in
           grown a (r .0) (r .1) (omega (arith, f, s)) (i .0) (i .1) (i .2)
       | no n ↦ let r = one-between cs a 0 (omega (arith, carried-small cs pairs 0 (omega (arith, size-zero)))) in
-          let q : r .0 ≡ a = size-eq a (r .0) (r .1 .in-a) (omega (arith, pairs (r .0) (r .1 .among))) in
+          let q : r .0 ≡ a = ⊑-size-≡ a (r .0) (r .1 .in-a) (omega (arith, pairs (r .0) (r .1 .among))) in
           let c = covered (r .0) (r .1 .among) in
           (c .0, c .1, subst (λ (z : ℕ). z ⊑ c .0) q (c .2))
     ]
@@ -232,7 +232,7 @@ loose-one n cs two most pairs below fine loose count p m =
     within cs pairs fine (live s) g (as-ended cs fine s g (m .ended)) covered loose n (full n) (omega (arith, z))
     (omega (arith, pow-mono most, pow-pos n)) (omega (arith, z))
     (omega (arith, z, carried-full n cs below)) in
-    all-in-one s (y .1 .0) (y .0) n (y .1 .1) (y .1 .2) (omega (arith, z, size-le (y .0) (full n) (y .2)))
+    all-in-one s (y .1 .0) (y .0) n (y .1 .1) (y .1 .2) (omega (arith, z, ⊑⇒size≤ (y .0) (full n) (y .2)))
     (omega (arith, weights-kept cs pairs p (m .valid), count))
     (λ j h. big cs fine g (slot s j) (j, refl, h))
   where

@@ -9,14 +9,14 @@ use lib.Bits.{bitAnd, bitOr}
 use lib.Count.{ones}
 use lib.ListN.{getD}
 use lib.Pow.{pow-lt}
-use Rattle.theory.specs.Set.{_∩_, _∪_, _⊑_, at, full}
-use Rattle.theory.specs.Set.Laws.{at-or, at-le, at-zero, at-same, at-other, bit, size-zero, size-none, size-le, sub-refl, and-l, and-comm, and-mono}
-use Rattle.theory.specs.Set.Laws.{sub-and, both, out, cut-below, below-full}
+use Rattle.theory.specs.Set.{_∈_, _∩_, _∪_, _⊑_, at, full}
+use Rattle.theory.specs.Set.Laws.{at-∪, at-le, at-zero, at-same, at-other, bit, size-zero, size-none, ⊑⇒size≤, ⊑-refl, a∩b⊑a, ∩-comm, ∩-mono}
+use Rattle.theory.specs.Set.Laws.{⊑⇒∩≡, both, out, cut-below, below-full}
 use Rattle.theory.specs.Set.Less.{at-below, less-same, less-other, less-sub, less-out, less-in}
 use Rattle.peeling.specs.Core.{Light, Heavy, Mutual}
 
 pub near-sub : (m u v : ℕ) → u ⊑ v → ones (m ∩ u) ≤ ones (m ∩ v)
-near-sub m u v h = size-le (m ∩ v) (m ∩ u) (and-mono (sub-refl m) h)
+near-sub m u v h = ⊑⇒size≤ (m ∩ v) (m ∩ u) (∩-mono (⊑-refl m) h)
 
 -- without its two lowest elements a set is empty
 pub two-most : (k p q : ℕ) → ones p ≡ ones k - 1 → ones q ≡ ones p - 1 → q ≡ 0 → ones k ≤ 2
@@ -25,20 +25,20 @@ two-most k p q ep eq z = omega (arith, ap ones z, size-zero)
 pub three-least : (k p q : ℕ) → ones p ≡ ones k - 1 → ones q ≡ ones p - 1 → q ≢ 0 → 3 ≤ ones k
 three-least k p q ep eq n = elim (decLe 1 (ones q)) [ yes h ↦ omega arith | no h ↦ absurd (n (size-none q (omega arith))) ]
 
-pub full-at : (n x : ℕ) → x < n → at x (full n) ≡ 1
+pub full-at : (n x : ℕ) → x < n → x ∈ full n
 full-at n x l = omega (arith, below-full n (2 ^ x) (pow-lt l) .le x, at-same x, at-le x (full n))
 
 pub light-none : (near : List ℕ) (u : ℕ) → Light near u 0
 light-none near u = record { light = λ x e. absurd (omega (arith, at-zero x)) }
 
-pub light-one : (near : List ℕ) (u todo x : ℕ) → Light near u todo → at x u ≡ 1 → ones (getD near x 0 ∩ u) ≤ 2 → Light near u (todo ∪ 2 ^ x)
+pub light-one : (near : List ℕ) (u todo x : ℕ) → Light near u todo → x ∈ u → ones (getD near x 0 ∩ u) ≤ 2 → Light near u (todo ∪ 2 ^ x)
 light-one near u todo x t e h = record { light = λ y q. go y q (ℕ-discrete y x) }
   where
-    go : (y : ℕ) → at y (todo ∪ 2 ^ x) ≡ 1 → Dec (y ≡ x) → (at y u ≡ 1) × (ones (getD near y 0 ∩ u) ≤ 2)
-    go y q (yes p) = subst (λ (z : ℕ). (at z u ≡ 1) × (ones (getD near z 0 ∩ u) ≤ 2)) (sym p) (e, h)
-    go y q (no n) = t .light y (omega (arith, q, at-or y todo (2 ^ x), at-other y x n))
+    go : (y : ℕ) → y ∈ todo ∪ 2 ^ x → Dec (y ≡ x) → (y ∈ u) × (ones (getD near y 0 ∩ u) ≤ 2)
+    go y q (yes p) = subst (λ (z : ℕ). (z ∈ u) × (ones (getD near z 0 ∩ u) ≤ 2)) (sym p) (e, h)
+    go y q (no n) = t .light y (omega (arith, q, at-∪ y todo (2 ^ x), at-other y x n))
 
-pub light-code : (near : List ℕ) (u todo : ℕ) {x i s new : ℕ} → Light near u todo → at x u ≡ 1 → i ≡ x → s ≡ 2 ^ x
+pub light-code : (near : List ℕ) (u todo : ℕ) {x i s new : ℕ} → Light near u todo → x ∈ u → i ≡ x → s ≡ 2 ^ x
     → ones (bitAnd (getD near i 0) u) ≤ 2
     → new ≡ bitOr todo s → Light near u new
 unfolding _∪_ _∩_
@@ -52,7 +52,7 @@ pub light-all-code : (near : List ℕ) (todo : ℕ) {x i s new : ℕ} → Light 
 unfolding _∩_
 light-all-code near todo {x} {i} t l ei es two q =
     light-code near (full 64) todo t (full-at 64 x l) ei es
-    (omega (arith, size-le (getD near i 0) (getD near i 0 ∩ full 64) (and-l (getD near i 0) (full 64)))) q
+    (omega (arith, ⊑⇒size≤ (getD near i 0) (getD near i 0 ∩ full 64) (a∩b⊑a (getD near i 0) (full 64)))) q
 
 pub light-same : (near : List ℕ) (u : ℕ) {todo new : ℕ} → new ≡ todo → Light near u todo → Light near u new
 light-same near u q t = subst (Light near u) (sym q) t
@@ -60,12 +60,12 @@ light-same near u q t = subst (Light near u) (sym q) t
 pub light-or : (near : List ℕ) (u s t : ℕ) → Light near u s → Light near u t → Light near u (s ∪ t)
 light-or near u s t f g = record {
   light = λ x q. ⊎-elim
-      (λ (z : at x s ≡ 0). g .light x (omega (arith, q, at-or x s t)))
-      (λ (z : at x s ≡ 1). f .light x z) (bit (at x s) (at-le x s));
+      (λ (z : at x s ≡ 0). g .light x (omega (arith, q, at-∪ x s t)))
+      (λ (z : x ∈ s). f .light x z) (bit (at x s) (at-le x s));
 }
 
 -- those that are left when x is taken away are light still
-pub light-rest : (near : List ℕ) (u todo x : ℕ) → Light near u todo → at x u ≡ 1 → at x todo ≡ 1 → Light near (u - 2 ^ x) (todo - 2 ^ x)
+pub light-rest : (near : List ℕ) (u todo x : ℕ) → Light near u todo → x ∈ u → x ∈ todo → Light near (u - 2 ^ x) (todo - 2 ^ x)
 light-rest near u todo x t e h = record {
   light = λ y q. elim (ℕ-discrete y x) [
     | yes p ↦ absurd (omega (arith, q, ap (λ (z : ℕ). at z (todo - 2 ^ x)) p, less-same x todo h))
@@ -82,10 +82,10 @@ pub heavy-tried : (P Q : ℕ → Type 0) (todo x : ℕ) {new : ℕ} → ((y : �
 unfolding _∪_
 heavy-tried P Q todo x {new} f d y i z = elim (ℕ-discrete y x) [
   | yes q ↦ elim d [
-    | inl w ↦ absurd (omega (arith, z, ap (at y) w, at-or y todo (2 ^ x), ap (λ (k : ℕ). at k (2 ^ x)) q, at-same x))
+    | inl w ↦ absurd (omega (arith, z, ap (at y) w, at-∪ y todo (2 ^ x), ap (λ (k : ℕ). at k (2 ^ x)) q, at-same x))
     | inr w ↦ subst Q (sym q) (w .1)
   ]
-  | no n ↦ f y (i n) (elim d [ inl w ↦ omega (arith, z, ap (at y) w, at-or y todo (2 ^ x)) | inr w ↦ ap (at y) (sym (w .0)) ∙ z ])
+  | no n ↦ f y (i n) (elim d [ inl w ↦ omega (arith, z, ap (at y) w, at-∪ y todo (2 ^ x)) | inr w ↦ ap (at y) (sym (w .0)) ∙ z ])
 ]
 
 -- at the start every element is left
@@ -93,8 +93,8 @@ pub heavy-start : (near : List ℕ) (todo : ℕ) → Mutual near → ((x : ℕ) 
     → Heavy near (full 64) (full 64) todo
 heavy-start near todo m f = record {
   heavy = λ x i o.
-      let l : x < 64 = at-below 64 x (full 64) (rw (sub-and (full 64) (full 64) (sub-refl (full 64))) at (cut-below 64 (full 64))) i in
-      rw (sub-and (getD near x 0) (full 64) (record {
+      let l : x < 64 = at-below 64 x (full 64) (rw (⊑⇒∩≡ (full 64) (full 64) (⊑-refl (full 64))) at (cut-below 64 (full 64))) i in
+      rw (⊑⇒∩≡ (getD near x 0) (full 64) (record {
         le = λ y. elim (bit (at y (getD near x 0)) (at-le y (getD near x 0))) [
           | inl e ↦ omega arith
           | inr e ↦ omega (arith, full-at 64 y (m .below x y l e))
@@ -103,18 +103,18 @@ heavy-start near todo m f = record {
 }
 
 -- x is taken away, and its neighbours are tried
-pub heavy-next : (near : List ℕ) (u todo x r : ℕ) → u < 2 ^ 64 → Mutual near → Heavy near u u todo → at x u ≡ 1 → at x todo ≡ 1
+pub heavy-next : (near : List ℕ) (u todo x r : ℕ) → u < 2 ^ 64 → Mutual near → Heavy near u u todo → x ∈ u → x ∈ todo
     → Heavy near (u - 2 ^ x) (getD near x 0 ∩ (u - 2 ^ x)) r → Heavy near (u - 2 ^ x) (u - 2 ^ x) ((todo - 2 ^ x) ∪ r)
 heavy-next near u todo x r small both-ways h e t g = record {
   heavy = λ y i o.
       let there = less-in x y u e i in
-      let not-todo : at y todo ≡ 0 = sym (less-other x y todo t (λ q. there .1 (sym q))) ∙ omega (arith, at-or y (todo - 2 ^ x) r) in
+      let not-todo : at y todo ≡ 0 = sym (less-other x y todo t (λ q. there .1 (sym q))) ∙ omega (arith, at-∪ y (todo - 2 ^ x) r) in
       elim (bit (at y (getD near x 0)) (at-le y (getD near x 0))) [
         | inl n ↦
             let apart : at x (getD near y 0) ≡ 0 = out x (getD near y 0)
             (λ k. omega (arith, n, both-ways .back y x (at-below 64 y u small (there .0)) (at-below 64 x u small e) k)) in
-            rw (and-comm (getD near y 0) (u - 2 ^ x), less-out x u (getD near y 0) e apart, and-comm u (getD near y 0))
+            rw (∩-comm (getD near y 0) (u - 2 ^ x), less-out x u (getD near y 0) e apart, ∩-comm u (getD near y 0))
             (h .heavy y (there .0) not-todo)
-        | inr n ↦ g .heavy y (both y (getD near x 0) (u - 2 ^ x) n i) (omega (arith, at-or y (todo - 2 ^ x) r))
+        | inr n ↦ g .heavy y (both y (getD near x 0) (u - 2 ^ x) n i) (omega (arith, at-∪ y (todo - 2 ^ x) r))
       ];
 }

@@ -11,8 +11,8 @@ use lib.Count.{ones}
 use lib.ListN.{length, take, getD}
 use lib.Seq.{take-length}
 use lib.Pow.{pow-pos}
-use Rattle.theory.specs.Set.{_∩_, _∪_, _⊑_, at, full}
-use Rattle.theory.specs.Set.Laws.{at-and, at-le, bit, size-zero, size-le, sub-trans, and-l, and-r, and-comm, out, below-full}
+use Rattle.theory.specs.Set.{_∈_, _∩_, _∪_, _⊑_, at, full}
+use Rattle.theory.specs.Set.Laws.{at-∩, at-le, bit, size-zero, ⊑⇒size≤, ⊑-trans, a∩b⊑a, a∩b⊑b, ∩-comm, out, below-full}
 use Rattle.theory.specs.Set.Less.{at-below, at-room, less-same, less-sub, less-and, less-out, size-less, sub-less}
 use Rattle.theory.specs.Constraints.{pair, Below, carried, NotOver, NotOverIn}
 use Rattle.theory.specs.Constraints.Laws.{carried-cut, not-over-in, at-end, pair-comm}
@@ -29,8 +29,8 @@ unfolding full
 peeled-small u whole = omega (arith, pow-pos 64)
 peeled-small u (less {u = v} x p q h) = omega (arith, peeled-small v p)
 
-module _ (near : List ℕ) (left todo x s : ℕ) (p : Peeled near left) (t : Light near left todo) (e : at x todo ≡ 1) (es : s ≡ 2 ^ x) where
-  in-left : at x left ≡ 1
+module _ (near : List ℕ) (left todo x s : ℕ) (p : Peeled near left) (t : Light near left todo) (e : x ∈ todo) (es : s ≡ 2 ^ x) where
+  in-left : x ∈ left
   in-left = t .light x e .0
 
   pub peel-room : s ≤ left
@@ -58,7 +58,7 @@ module _ (near : List ℕ) (left todo x s : ℕ) (p : Peeled near left) (t : Lig
 
 module _ (cs near : List ℕ) (simple : Simple cs) (is-near : Near cs near) where
   -- an element with two neighbours at most in v has two constraints at most in each set within v
-  few-part : (c v x : ℕ) → Peeled near v → at x v ≡ 1 → ones (getD near x 0 ∩ v) ≤ 2 → Few (take c cs) v x 2
+  few-part : (c v x : ℕ) → Peeled near v → x ∈ v → ones (getD near x 0 ∩ v) ≤ 2 → Few (take c cs) v x 2
   few-part c v x p q two = record {
     few = λ a i e.
         omega (arith, near-counts-take x a e cs near simple is-near (at-below 64 x v (peeled-small v p) q) c, near-sub (getD near x 0) a v i);
@@ -67,15 +67,15 @@ module _ (cs near : List ℕ) (simple : Simple cs) (is-near : Near cs near) wher
   -- what a set loses
   peeled-cut : (u : ℕ) → Peeled near u → (c a : ℕ) → carried (take c cs) a + 2 * ones (a ∩ u) ≤ carried (take c cs) (a ∩ u) + 2 * ones a
   peeled-cut u whole c a =
-      omega (arith, carried-cut 64 (take c cs) (below-take 64 c cs (simple .below)) a, size-le a (a ∩ full 64) (and-l a (full 64)))
+      omega (arith, carried-cut 64 (take c cs) (below-take 64 c cs (simple .below)) a, ⊑⇒size≤ a (a ∩ full 64) (a∩b⊑a a (full 64)))
   peeled-cut u (less {u = v} x p q two) c a =
       let ih = peeled-cut v p c a in
       elim (bit (at x a) (at-le x a)) [
-        | inl z ↦ rw (and-comm a (v - 2 ^ x), less-out x v a q z, and-comm v a) ih
+        | inl z ↦ rw (∩-comm a (v - 2 ^ x), less-out x v a q z, ∩-comm v a) ih
         | inr z ↦
-            let there : at x (a ∩ v) ≡ 1 = omega (arith, at-and x a v) in
-            rw (and-comm a (v - 2 ^ x), less-and x v a q z, and-comm v a)
-            (omega (arith, ih, size-less x (a ∩ v) there, few-part c v x p q two .few (a ∩ v) (and-r a v) there))
+            let there : x ∈ a ∩ v = omega (arith, at-∩ x a v) in
+            rw (∩-comm a (v - 2 ^ x), less-and x v a q z, ∩-comm v a)
+            (omega (arith, ih, size-less x (a ∩ v) there, few-part c v x p q two .few (a ∩ v) (a∩b⊑b a v) there))
       ]
 
   -- the sets within what is left tell whether the list is over
@@ -85,22 +85,22 @@ module _ (cs near : List ℕ) (simple : Simple cs) (is-near : Near cs near) wher
       not-over-in 64 (take c cs) (pairs-take c cs (simple .pairs)) (below-take 64 c cs (simple .below)) (λ a la b. f a (below-full 64 a la) b)
   peeled-fine u (less {u = v} x p q two) c f = peeled-fine v p c (λ a i b. go a i b (bit (at x a) (at-le x a)))
     where
-      go : (a : ℕ) → a ⊑ v → 2 ≤ ones a → (at x a ≡ 0) ⊎ (at x a ≡ 1) → carried (take c cs) a + 3 ≤ 2 * ones a
+      go : (a : ℕ) → a ⊑ v → 2 ≤ ones a → (at x a ≡ 0) ⊎ (x ∈ a) → carried (take c cs) a + 3 ≤ 2 * ones a
       go a i b (inl z) = f a (sub-less x v a q i z) b
       go a i b (inr z) =
-          let within : a - 2 ^ x ⊑ v - 2 ^ x = sub-less x v (a - 2 ^ x) q (sub-trans (less-sub x a z) i) (less-same x a z) in
+          let within : a - 2 ^ x ⊑ v - 2 ^ x = sub-less x v (a - 2 ^ x) q (⊑-trans (less-sub x a z) i) (less-same x a z) in
           elim (decLe 3 (ones a)) [
             | yes k ↦ let s = size-less x a z in omega (arith, f (a - 2 ^ x) within (omega arith), few-part c v x p q two .few a i z)
             | no k ↦ omega (arith, carried-one (take c cs) (simple-take c cs simple) a (omega arith))
           ]
 
   -- a set that does not lie in what is left has an element with at most two constraints in it
-  peeled-loose : (u : ℕ) → Peeled near u → (a : ℕ) → a < 2 ^ 64 → (a ⊑ u) ⊎ ((x : ℕ) × (at x a ≡ 1) × (carried cs a ≤ carried cs (a - 2 ^ x) + 2))
+  peeled-loose : (u : ℕ) → Peeled near u → (a : ℕ) → a < 2 ^ 64 → (a ⊑ u) ⊎ ((x : ℕ) × (x ∈ a) × (carried cs a ≤ carried cs (a - 2 ^ x) + 2))
   peeled-loose u whole a h = inl (below-full 64 a h)
   peeled-loose u (less {u = v} x p q two) a h = go (peeled-loose v p a h) (bit (at x a) (at-le x a))
     where
-      go : (a ⊑ v) ⊎ ((y : ℕ) × (at y a ≡ 1) × (carried cs a ≤ carried cs (a - 2 ^ y) + 2)) → (at x a ≡ 0) ⊎ (at x a ≡ 1)
-          → (a ⊑ v - 2 ^ x) ⊎ ((y : ℕ) × (at y a ≡ 1) × (carried cs a ≤ carried cs (a - 2 ^ y) + 2))
+      go : (a ⊑ v) ⊎ ((y : ℕ) × (y ∈ a) × (carried cs a ≤ carried cs (a - 2 ^ y) + 2)) → (at x a ≡ 0) ⊎ (x ∈ a)
+          → (a ⊑ v - 2 ^ x) ⊎ ((y : ℕ) × (y ∈ a) × (carried cs a ≤ carried cs (a - 2 ^ y) + 2))
       go (inr r) i = inr r
       go (inl s) (inl z) = inl (sub-less x v a q s z)
       go (inl s) (inr z) = inr (
@@ -111,7 +111,7 @@ module _ (cs near : List ℕ) (simple : Simple cs) (is-near : Near cs near) wher
 
   all-loose : (u : ℕ) → Peeled near u → u ≡ 0 → Loose cs
   all-loose u p z =
-      record { least = λ a h some. elim (peeled-loose u p a h) [ inl s ↦ absurd (omega (arith, size-le u a s, ap ones z, size-zero)) | inr r ↦ r ] }
+      record { least = λ a h some. elim (peeled-loose u p a h) [ inl s ↦ absurd (omega (arith, ⊑⇒size≤ u a s, ap ones z, size-zero)) | inr r ↦ r ] }
 
   pub core-peeled : (u : ℕ) → Peeled near u → Core cs u
   core-peeled u p = record { small = peeled-small u p; fine = peeled-fine u p; cut = peeled-cut u p; loose = all-loose u p }
@@ -135,4 +135,4 @@ module _ (cs near : List ℕ) (simple : Simple cs) (is-near : Near cs near) wher
 
 -- an empty core: the list is not over
 pub core-none : (cs : List ℕ) → Core cs 0 → NotOver cs
-core-none cs k = subst NotOver (take-length cs) (k .fine (length cs) (λ a h b. absurd (omega (arith, size-le 0 a h, size-zero))))
+core-none cs k = subst NotOver (take-length cs) (k .fine (length cs) (λ a h b. absurd (omega (arith, ⊑⇒size≤ 0 a h, size-zero))))

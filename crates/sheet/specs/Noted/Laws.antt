@@ -9,7 +9,7 @@ use borrow.Author.Tests.{eqb-true, eq-eqb, ne-eqb}
 use lib.Bits.{bitOr}
 use lib.Dec.{eqb}
 use lib.ListN.{getD, set, replicate}
-use Rattle.theory.specs.Set.{at}
+use Rattle.theory.specs.Set.{_∈_, at}
 use Rattle.theory.specs.Set.Laws.{at-div}
 use Rattle.theory.specs.Constraints.{Among, pair}
 use Rattle.theory.specs.Constraints.Laws.{pair-one}
@@ -49,7 +49,7 @@ among-stands (c ∷ cs) a b s l (inr h) = rw (among-stands cs a b (s .2) l h) (o
 pub noted-says : {near : List ℕ} {cs : List Constraint} {a b : ℕ} → Noted near cs → a < b → b < 64 → eqb (getD near a 0 / 2 ^ b % 2) 1 ≡ stands cs a b
 noted-says {near} {cs} {a} {b} h l m = rw (← at-div b (getD near a 0)) (by-rule (h .pairs .says a b (omega arith)) (stands cs a b) refl)
   where
-    by-rule : (at b (getD near a 0) ≡ 1) ↔ Among (pair a b) (map clusterOf cs) → (t : Bool) → stands cs a b ≡ t
+    by-rule : (b ∈ getD near a 0) ↔ Among (pair a b) (map clusterOf cs) → (t : Bool) → stands cs a b ≡ t
         → eqb (at b (getD near a 0)) 1 ≡ stands cs a b
     by-rule says true e = eq-eqb _ _ (says .1 (stands-among cs a b e)) ∙ sym e
     by-rule says false e =

@@ -1,8 +1,8 @@
 -- `other_end` meets its contract. Assumes nothing.
-use mathlib.Core.Path.{_≡_, sym, subst}
+use mathlib.Core.Path.{sym, subst}
 use Prim.Native.Nat.{ℕ, _-_, _^_, _<_}
 use native.Mathlib.Omega.{arith}
-use Rattle.theory.specs.Set.{at}
+use Rattle.theory.specs.Set.{_∈_}
 use Rattle.theory.specs.Set.Less.{at-room, less-in, less-some}
 use borrow.Author.Needs.{needs}
 use Rattle.sparsity.proofs.other_end.Statement.{statement}
@@ -21,8 +21,8 @@ returns : tie.Need-returns
 returns c =
     let s = c .before .before in
     let l = c .lowest in
-    let i : at (l .result) (s .args .pair - 2 ^ (s .args .a)) ≡ 1 =
-    subst (λ (z : ℕ). at (l .result) (s .args .pair - z) ≡ 1) (c .before .single .ensures) (l .ensures .1) in
+    let i : l .result ∈ s .args .pair - 2 ^ (s .args .a) =
+    subst (λ (z : ℕ). l .result ∈ s .args .pair - z) (c .before .single .ensures) (l .ensures .1) in
     let o = less-in (s .args .a) (l .result) (s .args .pair) (s .pre .2) i in
     (l .ensures .0, o .0, o .1)
 

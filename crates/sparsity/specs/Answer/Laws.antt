@@ -10,8 +10,8 @@ use native.Mathlib.Omega.{arith}
 use lib.Bits.{bitAnd, bitOr}
 use lib.Count.{ones}
 use lib.ListN.{length, take, getD}
-use Rattle.theory.specs.Set.{_∩_, _∪_, _⊑_, at}
-use Rattle.theory.specs.Set.Laws.{at-and, at-or, at-le, bit, size-zero, sub-refl, sub-trans, and-l, and-r, and-sub, sub-and, two-in}
+use Rattle.theory.specs.Set.{_∈_, _∩_, _∪_, _⊑_, at}
+use Rattle.theory.specs.Set.Laws.{at-∩, at-∪, at-le, bit, size-zero, ⊑-refl, ⊑-trans, a∩b⊑a, a∩b⊑b, ∩≡⇒⊑, ⊑⇒∩≡, two-in}
 use Rattle.theory.specs.Constraints.{pair, has, carried, NotOver, Below}
 use Rattle.theory.specs.Constraints.Laws.{Has, inside, outside, has-dec, at-end, pair-in, pair-ends, has-pair, pair-comm}
 use Rattle.theory.specs.Over.{Tight, Smallest, FirstOver, overOf}
@@ -48,11 +48,11 @@ module _ {cs : List ℕ} {u : ℕ} (core : Core cs u) (c : ℕ) (lc : c < length
   -- the constraint as the code has it, r, and a set w
   pub told-in : {r w : ℕ} → r ≡ getD cs c 0 → bitAnd r w ≡ r → getD cs c 0 ⊑ w
   unfolding _∩_
-  told-in {r} {w} q t = subst (λ (z : ℕ). z ⊑ w) q (and-sub r w t)
+  told-in {r} {w} q t = subst (λ (z : ℕ). z ⊑ w) q (∩≡⇒⊑ r w t)
 
   pub told-out : {r w : ℕ} → r ≡ getD cs c 0 → (bitAnd r w ≡ r → ⊥) → getD cs c 0 ⊑ w → ⊥
   unfolding _∩_
-  told-out {r} {w} q t h = t (subst (λ (z : ℕ). bitAnd z w ≡ z) (sym q) (sub-and (getD cs c 0) w h))
+  told-out {r} {w} q t h = t (subst (λ (z : ℕ). bitAnd z w ≡ z) (sym q) (⊑⇒∩≡ (getD cs c 0) w h))
 
   -- one more constraint, of what the code has
   pub kept-by : {t new : List (List ℕ)} {one two p q : ℕ} → t ≡ new → one ≡ p → two ≡ q → Kept cs u (suc c) new p q → Kept cs u (c + 1) t one two
@@ -62,7 +62,7 @@ module _ {cs : List ℕ} {u : ℕ} (core : Core cs u) (c : ℕ) (lc : c < length
 
   module _ (out : getD cs c 0 ⊑ u → ⊥) where
     none : (x : ℕ) → x ⊑ u → has (getD cs c 0) x ≡ 0
-    none x h = elim (has-dec (getD cs c 0) x) [ inside i q ↦ absurd (out (sub-trans i h)) | outside n q ↦ q ]
+    none x h = elim (has-dec (getD cs c 0) x) [ inside i q ↦ absurd (out (⊑-trans i h)) | outside n q ↦ q ]
 
     pub kept-skip : {own : List (List ℕ)} {once twice : ℕ} → Kept cs u c own once twice → Kept cs u (suc c) own once twice
     unfolding NotOver
@@ -101,8 +101,8 @@ module _ {cs : List ℕ} {u : ℕ} (simple : Simple cs) (core : Core cs u) (c : 
   -- what the search keeps, once c is known to leave the list not over and there is a free entry for it
   module _ (own : List (List ℕ)) (table : Table own) (closed : Closed own u) (balanced : Balanced old u own) (right : NotOver new)
       (fresh : List (List ℕ)) (p : Placed own a b fresh) (inside-u : m ⊑ u) where
-    from-to : (m ≡ pair (p .from) (p .to)) × (p .from < 64) × (p .from ≢ p .to) × (at (p .to) u ≡ 1) × (p .to < 64)
-    from-to = let i : (at a u ≡ 1) × (at b u ≡ 1) = pair-ends a b u inside-u in elim (p .ends) [
+    from-to : (m ≡ pair (p .from) (p .to)) × (p .from < 64) × (p .from ≢ p .to) × (p .to ∈ u) × (p .to < 64)
+    from-to = let i : (a ∈ u) × (b ∈ u) = pair-ends a b u inside-u in elim (p .ends) [
       | inl q ↦ (
         ap₂ pair (sym (q .0)) (sym (q .1)),
         omega (arith, ends .low, q .0),
@@ -122,7 +122,7 @@ module _ {cs : List ℕ} {u : ℕ} (simple : Simple cs) (core : Core cs u) (c : 
     pub kept-next : (once twice : ℕ) → ((x : ℕ) → at x once ≡ 0 → Few old u x 0) → ((x : ℕ) → at x twice ≡ 0 → Few old u x 1)
         → Kept cs u (suc c) fresh (once ∪ m) (twice ∪ (once ∩ m))
     kept-next once twice never lone =
-        let o : (m ≡ pair (p .from) (p .to)) × (p .from < 64) × (p .from ≢ p .to) × (at (p .to) u ≡ 1) × (p .to < 64) = from-to in
+        let o : (m ≡ pair (p .from) (p .to)) × (p .from < 64) × (p .from ≢ p .to) × (p .to ∈ u) × (p .to < 64) = from-to in
         subst (λ (t : List (List ℕ)). Kept cs u (suc c) t (once ∪ m) (twice ∪ (once ∩ m))) (sym (p .stores)) (record {
           below = lc;
           table = stored-table own table (p .from) (p .slot) (p .to) (o .1) (p .two) (o .4);
@@ -132,11 +132,11 @@ module _ {cs : List ℕ} {u : ℕ} (simple : Simple cs) (core : Core cs u) (c : 
               (λ x. ap (λ (i : ℕ). has i x) (o .0) ∙ has-pair (p .from) (p .to) x) (p .slot) (p .two) (p .was-free);
           fine = right;
           never =
-              λ x z. few-other old new m more u x 0 (never x (omega (arith, at-or x once m, at-le x m)))
-              (omega (arith, at-or x once m, at-le x once));
+              λ x z. few-other old new m more u x 0 (never x (omega (arith, at-∪ x once m, at-le x m)))
+              (omega (arith, at-∪ x once m, at-le x once));
           lone = λ x z. elim (bit (at x m) (at-le x m)) [
-            | inl q ↦ few-other old new m more u x 1 (lone x (omega (arith, at-or x twice (once ∩ m)))) q
-            | inr q ↦ few-more old new m more u x 0 (never x (omega (arith, at-or x twice (once ∩ m), at-and x once m, at-le x once)))
+            | inl q ↦ few-other old new m more u x 1 (lone x (omega (arith, at-∪ x twice (once ∩ m)))) q
+            | inr q ↦ few-more old new m more u x 0 (never x (omega (arith, at-∪ x twice (once ∩ m), at-∩ x once m, at-le x once)))
           ];
         })
 
@@ -158,35 +158,35 @@ module _ {cs : List ℕ} {u : ℕ} (simple : Simple cs) (core : Core cs u) (c : 
     ])
 
     -- an end with one constraint at most
-    module _ (x0 : ℕ) (end : at x0 m ≡ 1) (few : Few old u x0 1) where
+    module _ (x0 : ℕ) (end : x0 ∈ m) (few : Few old u x0 1) where
       pub lone-fine : NotOver new
       unfolding NotOver
       lone-fine = core .fine (suc c) (λ x h two. go x h two (has-dec m x))
         where
           go : (x : ℕ) → x ⊑ u → 2 ≤ ones x → Has m x → carried new x + 3 ≤ 2 * ones x
           go x h two (outside n q) = omega (arith, more x, right x two)
-          go x h two (inside i q) = let there : at x0 x ≡ 1 = omega (arith, i .le x0, at-le x0 x) in elim (decLe 3 (ones x)) [
+          go x h two (inside i q) = let there : x0 ∈ x = omega (arith, i .le x0, at-le x0 x) in elim (decLe 3 (ones x)) [
             | yes k ↦ let s = size-less x0 x there in omega (arith, more x, few .few x h there, right (x - 2 ^ x0) (omega arith))
             | no k ↦ omega (arith, carried-one new (simple-take (suc c) cs simple) x (omega arith))
           ]
 
       pub lone-free : 0 < free own x0
       lone-free =
-          let there : at x0 u ≡ 1 = omega (arith, inside-u .le x0, at-le x0 u) in
+          let there : x0 ∈ u = omega (arith, inside-u .le x0, at-le x0 u) in
           omega (
             arith,
-            balanced .all u (sub-refl u),
+            balanced .all u (⊑-refl u),
             closed-kept own u (core .small) closed,
             bound (u - 2 ^ x0) (less-sub x0 u there),
             size-less x0 u there,
             frees-less own u (core .small) x0 there,
-            few .few u (sub-refl u) there,
+            few .few u (⊑-refl u) there,
           )
 
     -- fewer, and no more can be had: the list with c is over, and what is reached is the smallest set
-    module _ (few : free own a + free own b ≤ 3) (r : ℕ) (ra : at a r ≡ 1) (rb : at b r ≡ 1) (rc : Closed own r)
-        (none : (x : ℕ) → at x r ≡ 1 → x ≢ a → x ≢ b → free own x ≡ 0)
-        (least : (w : ℕ) → at a w ≡ 1 → at b w ≡ 1 → Closed own w → r ⊑ w) where
+    module _ (few : free own a + free own b ≤ 3) (r : ℕ) (ra : a ∈ r) (rb : b ∈ r) (rc : Closed own r)
+        (none : (x : ℕ) → x ∈ r → x ≢ a → x ≢ b → free own x ≡ 0)
+        (least : (w : ℕ) → a ∈ w → b ∈ w → Closed own w → r ⊑ w) where
       within : r ⊑ u
       within = let o = pair-ends a b u inside-u in least u (o .0) (o .1) closed
 
@@ -208,22 +208,22 @@ module _ {cs : List ℕ} {u : ℕ} (simple : Simple cs) (core : Core cs u) (c : 
 
       pub reached-smallest : Smallest old m r
       reached-smallest =
-          within-smallest old m r reached-tight (λ y t. sub-trans (least (y ∩ u) (first-in y t) (second-in y t) (let h = low (y ∩ u) (and-r y u) in
+          within-smallest old m r reached-tight (λ y t. ⊑-trans (least (y ∩ u) (first-in y t) (second-in y t) (let h = low (y ∩ u) (a∩b⊑b y u) in
           kept-closed own (y ∩ u) h
           (omega (
             arith,
             t .exact,
             core .cut c y,
-            balanced .all (y ∩ u) (and-r y u),
+            balanced .all (y ∩ u) (a∩b⊑b y u),
             frees-two own (y ∩ u) h a b (ends .apart) (first-in y t) (second-in y t),
             exact .1,
-          )))) (and-l y u))
+          )))) (a∩b⊑a y u))
         where
-          first-in : (y : ℕ) → Tight old m y → at a (y ∩ u) ≡ 1
-          first-in y t = omega (arith, at-and a y u, pair-ends a b y (t .holds) .0, pair-ends a b u inside-u .0)
+          first-in : (y : ℕ) → Tight old m y → a ∈ y ∩ u
+          first-in y t = omega (arith, at-∩ a y u, pair-ends a b y (t .holds) .0, pair-ends a b u inside-u .0)
 
-          second-in : (y : ℕ) → Tight old m y → at b (y ∩ u) ≡ 1
-          second-in y t = omega (arith, at-and b y u, pair-ends a b y (t .holds) .1, pair-ends a b u inside-u .1)
+          second-in : (y : ℕ) → Tight old m y → b ∈ y ∩ u
+          second-in y t = omega (arith, at-∩ b y u, pair-ends a b y (t .holds) .1, pair-ends a b u inside-u .1)
 
       pub first-over : FirstOver cs c r
       first-over = record {
@@ -251,7 +251,7 @@ module _ {cs : List ℕ} {u : ℕ} (simple : Simple cs) (core : Core cs u) (c : 
     pub ready-lone : (getD cs c 0 ⊑ twice → ⊥) → Ready cs u c a b own
     ready-lone n = go (bit (at a twice) (at-le a twice)) (bit (at b twice) (at-le b twice))
       where
-        lone : (x : ℕ) → at x m ≡ 1 → at x twice ≡ 0 → (0 < free own x → 0 < free own a + free own b) → Ready cs u c a b own
+        lone : (x : ℕ) → x ∈ m → at x twice ≡ 0 → (0 < free own x → 0 < free own a + free own b) → Ready cs u c a b own
         lone x i z o = record {
           table = k .table;
           closed = k .closed;
@@ -260,7 +260,7 @@ module _ {cs : List ℕ} {u : ℕ} (simple : Simple cs) (core : Core cs u) (c : 
           open-end = o (lone-free own (k .closed) (k .balanced) (k .fine) inside-u x i (k .lone x z));
         }
 
-        go : (at a twice ≡ 0) ⊎ (at a twice ≡ 1) → (at b twice ≡ 0) ⊎ (at b twice ≡ 1) → Ready cs u c a b own
+        go : (at a twice ≡ 0) ⊎ (a ∈ twice) → (at b twice ≡ 0) ⊎ (b ∈ twice) → Ready cs u c a b own
         go (inl z) q = lone a (at-end a b .0) z (λ h. omega arith)
         go (inr p) (inl z) = lone b (at-end a b .1) z (λ h. omega arith)
         go (inr p) (inr q) = absurd (n (subst (λ (z : ℕ). z ⊑ twice) (sym (ends .is)) (pair-in a b twice p q)))
@@ -308,7 +308,7 @@ module _ {start : List ℕ} {e c : ℕ} (s : Standing start e) (h : c < e) {m : 
   pub two-ends : ones m ≡ 2
   two-ends = ap ones q ∙ standing-two s c h
 
-  pub ends-at : {a b : ℕ} → (a < 64) × (at a m ≡ 1) → (b < 64) × (at b m ≡ 1) × (a ≢ b) → EndsAt (take e start) c a b
+  pub ends-at : {a b : ℕ} → (a < 64) × (a ∈ m) → (b < 64) × (b ∈ m) × (a ≢ b) → EndsAt (take e start) c a b
   ends-at {a} {b} fa fb = record {
     low = fa .0;
     high = fb .0;

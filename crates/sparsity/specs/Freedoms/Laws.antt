@@ -9,7 +9,7 @@ use native.Mathlib.Decide.{ℕ-discrete}
 use lib.Count.{ones}
 use lib.ListN.{length, getD, set, length-set, replicate, length-replicate, getD-replicate}
 use lib.Seq.{getD-set-same, getD-set-other}
-use Rattle.theory.specs.Set.{at}
+use Rattle.theory.specs.Set.{_∈_, at}
 use Rattle.theory.specs.Set.Laws.{at-le, bit}
 use Rattle.theory.specs.Constraints.{carried}
 use Rattle.theory.specs.Set.Less.{at-below}
@@ -43,29 +43,29 @@ module _ (own : List (List ℕ)) (a : ℕ) (la : a < 2 ^ 64) where
   unfolding kept
   kept-closed k = record { stays = stays }
     where
-      full : (x : ℕ) → at x a ≡ 1 → 2 ≤ at (entry own x 0) a + at (entry own x 1) a
+      full : (x : ℕ) → x ∈ a → 2 ≤ at (entry own x 0) a + at (entry own x 1) a
       full x e =
           over-tight a (λ x. at (entry own x 0) a + at (entry own x 1) a) (λ x. 2)
           (λ x l e. omega (arith, at-le (entry own x 0) a, at-le (entry own x 1) a)) (omega (arith, over-size a la)) x
           (at-below 64 x a la e) e
 
-      stays : (x s : ℕ) → at x a ≡ 1 → s < 2 → at (entry own x s) a ≡ 1
+      stays : (x s : ℕ) → x ∈ a → s < 2 → entry own x s ∈ a
       stays x s e l = go (bit s (le-of-suc-le-suc l))
         where
-          go : (s ≡ 0) ⊎ (s ≡ 1) → at (entry own x s) a ≡ 1
+          go : (s ≡ 0) ⊎ (s ≡ 1) → entry own x s ∈ a
           go (inl q) = ap (λ (i : ℕ). at (entry own x i) a) q ∙ omega (arith, full x e, at-le (entry own x 0) a, at-le (entry own x 1) a)
           go (inr q) = ap (λ (i : ℕ). at (entry own x i) a) q ∙ omega (arith, full x e, at-le (entry own x 0) a, at-le (entry own x 1) a)
 
   -- the free entries of two of its elements
-  pub frees-two : (x y : ℕ) → x ≢ y → at x a ≡ 1 → at y a ≡ 1 → free own x + free own y ≤ frees own a
+  pub frees-two : (x y : ℕ) → x ≢ y → x ∈ a → y ∈ a → free own x + free own y ≤ frees own a
   unfolding frees
   frees-two x y n ex ey = over-two a (free own) x y (at-below 64 x a la ex) (at-below 64 y a la ey) n ex ey
 
-  pub frees-less : (x : ℕ) → at x a ≡ 1 → frees own a ≡ frees own (a - 2 ^ x) + free own x
+  pub frees-less : (x : ℕ) → x ∈ a → frees own a ≡ frees own (a - 2 ^ x) + free own x
   unfolding frees
   frees-less x e = over-less a (free own) x (at-below 64 x a la e) e
 
-  pub frees-only : (x y : ℕ) → x ≢ y → at x a ≡ 1 → at y a ≡ 1 → ((z : ℕ) → at z a ≡ 1 → z ≢ x → z ≢ y → free own z ≡ 0)
+  pub frees-only : (x y : ℕ) → x ≢ y → x ∈ a → y ∈ a → ((z : ℕ) → z ∈ a → z ≢ x → z ≢ y → free own z ≡ 0)
       → frees own a ≡ free own x + free own y
   unfolding frees
   frees-only x y n ex ey none = over-only a (free own) x y (at-below 64 x a la ex) (at-below 64 y a la ey) n ex ey (λ z l e p q. none z e p q)

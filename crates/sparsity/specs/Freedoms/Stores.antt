@@ -8,7 +8,7 @@ use native.Mathlib.Omega.{arith}
 use native.Mathlib.Decide.{ℕ-discrete}
 use lib.ListN.{length, getD, set, length-set}
 use lib.Seq.{getD-set-same, getD-set-other}
-use Rattle.theory.specs.Set.{_⊑_, at}
+use Rattle.theory.specs.Set.{_∈_, _⊑_, at}
 use Rattle.theory.specs.Set.Laws.{at-le, bit}
 use Rattle.theory.specs.Constraints.{has, carried}
 use Rattle.sparsity.specs.Freedoms.{entry, stored, same, free, over, frees, kept, Table, Balanced, Closed}
@@ -51,8 +51,8 @@ module _ (own : List (List ℕ)) (t : Table own) (x s y : ℕ) (lx : x < 64) (ls
       ]
 
   -- a set that is closed stays so
-  pub stored-closed : (u : ℕ) → (at x u ≡ 1 → at y u ≡ 1) → Closed own u → Closed (stored own x s y) u
-  stored-closed u hy c = record { stays = cases (λ z r i. at z u ≡ 1 → r < 2 → at i u ≡ 1) (λ e l. hy e) (c .stays) }
+  pub stored-closed : (u : ℕ) → (x ∈ u → y ∈ u) → Closed own u → Closed (stored own x s y) u
+  stored-closed u hy c = record { stays = cases (λ z r i. z ∈ u → r < 2 → i ∈ u) (λ e l. hy e) (c .stays) }
 
   -- what the entries hold, each worth h of its element and of what it holds: x's own, and a set's
   module _ (h : ℕ → ℕ → ℕ) where
@@ -130,7 +130,7 @@ module _ (own : List (List ℕ)) (t : Table own) (x y : ℕ) (lx : x < 64) (n : 
     pub turned-table : Table new
     turned-table = stored-table mid mid-table y r x ly lr lx
 
-    pub turned-closed : (u : ℕ) → at x u ≡ 1 → Closed own u → Closed new u
+    pub turned-closed : (u : ℕ) → x ∈ u → Closed own u → Closed new u
     turned-closed u hx c = stored-closed mid mid-table y r x ly lr u (λ q. hx) (stored-closed own t x s x lx ls u (λ q. q) c)
 
     pub turned-balanced : (cs : List ℕ) (u : ℕ) → Balanced cs u own → Balanced cs u new

@@ -6,7 +6,7 @@ use Prim.Native.Nat.{ℕ, _+_, _*_, _-_, _^_, _≤_, _<_}
 use native.Mathlib.Nat.{zero-mul, one-mul}
 use native.Mathlib.Omega.{arith}
 use lib.Count.{ones}
-use Rattle.theory.specs.Set.{at}
+use Rattle.theory.specs.Set.{_∈_, at}
 use Rattle.theory.specs.Set.Laws.{at-le, bit, size-sum}
 use Rattle.theory.specs.Sum.Laws.{sum-le, sum-eq, sum-zero, sum-mul, sum-two, sum-change, sum-change₂, sum-tight}
 use Rattle.theory.specs.Set.Less.{less-same, less-other}
@@ -47,16 +47,16 @@ no-times : (b f : ℕ) → b ≡ 0 → b * f ≡ 0
 no-times b f e = ap (λ (z : ℕ). z * f) e ∙ zero-mul f
 
 module _ (a : ℕ) (f g : ℕ → ℕ) where
-  le-times : (x : ℕ) → (at x a ≡ 1 → f x ≤ g x) → at x a * f x ≤ at x a * g x
+  le-times : (x : ℕ) → (x ∈ a → f x ≤ g x) → at x a * f x ≤ at x a * g x
   le-times x h = ⊎-elim
       (λ (e : at x a ≡ 0). omega (arith, no-times (at x a) (f x) e))
-      (λ (e : at x a ≡ 1). omega (arith, one-times (at x a) (f x) e, one-times (at x a) (g x) e, h e)) (bit (at x a) (at-le x a))
+      (λ (e : x ∈ a). omega (arith, one-times (at x a) (f x) e, one-times (at x a) (g x) e, h e)) (bit (at x a) (at-le x a))
 
-  pub over-le : ((x : ℕ) → x < 64 → at x a ≡ 1 → f x ≤ g x) → over a f ≤ over a g
+  pub over-le : ((x : ℕ) → x < 64 → x ∈ a → f x ≤ g x) → over a f ≤ over a g
   unfolding over
   over-le h = sum-le 64 (λ x. at x a * f x) (λ x. at x a * g x) (λ x l. le-times x (h x l))
 
-  pub over-same : ((x : ℕ) → x < 64 → at x a ≡ 1 → f x ≡ g x) → over a f ≡ over a g
+  pub over-same : ((x : ℕ) → x < 64 → x ∈ a → f x ≡ g x) → over a f ≡ over a g
   unfolding over
   over-same h =
       sum-eq 64 (λ x. at x a * f x) (λ x. at x a * g x)
@@ -68,7 +68,7 @@ module _ (a : ℕ) (f g : ℕ → ℕ) where
   over-change y l h = sum-change 64 (λ x. at x a * f x) (λ x. at x a * g x) y l (λ x m n. ap (λ (z : ℕ). at x a * z) (h x n))
 
   -- where no term of f is above that of g, and the sum is not below, each term is the same
-  pub over-tight : ((x : ℕ) → x < 64 → at x a ≡ 1 → f x ≤ g x) → over a g ≤ over a f → (x : ℕ) → x < 64 → at x a ≡ 1 → g x ≤ f x
+  pub over-tight : ((x : ℕ) → x < 64 → x ∈ a → f x ≤ g x) → over a g ≤ over a f → (x : ℕ) → x < 64 → x ∈ a → g x ≤ f x
   unfolding over
   over-tight h t x l e = omega (
     arith,
@@ -77,27 +77,27 @@ module _ (a : ℕ) (f g : ℕ → ℕ) where
     one-times (at x a) (g x) e,
   )
 
-pub over-two : (a : ℕ) (f : ℕ → ℕ) (x y : ℕ) → x < 64 → y < 64 → x ≢ y → at x a ≡ 1 → at y a ≡ 1 → f x + f y ≤ over a f
+pub over-two : (a : ℕ) (f : ℕ → ℕ) (x y : ℕ) → x < 64 → y < 64 → x ≢ y → x ∈ a → y ∈ a → f x + f y ≤ over a f
 unfolding over
 over-two a f x y lx ly n ex ey = omega (arith, sum-two 64 (λ x. at x a * f x) x y lx ly n, one-times (at x a) (f x) ex, one-times (at y a) (f y) ey)
 
 -- two terms, and no other
-pub over-only : (a : ℕ) (f : ℕ → ℕ) (x y : ℕ) → x < 64 → y < 64 → x ≢ y → at x a ≡ 1 → at y a ≡ 1
-    → ((z : ℕ) → z < 64 → at z a ≡ 1 → z ≢ x → z ≢ y → f z ≡ 0) → over a f ≡ f x + f y
+pub over-only : (a : ℕ) (f : ℕ → ℕ) (x y : ℕ) → x < 64 → y < 64 → x ≢ y → x ∈ a → y ∈ a
+    → ((z : ℕ) → z < 64 → z ∈ a → z ≢ x → z ≢ y → f z ≡ 0) → over a f ≡ f x + f y
 unfolding over
 over-only a f x y lx ly n ex ey h = omega (
   arith,
   sum-change₂ 64 (λ x. at x a * f x) (λ x. 0) x y lx ly n
       (λ z l p q. ⊎-elim
       (λ (e : at z a ≡ 0). no-times (at z a) (f z) e)
-      (λ (e : at z a ≡ 1). one-times (at z a) (f z) e ∙ h z l e p q) (bit (at z a) (at-le z a))),
+      (λ (e : z ∈ a). one-times (at z a) (f z) e ∙ h z l e p q) (bit (at z a) (at-le z a))),
   sum-zero 64 (λ x. 0) (λ x l. refl),
   one-times (at x a) (f x) ex,
   one-times (at y a) (f y) ey,
 )
 
 -- one element taken out
-pub over-less : (a : ℕ) (f : ℕ → ℕ) (x : ℕ) → x < 64 → at x a ≡ 1 → over a f ≡ over (a - 2 ^ x) f + f x
+pub over-less : (a : ℕ) (f : ℕ → ℕ) (x : ℕ) → x < 64 → x ∈ a → over a f ≡ over (a - 2 ^ x) f + f x
 unfolding over
 over-less a f x l e = omega (
   arith,

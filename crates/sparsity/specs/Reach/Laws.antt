@@ -11,8 +11,8 @@ use lib.Count.{ones, ones-le}
 use lib.ListN.{set, length-set}
 use lib.Pow.{pow-lt}
 use lib.Seq.{getD-set-same, getD-set-other}
-use Rattle.theory.specs.Set.{_∪_, _⊑_, at}
-use Rattle.theory.specs.Set.Laws.{at-or, at-le, at-same, at-other, bit, size-add, size-pow}
+use Rattle.theory.specs.Set.{_∈_, _∪_, _⊑_, at}
+use Rattle.theory.specs.Set.Laws.{at-∪, at-le, at-same, at-other, bit, size-add, size-pow}
 use Rattle.sparsity.specs.Freedoms.{entry, free, same, Table, Closed}
 use Rattle.sparsity.specs.Reach.{item, Visit, Lent, Reached, Longer, Scanned, Found, Stuck}
 use Rattle.sparsity.specs.Reach.Visits.{visit-reached, visit-longer, visit-seen}
@@ -36,11 +36,11 @@ module _ (own : List (List ℕ)) (a b : ℕ) (la : a < 64) (lb : b < 64) (n : a 
   abbrev ends : ℕ
   ends = 2 ^ a ∪ 2 ^ b
 
-  at-a : at a ends ≡ 1
-  at-a = omega (arith, at-or a (2 ^ a) (2 ^ b), at-same a, at-le a (2 ^ b))
+  at-a : a ∈ ends
+  at-a = omega (arith, at-∪ a (2 ^ a) (2 ^ b), at-same a, at-le a (2 ^ b))
 
-  at-b : at b ends ≡ 1
-  at-b = omega (arith, at-or b (2 ^ a) (2 ^ b), at-same b, at-le b (2 ^ a))
+  at-b : b ∈ ends
+  at-b = omega (arith, at-∪ b (2 ^ a) (2 ^ b), at-same b, at-le b (2 ^ a))
 
   pub begun : Reached own a b two from ends 2
   unfolding _∪_
@@ -54,16 +54,16 @@ module _ (own : List (List ℕ)) (a b : ℕ) (la : a < 64) (lb : b < 64) (n : a 
         back = λ i h l. absurd (omega arith);
         link = λ i h l. absurd (omega arith);
         apart = λ i j l h e. n (sym first ∙ ap (item two) (omega arith) ∙ e ∙ ap (item two) (omega arith) ∙ second);
-        marked = either (λ i. at (item two i) ends ≡ 1) (ap (λ (x : ℕ). at x ends) first ∙ at-a) (ap (λ (x : ℕ). at x ends) second ∙ at-b);
+        marked = either (λ i. item two i ∈ ends) (ap (λ (x : ℕ). at x ends) first ∙ at-a) (ap (λ (x : ℕ). at x ends) second ∙ at-b);
         queued = λ x e. queued x e (ℕ-discrete x a) (ℕ-discrete x b);
         size = omega (arith, size-add (2 ^ b) a (at-other a b n), size-pow b);
         small = or-lt 64 (2 ^ a) (2 ^ b) (pow-lt la) (pow-lt lb);
       }
     where
-      queued : (x : ℕ) → at x ends ≡ 1 → Dec (x ≡ a) → Dec (x ≡ b) → (i : ℕ) × (i < 2) × (item two i ≡ x)
+      queued : (x : ℕ) → x ∈ ends → Dec (x ≡ a) → Dec (x ≡ b) → (i : ℕ) × (i < 2) × (item two i ≡ x)
       queued x e (yes p) d = (0, zero-lt-suc 1, first ∙ sym p)
       queued x e (no p) (yes q) = (1, lt-suc-self 1, second ∙ sym q)
-      queued x e (no p) (no q) = absurd (omega (arith, at-or x (2 ^ a) (2 ^ b), at-other x a p, at-other x b q))
+      queued x e (no p) (no q) = absurd (omega (arith, at-∪ x (2 ^ a) (2 ^ b), at-other x a p, at-other x b q))
 
   pub begun-with : (p q : ℕ) → p ≡ 2 ^ a → q ≡ 2 ^ b → Reached own a b two from (bitOr p q) 2
   unfolding _∪_
@@ -75,13 +75,13 @@ scanned-none own queue seen = record { stays = λ i s l h. absurd (not-suc-le-ze
 -- one more place is scanned: both entries of its element are visited
 pub scanned-next : (own : List (List ℕ)) (queue : List ℕ) (seen count p : ℕ) → p < count → Scanned own queue seen p
     → (2 ≤ p → free own (item queue p) ≡ 0) → (queue′ : List ℕ) (seen′ count′ : ℕ) → Longer queue seen count queue′ seen′ count′
-    → ((s : ℕ) → s < 2 → at (entry own (item queue p) s) seen′ ≡ 1) → Scanned own queue′ seen′ (p + 1)
+    → ((s : ℕ) → s < 2 → entry own (item queue p) s ∈ seen′) → Scanned own queue′ seen′ (p + 1)
 scanned-next own queue seen count p lp sc shut queue′ seen′ count′ g here = record { stays = stays; none = none }
   where
     same-at : (i : ℕ) → i ≤ p → item queue′ i ≡ item queue i
     same-at i l = g .places i (omega arith)
 
-    stays : (i s : ℕ) → i < p + 1 → s < 2 → at (entry own (item queue′ i) s) seen′ ≡ 1
+    stays : (i s : ℕ) → i < p + 1 → s < 2 → entry own (item queue′ i) s ∈ seen′
     stays i s l h =
         ap (λ (x : ℕ). at (entry own x s) seen′) (same-at i (omega arith))
         ∙ ⊎-elim (λ (e : i ≡ p). ap (λ (j : ℕ). at (entry own (item queue j) s) seen′) e ∙ here s h)
@@ -178,10 +178,10 @@ found-all p r sc l h = record { reached = r; scanned = sc; below = l; open-at = 
 -- what is linked to the first two lies in every closed set that holds them
 pub linked-within : (own : List (List ℕ)) (queue from : List ℕ) (count : ℕ) → ((i : ℕ) → 2 ≤ i → i < count → item from i < i)
     → ((i : ℕ) → 2 ≤ i → i < count → (s : ℕ) × (s < 2) × (entry own (item queue (item from i)) s ≡ item queue i))
-    → (u : ℕ) → at (item queue 0) u ≡ 1 → at (item queue 1) u ≡ 1 → Closed own u → (i : ℕ) → i < count → at (item queue i) u ≡ 1
+    → (u : ℕ) → item queue 0 ∈ u → item queue 1 ∈ u → Closed own u → (i : ℕ) → i < count → item queue i ∈ u
 linked-within own queue from count back link u ea eb c i l = go (suc i) i (lt-suc-self i) l
   where
-    go : (m i : ℕ) → i < m → i < count → at (item queue i) u ≡ 1
+    go : (m i : ℕ) → i < m → i < count → item queue i ∈ u
     go zero i h l = absurd (not-suc-le-zero h)
     go (suc m) i h l = elim (decLt i 2) [
       | yes k ↦ ⊎-elim
@@ -195,16 +195,16 @@ linked-within own queue from count back link u ea eb c i l = go (suc i) i (lt-su
 
 -- what is reached lies in every closed set that holds a and b
 pub reached-within : (own : List (List ℕ)) (a b : ℕ) (queue from : List ℕ) (seen count : ℕ) → Reached own a b queue from seen count
-    → (u : ℕ) → at a u ≡ 1 → at b u ≡ 1 → Closed own u → (i : ℕ) → i < count → at (item queue i) u ≡ 1
+    → (u : ℕ) → a ∈ u → b ∈ u → Closed own u → (i : ℕ) → i < count → item queue i ∈ u
 reached-within own a b queue from seen count r u ea eb c =
     linked-within own queue from count (r .back) (r .link) u (ap (λ (x : ℕ). at x u) (r .start) ∙ ea) (ap (λ (x : ℕ). at x u) (r .start′) ∙ eb) c
 
 pub seen-within : {own : List (List ℕ)} {a b : ℕ} {queue from : List ℕ} {seen count : ℕ} → Reached own a b queue from seen count
-    → (u : ℕ) → at a u ≡ 1 → at b u ≡ 1 → Closed own u → seen ⊑ u
+    → (u : ℕ) → a ∈ u → b ∈ u → Closed own u → seen ⊑ u
 seen-within {own} {a} {b} {queue} {from} {seen} {count} r u ea eb c = record {
   le = λ x. ⊎-elim
       (λ (e : at x seen ≡ 0). omega arith)
-      (λ (e : at x seen ≡ 1).
+      (λ (e : x ∈ seen).
       let o = r .queued x e in
       omega (arith, ap (λ (i : ℕ). at i u) (o .2), reached-within own a b queue from seen count r u ea eb c (o .0) (o .1)))
       (bit (at x seen) (at-le x seen));
@@ -216,20 +216,20 @@ module _ {own : List (List ℕ)} {a b : ℕ} {queue from : List ℕ} {seen count
   abbrev r : Reached own a b queue from seen count
   r = f .reached
 
-  pub found-first : at a seen ≡ 1
+  pub found-first : a ∈ seen
   found-first = ap (λ (x : ℕ). at x seen) (sym (r .start)) ∙ r .marked 0 (omega (arith, r .low))
 
-  pub found-second : at b seen ≡ 1
+  pub found-second : b ∈ seen
   found-second = ap (λ (x : ℕ). at x seen) (sym (r .start′)) ∙ r .marked 1 (omega (arith, r .low))
 
   pub found-closed : Closed own seen
   found-closed = record {
     stays = λ x s e h.
         let o = r .queued x e in
-        subst (λ (z : ℕ). at (entry own z s) seen ≡ 1) (o .2) (f .scanned .stays (o .0) s (lt-of-lt-of-le (o .1) done) h);
+        subst (λ (z : ℕ). entry own z s ∈ seen) (o .2) (f .scanned .stays (o .0) s (lt-of-lt-of-le (o .1) done) h);
   }
 
-  pub found-none : (x : ℕ) → at x seen ≡ 1 → x ≢ a → x ≢ b → free own x ≡ 0
+  pub found-none : (x : ℕ) → x ∈ seen → x ≢ a → x ≢ b → free own x ≡ 0
   found-none x e na nb = go (r .queued x e)
     where
       go : (i : ℕ) × (i < count) × (item queue i ≡ x) → free own x ≡ 0

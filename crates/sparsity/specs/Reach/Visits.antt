@@ -11,8 +11,8 @@ use lib.Count.{ones, ones-le}
 use lib.ListN.{length, set, length-set}
 use lib.Pow.{pow-lt}
 use lib.Seq.{getD-set-same, getD-set-other}
-use Rattle.theory.specs.Set.{_∪_, at}
-use Rattle.theory.specs.Set.Laws.{at-or, at-le, at-same, at-other, size-add, or-comm}
+use Rattle.theory.specs.Set.{_∈_, _∪_, at}
+use Rattle.theory.specs.Set.Laws.{at-∪, at-le, at-same, at-other, size-add, ∪-comm}
 use Rattle.sparsity.specs.Freedoms.{entry, Table}
 use Rattle.sparsity.specs.Reach.{item, Visit, known, fresh, Lent, Reached, Longer}
 
@@ -20,7 +20,7 @@ use Rattle.sparsity.specs.Reach.{item, Visit, known, fresh, Lent, Reache
 
 -- an element that is not reached yet finds room in the queue
 pub visit-size : (seen y : ℕ) → at y seen ≡ 0 → ones (seen ∪ 2 ^ y) ≡ ones seen + 1
-visit-size seen y e = ap ones (or-comm seen (2 ^ y)) ∙ omega (arith, size-add seen y e)
+visit-size seen y e = ap ones (∪-comm seen (2 ^ y)) ∙ omega (arith, size-add seen y e)
 
 pub visit-room : (seen count y : ℕ) → seen < 2 ^ 64 → y < 64 → ones seen ≡ count → at y seen ≡ 0 → count < 64
 unfolding _∪_
@@ -59,14 +59,14 @@ module _ (own : List (List ℕ)) (t : Table own) (a b : ℕ) (queue from : List 
     f-new : item f count ≡ p
     f-new = getD-set-same from count p 0 (omega (arith, r .lent .places′, fits))
 
-    v-old : (x : ℕ) → at x seen ≡ 1 → at x v ≡ 1
-    v-old x e = omega (arith, at-or x seen (2 ^ y), at-le x (2 ^ y))
+    v-old : (x : ℕ) → x ∈ seen → x ∈ v
+    v-old x e = omega (arith, at-∪ x seen (2 ^ y), at-le x (2 ^ y))
 
-    v-new : at y v ≡ 1
-    v-new = omega (arith, at-or y seen (2 ^ y), at-same y, at-le y seen)
+    v-new : y ∈ v
+    v-new = omega (arith, at-∪ y seen (2 ^ y), at-same y, at-le y seen)
 
     v-other : (x : ℕ) → x ≢ y → at x v ≡ at x seen
-    v-other x n = omega (arith, at-or x seen (2 ^ y), at-other x y n)
+    v-other x n = omega (arith, at-∪ x seen (2 ^ y), at-other x y n)
 
     split : (P : ℕ → Type 0) → P count → ((i : ℕ) → i < count → P i) → (i : ℕ) → i < count + 1 → P i
     split P last old i l = ⊎-elim (λ (e : i ≡ count). subst P (sym e) last) (λ (m : i < count). old i m) (eq-or-lt-of-le (omega arith))
@@ -95,7 +95,7 @@ module _ (own : List (List ℕ)) (t : Table own) (a b : ℕ) (queue from : List 
           )) i l h;
       apart = λ i j l h. split (λ j. i < j → item q i ≢ item q j) (λ l e. old≢ i l (sym (q-old i l) ∙ e ∙ q-new))
           (λ j m l e. r .apart i j l m (sym (q-old i (lt-trans l m)) ∙ e ∙ q-old j m)) j h l;
-      marked = split (λ i. at (item q i) v ≡ 1) (ap (λ (x : ℕ). at x v) q-new ∙ v-new)
+      marked = split (λ i. item q i ∈ v) (ap (λ (x : ℕ). at x v) q-new ∙ v-new)
           (λ i l. ap (λ (x : ℕ). at x v) (q-old i l) ∙ v-old (item queue i) (r .marked i l));
       queued = λ x e. queued x e (ℕ-discrete x y);
       size = visit-size seen y new ∙ ap (λ (n : ℕ). n + 1) (r .size);
@@ -105,7 +105,7 @@ module _ (own : List (List ℕ)) (t : Table own) (a b : ℕ) (queue from : List 
         Link : ℕ → Type 0
         Link i = 2 ≤ i → (s : ℕ) × (s < 2) × (entry own (item q (item f i)) s ≡ item q i)
 
-        queued : (x : ℕ) → at x v ≡ 1 → Dec (x ≡ y) → (i : ℕ) × (i < count + 1) × (item q i ≡ x)
+        queued : (x : ℕ) → x ∈ v → Dec (x ≡ y) → (i : ℕ) × (i < count + 1) × (item q i ≡ x)
         queued x e (yes m) = (count, omega arith, q-new ∙ sym m)
         queued x e (no n) = let o = r .queued x (sym (v-other x n) ∙ e) in (o .0, omega (arith, o .1), q-old (o .0) (o .1) ∙ o .2)
 
@@ -117,7 +117,7 @@ module _ (own : List (List ℕ)) (t : Table own) (a b : ℕ) (queue from : List 
   visit-longer q f v n (known e) = longer-refl queue seen count
   visit-longer q f v n (fresh e) = record { more = omega arith; places = q-old e; marks = v-old e }
 
-  pub visit-seen : (q f : List ℕ) (v n : ℕ) → Visit queue from seen count y p q f v n → at y v ≡ 1
+  pub visit-seen : (q f : List ℕ) (v n : ℕ) → Visit queue from seen count y p q f v n → y ∈ v
   visit-seen q f v n (known e) = e
   visit-seen q f v n (fresh e) = v-new e
 

@@ -12,9 +12,9 @@ use lib.Dec.{eqb, eqb→eq, eqb-refl, T}
 use lib.Count.{ones}
 use lib.ListN.{length}
 use lib.Pow.{pow-lt}
-use Rattle.theory.specs.Set.{_∩_, _∪_, at, _⊑_, full}
-use Rattle.theory.specs.Set.Laws.{at-or, at-le, bit, size-le, size-eq, sub-refl, sub-trans, or-l, or-r, and-l, and-r, and-most, sub-and}
-use Rattle.theory.specs.Set.Laws.{and-sub, or-comm, singles-or, at-same, at-other, size-pow, pow-ne, below-full, cut-below}
+use Rattle.theory.specs.Set.{_∈_, _∩_, _∪_, at, _⊑_, full}
+use Rattle.theory.specs.Set.Laws.{at-∪, at-le, bit, ⊑⇒size≤, ⊑-size-≡, ⊑-refl, ⊑-trans, a⊑a∪b, b⊑a∪b, a∩b⊑a, a∩b⊑b, ∩-greatest, ⊑⇒∩≡}
+use Rattle.theory.specs.Set.Laws.{∩≡⇒⊑, ∪-comm, singles-or, at-same, at-other, size-pow, pow-ne, below-full, cut-below}
 use Rattle.theory.specs.Constraints.{pair, Among, Pairs, Below, Perm, same, skip, swap, then, one-if, has, carried, NotOver, NotOverIn}
 
 -- ---- whether a constraint lies in a set
@@ -28,8 +28,8 @@ unfolding has
 has-dec m x = go (eqb (m ∩ x) m) refl
   where
     go : (b : Bool) → eqb (m ∩ x) m ≡ b → Has m x
-    go true e = inside (and-sub m x (eqb→eq (m ∩ x) m (subst T (sym e) tt))) (ap one-if e)
-    go false e = outside (λ h. subst T (ap₂ eqb (sym (sub-and m x h)) refl ∙ e) (eqb-refl m)) (ap one-if e)
+    go true e = inside (∩≡⇒⊑ m x (eqb→eq (m ∩ x) m (subst T (sym e) tt))) (ap one-if e)
+    go false e = outside (λ h. subst T (ap₂ eqb (sym (⊑⇒∩≡ m x h)) refl ∙ e) (eqb-refl m)) (ap one-if e)
 
 pub has-in : (m x : ℕ) → m ⊑ x → has m x ≡ 1
 has-in m x h = elim (has-dec m x) [ inside i e ↦ e | outside n e ↦ absurd (n h) ]
@@ -39,18 +39,18 @@ pub has-le : (m x : ℕ) → has m x ≤ 1
 has-le m x = elim (has-dec m x) [ inside i e ↦ omega arith | outside n e ↦ omega arith ]
 
 pub has-mono : (m x y : ℕ) → x ⊑ y → has m x ≤ has m y
-has-mono m x y h = elim (has-dec m x) [ inside i e ↦ omega (arith, has-in m y (sub-trans i h)) | outside n e ↦ omega arith ]
+has-mono m x y h = elim (has-dec m x) [ inside i e ↦ omega (arith, has-in m y (⊑-trans i h)) | outside n e ↦ omega arith ]
 
 pub has-and : (m x y : ℕ) → has m x + has m y ≤ has m (x ∩ y) + 1
 has-and m x y = elim (has-dec m x) [
-  | inside i e ↦ elim (has-dec m y) [ inside j f ↦ omega (arith, has-in m (x ∩ y) (and-most i j)) | outside n f ↦ omega arith ]
+  | inside i e ↦ elim (has-dec m y) [ inside j f ↦ omega (arith, has-in m (x ∩ y) (∩-greatest i j)) | outside n f ↦ omega arith ]
   | outside n e ↦ elim (has-dec m y) [ inside j f ↦ omega arith | outside k f ↦ omega arith ]
 ]
 
 has-two : (m x y : ℕ) → has m x + has m y ≤ has m (x ∪ y) + has m (x ∩ y)
 has-two m x y =
-    let l = has-mono m x (x ∪ y) (or-l x y) in
-    let r = has-mono m y (x ∪ y) (or-r x y) in
+    let l = has-mono m x (x ∪ y) (a⊑a∪b x y) in
+    let r = has-mono m y (x ∪ y) (b⊑a∪b x y) in
     let b = has-and m x y in
     ⊎-elim (λ (e : has m (x ∪ y) ≡ 0). omega arith) (λ (e : has m (x ∪ y) ≡ 1). omega arith) (bit (has m (x ∪ y)) (has-le m (x ∪ y)))
 
@@ -60,12 +60,12 @@ has-four : (m a b c d : ℕ)
     ≤ has m (a ∪ b ∪ c) + has m (a ∩ b) + has m (b ∩ c) + has m (a ∩ c) + has m (a ∩ d) + has m (b ∩ d) + has m (c ∩ d)
 has-four m a b c d =
     let u = a ∪ b ∪ c in
-    let la = has-mono m a u (sub-trans (or-l a b) (or-l (a ∪ b) c)) in
-    let lb = has-mono m b u (sub-trans (or-r a b) (or-l (a ∪ b) c)) in
-    let lc = has-mono m c u (or-r (a ∪ b) c) in
+    let la = has-mono m a u (⊑-trans (a⊑a∪b a b) (a⊑a∪b (a ∪ b) c)) in
+    let lb = has-mono m b u (⊑-trans (b⊑a∪b a b) (a⊑a∪b (a ∪ b) c)) in
+    let lc = has-mono m c u (b⊑a∪b (a ∪ b) c) in
     let lu = has-le m u in
-    let ud = has-mono m (u ∩ d) u (and-l u d) in
-    let du = has-mono m (u ∩ d) d (and-r u d) in
+    let ud = has-mono m (u ∩ d) u (a∩b⊑a u d) in
+    let du = has-mono m (u ∩ d) d (a∩b⊑b u d) in
     let ab = has-and m a b in
     let bc = has-and m b c in
     let ac = has-and m a c in
@@ -102,7 +102,7 @@ carried-four (m ∷ cs) a b c d = omega (arith, has-four m a b c d, carried-four
 pub carried-pos : (cs : List ℕ) (x : ℕ) → Among x cs → 1 ≤ carried cs x
 unfolding carried
 carried-pos [] x h = absurd h
-carried-pos (m ∷ cs) x (inl e) = omega (arith, has-in m x (subst (λ (z : ℕ). m ⊑ z) (sym e) (sub-refl m)))
+carried-pos (m ∷ cs) x (inl e) = omega (arith, has-in m x (subst (λ (z : ℕ). m ⊑ z) (sym e) (⊑-refl m)))
 carried-pos (m ∷ cs) x (inr h) = omega (arith, carried-pos cs x h)
 
 pub carried-small : (cs : List ℕ) → Pairs cs → (x : ℕ) → ones x ≤ 1 → carried cs x ≡ zero
@@ -111,14 +111,14 @@ carried-small [] p x l = refl
 carried-small (m ∷ cs) p x l = go (has-dec m x) (carried-small cs (λ y h. p y (inr h)) x l)
   where
     go : Has m x → carried cs x ≡ zero → has m x + carried cs x ≡ zero
-    go (inside i e) r = absurd (omega (arith, size-le x m i, p m (inl refl)))
+    go (inside i e) r = absurd (omega (arith, ⊑⇒size≤ x m i, p m (inl refl)))
     go (outside n e) r = omega arith
 
 pub pairs-share : (x y : ℕ) → ones x ≡ 2 → ones y ≡ 2 → x ≢ y → ones (x ∩ y) ≤ 1
 pairs-share x y ex ey ne = go (decLe 2 (ones (x ∩ y)))
   where
     go : Dec (2 ≤ ones (x ∩ y)) → ones (x ∩ y) ≤ 1
-    go (yes h) = absurd (ne (sym (size-eq x (x ∩ y) (and-l x y) (omega arith)) ∙ size-eq y (x ∩ y) (and-r x y) (omega arith)))
+    go (yes h) = absurd (ne (sym (⊑-size-≡ x (x ∩ y) (a∩b⊑a x y) (omega arith)) ∙ ⊑-size-≡ y (x ∩ y) (a∩b⊑b x y) (omega arith)))
     go (no n) = omega arith
 
 -- ---- the sheet's own elements
@@ -134,13 +134,13 @@ carried-cut n [] h x = omega arith
 carried-cut n (m ∷ cs) h x = go (has-dec m x) (carried-cut n cs (λ y i. h y (inr i)) x)
   where
     go : Has m x → carried cs x ≤ carried cs (x ∩ full n) → has m x + carried cs x ≤ has m (x ∩ full n) + carried cs (x ∩ full n)
-    go (inside i e) r = omega (arith, has-in m (x ∩ full n) (and-most i (below-full n m (h m (inl refl)))))
+    go (inside i e) r = omega (arith, has-in m (x ∩ full n) (∩-greatest i (below-full n m (h m (inl refl)))))
     go (outside k e) r = omega arith
 
 pub not-over-in : (n : ℕ) (cs : List ℕ) → Pairs cs → Below n cs → NotOverIn n cs → NotOver cs
 unfolding NotOver NotOverIn
 not-over-in n cs pairs below h x b = let small : x ∩ full n < 2 ^ n = cut-below n x in elim (decLe 2 (ones (x ∩ full n))) [
-  | yes k ↦ omega (arith, h (x ∩ full n) small k, carried-cut n cs below x, size-le x (x ∩ full n) (and-l x (full n)))
+  | yes k ↦ omega (arith, h (x ∩ full n) small k, carried-cut n cs below x, ⊑⇒size≤ x (x ∩ full n) (a∩b⊑a x (full n)))
   | no k ↦ omega (arith, carried-cut n cs below x, carried-small cs pairs (x ∩ full n) (omega arith))
 ]
 
@@ -194,16 +194,16 @@ unfolding pair _∪_
 pair-below n u v hu hv = or-lt n (2 ^ u) (2 ^ v) (pow-lt hu) (pow-lt hv)
 
 -- x is an end of the pair
-pub at-pair : (x u v : ℕ) → at x (pair u v) ≡ 1 → (x ≡ u) ⊎ (x ≡ v)
+pub at-pair : (x u v : ℕ) → x ∈ pair u v → (x ≡ u) ⊎ (x ≡ v)
 unfolding pair
 at-pair x u v e = elim (ℕ-discrete x u) [
   | yes p ↦ inl p
-  | no p ↦ elim (ℕ-discrete x v) [ yes q ↦ inr q | no q ↦ absurd (omega (arith, at-or x (2 ^ u) (2 ^ v), at-other x u p, at-other x v q)) ]
+  | no p ↦ elim (ℕ-discrete x v) [ yes q ↦ inr q | no q ↦ absurd (omega (arith, at-∪ x (2 ^ u) (2 ^ v), at-other x u p, at-other x v q)) ]
 ]
 
-pub at-end : (u v : ℕ) → (at u (pair u v) ≡ 1) × (at v (pair u v) ≡ 1)
+pub at-end : (u v : ℕ) → (u ∈ pair u v) × (v ∈ pair u v)
 unfolding pair
-at-end u v = (omega (arith, at-or u (2 ^ u) (2 ^ v), at-same u, at-le u (2 ^ v)), omega (arith, at-or v (2 ^ u) (2 ^ v), at-same v, at-le v (2 ^ u)))
+at-end u v = (omega (arith, at-∪ u (2 ^ u) (2 ^ v), at-same u, at-le u (2 ^ v)), omega (arith, at-∪ v (2 ^ u) (2 ^ v), at-same v, at-le v (2 ^ u)))
 
 -- two pairs are the same set only if they are the same pair
 pub pair-one : (u v u′ v′ : ℕ) → u < v → u′ < v′ → pair u v ≡ pair u′ v′ → (u ≡ u′) × (v ≡ v′)
@@ -214,15 +214,15 @@ pair-one u v u′ v′ h h′ e = elim (at-pair u u′ v′ (ap (at u) (sym e) �
 
 -- ---- a pair in a set
 
-pub pair-in : (u v x : ℕ) → at u x ≡ 1 → at v x ≡ 1 → pair u v ⊑ x
+pub pair-in : (u v x : ℕ) → u ∈ x → v ∈ x → pair u v ⊑ x
 pair-in u v x p q = record { le = λ z. go z (bit (at z (pair u v)) (at-le z (pair u v))) }
   where
-    go : (z : ℕ) → (at z (pair u v) ≡ 0) ⊎ (at z (pair u v) ≡ 1) → at z (pair u v) ≤ at z x
+    go : (z : ℕ) → (at z (pair u v) ≡ 0) ⊎ (z ∈ pair u v) → at z (pair u v) ≤ at z x
     go z (inl e) = omega arith
     go z (inr e) = ⊎-elim
         (λ (w : z ≡ u). omega (arith, ap (λ (y : ℕ). at y x) w)) (λ (w : z ≡ v). omega (arith, ap (λ (y : ℕ). at y x) w)) (at-pair z u v e)
 
-pub pair-ends : (u v x : ℕ) → pair u v ⊑ x → (at u x ≡ 1) × (at v x ≡ 1)
+pub pair-ends : (u v x : ℕ) → pair u v ⊑ x → (u ∈ x) × (v ∈ x)
 pair-ends u v x h = (omega (arith, h .le u, at-end u v .0, at-le u x), omega (arith, h .le v, at-end u v .1, at-le v x))
 
 -- whether both ends of a pair lie in a set
@@ -237,4 +237,4 @@ has-pair u v x = elim (has-dec (pair u v) x) [
 
 pub pair-comm : (u v : ℕ) → pair u v ≡ pair v u
 unfolding pair
-pair-comm u v = or-comm (2 ^ u) (2 ^ v)
+pair-comm u v = ∪-comm (2 ^ u) (2 ^ v)

@@ -9,7 +9,7 @@ use lib.Count.{ones}
 use lib.Dec.{T, eqb, eqb→eq}
 use lib.ListN.{length}
 use Rattle.theory.specs.Tests.{eq-test}
-use Rattle.theory.specs.Set.Laws.{size-le}
+use Rattle.theory.specs.Set.Laws.{⊑⇒size≤}
 use Rattle.theory.specs.Constraints.{Among, Pairs, Below}
 use Rattle.theory.specs.Merge.{Merge, three, put, final, joints, left, Valid}
 use Rattle.theory.specs.Merge.Threes.{size-joint}
@@ -33,7 +33,7 @@ joint-three (m ∷ p) s v j (inr i) = joint-three p (put s m) (v .1) j i
 pub not-angled : (lines : ℕ) → ones lines ≤ 2 → (s : List ℕ) (p : List Merge) → Valid s p → angled lines (joints s p) ≡ false
 not-angled lines few s p v = elim (angled lines (joints s p)) as (λ (b : Bool). angled lines (joints s p) ≡ b → angled lines (joints s p) ≡ false) [
   | true ↦ λ e. let a = angled-is lines (joints s p) (subst T (sym e) tt) in
-      absurd (omega (arith, joint-three p s v (a .0) (a .1), size-le lines (a .0) (a .2)))
+      absurd (omega (arith, joint-three p s v (a .0) (a .1), ⊑⇒size≤ lines (a .0) (a .2)))
   | false ↦ λ e. e
 ] refl
 

@@ -7,7 +7,7 @@ use Prim.Native.Nat.{ℕ, zero, suc, _+_, _≤_}
 use native.Mathlib.Omega.{arith}
 use lib.Count.{ones}
 use Rattle.theory.specs.Set.{_∩_, _∪_}
-use Rattle.theory.specs.Set.Laws.{size-or, size-le, size-zero, and-or, and-l, and-r, and-mono, or-mono, sub-refl, sub-and, or-l, or-r}
+use Rattle.theory.specs.Set.Laws.{size-∪, ⊑⇒size≤, size-zero, ∩-distrib-∪, a∩b⊑a, a∩b⊑b, ∩-mono, ∪-mono, ⊑-refl, ⊑⇒∩≡, a⊑a∪b, b⊑a∪b}
 use Rattle.theory.specs.Constraints.{Pairs, carried, has, NotOver}
 use Rattle.theory.specs.Constraints.Laws.{Has, inside, outside, has-dec}
 use Rattle.theory.specs.Merge.{Open, Three, union, Merge, three, put, Valid, final, total, left, weight}
@@ -19,13 +19,13 @@ module _ (s : ℕ) where
   part x = weight (x ∩ s)
 
   part-zero : part 0 ≡ 0
-  part-zero = omega (arith, size-le 0 (0 ∩ s) (and-l 0 s), size-zero)
+  part-zero = omega (arith, ⊑⇒size≤ 0 (0 ∩ s) (a∩b⊑a 0 s), size-zero)
 
   -- ---- one merge
 
   -- two clusters that share one element share one at most in s
   shared : (a b : ℕ) → ones (a ∩ b) ≡ 1 → ones ((a ∩ s) ∩ (b ∩ s)) ≤ 1
-  shared a b e = omega (arith, size-le (a ∩ b) ((a ∩ s) ∩ (b ∩ s)) (and-mono (and-l a s) (and-l b s)))
+  shared a b e = omega (arith, ⊑⇒size≤ (a ∩ b) ((a ∩ s) ∩ (b ∩ s)) (∩-mono (a∩b⊑a a s) (a∩b⊑a b s)))
 
   part-merge : (t : Three) → Open (t .a) (t .b) (t .c) → part (t .a) + part (t .b) + part (t .c) ≤ part (union t)
   unfolding union
@@ -33,25 +33,25 @@ module _ (s : ℕ) where
       let a = t .a ∩ s in
       let b = t .b ∩ s in
       let c = t .c ∩ s in
-      let u : (t .a ∪ t .b ∪ t .c) ∩ s ≡ a ∪ b ∪ c = and-or (t .a ∪ t .b) (t .c) s ∙ ap (λ (z : ℕ). z ∪ c) (and-or (t .a) (t .b) s) in
+      let u : (t .a ∪ t .b ∪ t .c) ∩ s ≡ a ∪ b ∪ c = ∩-distrib-∪ (t .a ∪ t .b) (t .c) s ∙ ap (λ (z : ℕ). z ∪ c) (∩-distrib-∪ (t .a) (t .b) s) in
       let ab = shared (t .a) (t .b) (o .ab) in
       let bc = shared (t .b) (t .c) (o .bc) in
       let ac = shared (t .a) (t .c) (o .ac) in
       omega (
         arith,
         ap ones u,
-        size-or a b,
-        size-or (a ∪ b) c,
-        ap ones (and-or a b c),
-        size-or (a ∩ c) (b ∩ c),
-        size-or a c,
-        size-or b c,
-        size-le (a ∪ b ∪ c) (a ∪ b) (or-l (a ∪ b) c),
-        size-le (a ∪ b ∪ c) (a ∪ c) (or-mono (or-l a b) (sub-refl c)),
-        size-le (a ∪ b ∪ c) (b ∪ c) (or-mono (or-r a b) (sub-refl c)),
-        size-le (a ∪ b) a (or-l a b),
-        size-le (a ∪ b) b (or-r a b),
-        size-le (b ∪ c) c (or-r b c),
+        size-∪ a b,
+        size-∪ (a ∪ b) c,
+        ap ones (∩-distrib-∪ a b c),
+        size-∪ (a ∩ c) (b ∩ c),
+        size-∪ a c,
+        size-∪ b c,
+        ⊑⇒size≤ (a ∪ b ∪ c) (a ∪ b) (a⊑a∪b (a ∪ b) c),
+        ⊑⇒size≤ (a ∪ b ∪ c) (a ∪ c) (∪-mono (a⊑a∪b a b) (⊑-refl c)),
+        ⊑⇒size≤ (a ∪ b ∪ c) (b ∪ c) (∪-mono (b⊑a∪b a b) (⊑-refl c)),
+        ⊑⇒size≤ (a ∪ b) a (a⊑a∪b a b),
+        ⊑⇒size≤ (a ∪ b) b (b⊑a∪b a b),
+        ⊑⇒size≤ (b ∪ c) c (b⊑a∪b b c),
       )
 
   -- ---- a list of merges
@@ -66,7 +66,7 @@ module _ (s : ℕ) where
   part-start (m ∷ cs) h = omega (arith, part-start cs (λ y i. h y (inr i)), go (has-dec m s))
     where
       go : Has m s → has m s ≤ part m
-      go (inside i e) = omega (arith, e, ap ones (sub-and m s i), h m (inl refl))
+      go (inside i e) = omega (arith, e, ap ones (⊑⇒∩≡ m s i), h m (inl refl))
       go (outside n e) = omega (arith, e)
 
   part-none : (l : List ℕ) → left l ≡ 0 → total part l ≡ 0
@@ -86,4 +86,4 @@ pub one-fine : (cs : List ℕ) → Pairs cs → (p : List Merge) → Valid cs p 
 unfolding NotOver
 one-fine cs pairs p v e s two =
     let r = part-one s (final cs p) e in
-    omega (arith, part-start s cs pairs, part-run s p cs v, r .1, size-le s (r .0 ∩ s) (and-r (r .0) s))
+    omega (arith, part-start s cs pairs, part-run s p cs v, r .1, ⊑⇒size≤ s (r .0 ∩ s) (a∩b⊑b (r .0) s))

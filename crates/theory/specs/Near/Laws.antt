@@ -9,9 +9,9 @@ use lib.Bits.{bitOr}
 use lib.Count.{ones}
 use lib.ListN.{length, take, getD, set, length-set, replicate, length-replicate}
 use lib.Seq.{getD-set-same, getD-set-other, getD-take, length-take-le}
-use Rattle.theory.specs.Set.{_∩_, _∪_, _⊑_, at}
-use Rattle.theory.specs.Set.Laws.{at-or, at-le, at-zero, at-same, at-other, bit, size-eq, size-pow, size-add, sub-refl, sub-or, or-left}
-use Rattle.theory.specs.Set.Laws.{or-right, other, both}
+use Rattle.theory.specs.Set.{_∈_, _∩_, _∪_, _⊑_, at}
+use Rattle.theory.specs.Set.Laws.{at-∪, at-le, at-zero, at-same, at-other, bit, ⊑-size-≡, size-pow, size-add, ⊑-refl, ⊑⇒∪≡, ∈-∪ˡ}
+use Rattle.theory.specs.Set.Laws.{∈-∪ʳ, other, both}
 use Rattle.theory.specs.Set.Less.{less-other, less-and, size-less, sub-less}
 use Rattle.theory.specs.Constraints.{pair, has, carried, Among, Pairs}
 use Rattle.theory.specs.Constraints.Laws.{Has, inside, outside, has-dec, has-in, at-pair, at-end, pair-in, pair-ends, pair-comm}
@@ -62,18 +62,18 @@ module _ {start : List ℕ} {e : ℕ} (s : Standing start e) where
 -- ---- a set of two elements
 
 -- it is the pair of any two of its elements
-pub pair-is : (m x y : ℕ) → ones m ≡ 2 → at x m ≡ 1 → at y m ≡ 1 → x ≢ y → m ≡ pair x y
+pub pair-is : (m x y : ℕ) → ones m ≡ 2 → x ∈ m → y ∈ m → x ≢ y → m ≡ pair x y
 unfolding pair
-pair-is m x y two e f n = sym (size-eq m (pair x y) (pair-in x y m e f) (omega (arith, two, size-add (2 ^ y) x (at-other x y n), size-pow y)))
+pair-is m x y two e f n = sym (⊑-size-≡ m (pair x y) (pair-in x y m e f) (omega (arith, two, size-add (2 ^ y) x (at-other x y n), size-pow y)))
 
 -- one of them is x, and the other
-pub pair-with : (m x : ℕ) → ones m ≡ 2 → at x m ≡ 1 → (y : ℕ) × (y ≢ x) × (m ≡ pair x y)
+pub pair-with : (m x : ℕ) → ones m ≡ 2 → x ∈ m → (y : ℕ) × (y ≢ x) × (m ≡ pair x y)
 pair-with m x two e = let o = other m x (omega arith) in (o .0, o .2, pair-is m x (o .0) two e (o .1) (Ne·symm (o .2)))
 
 -- its ends are two elements
 pub pair-apart : (x y : ℕ) → ones (pair x y) ≡ 2 → x ≢ y
 unfolding pair
-pair-apart x y two q = omega (arith, two, ap (λ (z : ℕ). ones (pair x z)) (sym q), ap ones (sub-or (2 ^ x) (2 ^ x) (sub-refl (2 ^ x))), size-pow x)
+pair-apart x y two q = omega (arith, two, ap (λ (z : ℕ). ones (pair x z)) (sym q), ap ones (⊑⇒∪≡ (2 ^ x) (2 ^ x) (⊑-refl (2 ^ x))), size-pow x)
 
 pub pair-other : (x y z : ℕ) → x ≢ z → pair x y ≡ pair x z → y ≡ z
 pair-other x y z n e = ⊎-elim (λ (p : z ≡ x). absurd (n (sym p))) (λ (p : z ≡ y). sym p) (at-pair z x y (ap (at z) e ∙ at-end x z .1))
@@ -109,24 +109,24 @@ module _ (cs near : List ℕ) (n : Near cs near) (a b : ℕ) (la : a < 64) (lb :
 
   -- an end of the new constraint: its other end belongs to the set now
   says-end : (x z y : ℕ) → x < 64 → x ≢ z → pair a b ≡ pair x z → getD new x 0 ≡ getD near x 0 ∪ 2 ^ z
-      → (at y (getD new x 0) ≡ 1) ↔ Among (pair x y) (cs ++ pair a b ∷ [])
+      → (y ∈ getD new x 0) ↔ Among (pair x y) (cs ++ pair a b ∷ [])
   says-end x z y l ne e g = (to, back)
     where
-      to : at y (getD new x 0) ≡ 1 → Among (pair x y) (cs ++ pair a b ∷ [])
+      to : y ∈ getD new x 0 → Among (pair x y) (cs ++ pair a b ∷ [])
       to i = elim (ℕ-discrete y z) [
         | yes p ↦ among-back (pair x y) cs (pair a b ∷ []) (inl (ap (pair x) p ∙ sym e))
         | no p ↦ among-front (pair x y) cs (pair a b ∷ [])
-            (n .says x y l .0 (omega (arith, i, ap (at y) g, at-or y (getD near x 0) (2 ^ z), at-other y z p)))
+            (n .says x y l .0 (omega (arith, i, ap (at y) g, at-∪ y (getD near x 0) (2 ^ z), at-other y z p)))
       ]
 
-      back : Among (pair x y) (cs ++ pair a b ∷ []) → at y (getD new x 0) ≡ 1
+      back : Among (pair x y) (cs ++ pair a b ∷ []) → y ∈ getD new x 0
       back h = ap (at y) g ∙ ⊎-elim
-          (λ i. or-left y (getD near x 0) (2 ^ z) (n .says x y l .1 i))
-          (λ q. or-right y (getD near x 0) (2 ^ z) (ap (λ (w : ℕ). at w (2 ^ z)) (pair-other x y z ne (q ∙ e)) ∙ at-same z))
+          (λ i. ∈-∪ˡ y (getD near x 0) (2 ^ z) (n .says x y l .1 i))
+          (λ q. ∈-∪ʳ y (getD near x 0) (2 ^ z) (ap (λ (w : ℕ). at w (2 ^ z)) (pair-other x y z ne (q ∙ e)) ∙ at-same z))
           (among-more (pair x y) (pair a b) cs h)
 
   -- another element
-  says-neither : (x y : ℕ) → x < 64 → x ≢ a → x ≢ b → (at y (getD new x 0) ≡ 1) ↔ Among (pair x y) (cs ++ pair a b ∷ [])
+  says-neither : (x y : ℕ) → x < 64 → x ≢ a → x ≢ b → (y ∈ getD new x 0) ↔ Among (pair x y) (cs ++ pair a b ∷ [])
   says-neither x y l p q = (
     λ i. among-front (pair x y) cs (pair a b ∷ []) (n .says x y l .0 (ap (at y) (sym (at-neither x p q)) ∙ i)),
     λ h. ap (at y) (at-neither x p q) ∙ ⊎-elim
@@ -139,9 +139,9 @@ module _ (cs near : List ℕ) (n : Near cs near) (a b : ℕ) (la : a < 64) (lb :
   near-more = record {
     places = length-set mid b (getD near b 0 ∪ 2 ^ a) ∙ length-set near a (getD near a 0 ∪ 2 ^ b) ∙ n .places;
     says = λ x y l. elim (ℕ-discrete x a) [
-      | yes p ↦ subst (λ (z : ℕ). (at y (getD new z 0) ≡ 1) ↔ Among (pair z y) (cs ++ pair a b ∷ [])) (sym p) (says-end a b y la a≢b refl at-a)
+      | yes p ↦ subst (λ (z : ℕ). (y ∈ getD new z 0) ↔ Among (pair z y) (cs ++ pair a b ∷ [])) (sym p) (says-end a b y la a≢b refl at-a)
       | no p ↦ elim (ℕ-discrete x b) [
-        | yes q ↦ subst (λ (z : ℕ). (at y (getD new z 0) ≡ 1) ↔ Among (pair z y) (cs ++ pair a b ∷ [])) (sym q)
+        | yes q ↦ subst (λ (z : ℕ). (y ∈ getD new z 0) ↔ Among (pair z y) (cs ++ pair a b ∷ [])) (sym q)
             (says-end b a y lb (Ne·symm a≢b) (pair-comm a b) at-b)
         | no q ↦ says-neither x y l p q
       ]
@@ -156,24 +156,24 @@ module _ (cs near : List ℕ) (n : Near cs near) (a b : ℕ) (la : a < 64) (lb :
 
 -- ---- what an element has in a set
 
-module _ (x a : ℕ) (e : at x a ≡ 1) where
+module _ (x a : ℕ) (e : x ∈ a) where
   -- a constraint between x and an element of ys
-  counts-in : (cs : List ℕ) → Pairs cs → Once cs → (ys : ℕ) → ((y : ℕ) → Among (pair x y) cs → at y ys ≡ 1)
+  counts-in : (cs : List ℕ) → Pairs cs → Once cs → (ys : ℕ) → ((y : ℕ) → Among (pair x y) cs → y ∈ ys)
       → carried cs a ≤ carried cs (a - 2 ^ x) + ones (ys ∩ a)
   unfolding carried Pairs
   counts-in [] pairs once ys h = omega arith
   counts-in (m ∷ cs) pairs once ys h = go (has-dec m a) (bit (at x m) (at-le x m)) (counts-in cs (λ y i. pairs y (inr i)) (once .1))
     where
-      go : Has m a → (at x m ≡ 0) ⊎ (at x m ≡ 1)
-          → ((zs : ℕ) → ((y : ℕ) → Among (pair x y) cs → at y zs ≡ 1) → carried cs a ≤ carried cs (a - 2 ^ x) + ones (zs ∩ a))
+      go : Has m a → (at x m ≡ 0) ⊎ (x ∈ m)
+          → ((zs : ℕ) → ((y : ℕ) → Among (pair x y) cs → y ∈ zs) → carried cs a ≤ carried cs (a - 2 ^ x) + ones (zs ∩ a))
           → has m a + carried cs a ≤ has m (a - 2 ^ x) + carried cs (a - 2 ^ x) + ones (ys ∩ a)
       go (outside k q) d ih = omega (arith, ih ys (λ y i. h y (inr i)))
       go (inside i q) (inl z) ih = omega (arith, has-in m (a - 2 ^ x) (sub-less x a m e i z), ih ys (λ y k. h y (inr k)))
       go (inside i q) (inr z) ih =
           let o = pair-with m x (pairs m (inl refl)) z in
           let y = o .0 in
-          let in-ys : at y ys ≡ 1 = h y (inl (sym (o .2))) in
-          let in-a : at y a ≡ 1 = pair-ends x y a (subst (λ (w : ℕ). w ⊑ a) (o .2) i) .1 in
+          let in-ys : y ∈ ys = h y (inl (sym (o .2))) in
+          let in-a : y ∈ a = pair-ends x y a (subst (λ (w : ℕ). w ⊑ a) (o .2) i) .1 in
           let rest = ih (ys - 2 ^ y)
           (λ w k. less-other y w ys in-ys (λ r. once .0 (subst (λ (v : ℕ). Among v cs) (ap (pair x) r ∙ sym (o .2)) k)) ∙ h w (inr k)) in
           omega (arith, rest, size-less y (ys ∩ a) (both y ys a in-ys in-a), ap ones (less-and y ys a in-ys in-a))
@@ -196,14 +196,14 @@ carried-none [] pairs x two n = refl
 carried-none (m ∷ cs) pairs x two n = go (has-dec m x) (carried-none cs (λ y h. pairs y (inr h)) x two (λ h. n (inr h)))
   where
     go : Has m x → carried cs x ≡ 0 → has m x + carried cs x ≡ 0
-    go (inside i q) r = absurd (n (inl (sym (size-eq x m i (omega (arith, two, pairs m (inl refl)))))))
+    go (inside i q) r = absurd (n (inl (sym (⊑-size-≡ x m i (omega (arith, two, pairs m (inl refl)))))))
     go (outside k q) r = omega arith
 
 one-most : (cs : List ℕ) → Pairs cs → Once cs → (x : ℕ) → ones x ≡ 2 → carried cs x ≤ 1
 unfolding carried Pairs
 one-most [] pairs once x two = omega arith
 one-most (m ∷ cs) pairs once x two = let r = one-most cs (λ y h. pairs y (inr h)) (once .1) x two in elim (has-dec m x) [
-  | inside i q ↦ let e : m ≡ x = size-eq x m i (omega (arith, two, pairs m (inl refl))) in
+  | inside i q ↦ let e : m ≡ x = ⊑-size-≡ x m i (omega (arith, two, pairs m (inl refl))) in
       omega (arith, carried-none cs (λ y h. pairs y (inr h)) x two (λ h. once .0 (subst (λ (z : ℕ). Among z cs) (sym e) h)))
   | outside k q ↦ omega arith
 ]

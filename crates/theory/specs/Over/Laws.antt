@@ -14,7 +14,7 @@ use lib.ListN.{length, take, getD}
 use lib.Seq.{take-suc, take-length}
 use Rattle.theory.specs.Tests.{and-intro, and-both, eq-test}
 use Rattle.theory.specs.Set.{_∩_, _∪_, _⊑_, full}
-use Rattle.theory.specs.Set.Laws.{size-zero, size-or, size-le, size-eq, size-full, and-l, and-r, and-most, or-l, cut-below, below-full}
+use Rattle.theory.specs.Set.Laws.{size-zero, size-∪, ⊑⇒size≤, ⊑-size-≡, size-full, a∩b⊑a, a∩b⊑b, ∩-greatest, a⊑a∪b, cut-below, below-full}
 use Rattle.theory.specs.Constraints.{has, carried, NotOver, NotOverIn, Among, Pairs, Below}
 use Rattle.theory.specs.Constraints.Laws.{inside, Has, outside, has-dec, has-in, carried-two, carried-full, carried-cut, not-over-in}
 use Rattle.theory.specs.Over.{IsOver, Tight, Smallest, FirstOver, Finds, heavy, anyBelow, isOver, isTight, smaller, fewestBelow, smallestSet}
@@ -101,37 +101,37 @@ module _ (cs ds : List ℕ) (m : ℕ) (more : (x : ℕ) → carried ds x ≡ car
 pub tight-meet : (cs : List ℕ) → NotOver cs → (m : ℕ) → ones m ≡ 2 → (x y : ℕ) → Tight cs m x → Tight cs m y → Tight cs m (x ∩ y)
 unfolding NotOver
 tight-meet cs f m e x y s t =
-    let h = and-most (s .holds) (t .holds) in
-    let b : 2 ≤ ones (x ∩ y) = omega (arith, size-le (x ∩ y) m h) in
-    let c : 2 ≤ ones (x ∪ y) = omega (arith, size-le x (x ∩ y) (and-l x y), size-le (x ∪ y) x (or-l x y)) in
+    let h = ∩-greatest (s .holds) (t .holds) in
+    let b : 2 ≤ ones (x ∩ y) = omega (arith, ⊑⇒size≤ (x ∩ y) m h) in
+    let c : 2 ≤ ones (x ∪ y) = omega (arith, ⊑⇒size≤ x (x ∩ y) (a∩b⊑a x y), ⊑⇒size≤ (x ∪ y) x (a⊑a∪b x y)) in
     record {
       holds = h;
-      exact = omega (arith, f (x ∩ y) b, f (x ∪ y) c, carried-two cs x y, size-or x y, s .exact, t .exact);
+      exact = omega (arith, f (x ∩ y) b, f (x ∪ y) c, carried-two cs x y, size-∪ x y, s .exact, t .exact);
     }
 
 -- the smallest lies within every other
 pub smallest-within : (cs : List ℕ) → NotOver cs → (m : ℕ) → ones m ≡ 2 → (x y : ℕ) → Smallest cs m x → Tight cs m y → x ⊑ y
 smallest-within cs f m e x y s t =
-    let same = size-eq x (x ∩ y) (and-l x y) (s .fewest (x ∩ y) (tight-meet cs f m e x y (s .tight) t)) in
-    subst (λ (z : ℕ). z ⊑ y) same (and-r x y)
+    let same = ⊑-size-≡ x (x ∩ y) (a∩b⊑a x y) (s .fewest (x ∩ y) (tight-meet cs f m e x y (s .tight) t)) in
+    subst (λ (z : ℕ). z ⊑ y) same (a∩b⊑b x y)
 
 -- so there is only one
 pub smallest-one : (cs : List ℕ) → NotOver cs → (m : ℕ) → ones m ≡ 2 → (x y : ℕ) → Smallest cs m x → Smallest cs m y → x ≡ y
-smallest-one cs f m e x y s t = size-eq y x (smallest-within cs f m e x y s (t .tight)) (t .fewest x (s .tight))
+smallest-one cs f m e x y s t = ⊑-size-≡ y x (smallest-within cs f m e x y s (t .tight)) (t .fewest x (s .tight))
 
 -- a tight set within every other is the smallest
 pub within-smallest : (cs : List ℕ) (m x : ℕ) → Tight cs m x → ((y : ℕ) → Tight cs m y → x ⊑ y) → Smallest cs m x
-within-smallest cs m x t w = record { tight = t; fewest = λ y s. size-le y x (w y s) }
+within-smallest cs m x t w = record { tight = t; fewest = λ y s. ⊑⇒size≤ y x (w y s) }
 
 -- a tight set has a tight part among the sheet's own elements
 pub tight-cut : (n : ℕ) (cs : List ℕ) → Below n cs → NotOver cs → (m : ℕ) → ones m ≡ 2 → m < 2 ^ n → (x : ℕ) → Tight cs m x → Tight cs m (x ∩ full n)
 unfolding NotOver
 tight-cut n cs below f m e l x t =
-    let h : m ⊑ x ∩ full n = and-most (t .holds) (below-full n m l) in
-    let b : 2 ≤ ones (x ∩ full n) = omega (arith, size-le (x ∩ full n) m h) in
+    let h : m ⊑ x ∩ full n = ∩-greatest (t .holds) (below-full n m l) in
+    let b : 2 ≤ ones (x ∩ full n) = omega (arith, ⊑⇒size≤ (x ∩ full n) m h) in
     record {
       holds = h;
-      exact = omega (arith, t .exact, f (x ∩ full n) b, carried-cut n cs below x, size-le x (x ∩ full n) (and-l x (full n)));
+      exact = omega (arith, t .exact, f (x ∩ full n) b, carried-cut n cs below x, ⊑⇒size≤ x (x ∩ full n) (a∩b⊑a x (full n)));
     }
 
 -- ---- the tests
@@ -250,7 +250,7 @@ unfolding smallestSet
 smallest-set n cs below f m e l x t = go (fewestBelow (2 ^ n) (isTight cs m)) (fewest-of (isTight cs m) never (2 ^ n))
   where
     never : T (isTight cs m 0) → ⊥
-    never h = omega (arith, size-le 0 m (test-tight cs m 0 h .holds), size-zero)
+    never h = omega (arith, ⊑⇒size≤ 0 m (test-tight cs m 0 h .holds), size-zero)
 
     cut : (y : ℕ) → Tight cs m y → T (isTight cs m (y ∩ full n))
     cut y s = tight-test cs m (y ∩ full n) (tight-cut n cs below f m e l y s)
@@ -259,7 +259,7 @@ smallest-set n cs below f m e l x t = go (fewestBelow (2 ^ n) (isTight cs m)) (f
     go s (none f) = absurd (f (x ∩ full n) (cut-below n x) (cut x t))
     go r (some s p few) = record {
       tight = test-tight cs m (suc s) p;
-      fewest = λ y q. omega (arith, few (y ∩ full n) (cut-below n y) (cut y q), size-le y (y ∩ full n) (and-l y (full n)));
+      fewest = λ y q. omega (arith, few (y ∩ full n) (cut-below n y) (cut y q), ⊑⇒size≤ y (y ∩ full n) (a∩b⊑a y (full n)));
     }
 
 -- ---- what is found

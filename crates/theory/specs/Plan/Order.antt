@@ -9,7 +9,7 @@ use native.Mathlib.Decide.{decLe}
 use lib.Count.{ones}
 use lib.ListN.{set}
 use Rattle.theory.specs.Set.{_∩_, _∪_}
-use Rattle.theory.specs.Set.Laws.{at-or, ext, and-comm, or-comm}
+use Rattle.theory.specs.Set.Laws.{at-∪, ext, ∩-comm, ∪-comm}
 use Rattle.theory.specs.Merge.{Merge, merge, three, slot, OpenAt, union, joint, cleared, put}
 use Rattle.theory.specs.Plan.{ascending}
 
@@ -35,7 +35,7 @@ by-exchange P ab bc m h = go (m .i) (m .j) (m .k) h (decLe (m .i) (m .j)) (decLe
 
 pub open-ab : (s : List ℕ) (i j k : ℕ) → OpenAt s (merge i j k) → OpenAt s (merge j i k)
 open-ab s i j k o =
-    let e = and-comm (slot s j) (slot s i) in
+    let e = ∩-comm (slot s j) (slot s i) in
     record {
       i≢j = Ne·symm (o .i≢j);
       j≢k = o .i≢k;
@@ -55,7 +55,7 @@ open-ab s i j k o =
 
 pub open-bc : (s : List ℕ) (i j k : ℕ) → OpenAt s (merge i j k) → OpenAt s (merge i k j)
 open-bc s i j k o =
-    let e = and-comm (slot s k) (slot s j) in
+    let e = ∩-comm (slot s k) (slot s j) in
     record {
       i≢j = o .i≢k;
       j≢k = Ne·symm (o .j≢k);
@@ -105,11 +105,11 @@ set-swap (x ∷ s) (suc i) zero = refl
 set-swap (x ∷ s) (suc i) (suc j) = ap (λ (l : List ℕ). x ∷ l) (set-swap s i j)
 
 or-swap : (a b c : ℕ) → a ∪ b ∪ c ≡ a ∪ c ∪ b
-or-swap a b c = ext (a ∪ b ∪ c) (a ∪ c ∪ b) (λ x. simp at-or (omega arith))
+or-swap a b c = ext (a ∪ b ∪ c) (a ∪ c ∪ b) (λ x. simp at-∪ (omega arith))
 
 pub put-ab : (s : List ℕ) (i j k : ℕ) → put s (merge i j k) ≡ put s (merge j i k)
 unfolding put cleared union
-put-ab s i j k = ap₂ (λ (l : List ℕ) (u : ℕ). set l k 0 ++ (u ∷ [])) (set-swap s i j) (ap (λ (u : ℕ). u ∪ slot s k) (or-comm (slot s i) (slot s j)))
+put-ab s i j k = ap₂ (λ (l : List ℕ) (u : ℕ). set l k 0 ++ (u ∷ [])) (set-swap s i j) (ap (λ (u : ℕ). u ∪ slot s k) (∪-comm (slot s i) (slot s j)))
 
 pub put-bc : (s : List ℕ) (i j k : ℕ) → put s (merge i j k) ≡ put s (merge i k j)
 unfolding put cleared union
@@ -122,7 +122,7 @@ pub joint-ab : (s : List ℕ) (i j k : ℕ) → joint (three s (merge i j k)) �
 unfolding joint
 joint-ab s i j k =
     or-swap (slot s i ∩ slot s j) (slot s j ∩ slot s k) (slot s i ∩ slot s k)
-    ∙ ap (λ (u : ℕ). u ∪ (slot s i ∩ slot s k) ∪ (slot s j ∩ slot s k)) (and-comm (slot s i) (slot s j))
+    ∙ ap (λ (u : ℕ). u ∪ (slot s i ∩ slot s k) ∪ (slot s j ∩ slot s k)) (∩-comm (slot s i) (slot s j))
 
 pub joint-bc : (s : List ℕ) (i j k : ℕ) → joint (three s (merge i j k)) ≡ joint (three s (merge i k j))
 unfolding joint
@@ -130,7 +130,7 @@ joint-bc s i j k =
     let a = slot s i in
     let b = slot s j in
     let c = slot s k in
-    ext ((a ∩ b) ∪ (b ∩ c) ∪ (a ∩ c)) ((a ∩ c) ∪ (c ∩ b) ∪ (a ∩ b)) (λ x. simp (at-or, and-comm c b) (omega arith))
+    ext ((a ∩ b) ∪ (b ∩ c) ∪ (a ∩ c)) ((a ∩ c) ∪ (c ∩ b) ∪ (a ∩ b)) (λ x. simp (at-∪, ∩-comm c b) (omega arith))
 
 pub joint-ascending : (s : List ℕ) (m : Merge) → joint (three s (ascending m)) ≡ joint (three s m)
 joint-ascending s m =

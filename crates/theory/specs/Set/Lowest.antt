@@ -5,24 +5,24 @@ use Prim.Native.Nat.{ℕ, zero, suc, _-_, _/_, _%_, _^_, _<_, min}
 use native.Mathlib.Omega.{arith}
 use lib.Bits.{bitAnd, bitXor, differ, xor-step, and-step}
 use lib.Count.{trailingZeros, under}
-use Rattle.theory.specs.Set.{_∩_, at}
-use Rattle.theory.specs.Set.Laws.{at-and, at-zero}
+use Rattle.theory.specs.Set.{_∈_, _∩_, at}
+use Rattle.theory.specs.Set.Laws.{at-∩, at-zero}
 
 -- ---- elements of a number of k digits
 
-pub at-below : (k x p : ℕ) → x < 2 ^ k → at p x ≡ 1 → p < k
+pub at-below : (k x p : ℕ) → x < 2 ^ k → p ∈ x → p < k
 unfolding at
 at-below zero x p l e = let z : x ≡ 0 = omega arith in absurd (omega (arith, ap (at p) z, at-zero p))
 at-below (suc k) x zero l e = omega arith
 at-below (suc k) x (suc p) l e = omega (arith, at-below k (x / 2) p (omega arith) e)
 
 -- the lowest element
-pub lowest-in : (k x : ℕ) → x < 2 ^ k → x ≢ 0 → at (trailingZeros k x) x ≡ 1
+pub lowest-in : (k x : ℕ) → x < 2 ^ k → x ≢ 0 → trailingZeros k x ∈ x
 unfolding at trailingZeros
 lowest-in zero x l n = absurd (n (omega arith))
 lowest-in (suc k) x l n = go (x % 2) refl (lowest-in k (x / 2))
   where
-    go : (d : ℕ) → x % 2 ≡ d → (x / 2 < 2 ^ k → x / 2 ≢ 0 → at (trailingZeros k (x / 2)) (x / 2) ≡ 1) → at (under d (trailingZeros k (x / 2))) x ≡ 1
+    go : (d : ℕ) → x % 2 ≡ d → (x / 2 < 2 ^ k → x / 2 ≢ 0 → trailingZeros k (x / 2) ∈ x / 2) → under d (trailingZeros k (x / 2)) ∈ x
     go zero e ih = ih (omega arith) (λ z. n (omega arith))
     go (suc d) e ih = omega arith
 
@@ -57,11 +57,11 @@ rest-kept (suc k) x y l n ne = go y (x % 2) refl (rest-kept k (x / 2)) ne
 module _ (x : ℕ) (l : x < 2 ^ 64) (n : x ≢ 0) where
   pub rest-lowest : at (trailingZeros 64 x) (bitAnd x (x - 1)) ≡ 0
   unfolding _∩_
-  rest-lowest = omega (arith, at-and (trailingZeros 64 x) x (x - 1), rest-gone 64 x l n)
+  rest-lowest = omega (arith, at-∩ (trailingZeros 64 x) x (x - 1), rest-gone 64 x l n)
 
   pub rest-other : (y : ℕ) → y ≢ trailingZeros 64 x → at y (bitAnd x (x - 1)) ≡ at y x
   unfolding _∩_
-  rest-other y m = at-and y x (x - 1) ∙ rest-kept 64 x y l n m
+  rest-other y m = at-∩ y x (x - 1) ∙ rest-kept 64 x y l n m
 
 -- ---- what a has beyond b
 

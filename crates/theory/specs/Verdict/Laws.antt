@@ -9,7 +9,7 @@ use lib.Dec.{T, eqb, eqb→eq}
 use lib.ListN.{length}
 use Rattle.theory.specs.Tests.{eq-test, false-ne, iff-same}
 use Rattle.theory.specs.Set.{_∩_}
-use Rattle.theory.specs.Set.Laws.{and-sub, sub-and}
+use Rattle.theory.specs.Set.Laws.{∩≡⇒⊑, ⊑⇒∩≡}
 use Rattle.theory.specs.Constraints.{Among, Pairs, Below, NotOver}
 use Rattle.theory.specs.Merge.{Merge, final, left, Valid}
 use Rattle.theory.specs.Merge.Count.{steps-left, steps-half}
@@ -42,10 +42,10 @@ some-angled lines (j ∷ js) x (inr i) t =
 
 -- some joint is three lines
 pub angled-is : (lines : ℕ) (js : List ℕ) → T (angled lines js) → Angled lines js
-angled-is lines js t = let r = angled-some lines js t in (r .0, r .1, and-sub (r .0) lines (eqb→eq (r .0 ∩ lines) (r .0) (r .2)))
+angled-is lines js t = let r = angled-some lines js t in (r .0, r .1, ∩≡⇒⊑ (r .0) lines (eqb→eq (r .0 ∩ lines) (r .0) (r .2)))
 
 pub is-angled : (lines : ℕ) (js : List ℕ) → Angled lines js → T (angled lines js)
-is-angled lines js (j, i, h) = some-angled lines js j i (eq-test (j ∩ lines) j (sub-and j lines h))
+is-angled lines js (j, i, h) = some-angled lines js j i (eq-test (j ∩ lines) j (⊑⇒∩≡ j lines h))
 
 pub judged-meets : (lines n e : ℕ) (js s : List ℕ) → Meets lines n e js s (judged lines n e js s)
 unfolding judged

@@ -10,7 +10,7 @@ use lib.Count.{ones}
 use Rattle.theory.specs.Tests.{one-of}
 use Rattle.theory.specs.Merge.{Three, union}
 use Rattle.theory.specs.Set.{_∩_, _∪_, _⊑_}
-use Rattle.theory.specs.Set.Laws.{size-or, size-le, or-l, and-r, and-comm, sub-and}
+use Rattle.theory.specs.Set.Laws.{size-∪, ⊑⇒size≤, a⊑a∪b, a∩b⊑b, ∩-comm, ⊑⇒∩≡}
 use Rattle.theory.specs.Constraints.{carried, NotOver, Pairs}
 use Rattle.theory.specs.Constraints.Laws.{carried-mono, carried-two, carried-four, carried-pos, carried-small, pairs-share}
 use Rattle.theory.specs.Merge.Threes.{part-a, part-b, part-c, size-union}
@@ -35,9 +35,9 @@ module _ (cs : List ℕ) (fine : NotOver cs) where
   pub share : {F : Fam} → Good cs F → (x y : ℕ) → F x → F y → x ≢ y → ones (x ∩ y) ≤ 1
   unfolding NotOver
   share g x y fx fy ne =
-      let l : ones x ≤ ones (x ∪ y) = size-le (x ∪ y) x (or-l x y) in
+      let l : ones x ≤ ones (x ∪ y) = ⊑⇒size≤ (x ∪ y) x (a⊑a∪b x y) in
       let b : 2 ≤ ones (x ∪ y) = omega (arith, big g x fx) in
-      omega (arith, g .tight x fx, g .tight y fy, g .apart x y fx fy ne, carried-two cs x y, fine (x ∪ y) b, size-or x y)
+      omega (arith, g .tight x fx, g .tight y fy, g .apart x y fx fy ne, carried-two cs x y, fine (x ∪ y) b, size-∪ x y)
 
   module _ {F : Fam} (g : Good cs F) (t : Three) (m : OpenIn F t) where
     pub a≢b : t .a ≢ t .b
@@ -47,14 +47,14 @@ module _ (cs : List ℕ) (fine : NotOver cs) where
     b≢c e = m .open3 .ab≢ac (ap (λ (x : ℕ). t .a ∩ x) e)
 
     pub a≢c : t .a ≢ t .c
-    a≢c e = m .open3 .ab≢bc (ap (λ (x : ℕ). x ∩ t .b) e ∙ and-comm (t .c) (t .b))
+    a≢c e = m .open3 .ab≢bc (ap (λ (x : ℕ). x ∩ t .b) e ∙ ∩-comm (t .c) (t .b))
 
     -- the union and any set that shares no constraint with the three
     pub union-tight : (d : ℕ) → carried cs (t .a ∩ d) ≡ zero → carried cs (t .b ∩ d) ≡ zero → carried cs (t .c ∩ d) ≡ zero
         → (carried cs (union t) + 3 ≡ 2 * ones (union t)) × (carried cs (union t ∩ d) ≡ zero)
     unfolding union NotOver
     union-tight d ea eb ec =
-        let b : 2 ≤ ones (union t) = omega (arith, big g (t .a) (m .ina), size-le (union t) (t .a) (part-a t)) in
+        let b : 2 ≤ ones (union t) = omega (arith, big g (t .a) (m .ina), ⊑⇒size≤ (union t) (t .a) (part-a t)) in
         let f = fine (union t) b in
         let ta = g .tight (t .a) (m .ina) in
         let tb = g .tight (t .b) (m .inb) in
@@ -74,7 +74,7 @@ module _ (cs : List ℕ) (fine : NotOver cs) where
         ]
       where
         two : (x : ℕ) → F x → x ⊑ union t → x ≢ union t → ⊥
-        two x fx h ne = omega (arith, share g x (union t) fx fu ne, ap ones (sub-and x (union t) h), big g x fx)
+        two x fx h ne = omega (arith, share g x (union t) fx fu ne, ap ones (⊑⇒∩≡ x (union t) h), big g x fx)
 
     sub-none : (x y : ℕ) → x ⊑ y → carried cs y ≡ zero → carried cs x ≡ zero
     sub-none x y h e = omega (arith, carried-mono cs x y h)
@@ -83,8 +83,8 @@ module _ (cs : List ℕ) (fine : NotOver cs) where
     union-exact =
         let d = t .b ∩ t .c in
         let e : carried cs d ≡ zero = g .apart (t .b) (t .c) (m .inb) (m .inc) b≢c in
-        union-tight d (sub-none (t .a ∩ d) d (and-r (t .a) d) e) (sub-none (t .b ∩ d) d (and-r (t .b) d) e)
-        (sub-none (t .c ∩ d) d (and-r (t .c) d) e) .0
+        union-tight d (sub-none (t .a ∩ d) d (a∩b⊑b (t .a) d) e) (sub-none (t .b ∩ d) d (a∩b⊑b (t .b) d) e)
+        (sub-none (t .c ∩ d) d (a∩b⊑b (t .c) d) e) .0
 
     all-apart : (d : ℕ) → F d → (In d t → ⊥) → carried cs (union t ∩ d) ≡ zero
     all-apart d fd n =
@@ -102,7 +102,7 @@ module _ (cs : List ℕ) (fine : NotOver cs) where
         apart1 : (x y : ℕ) → after F t x → after F t y → x ≢ y → carried cs (x ∩ y) ≡ zero
         apart1 x y (inl e) (inl f) ne = absurd (ne (e ∙ sym f))
         apart1 x y (inl e) (inr q) ne = ap (λ (z : ℕ). carried cs (z ∩ y)) e ∙ all-apart y (q .0) (q .1)
-        apart1 x y (inr p) (inl f) ne = ap (carried cs) (and-comm x y) ∙ ap (λ (z : ℕ). carried cs (z ∩ x)) f ∙ all-apart x (p .0) (p .1)
+        apart1 x y (inr p) (inl f) ne = ap (carried cs) (∩-comm x y) ∙ ap (λ (z : ℕ). carried cs (z ∩ x)) f ∙ all-apart x (p .0) (p .1)
         apart1 x y (inr p) (inr q) ne = g .apart x y (p .0) (q .0) ne
 
     pub outside-share : (x : ℕ) → F x → (In x t → ⊥) → ones (x ∩ union t) ≤ 1

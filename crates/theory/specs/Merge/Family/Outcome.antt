@@ -5,7 +5,7 @@ use mathlib.Core.Logic.{_⊎_, inl, inr, Iff·trans, _↔_, ⊎-elim, Iff·rfl}
 use mathlib.Core.List.{List, [], _∷_}
 use Prim.Native.Nat.{ℕ, suc}
 use Rattle.theory.specs.Set.{_⊑_}
-use Rattle.theory.specs.Set.Laws.{sub-refl, sub-trans}
+use Rattle.theory.specs.Set.Laws.{⊑-refl, ⊑-trans}
 use Rattle.theory.specs.Constraints.{NotOver, Among, Pairs, Perm}
 use Rattle.theory.specs.Constraints.Laws.{among-perm}
 use Rattle.theory.specs.Merge.{Three, union, joint}
@@ -41,11 +41,11 @@ ended-same h e t m = e t (open-same (λ x. (h x .1, h x .0)) t m)
 
 -- a living cluster lies inside a final one
 pub kept : (p : List Three) (F : Fam) (x : ℕ) → F x → (y : ℕ) × finalIn F p y × (x ⊑ y)
-kept [] F x h = (x, h, sub-refl x)
+kept [] F x h = (x, h, ⊑-refl x)
 kept (t ∷ p) F x h = go (λ y k. kept p (after F t) y k) (in-dec x t)
   where
     go : ((y : ℕ) → after F t y → (z : ℕ) × finalIn (after F t) p z × (y ⊑ z)) → Dec (In x t) → (y : ℕ) × finalIn (after F t) p y × (x ⊑ y)
-    go ih (yes i) = let r = ih (union t) (inl refl) in (r .0, r .1, sub-trans (in-union t x i) (r .2))
+    go ih (yes i) = let r = ih (union t) (inl refl) in (r .0, r .1, ⊑-trans (in-union t x i) (r .2))
     go ih (no n) = ih x (inr (h, n))
 
 -- ---- an open merge can be made first
