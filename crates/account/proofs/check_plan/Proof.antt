@@ -49,7 +49,8 @@ returns-2 c =
     let k = c .before .before .before .before in
     let g = c .before .outcome .given in
     answers-refused
-    (rule-none _ (sym (k .before .before .over-fault .ensures _) ∙ k .before .if1 .left) ∙ saved-refused _ _ _ (k .check-plan .ensures) (g .0 .0) (g .1))
+    (rule-none _ (sym (k .before .before .over-fault .ensures _) ∙ k .before .if1 .left) ∙ saved-refused _ _ _ (k .check-plan .ensures) (g .0 .0)
+    (g .1))
 
 returns-3 : tie.Need-returns-3
 returns-3 c =

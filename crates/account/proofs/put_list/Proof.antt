@@ -60,4 +60,7 @@ returns c m =
 pub put-list-spec : {M : Type 1} → statement M
 put-list-spec =
     tie.close
-    (tie.spec settle-requires steps-of-requires (λ c. record { fits = omega (arith, few (start c)) }) write-report-requires (λ c. search needs) returns)
+    (tie.spec settle-requires steps-of-requires (λ c. record {
+      fits =
+          omega (arith, few (start c));
+    }) write-report-requires (λ c. search needs) returns)

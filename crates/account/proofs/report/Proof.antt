@@ -22,7 +22,8 @@ module _ (c : tie.After-write-over-report-arg) where
   abbrev start-over : tie.Start
   start-over = c .before .before .before .before .before
 
-  over : OverFound (graph start-over) (start-over .pre .sound) (c .before .before .before .judge .result) (c .before .before .before .judge .ensures _)
+  over : OverFound (graph start-over) (start-over .pre .sound) (c .before .before .before .judge .result)
+  (c .before .before .before .judge .ensures _)
   over = over-found _ _ _ _ (sym (c .before .before .number .ensures) ∙ c .before .if1 .taken)
 
 write-over-report-requires : tie.Need-write-over-report-requires

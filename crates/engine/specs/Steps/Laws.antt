@@ -120,7 +120,8 @@ later lines e sizes cs made x i j k parts knots t =
       ways = waysBy lines (jointKind lines (getD knots t 0)) e sizes cs (merge (getD l (p0 z) 0) (getD l (p1 z) 0) (getD l (p2 z) 0));
     }
 
-steps-from : (g : Graph) (start : List ℕ) (sizes : List ℤ) → Sized (length (g .clusters)) sizes (g .sizes) → (p : List Merge) (s : List ℕ) (base t : ℕ)
+steps-from : (g : Graph) (start : List ℕ) (sizes : List ℤ) → Sized (length (g .clusters)) sizes (g .sizes)
+    → (p : List Merge) (s : List ℕ) (base t : ℕ)
     → Valid s p → Initial (length (g .clusters)) start s → length (g .clusters) ≤ length s → base ≡ length s → t < length p
     → stepFrom (g .lines) (length (g .clusters)) sizes start base (flat (map ascending p)) (joints s p) t ≡ getD (stepsFrom g s p) t blankStep
 unfolding flat joints stepsFrom

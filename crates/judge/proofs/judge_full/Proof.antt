@@ -60,6 +60,7 @@ returns-3 c = λ z.
 pub judge-full-spec : {M : Type 1} → statement M
 judge-full-spec =
     tie.close
-    (tie.spec merge-all-requires (λ c. omega (arith, room (c .before))) (λ c. omega (arith, room (c .before))) (λ c κs. room (c .before .before .before))
+    (tie.spec merge-all-requires (λ c. omega (arith, room (c .before))) (λ c. omega (arith, room (c .before)))
+    (λ c κs. room (c .before .before .before))
     returns (λ c κs. search needs) (λ c. search needs) (λ c κs. search needs) (λ c. search needs)
     (λ c κs. room (c .before .before .before .before .before .before)) returns-2 returns-3)

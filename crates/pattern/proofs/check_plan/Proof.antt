@@ -17,18 +17,24 @@ use Rattle.pattern.proofs.check_plan.Tie as tie
 
 returns : tie.Need-returns
 unfolding heldSheet
-returns c = answers-refused (rw (refused-read _ (c .before .before .before .read-graph .ensures) (c .before .enum-told .given .1) (c .refusal .ensures)))
+returns c =
+    answers-refused (rw (refused-read _ (c .before .before .before .read-graph .ensures) (c .before .enum-told .given .1) (c .refusal .ensures)))
 
 -- the facts of the sheet
 read : (c : tie.After-check-plan-arg)
-    → FactsRead (c .before .before .before .before .before .before .before .before .before .before .before .before .before .before .args .bytes .now) (c .before .before .before .before .before .got .given .0 .0)
-    (c .before .before .before .before .before .before .before .read-graph .last .1 .0) (c .before .before .before .before .before .before .before .read-graph .last .1 .1 .0) (c .before .before .before .before .before .before .before .read-graph .last .1 .1 .1 .0)
+    → FactsRead (c .before .before .before .before .before .before .before .before .before .before .before .before .before .before .args .bytes .now)
+    (c .before .before .before .before .before .got .given .0 .0)
+    (c .before .before .before .before .before .before .before .read-graph .last .1 .0)
+    (c .before .before .before .before .before .before .before .read-graph .last .1 .1 .0)
+    (c .before .before .before .before .before .before .before .read-graph .last .1 .1 .1 .0)
 read c =
     let all : Bytes (c .before .before .before .before .before .before .before .before .before .before .before .before .before .before .args .bytes .now) = record { each = λ i. c .before .before .before .before .before .before .before .before .before .before .before .before .before .shared-slice-known .given i .fits } in
-    facts-read _ (c .before .before .before .before .before .before .before .read-graph .ensures) all (c .before .before .before .before .before .got .given .1)
+    facts-read _ (c .before .before .before .before .before .before .before .read-graph .ensures) all
+    (c .before .before .before .before .before .got .given .1)
 
 -- the answer goes by the graph alone
-by-graph : (plan : List ℕ) {g g′ : Graph} {space left : List ℕ} {r : Written} → g ≡ g′ → Answers (byRule (overFault g) (savedField g plan)) space r left
+by-graph : (plan : List ℕ) {g g′ : Graph} {space left : List ℕ} {r : Written} → g ≡ g′
+    → Answers (byRule (overFault g) (savedField g plan)) space r left
     → Answers (byRule (overFault g′) (savedField g′ plan)) space r left
 by-graph plan {space = space} {left} {r} e h = subst (λ (x : Graph). Answers (byRule (overFault x) (savedField x plan)) space r left) e h
 

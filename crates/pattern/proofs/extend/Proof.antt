@@ -30,8 +30,10 @@ returns c =
 
 -- the facts of the sheet
 read : (c : tie.After-start2)
-    → FactsRead (c .before .before .before .before .before .before .before .before .before .before .before .before .args .bytes .now) (c .before .before .before .got .given .0 .0)
-    (c .before .before .before .before .before .read-graph .last .1 .0) (c .before .before .before .before .before .read-graph .last .1 .1 .0) (c .before .before .before .before .before .read-graph .last .1 .1 .1 .0)
+    → FactsRead (c .before .before .before .before .before .before .before .before .before .before .before .before .args .bytes .now)
+    (c .before .before .before .got .given .0 .0)
+    (c .before .before .before .before .before .read-graph .last .1 .0) (c .before .before .before .before .before .read-graph .last .1 .1 .0)
+    (c .before .before .before .before .before .read-graph .last .1 .1 .1 .0)
 read c =
     let all : Bytes (c .before .before .before .before .before .before .before .before .before .before .before .before .args .bytes .now) = record { each = λ i. c .before .before .before .before .before .before .before .before .before .before .before .shared-slice-known .given i .fits } in
     facts-read _ (c .before .before .before .before .before .read-graph .ensures) all (c .before .before .before .got .given .1)
@@ -71,7 +73,8 @@ module _ (c : tie.After-read-constraints) where
   abbrev held : tie.Else1
   held = c .before .before .before .before
 
-  listed : ListRead (constraints (facts held .elements) 1 (facts held .constraints) (sheet-read held .before .before .before .before .before .before .before .before .before .before .before .before .args .constraint .now))
+  listed : ListRead (constraints (facts held .elements) 1 (facts held .constraints)
+  (sheet-read held .before .before .before .before .before .before .before .before .before .before .before .before .args .constraint .now))
       (c .read-constraints .result) (c .read-constraints .last .1 .1 .1 .1 .1 .1 .0) (c .read-constraints .last .1 .1 .1 .1 .1 .1 .1 .0)
       (c .read-constraints .last .1 .1 .1 .1 .1 .1 .1 .1 .0)
   listed =
@@ -103,13 +106,17 @@ module _ (c : tie.After-enum-told2) where
   abbrev old : Facts
   old = facts (held taken)
 
-  got : (cs : _) × (t : _) × (constraints (old .elements) 1 (old .constraints) (sheet-read (held taken) .before .before .before .before .before .before .before .before .before .before .before .before .args .constraint .now) ≡ value cs t)
+  got : (cs : _) × (t : _) × (constraints (old .elements) 1 (old .constraints)
+  (sheet-read (held taken) .before .before .before .before .before .before .before .before .before .before .before .before .args .constraint .now) ≡ value cs t)
   got = list-taken _ (sym (listed taken .answers) ∙ c .enum-told2 .given .1)
 
-  ends : Last (old .elements) (old .constraints) (sheet-read (held taken) .before .before .before .before .before .before .before .before .before .before .before .before .args .constraint .now) (got .0) (got .1)
+  ends : Last (old .elements) (old .constraints)
+  (sheet-read (held taken) .before .before .before .before .before .before .before .before .before .before .before .before .args .constraint .now)
+  (got .0) (got .1)
   ends =
       last (old .elements) (old .constraints) _ (got .0) (got .1)
-      (record { each = λ i. sheet-read (held taken) .before .before .before .before .before .before .before .before .before .before .shared-slice-known2 .given i .fits }) (got .2)
+      (record { each =
+          λ i. sheet-read (held taken) .before .before .before .before .before .before .before .before .before .before .shared-slice-known2 .given i .fits }) (got .2)
 
   abbrev more : Facts
   more = extended old (ends .c)
@@ -170,5 +177,8 @@ extend-spec =
     tie.close
     (tie.spec (λ c κs. (refl, refl, refl)) (λ c. search needs) (λ c. search needs) (λ c κs. search needs) returns
     (λ c κs. read c .drawn-is) returns-2 (λ c. omega (arith, count c, few c)) read-constraints-requires (λ c. search needs) (λ c. search needs)
-    (λ c κs. search needs) returns-3 (λ c. let e = held (taken c) in omega (arith, count e, few e)) (λ c κs. drawn (more-in (c .before .before))) returns-4
-    (λ c κs. let d = drawn (more-in (c .before .before .before .before .before .before)) in (d .sound .most, d .few)) (λ c κs. no-fault (c .before)) (λ c. search needs) returns-5)
+    (λ c κs. search needs) returns-3 (λ c. let e =
+        held (taken c) in omega (arith, count e, few e)) (λ c κs. drawn (more-in (c .before .before))) returns-4
+    (λ c κs. let d =
+        drawn (more-in (c .before .before .before .before .before .before)) in (d .sound .most, d .few)) (λ c κs. no-fault (c .before))
+        (λ c. search needs) returns-5)

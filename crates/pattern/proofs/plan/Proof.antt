@@ -14,12 +14,15 @@ use Rattle.pattern.proofs.plan.Statement.{statement}
 use Rattle.pattern.proofs.plan.Tie as tie
 
 returns : tie.Need-returns
-returns c = answers-refused (rw (refused-read _ (c .before .before .before .read-graph .ensures) (c .before .enum-told .given .1) (c .refusal .ensures)))
+returns c =
+    answers-refused (rw (refused-read _ (c .before .before .before .read-graph .ensures) (c .before .enum-told .given .1) (c .refusal .ensures)))
 
 -- the facts of the sheet
 read : (c : tie.After-start2)
-    → FactsRead (c .before .before .before .before .before .before .before .before .before .before .before .args .bytes .now) (c .before .before .before .got .given .0 .0)
-    (c .before .before .before .before .before .read-graph .last .1 .0) (c .before .before .before .before .before .read-graph .last .1 .1 .0) (c .before .before .before .before .before .read-graph .last .1 .1 .1 .0)
+    → FactsRead (c .before .before .before .before .before .before .before .before .before .before .before .args .bytes .now)
+    (c .before .before .before .got .given .0 .0)
+    (c .before .before .before .before .before .read-graph .last .1 .0) (c .before .before .before .before .before .read-graph .last .1 .1 .0)
+    (c .before .before .before .before .before .read-graph .last .1 .1 .1 .0)
 read c =
     let all : Bytes (c .before .before .before .before .before .before .before .before .before .before .before .args .bytes .now) = record { each = λ i. c .before .before .before .before .before .before .before .before .before .before .shared-slice-known .given i .fits } in
     facts-read _ (c .before .before .before .before .before .read-graph .ensures) all (c .before .before .before .got .given .1)

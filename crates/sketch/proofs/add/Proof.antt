@@ -172,7 +172,8 @@ returns-5 c =
 pub add-spec : {M : Type 1} → statement M
 add-spec =
     tie.close
-    (tie.spec (λ c κs. search needs) (λ c κs. search needs) returns (λ c κs. (sym (c .before .before .before .before .sheet-fault .ensures) ∙ c .before .before .before .if1 .left, refl, refl, refl))
+    (tie.spec (λ c κs. search needs) (λ c κs. search needs) returns
+    (λ c κs. (sym (c .before .before .before .before .sheet-fault .ensures) ∙ c .before .before .before .if1 .left, refl, refl, refl))
     (λ c κs. drawn (c .before .before .fill .ensures)) (λ c κs. search needs) returns-2
     (λ c κs. drawn (c .before .before .before .before .before .fill .ensures) .sound .most) (λ c κs. search needs) returns-3
     (λ c κs. search needs) note-requires (λ c. omega (arith, count (taking c), few (held (taking c)))) (λ c κs. room (taking c))

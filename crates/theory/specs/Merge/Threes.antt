@@ -7,7 +7,8 @@ use native.Mathlib.Omega.{arith}
 use lib.Count.{ones}
 use Rattle.theory.specs.Merge.{Open, Three, union, joint, Merge, slot, OpenAt}
 use Rattle.theory.specs.Set.{_∩_, _∪_, _⊑_}
-use Rattle.theory.specs.Set.Laws.{size-∪, ⊑⇒size≤, ⊑-trans, a⊑a∪b, b⊑a∪b, a∩b⊑b, ∩-distrib-∪, singles-apart, singles-or, ∪-least, a∩b⊑a, size-zero}
+use Rattle.theory.specs.Set.Laws.{size-∪, ⊑⇒size≤, ⊑-trans, a⊑a∪b, b⊑a∪b, a∩b⊑b, ∩-distrib-∪, singles-apart, singles-or, ∪-least, a∩b⊑a}
+use Rattle.theory.specs.Set.Laws.{size-zero}
 use Rattle.theory.specs.Set.Laws.{∩-greatest, ⊑-refl, ∩-comm}
 
 pub size-union : (t : Three) → Open (t .a) (t .b) (t .c) → ones (union t) + 3 ≡ ones (t .a) + ones (t .b) + ones (t .c)
