@@ -89,8 +89,8 @@ int32_t pattern_rewrite(const uint8_t *sheet, size_t len, uint8_t *out, size_t r
 /*
  * Writes a sheet from its facts; constraint i stands in place i of the four lists. Tries rules 3 and
  * 5, each constraint by 6 to 9, then 17. Answers the count of bytes.
- * Places from e on and bits of lines from n on have no influence. A list may be shorter than e: an
- * end that it lacks is 0, a size that it lacks is missing.
+ * Places from e on and bits of lines from n on have no influence. A constraint whose place lies beyond
+ * firsts, seconds or maps, or beyond sizes where its map has PATTERN_SIZED, is refused by 6.
  */
 int32_t pattern_write(
     size_t n,                                   /* count of elements */

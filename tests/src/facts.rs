@@ -93,14 +93,17 @@ impl Columns {
         if self.lines >> i & 1 == 1 { Kind::Line } else { Kind::Point }
     }
 
-    /// Constraint i; what a short list lacks is blank.
+    /// Constraint i; the blank one, 0 0, where the place lies beyond a list that its map needs.
     pub fn constraint(&self, i: usize) -> Constraint {
-        let sized = self.maps.get(i).is_some_and(|map| map & 1 == 1);
-        Constraint {
-            first: self.firsts.get(i).copied().unwrap_or(0),
-            second: self.seconds.get(i).copied().unwrap_or(0),
-            size: self.sizes.get(i).copied().filter(|_| sized),
-        }
+        self.listed(i).unwrap_or(Constraint { first: 0, second: 0, size: None })
+    }
+
+    fn listed(&self, i: usize) -> Option<Constraint> {
+        let size = match self.maps.get(i)? & 1 {
+            1 => Some(*self.sizes.get(i)?),
+            _ => None,
+        };
+        Some(Constraint { first: *self.firsts.get(i)?, second: *self.seconds.get(i)?, size })
     }
 }
 

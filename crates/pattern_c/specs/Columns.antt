@@ -1,25 +1,32 @@
 -- The facts that the writer takes, a size given or missing (document 01, "Refused"), in columns: one list for each field of the constraints.
--- A place that a list lacks is blank.
 use Prim.Native.Nat.{ℕ, zero, suc, _%_}
-use mathlib.Core.Bool.{_&&_, cond}
+use mathlib.Core.Bool.{Bool, _&&_, _||_, cond}
 use mathlib.Core.List.{List, [], _∷_, _++_}
 use lib.Dec.{eqb, ltb}
 use lib.IntN.{ℤ, pos}
 use lib.ListN.{length, getD}
-use Rattle.sheet.specs.declared.Size.{Size}
 use Rattle.sheet.specs.declared.Size.the-variants.{Given, Missing}
 use Rattle.sheet.specs.declared.Constraint.{Constraint}
 use Rattle.sheet.specs.declared.Sheet.{Sheet}
-use Rattle.sheet.specs.Facts.{elementsOf}
+use Rattle.sheet.specs.Facts.{elementsOf, blankConstraint}
 pub mod Laws
 
--- bit 0 of the map: the size is given; no other bit has an influence
-abbrev pub sizeIn : List ℕ → List ℤ → ℕ → Size
-sizeIn maps sizes i = cond (eqb (getD maps i 0 % 2) 1 && ltb i (length sizes)) (Given (getD sizes i (pos 0))) Missing
+-- bit 0 of the map does not stand: no size is given; no other bit has an influence
+abbrev pub unsized : List ℕ → ℕ → Bool
+unsized maps i = eqb (getD maps i 0 % 2) 0
 
+-- place i lies within every list that its map needs: the ends and the map, and the sizes where one is given
+abbrev pub listed : List ℕ → List ℕ → List ℕ → List ℤ → ℕ → Bool
+listed firsts seconds maps sizes i =
+    ltb i (length firsts) && (ltb i (length seconds) && (ltb i (length maps) && (unsized maps i || ltb i (length sizes))))
+
+-- the blank constraint, which rule 6 refuses, where the place is not listed
 abbrev pub constraintIn : List ℕ → List ℕ → List ℕ → List ℤ → ℕ → Constraint
-constraintIn firsts seconds maps sizes i =
-    record { first = getD firsts i 0; second = getD seconds i 0; size = sizeIn maps sizes i }
+constraintIn firsts seconds maps sizes i = cond (listed firsts seconds maps sizes i) (record {
+  first = getD firsts i 0;
+  second = getD seconds i 0;
+  size = cond (unsized maps i) Missing (Given (getD sizes i (pos 0)));
+}) blankConstraint
 
 -- the first k places
 unfoldable pub constraintsIn : List ℕ → List ℕ → List ℕ → List ℤ → ℕ → List Constraint

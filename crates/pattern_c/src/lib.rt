@@ -1,13 +1,13 @@
 // The entry points for C: numbers and slices alone, each slice a pointer and a length. include/pattern.h declares them. An answer is the count of
 // items written, or minus the number of the rule that refuses; specs/ says it.
 ghost use mathlib.Core.Path.{_≡_};
-ghost use lib.ListN.{getD};
 ghost use Rattle.writer.specs.Write.{writeField};
 ghost use Rattle.judge.specs.Judged.{planNumbers, finalClusters};
 ghost use Rattle.account.specs.Account.{reportOf};
 ghost use Rattle.pattern.specs.Entries.{itemsField, rewriteField, verdictField, asJudgement, overNumbers, checkField, extendField};
+ghost use Rattle.sheet.specs.Facts.{blankConstraint};
 ghost use Rattle.pattern_c.specs.Numbers.{asCount, asNumber, AnswersCount};
-ghost use Rattle.pattern_c.specs.Columns.{sizeIn, constraintIn, constraintsIn, sheetIn};
+ghost use Rattle.pattern_c.specs.Columns.{constraintIn, constraintsIn, sheetIn};
 use pattern::Judgement;
 use sheet::Constraint;
 use sheet::Sheet;
@@ -32,34 +32,46 @@ pub extern "C" fn pattern_rewrite(sheet: &[u8], out: &mut [u8]) -> i32
     count(pattern::rewrite(sheet, out))
 }
 
-// The byte at a place, 0 past the end.
-fn byte_at(list: &[u8], i: usize) -> u8
-    ensures { λ r. ⌜ r ≡ getD (now (list .entry)) i 0 ⌝ }
+// What stands where a list is too short: a constraint that rule 6 refuses.
+fn blank() -> Constraint
+    ensures { λ r. ⌜ r ≡ blankConstraint ⌝ }
 {
-    if i < list.len() { list[i] } else { 0 }
-}
-
-// The size at a place of the columns.
-fn size_at(maps: &[u8], sizes: &[i32], i: usize) -> Size
-    ensures { λ r. ⌜ r ≡ sizeIn (now (maps .entry)) (now (sizes .entry)) i ⌝ }
-{
-    if byte_at(maps, i) % 2 == 1 {
-        if i < sizes.len() {
-            return Size::Given(sizes[i]);
-        }
+    Constraint {
+        first: 0,
+        second: 0,
+        size: Size::Missing,
     }
-    Size::Missing
 }
 
-// The constraint at a place of the columns.
+// The constraint at a place of the columns; the blank one where the place lies beyond a list that its map needs.
 fn constraint_at(firsts: &[u8], seconds: &[u8], maps: &[u8], sizes: &[i32], i: usize) -> Constraint
     ensures { λ r. ⌜ r ≡ constraintIn (now (firsts .entry)) (now (seconds .entry)) (now (maps .entry)) (now (sizes .entry)) i ⌝ }
 {
-    let size = size_at(maps, sizes, i);
+    if firsts.len() <= i {
+        return blank();
+    }
+    if seconds.len() <= i {
+        return blank();
+    }
+    if maps.len() <= i {
+        return blank();
+    }
+    let first = firsts[i];
+    let second = seconds[i];
+    if maps[i] % 2 == 0 {
+        return Constraint {
+            first,
+            second,
+            size: Size::Missing,
+        };
+    }
+    if sizes.len() <= i {
+        return blank();
+    }
     Constraint {
-        first: byte_at(firsts, i),
-        second: byte_at(seconds, i),
-        size,
+        first,
+        second,
+        size: Size::Given(sizes[i]),
     }
 }
 
@@ -67,11 +79,7 @@ fn constraint_at(firsts: &[u8], seconds: &[u8], maps: &[u8], sizes: &[i32], i: u
 fn constraints_in(firsts: &[u8], seconds: &[u8], maps: &[u8], sizes: &[i32]) -> [Constraint; 200]
     ensures { λ r. ⌜ r ≡ constraintsIn (now (firsts .entry)) (now (seconds .entry)) (now (maps .entry)) (now (sizes .entry)) 200 ⌝ }
 {
-    let none = Constraint {
-        first: 0,
-        second: 0,
-        size: Size::Missing,
-    };
+    let none = blank();
     let mut cs = [none; 200];
     let mut i: usize = 0;
     while i < 200 {

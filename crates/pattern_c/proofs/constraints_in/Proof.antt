@@ -1,3 +1,4 @@
+-- The first i places hold the constraints of the columns: `Filling`.
 use borrow.Author.Needs.{needs}
 use Prim.Native.Nat.{_-_}
 use native.Mathlib.Omega.{arith}
@@ -23,7 +24,7 @@ loop-less c = omega (arith, c .before .before .loop .inv .within)
 
 loop-again : tie.Need-loop-again Inv-loop μ-loop
 loop-again c =
-    let a = c .before .before .before .before .before .before .args in
+    let a = c .before .before .before .before .before .before .before .args in
     let l = c .before .before .loop in
     rw (c .constraint-at .ensures)
     (filling-more (a .firsts .now) (a .seconds .now) (a .maps .now) (a .sizes .now) (l .i) (l .cs)
@@ -31,12 +32,12 @@ loop-again c =
 
 returns : tie.Need-returns Inv-loop μ-loop
 returns c =
-    let a = c .before .before .before .before .before .args in
+    let a = c .before .before .before .before .before .before .args in
     filling-all (a .firsts .now) (a .seconds .now) (a .maps .now) (a .sizes .now) (c .before .loop .i) (c .before .loop .cs)
     (c .loop-test .left) (c .before .loop .inv)
 
 pub constraints-in-spec : {M : Type 1} → statement M
 constraints-in-spec =
     tie.close
-    (tie.spec Inv-loop μ-loop loop-holds (λ c κs. search needs) (λ c. search needs) array-set-from-cs
+    (tie.spec Inv-loop μ-loop (λ c κs. search needs) loop-holds (λ c κs. search needs) (λ c. search needs) array-set-from-cs
     (λ c. search needs) loop-less loop-again returns)
