@@ -1,4 +1,5 @@
 -- What the entry points answer, by the bytes of a sheet.
 pub mod Entries
 pub mod Refusals
+pub mod Promises
 pub mod Untagged

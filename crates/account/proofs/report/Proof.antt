@@ -23,7 +23,7 @@ module _ (c : tie.After-write-over-report-arg) where
   start-over = c .before .before .before .before .before
 
   over : OverFound (graph start-over) (start-over .pre .sound) (c .before .before .before .judge .result)
-  (c .before .before .before .judge .ensures _)
+      (c .before .before .before .judge .ensures _)
   over = over-found _ _ _ _ (sym (c .before .before .number .ensures) ∙ c .before .if1 .taken)
 
 write-over-report-requires : tie.Need-write-over-report-requires

@@ -28,7 +28,8 @@ read : (c : tie.After-check-plan-arg)
     (c .before .before .before .before .before .before .before .read-graph .last .1 .1 .0)
     (c .before .before .before .before .before .before .before .read-graph .last .1 .1 .1 .0)
 read c =
-    let all : Bytes (c .before .before .before .before .before .before .before .before .before .before .before .before .before .before .args .bytes .now) = record { each = λ i. c .before .before .before .before .before .before .before .before .before .before .before .before .before .shared-slice-known .given i .fits } in
+    let all : Bytes _ =
+    record { each = λ i. c .before .before .before .before .before .before .before .before .before .before .before .before .before .shared-slice-known .given i .fits } in
     facts-read _ (c .before .before .before .before .before .before .before .read-graph .ensures) all
     (c .before .before .before .before .before .got .given .1)
 

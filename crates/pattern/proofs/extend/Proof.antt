@@ -1,6 +1,7 @@
 -- `pattern::extend` meets its contract: 11 of the graph that is read, one more constraint after it, 11 of both, and the bytes. Assumes nothing.
 use borrow.Author.Needs.{needs}
-use Prim.Native.Nat.{_<_, _+_, _-_}
+use Prim.Native.Nat.{ℕ, _<_, _+_, _-_}
+use mathlib.Core.List.{List}
 use native.Mathlib.Omega.{arith}
 use mathlib.Core.Path.{_≡_, refl, sym, ap, _∙_}
 use lib.ListN.{length}
@@ -35,7 +36,8 @@ read : (c : tie.After-start2)
     (c .before .before .before .before .before .read-graph .last .1 .0) (c .before .before .before .before .before .read-graph .last .1 .1 .0)
     (c .before .before .before .before .before .read-graph .last .1 .1 .1 .0)
 read c =
-    let all : Bytes (c .before .before .before .before .before .before .before .before .before .before .before .before .args .bytes .now) = record { each = λ i. c .before .before .before .before .before .before .before .before .before .before .before .shared-slice-known .given i .fits } in
+    let all : Bytes _ =
+    record { each = λ i. c .before .before .before .before .before .before .before .before .before .before .before .shared-slice-known .given i .fits } in
     facts-read _ (c .before .before .before .before .before .read-graph .ensures) all (c .before .before .before .got .given .1)
 
 over-is : (c : tie.After-over-fault) → c .over-fault .result ≡ overFault (graphOf (read (c .before) .facts))
@@ -74,7 +76,7 @@ module _ (c : tie.After-read-constraints) where
   held = c .before .before .before .before
 
   listed : ListRead (constraints (facts held .elements) 1 (facts held .constraints)
-  (sheet-read held .before .before .before .before .before .before .before .before .before .before .before .before .args .constraint .now))
+      (sheet-read held .before .before .before .before .before .before .before .before .before .before .before .before .args .constraint .now))
       (c .read-constraints .result) (c .read-constraints .last .1 .1 .1 .1 .1 .1 .0) (c .read-constraints .last .1 .1 .1 .1 .1 .1 .1 .0)
       (c .read-constraints .last .1 .1 .1 .1 .1 .1 .1 .1 .0)
   listed =
@@ -106,17 +108,18 @@ module _ (c : tie.After-enum-told2) where
   abbrev old : Facts
   old = facts (held taken)
 
-  got : (cs : _) × (t : _) × (constraints (old .elements) 1 (old .constraints)
-  (sheet-read (held taken) .before .before .before .before .before .before .before .before .before .before .before .before .args .constraint .now) ≡ value cs t)
+  abbrev offered : List ℕ
+  offered = sheet-read (held taken) .before .before .before .before .before .before .before .before .before .before .before .before .args .constraint .now
+
+  got : (cs : _) × (t : _) × (constraints (old .elements) 1 (old .constraints) offered ≡ value cs t)
   got = list-taken _ (sym (listed taken .answers) ∙ c .enum-told2 .given .1)
 
-  ends : Last (old .elements) (old .constraints)
-  (sheet-read (held taken) .before .before .before .before .before .before .before .before .before .before .before .before .args .constraint .now)
-  (got .0) (got .1)
+  ends : Last (old .elements) (old .constraints) offered (got .0) (got .1)
   ends =
       last (old .elements) (old .constraints) _ (got .0) (got .1)
-      (record { each =
-          λ i. sheet-read (held taken) .before .before .before .before .before .before .before .before .before .before .shared-slice-known2 .given i .fits }) (got .2)
+      (record {
+        each = λ i. sheet-read (held taken) .before .before .before .before .before .before .before .before .before .before .shared-slice-known2 .given i .fits;
+      }) (got .2)
 
   abbrev more : Facts
   more = extended old (ends .c)
@@ -178,7 +181,7 @@ extend-spec =
     (tie.spec (λ c κs. (refl, refl, refl)) (λ c. search needs) (λ c. search needs) (λ c κs. search needs) returns
     (λ c κs. read c .drawn-is) returns-2 (λ c. omega (arith, count c, few c)) read-constraints-requires (λ c. search needs) (λ c. search needs)
     (λ c κs. search needs) returns-3 (λ c. let e =
-        held (taken c) in omega (arith, count e, few e)) (λ c κs. drawn (more-in (c .before .before))) returns-4
+    held (taken c) in omega (arith, count e, few e)) (λ c κs. drawn (more-in (c .before .before))) returns-4
     (λ c κs. let d =
-        drawn (more-in (c .before .before .before .before .before .before)) in (d .sound .most, d .few)) (λ c κs. no-fault (c .before))
-        (λ c. search needs) returns-5)
+    drawn (more-in (c .before .before .before .before .before .before)) in (d .sound .most, d .few)) (λ c κs. no-fault (c .before))
+    (λ c. search needs) returns-5)

@@ -22,23 +22,27 @@ returns-2 c =
 returns-3 : tie.Need-returns-3
 returns-3 c =
     let a = c .before .before .before .before .before .before .before .args in
-    c .blank3 .ensures ∙ sym (short-maps (a .firsts .now) (a .seconds .now) (a .maps .now) (a .sizes .now) (a .i) (search needs) (search needs) (search needs))
+    c .blank3 .ensures ∙ sym (short-maps (a .firsts .now) (a .seconds .now) (a .maps .now) (a .sizes .now) (a .i) (search needs) (search needs)
+    (search needs))
 
 returns-4 : tie.Need-returns-4
 returns-4 c =
     let a = c .before .before .before .before .before .before .before .before .before .before .args in
-    sym (without-size (a .firsts .now) (a .seconds .now) (a .maps .now) (a .sizes .now) (a .i) (search needs) (search needs) (search needs) (c .if4 .taken))
+    sym (without-size (a .firsts .now) (a .seconds .now) (a .maps .now) (a .sizes .now) (a .i) (search needs) (search needs) (search needs)
+    (c .if4 .taken))
 
 returns-5 : tie.Need-returns-5
 returns-5 c =
     let a = c .before .before .before .before .before .before .before .before .before .before .before .before .args in
-    c .blank4 .ensures ∙ sym (short-sizes (a .firsts .now) (a .seconds .now) (a .maps .now) (a .sizes .now) (a .i) (search needs) (search needs) (search needs) (c .before .before .if4 .left) (search needs))
+    c .blank4 .ensures ∙ sym (short-sizes (a .firsts .now) (a .seconds .now) (a .maps .now) (a .sizes .now) (a .i) (search needs) (search needs)
+    (search needs) (c .before .before .if4 .left) (search needs))
 
 returns-6 : tie.Need-returns-6
 returns-6 c =
     let a = c .before .before .before .before .before .before .before .before .before .before .before .before .args in
     rw (toZ-ofZ {w = w32} {z = getD (a .sizes .now) (a .i) (pos 0)} (search needs))
-    (sym (with-size (a .firsts .now) (a .seconds .now) (a .maps .now) (a .sizes .now) (a .i) (search needs) (search needs) (search needs) (c .before .before .if4 .left) (search needs)))
+    (sym (with-size (a .firsts .now) (a .seconds .now) (a .maps .now) (a .sizes .now) (a .i) (search needs) (search needs) (search needs)
+    (c .before .before .if4 .left) (search needs)))
 
 pub constraint-at-spec : {M : Type 1} → statement M
 constraint-at-spec =

@@ -32,14 +32,20 @@ module _ (firsts seconds maps : List ℕ) (sizes : List ℤ) (i : ℕ) where
   short-maps f s m = rw (lt-ltb _ _ f, lt-ltb _ _ s, le-ltb _ _ m)
 
   module _ (f : i < length firsts) (s : i < length seconds) (m : i < length maps) where
-    pub without-size : getD maps i 0 % 2 ≡ 0 → constraintIn firsts seconds maps sizes i ≡ record { first = getD firsts i 0; second = getD seconds i 0; size = Missing }
+    pub without-size : getD maps i 0 % 2 ≡ 0
+        → constraintIn firsts seconds maps sizes i ≡ record { first = getD firsts i 0; second = getD seconds i 0; size = Missing }
     without-size z = rw (lt-ltb _ _ f, lt-ltb _ _ s, lt-ltb _ _ m, eq-eqb _ _ z)
 
     pub short-sizes : (getD maps i 0 % 2 ≡ 0 → ⊥) → length sizes ≤ i → constraintIn firsts seconds maps sizes i ≡ blankConstraint
     short-sizes z l = rw (lt-ltb _ _ f, lt-ltb _ _ s, lt-ltb _ _ m, ne-eqb _ _ z, le-ltb _ _ l)
 
     pub with-size : (getD maps i 0 % 2 ≡ 0 → ⊥) → i < length sizes
-        → constraintIn firsts seconds maps sizes i ≡ record { first = getD firsts i 0; second = getD seconds i 0; size = Given (getD sizes i (pos 0)) }
+        → constraintIn firsts seconds maps sizes i ≡ record {
+          first = getD firsts i 0;
+          second = getD seconds i 0;
+          size = Given
+              (getD sizes i (pos 0));
+        }
     with-size z l = rw (lt-ltb _ _ f, lt-ltb _ _ s, lt-ltb _ _ m, ne-eqb _ _ z, lt-ltb _ _ l)
 
 module _ (firsts seconds maps : List ℕ) (sizes : List ℤ) where

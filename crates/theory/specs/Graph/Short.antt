@@ -23,7 +23,7 @@ use Rattle.theory.specs.declared.Finding.the-variants.{Fine}
 use Rattle.theory.specs.declared.Verdict.the-variants.{Over, Angle, Well, Stuck, Under}
 
 -- every joint has three elements
-joint-three : (p : List Merge) (s : List ℕ) → Valid s p → (j : ℕ) → Among j (joints s p) → ones j ≡ 3
+pub joint-three : (p : List Merge) (s : List ℕ) → Valid s p → (j : ℕ) → Among j (joints s p) → ones j ≡ 3
 unfolding joints
 joint-three [] s v j i = absurd i
 joint-three (m ∷ p) s v j (inl e) = ap ones e ∙ size-joint (three s m) (v .0 .open3)

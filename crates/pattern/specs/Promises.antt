@@ -1,0 +1,95 @@
+-- The page a buyer reads: what is promised of every list of bytes that `readSheet` accepts, with its facts f. Document 01, "Verdict names", "Every
+-- order of merging", "Clusters and merges" and "The report". Shown by `promises` of Promises/Proof.antt; the contracts of the entry points cite the
+-- same fields (Entries).
+use Prim.Native.Nat.{ℕ, _+_, _*_, _%_, _≤_, _<_}
+use mathlib.Core.Path.{_≡_}
+use mathlib.Core.Logic.{_≢_, _↔_}
+use mathlib.Core.List.{List, [], _∷_, map}
+use lib.Count.{ones}
+use lib.ListN.{length}
+use Rattle.theory.specs.Constraints.{Among, Perm}
+use Rattle.theory.specs.Over.{IsOver, FirstOver}
+use Rattle.theory.specs.Merge.{Merge, Valid, Maximal, final, joints, live, left}
+use Rattle.theory.specs.Verdict.{Meets}
+use Rattle.theory.specs.Graph.{Graph, listVerdict, verdictOf, stepsOf}
+use Rattle.theory.specs.Demand.{Agree, Demand3}
+use Rattle.theory.specs.declared.Step.{Step}
+use Rattle.theory.specs.declared.Verdict.the-variants.{Over, Stuck, Under}
+use Rattle.sheet.specs.declared.Constraint.{Constraint}
+use Rattle.sheet.specs.Facts.{Facts}
+use Rattle.sheet.specs.Field.{value, refused}
+use Rattle.sheet.specs.Accepted.{Accepted}
+use Rattle.sheet.specs.Graph.{graphOf, reordered}
+use Rattle.judge.specs.Judged.{planNumbers, finalClusters}
+use Rattle.plans.specs.Check.{savedSteps}
+use Rattle.report.specs.Report.{overReport}
+use Rattle.account.specs.Account.{listReport, reportOf}
+use Rattle.pattern.specs.Entries.{itemsField, verdictField, overNumbers, heldSheet, checkField}
+pub mod Proof
+
+-- ---- over (demand 2): some set of m ≥ 2 elements carries more than 2m-3 constraints if and only if
+
+pub record OverTold (bytes : List ℕ) (g : Graph) : Type 0 where
+  -- the verdict is over
+  pub verdict : IsOver (g .clusters) ↔ (verdictField bytes ≡ value Over [])
+  -- the report is the over report
+  pub report : IsOver (g .clusters) ↔ ((c x : ℕ) × (itemsField reportOf bytes ≡ value (overReport (g .n) (length (g .clusters)) c x) []))
+  -- over answers two items
+  pub items : IsOver (g .clusters) ↔ ((c x : ℕ) × (itemsField overNumbers bytes ≡ value (c ∷ x ∷ []) []))
+  -- a plan check, and holding, are refused by 11
+  pub check : (plan : List ℕ) → IsOver (g .clusters) ↔ (checkField bytes plan ≡ refused 11)
+  pub hold : IsOver (g .clusters) ↔ (heldSheet bytes ≡ refused 11)
+  -- the two items are the first constraint that makes the listed ones up to it over and the smallest set, and the report names them
+  pub first : (c x : ℕ) → itemsField overNumbers bytes ≡ value (c ∷ x ∷ []) []
+      → FirstOver (g .clusters) c x × (itemsField reportOf bytes ≡ value (overReport (g .n) (length (g .clusters)) c x) [])
+
+-- ---- every order of merging (demand 3): any two orders of the constraints
+
+pub record SameInOrders (f : Facts) (ds es : List Constraint) : Type 0 where
+  pub accepted : Accepted (reordered f ds)
+  pub not-over : verdictOf (graphOf (reordered f ds)) ≢ Over
+  pub verdict : verdictOf (graphOf (reordered f ds)) ≡ verdictOf (graphOf (reordered f es))
+  -- every two maximal lists of merges: the same final clusters as sets, set of joints, verdict, number of steps
+  pub lists : (p q : List Merge) → Maximal (graphOf (reordered f ds) .clusters) p → Maximal (graphOf (reordered f es) .clusters) q
+      → Agree (graphOf (reordered f ds)) (graphOf (reordered f es)) p q
+  -- each joint is three elements
+  pub three : (p : List Merge) → Valid (graphOf (reordered f ds) .clusters) p
+      → (j : ℕ) → Among j (joints (graphOf (reordered f ds) .clusters) p) → ones j ≡ 3
+  -- either way round, e = left + 2 · steps and the other counts, for every list of merges
+  pub whole : Demand3 (graphOf (reordered f ds))
+
+-- ---- the answers are a list's own
+
+-- what the verdict's name says of the list
+pub record NameSays (g : Graph) (p : List Merge) : Type 0 where
+  pub meets : Meets (g .lines) (g .n) (length (g .clusters)) (joints (g .clusters) p) (final (g .clusters) p) (listVerdict g p)
+  -- stuck: several are left; under: e is below 2n-3
+  pub several : listVerdict g p ≡ Stuck → 2 ≤ left (final (g .clusters) p)
+  pub below : listVerdict g p ≡ Under → length (g .clusters) + 3 < 2 * g .n
+
+-- the list p stands behind the plan's numbers and the report told
+pub record OwnList (bytes : List ℕ) (g : Graph) (p : List Merge) (plan told : List ℕ) : Type 0 where
+  pub maximal : Maximal (g .clusters) p
+  pub numbers : savedSteps plan ≡ p
+  pub verdict : verdictField bytes ≡ value (listVerdict g p) []
+  pub name : NameSays g p
+  -- the report is that of the list: its joints, its count of steps, and a line for each cluster that lives at its end
+  pub report : told ≡ listReport g p
+  pub same-joints : map (λ (s : Step). s .joint) (stepsOf g p) ≡ joints (g .clusters) p
+  pub steps : length (stepsOf g p) ≡ length p
+  -- what `clusters` answers are the sets that live at its end, each one as often as it lives
+  pub clusters : (finals : List ℕ) × (itemsField finalClusters bytes ≡ value finals [])
+      × ((x : ℕ) → Among x finals ↔ live (final (g .clusters) p) x) × (length finals ≡ left (final (g .clusters) p))
+
+-- ---- the page
+
+pub record Promises (bytes : List ℕ) (f : Facts) : Type 0 where
+  pub over : OverTold bytes (graphOf f)
+  pub orders : verdictOf (graphOf f) ≢ Over → (ds es : List Constraint) → Perm (f .constraints) ds → Perm (f .constraints) es → SameInOrders f ds es
+  -- the engine's plan
+  pub engine : verdictOf (graphOf f) ≢ Over → (p : List Merge) × (plan told : List ℕ) × (itemsField planNumbers bytes ≡ value plan [])
+      × (itemsField reportOf bytes ≡ value told []) × OwnList bytes (graphOf f) p plan told
+  -- a saved plan is accepted if and only if it is a maximal list of merges
+  pub saved : (plan told : List ℕ) → checkField bytes plan ≡ value told [] → OwnList bytes (graphOf f) (savedSteps plan) plan told
+  pub accepts : verdictOf (graphOf f) ≢ Over → (plan : List ℕ)
+      → ((told : List ℕ) × (checkField bytes plan ≡ value told [])) ↔ ((length plan % 3 ≡ 0) × Maximal (graphOf f .clusters) (savedSteps plan))

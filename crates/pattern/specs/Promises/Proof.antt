@@ -1,0 +1,312 @@
+-- The promises hold: over is one finding that every answer goes by, demand 3 is brought to every two orders of the sheet's constraints, and the
+-- answers' lists are those of `account` Own. Assumes nothing.
+use Prim.Native.Nat.{ℕ, zero, suc, _+_, _*_, _%_, _≤_, _<_}
+use mathlib.Core.Path.{_≡_, refl, sym, ap, _∙_, subst}
+use mathlib.Core.Logic.{_≢_, _↔_, Iff·trans}
+use mathlib.Core.List.{List, [], _∷_, _++_}
+use native.Mathlib.Omega.{arith}
+use lib.Count.{ones}
+use lib.ListN.{length, getD}
+use Rattle.theory.specs.Constraints.{Among, Pairs, Below, Perm, NotOver}
+use Rattle.theory.specs.Constraints.Perm.{same, skip, swap, then}
+use Rattle.theory.specs.Over.{IsOver}
+use Rattle.theory.specs.Over.Laws.{overOf-first}
+use Rattle.theory.specs.Merge.{Merge, Valid, Maximal, final, joints, live, left}
+use Rattle.theory.specs.Plan.{planOf}
+use Rattle.theory.specs.Plan.Laws.{plan-of-maximal}
+use Rattle.theory.specs.Verdict.{Meets, meets-angle, meets-well, meets-stuck, meets-under}
+use Rattle.theory.specs.Verdict.Laws.{judged-meets, under-below, stuck-several}
+use Rattle.theory.specs.Graph.{Graph, findingOf, listVerdict, verdictOf}
+use Rattle.theory.specs.Graph.Laws.{first-verdict, fine-verdict, fine-not-over, not-over-fine, over-verdict, verdict-over, verdict-fine}
+use Rattle.theory.specs.Graph.Laws.{verdict-every, list-not-over}
+use Rattle.theory.specs.Graph.Short.{joint-three}
+use Rattle.theory.specs.declared.Finding.{Finding}
+use Rattle.theory.specs.declared.Finding.the-variants.{Fine, First}
+use Rattle.theory.specs.declared.Verdict.{Verdict}
+use Rattle.theory.specs.declared.Verdict.the-variants.{Over, Angle, Well, Stuck, Under}
+use Rattle.sheet.specs.declared.Constraint.{Constraint}
+use Rattle.sheet.specs.Answer.{byRule}
+use Rattle.sheet.specs.Facts.{Facts}
+use Rattle.sheet.specs.Field.{Field, value, refused, Bytes}
+use Rattle.sheet.specs.Decode.{readSheet}
+use Rattle.sheet.specs.Accepted.{Accepted}
+use Rattle.sheet.specs.Rules.{or-else}
+use Rattle.sheet.specs.RoundTrip.{written-read}
+use Rattle.sheet.specs.Graph.{graphOf, reordered, overFault}
+use Rattle.sheet.specs.Accepted.Laws.{accepted-two}
+use Rattle.sheet.specs.Graph.Laws.{clusters-pairs, clusters-below, sheet-demand3, first-fault, fine-fault}
+use Rattle.engine.specs.Lists.{livingOf}
+use Rattle.engine.specs.Lists.Laws.{living-live, living-count}
+use Rattle.merges.specs.Run.{flat}
+use Rattle.judge.specs.Judged.{planNumbers, finalClusters}
+use Rattle.plans.specs.Check.{savedSteps, planFault}
+use Rattle.plans.specs.Check.Laws.{whole-saved, fault-range}
+use Rattle.report.specs.Report.{report, overReport, verdictLine}
+use Rattle.account.specs.Account.{listReport, reportBy, reportOf, savedFault}
+use Rattle.account.specs.Own.{ReportsOwn, EngineList}
+use Rattle.account.specs.Own.Proof.{own-lists}
+use Rattle.pattern.specs.Entries.{itemsField, verdictField, overItems, overNumbers, heldSheet, checkField}
+use Rattle.pattern.specs.Entries.Sketches.{check-saved}
+use Rattle.pattern.specs.Promises.{OverTold, SameInOrders, NameSays, OwnList, Promises}
+
+-- a report that is not the over report: the ninth byte is the first of the verdict's name
+unlike : (v : Verdict) (r q : List ℕ) → v ≢ Over → verdictLine v ++ r ≡ verdictLine Over ++ q → ⊥
+unlike Over r q ne e = ne refl
+unlike Angle r q ne e = let z : _≡_ {A = ℕ} 97 111 = ap (λ (l : List ℕ). getD l 8 0) e in omega arith
+unlike Well r q ne e = let z : _≡_ {A = ℕ} 119 111 = ap (λ (l : List ℕ). getD l 8 0) e in omega arith
+unlike Stuck r q ne e = let z : _≡_ {A = ℕ} 115 111 = ap (λ (l : List ℕ). getD l 8 0) e in omega arith
+unlike Under r q ne e = let z : _≡_ {A = ℕ} 117 111 = ap (λ (l : List ℕ). getD l 8 0) e in omega arith
+
+perm-sym : {A : Type 0} {l k : List A} → Perm l k → Perm k l
+perm-sym same = same
+perm-sym (skip x p) = skip x (perm-sym p)
+perm-sym (swap x y) = swap y x
+perm-sym (then p q) = then (perm-sym q) (perm-sym p)
+
+module _ (bytes : List ℕ) (f : Facts) (rest : List ℕ) (all : Bytes bytes) (reads : readSheet bytes ≡ value f rest) where
+  abbrev g : Graph
+  g = graphOf f
+
+  accepted : Accepted f
+  accepted = written-read bytes f rest all reads .2
+
+  pairs : Pairs (g .clusters)
+  pairs = clusters-pairs f (accepted .no-fault)
+
+  below : Below (g .n) (g .clusters)
+  below = clusters-below f (accepted .no-fault)
+
+  -- ---- what the entry points answer, from the facts
+
+  items-are : (what : Graph → List ℕ) → itemsField what bytes ≡ value (what g) []
+  items-are what = rw reads refl
+
+  verdict-is : verdictField bytes ≡ value (verdictOf g) []
+  verdict-is = rw reads refl
+
+  held-is : heldSheet bytes ≡ byRule (overFault g) (value f rest)
+  unfolding heldSheet
+  held-is = rw reads refl
+
+  -- ---- over
+
+  -- what is found decides
+  data Found : Type 0 where
+    is-over : (c x : ℕ) → findingOf g ≡ First c x → IsOver (g .clusters) → Found
+    is-fine : findingOf g ≡ Fine → (IsOver (g .clusters) → ⊥) → Found
+
+  found : Found
+  found = by (findingOf g) refl
+    where
+      by : (o : Finding) → findingOf g ≡ o → Found
+      by Fine q = is-fine q (λ o. fine-not-over g q (over-verdict g pairs below o))
+      by (First c x) q = is-over c x q (verdict-over g pairs below (first-verdict g q))
+
+  -- the plan check of a sheet that is not over is refused by another rule
+  not-11 : (plan : List ℕ) → findingOf g ≡ Fine → checkField bytes plan ≡ refused 11 → ⊥
+  unfolding savedFault
+  not-11 plan q e =
+      by (savedFault g plan) (ap (λ (k : ℕ). or-else k (planFault (g .clusters) plan)) (fine-fault g q))
+      (sym (check-saved bytes plan f rest reads) ∙ e)
+    where
+      by : (k : ℕ) → k ≡ planFault (g .clusters) plan → byRule k (value (listReport g (savedSteps plan)) []) ≡ refused 11 → ⊥
+      by zero z e = let x : _≡_ {A = ℕ} 0 1 = cc in omega arith
+      by (suc k) z e = let x : suc k ≡ 11 = cc in omega (arith, fault-range (g .clusters) plan k (sym z))
+
+  over-told : OverTold bytes g
+  unfolding reportOf savedFault listReport report overReport
+  over-told = by found
+    where
+      by : Found → OverTold bytes g
+      by (is-over c x q o) = record {
+        verdict = (λ h. verdict-is ∙ ap (λ (v : Verdict). value v []) (over-verdict g pairs below o), λ h. o);
+        report = (λ h. (c, x, named), λ h. o);
+        items = (λ h. (c, x, listed), λ h. o);
+        check = λ plan. (
+          λ h.
+              check-saved bytes plan f rest reads
+              ∙ ap (λ (k : ℕ). byRule (or-else k (planFault (g .clusters) plan)) (value (listReport g (savedSteps plan)) [])) (first-fault g q),
+          λ h. o,
+        );
+        hold = (λ h. held-is ∙ ap (λ (k : ℕ). byRule k (value f rest)) (first-fault g q), λ h. o);
+        first = λ d y e.
+            let a : c ≡ d = cc-first c x d y (sym listed ∙ e) in
+            let b : x ≡ y = cc-second c x d y (sym listed ∙ e) in
+            rw (← a, ← b) (overOf-first (g .n) (g .clusters) pairs below c x q, named);
+      }
+        where
+          named : itemsField reportOf bytes ≡ value (overReport (g .n) (length (g .clusters)) c x) []
+          named = items-are reportOf ∙ ap (λ (r : Finding). value (reportBy g r) []) q
+
+          listed : itemsField overNumbers bytes ≡ value (c ∷ x ∷ []) []
+          listed = items-are overNumbers ∙ ap (λ (r : Finding). value (overItems r) []) q
+
+          cc-first : (c x d y : ℕ) → _≡_ {A = Field (List ℕ)} (value (c ∷ x ∷ []) []) (value (d ∷ y ∷ []) []) → c ≡ d
+          cc-first c x d y e = cc
+
+          cc-second : (c x d y : ℕ) → _≡_ {A = Field (List ℕ)} (value (c ∷ x ∷ []) []) (value (d ∷ y ∷ []) []) → x ≡ y
+          cc-second c x d y e = cc
+      by (is-fine q none) = record {
+        verdict = (λ h. absurd (none h), λ e. absurd (fine-not-over g q (same-verdict (sym verdict-is ∙ e))));
+        report = (
+          λ h. absurd (none h),
+          λ (c, x, e).
+              absurd (unlike (listVerdict g (planOf (g .clusters))) _ _ (list-not-over g (planOf (g .clusters))) (same-bytes (sym listed ∙ e))),
+        );
+        items = (λ h. absurd (none h), λ (c, x, e). absurd (no-items c x e));
+        check = λ plan. (λ h. absurd (none h), λ e. absurd (not-11 plan q e));
+        hold = (λ h. absurd (none h), λ e. absurd (not-held (sym held-is ∙ e)));
+        first = λ c x e. absurd (no-items c x e);
+      }
+        where
+          same-verdict : {v w : Verdict} → _≡_ {A = Field Verdict} (value v []) (value w []) → v ≡ w
+          same-verdict e = cc
+
+          same-bytes : {a b : List ℕ} → _≡_ {A = Field (List ℕ)} (value a []) (value b []) → a ≡ b
+          same-bytes e = cc
+
+          listed : itemsField reportOf bytes ≡ value (listReport g (planOf (g .clusters))) []
+          listed = items-are reportOf ∙ ap (λ (r : Finding). value (reportBy g r) []) q
+
+          no-items : (c x : ℕ) → itemsField overNumbers bytes ≡ value (c ∷ x ∷ []) [] → ⊥
+          no-items c x e =
+              let z : [] ≡ c ∷ x ∷ [] = same-bytes (sym (items-are overNumbers ∙ ap (λ (r : Finding). value (overItems r) []) q) ∙ e) in
+              omega (arith, ap length z)
+
+          not-held : byRule (overFault g) (value f rest) ≡ refused 11 → ⊥
+          not-held e = apart (sym (ap (λ (k : ℕ). byRule k (value f rest)) (fine-fault g q)) ∙ e)
+            where
+              apart : _≡_ {A = Field Facts} (value f rest) (refused 11) → ⊥
+              apart e = let x : _≡_ {A = ℕ} 0 1 = cc in omega arith
+
+  -- ---- every two orders of the constraints
+
+  module _ (not-over : verdictOf g ≢ Over) where
+    in-orders : (ds es : List Constraint) → Perm (f .constraints) ds → Perm (f .constraints) es → SameInOrders f ds es
+    in-orders ds es r t =
+        let o = sheet-demand3 f accepted not-over .orders ds r in
+        let d = sheet-demand3 (reordered f ds) (o .0) (o .1) in
+        let u = then (perm-sym r) t in
+        let h = graphOf (reordered f ds) in
+        let k = graphOf (reordered f es) in
+        let oe = sheet-demand3 f accepted not-over .orders es t in
+        let ph = clusters-pairs (reordered f ds) (o .0 .no-fault) in
+        let pk = clusters-pairs (reordered f es) (oe .0 .no-fault) in
+        record {
+          accepted = o .0;
+          not-over = o .1;
+          verdict =
+              fine-verdict h (not-over-fine h (o .1))
+              ∙ d .every es u (planOf (h .clusters)) (planOf (k .clusters)) (plan-of-maximal (h .clusters) ph)
+              (plan-of-maximal (k .clusters) pk) .verdicts
+              ∙ sym (fine-verdict k (not-over-fine k (oe .1)));
+          lists = λ p q v w. d .every es u p q v w;
+          three = λ p v j i. joint-three p (h .clusters) v j i;
+          whole = d .whole;
+        }
+
+    fine : NotOver (g .clusters)
+    fine = verdict-fine g pairs below not-over
+
+    -- ---- what a verdict's name says
+
+    name-says : (p : List Merge) → Maximal (g .clusters) p → NameSays g p
+    unfolding listVerdict
+    name-says p v = record {
+      meets = met;
+      several = λ e. stuck-is (listVerdict g p) met e;
+      below = λ e. under-is (listVerdict g p) met e;
+    }
+      where
+        met : Meets (g .lines) (g .n) (length (g .clusters)) (joints (g .clusters) p) (final (g .clusters) p) (listVerdict g p)
+        met = judged-meets (g .lines) (g .n) (length (g .clusters)) (joints (g .clusters) p) (final (g .clusters) p)
+
+        stuck-is : (w : Verdict) → Meets (g .lines) (g .n) (length (g .clusters)) (joints (g .clusters) p) (final (g .clusters) p) w → w ≡ Stuck
+            → 2 ≤ left (final (g .clusters) p)
+        stuck-is w (meets-stuck a b c) e = stuck-several (g .n) (g .clusters) (accepted-two f accepted) pairs b p (v .valid) c
+        stuck-is w (meets-angle a) e = let x : _≡_ {A = ℕ} 0 1 = cc in absurd (omega arith)
+        stuck-is w (meets-well a b c) e = let x : _≡_ {A = ℕ} 0 1 = cc in absurd (omega arith)
+        stuck-is w (meets-under a b) e = let x : _≡_ {A = ℕ} 0 1 = cc in absurd (omega arith)
+
+        under-is : (w : Verdict) → Meets (g .lines) (g .n) (length (g .clusters)) (joints (g .clusters) p) (final (g .clusters) p) w → w ≡ Under
+            → length (g .clusters) + 3 < 2 * g .n
+        under-is w (meets-under a b) e = under-below (g .n) (g .clusters) (accepted-two f accepted) below fine b
+        under-is w (meets-angle a) e = let x : _≡_ {A = ℕ} 0 1 = cc in absurd (omega arith)
+        under-is w (meets-well a b c) e = let x : _≡_ {A = ℕ} 0 1 = cc in absurd (omega arith)
+        under-is w (meets-stuck a b c) e = let x : _≡_ {A = ℕ} 0 1 = cc in absurd (omega arith)
+
+    -- ---- the answers are a list's own
+
+    engine-list : EngineList g
+    engine-list = own-lists f accepted .engine not-over
+
+    -- every maximal list has the sets that `clusters` answers
+    finals-of : (p : List Merge) → Maximal (g .clusters) p → (finals : List ℕ) × (itemsField finalClusters bytes ≡ value finals [])
+        × ((x : ℕ) → Among x finals ↔ live (final (g .clusters) p) x) × (length finals ≡ left (final (g .clusters) p))
+    finals-of p v =
+        let l = engine-list in
+        let a = sheet-demand3 f accepted not-over .every (f .constraints) same (l .p) p (l .maximal) v in (
+          livingOf (final (g .clusters) (l .p)),
+          items-are finalClusters ∙ ap (λ (x : List ℕ). value x []) (l .clusters),
+          λ x. Iff·trans (living-live (final (g .clusters) (l .p)) x) (a .finals x),
+          living-count (final (g .clusters) (l .p)) ∙ a .lefts,
+        )
+
+    own : (p : List Merge) (plan : List ℕ) → Maximal (g .clusters) p → savedSteps plan ≡ p → ReportsOwn g p → OwnList bytes g p plan (listReport g p)
+    own p plan v e r = record {
+      maximal = v;
+      numbers = e;
+      verdict = verdict-is ∙ ap (λ (w : Verdict). value w []) (verdict-every g pairs below fine p v);
+      name = name-says p v;
+      report = refl;
+      same-joints = r .same-joints;
+      steps = r .steps;
+      clusters = finals-of p v;
+    }
+
+  -- ---- the page
+
+  saved-own : (plan told : List ℕ) → checkField bytes plan ≡ value told [] → OwnList bytes g (savedSteps plan) plan told
+  saved-own plan told e = by (savedFault g plan) refl (sym (check-saved bytes plan f rest reads) ∙ e)
+    where
+      by : (k : ℕ) → savedFault g plan ≡ k → byRule k (value (listReport g (savedSteps plan)) []) ≡ value told []
+          → OwnList bytes g (savedSteps plan) plan told
+      by zero z e =
+          let s = own-lists f accepted .saved plan in
+          let m = s .accepted .0 z in
+          let t : listReport g (savedSteps plan) ≡ told = cc in
+          subst (OwnList bytes g (savedSteps plan) plan) t (own (m .0) (savedSteps plan) plan (m .2) refl (s .own z))
+      by (suc k) z e = let x : _≡_ {A = ℕ} 0 1 = cc in absurd (omega arith)
+
+  accepts : verdictOf g ≢ Over → (plan : List ℕ)
+      → ((told : List ℕ) × (checkField bytes plan ≡ value told [])) ↔ ((length plan % 3 ≡ 0) × Maximal (g .clusters) (savedSteps plan))
+  accepts v plan = (
+    λ (told, e). whole told (savedFault g plan) refl (sym (check-saved bytes plan f rest reads) ∙ e),
+    λ h. (
+      listReport g (savedSteps plan),
+      check-saved bytes plan f rest reads
+          ∙ ap (λ (k : ℕ). byRule k (value (listReport g (savedSteps plan)) [])) (own-lists f accepted .saved plan .accepted .1 (v, h .0, h .1)),
+    ),
+  )
+    where
+      whole : (told : List ℕ) (k : ℕ) → savedFault g plan ≡ k → byRule k (value (listReport g (savedSteps plan)) []) ≡ value told []
+          → (length plan % 3 ≡ 0) × Maximal (g .clusters) (savedSteps plan)
+      whole told zero z e = let m = own-lists f accepted .saved plan .accepted .0 z in (m .1, m .2)
+      whole told (suc k) z e = let x : _≡_ {A = ℕ} 0 1 = cc in absurd (omega arith)
+
+  pub promises : Promises bytes f
+  promises = record {
+    over = over-told;
+    orders = in-orders;
+    engine = λ v.
+        let l = engine-list v in (
+          l .p,
+          flat (l .p),
+          listReport g (l .p),
+          items-are planNumbers ∙ ap (λ (x : List ℕ). value x []) (l .plan),
+          items-are reportOf ∙ ap (λ (x : List ℕ). value x []) (l .report),
+          own v (l .p) (flat (l .p)) (l .maximal) (whole-saved (l .p)) (l .own),
+        );
+    saved = saved-own;
+    accepts = accepts;
+  }
