@@ -169,6 +169,13 @@ int32_t pattern_add(
     const uint8_t *constraint, size_t constraint_len,
     uint8_t *out, size_t room);
 
+/*
+ * The verdict of five points with some of the ten distances between them, from a card of all 1,024
+ * sets: bit 0 of number is the pair (0,1), then (0,2), (0,3), (0,4), (1,2) and so on to (3,4), bit 9.
+ * Bits from 10 on stand for no pair and have no influence. Never refused.
+ */
+int32_t pattern_card(size_t number);
+
 #ifdef __cplusplus
 }
 #endif

@@ -47,6 +47,12 @@ pub fn verdict(sheet: &[u8]) -> i32 {
     unsafe { c::pattern_verdict(sheet.as_ptr(), sheet.len()) }
 }
 
+/// `pattern_card`
+#[inline]
+pub fn card(number: usize) -> i32 {
+    unsafe { c::pattern_card(number) }
+}
+
 /// `pattern_plan`
 #[inline]
 pub fn plan(sheet: &[u8], out: &mut [u16]) -> i32 {

@@ -1,6 +1,7 @@
 // The public crate: every entry point that a user calls, each with its whole contract and no precondition. specs/ says what each answers.
 ghost use mathlib.Core.Path.{_≡_};
 ghost use mathlib.Core.List.{[], _∷_};
+ghost use Prim.Native.Nat.{_%_};
 ghost use Rattle.space.specs.Space.{answer, after};
 ghost use Rattle.sheet.specs.Answer.{Answers};
 ghost use Rattle.sheet.specs.Decode.{readSheet};
@@ -9,6 +10,7 @@ ghost use Rattle.writer.specs.Write.{writeField};
 ghost use Rattle.judge.specs.Judged.{planNumbers, finalClusters};
 ghost use Rattle.sketch.specs.Sketch.{addedOf};
 ghost use Rattle.account.specs.Account.{reportOf};
+ghost use Rattle.card.specs.Card.{setVerdict};
 ghost use Rattle.pattern.specs.Entries.{itemsField, rewriteField, verdictField, asJudgement, overNumbers};
 ghost use Rattle.pattern.specs.Entries.{heldSheet, checkField, extendField};
 use graph::Head;
@@ -235,4 +237,14 @@ pub fn extend(bytes: &[u8], constraint: &[u8], out: &mut [u8]) -> Written
     }
     let more = graph::sheet_of(next, &start, &sizes);
     writer::write_accepted(more, out)
+}
+
+// ---- the card of five points
+
+// The verdict of five points with the distances whose bit stands in a number, pair (0,1) the lowest bit, then dictionary order; bits from 10 on stand
+// for no pair.
+pub fn card(number: usize) -> Verdict
+    ensures { λ r. ⌜ r ≡ setVerdict 5 (number % 1024) ⌝ }
+{
+    card::verdict(number)
 }

@@ -6,6 +6,9 @@ ghost use Rattle.judge.specs.Judged.{planNumbers, finalClusters};
 ghost use Rattle.account.specs.Account.{reportOf};
 ghost use Rattle.pattern.specs.Entries.{itemsField, rewriteField, verdictField, asJudgement, overNumbers, checkField, extendField};
 ghost use Rattle.sheet.specs.Facts.{blankConstraint};
+ghost use Prim.Native.Nat.{_%_};
+ghost use Rattle.card.specs.Card.{setVerdict};
+ghost use Rattle.pattern.specs.declared.Judgement.the-variants.{Is};
 ghost use Rattle.pattern_c.specs.Numbers.{asCount, asNumber, AnswersCount};
 ghost use Rattle.pattern_c.specs.Columns.{constraintIn, constraintsIn, sheetIn};
 use pattern::Judgement;
@@ -181,4 +184,13 @@ pub extern "C" fn pattern_add(sheet: &[u8], constraint: &[u8], out: &mut [u8]) -
     ensures { λ r. ⌜ AnswersCount (extendField (now (sheet .entry)) (now (constraint .entry))) (now (out .entry)) r (now (out .exit)) ⌝ }
 {
     count(pattern::extend(sheet, constraint, out))
+}
+
+// The verdict of five points with the distances whose bit stands in a number, 0 over, 1 angle, 2 well, 3 stuck, 4 under.
+#[no_mangle]
+pub extern "C" fn pattern_card(number: usize) -> i32
+    ensures { λ r. ⌜ r ≡ asCount (asNumber (Is (setVerdict 5 (number % 1024)))) ⌝ }
+{
+    let is = pattern::card(number);
+    count(verdict_number(Judgement::Is(is)))
 }

@@ -38,4 +38,5 @@ unsafe extern "C" {
         out: *mut u8,
         room: usize,
     ) -> i32;
+    pub fn pattern_card(number: usize) -> i32;
 }

@@ -263,14 +263,35 @@ pub enum Verdict {
 pub fn verdict(sheet: &[u8]) -> Result<Verdict, Rule> {
     // SAFETY: the list is a live slice of its length.
     let answer = unsafe { c::pattern_verdict(sheet.as_ptr(), sheet.len()) };
-    match answer {
-        0 => Ok(Verdict::Over),
-        1 => Ok(Verdict::Angle),
-        2 => Ok(Verdict::Well),
-        3 => Ok(Verdict::Stuck),
-        4 => Ok(Verdict::Under),
-        rule => Err(Rule(rule.unsigned_abs() as u8)),
-    }
+    numbered(answer).ok_or(Rule(answer.unsigned_abs() as u8))
+}
+
+/// The verdict of a number.
+fn numbered(number: i32) -> Option<Verdict> {
+    Some(match number {
+        0 => Verdict::Over,
+        1 => Verdict::Angle,
+        2 => Verdict::Well,
+        3 => Verdict::Stuck,
+        4 => Verdict::Under,
+        _ => return None,
+    })
+}
+
+/// The verdict of five points with some of the ten distances between them: bit 0 of the number is the pair (0,1), then
+/// (0,2) and so on in dictionary order to (3,4), bit 9; higher bits have no influence.
+///
+/// ```
+/// use pattern::Verdict;
+///
+/// // each two of points 0 to 3
+/// assert_eq!(pattern::card(0b00_1011_0111), Verdict::Over);
+/// assert_eq!(pattern::card(0), Verdict::Under);
+/// ```
+pub fn card(number: usize) -> Verdict {
+    // SAFETY: a number goes in and a number comes out.
+    let answer = unsafe { c::pattern_card(number) };
+    numbered(answer).expect("a verdict's number")
 }
 
 /// The plan of a sheet: three cluster numbers a step, ascending. Constraint i is cluster i; step k makes cluster e + k.

@@ -1,0 +1,2 @@
+-- How many sets of distances have each verdict.
+pub mod Counts
