@@ -176,6 +176,13 @@ int32_t pattern_add(
  */
 int32_t pattern_card(size_t number);
 
+/*
+ * The sheet of n points with the longest plan: pair (0,1) first and then, for each k from 2 on, the
+ * pairs (k-2,k) and (k-1,k), all of size 300. Its plan has n - 2 steps, and no sheet of n elements that
+ * is not over has a longer one. Tries rule 3, then 17. Answers the count of bytes.
+ */
+int32_t pattern_longest(size_t n, uint8_t *out, size_t room);
+
 #ifdef __cplusplus
 }
 #endif

@@ -53,6 +53,12 @@ pub fn card(number: usize) -> i32 {
     unsafe { c::pattern_card(number) }
 }
 
+/// `pattern_longest`
+#[inline]
+pub fn longest(n: usize, out: &mut [u8]) -> i32 {
+    unsafe { c::pattern_longest(n, out.as_mut_ptr(), out.len()) }
+}
+
 /// `pattern_plan`
 #[inline]
 pub fn plan(sheet: &[u8], out: &mut [u16]) -> i32 {

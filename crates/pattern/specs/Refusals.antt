@@ -16,6 +16,7 @@ use Rattle.writer.specs.Write.{writeField}
 use Rattle.sketch.specs.declared.Taken.the-variants.{Refused as Not}
 use Rattle.sketch.specs.Sketch.{addAnswer}
 use Rattle.account.specs.Account.{reportOf}
+use Rattle.longest.specs.Longest.{longestField}
 use Rattle.pattern.specs.Entries.{itemsField, rewriteField, verdictField, heldSheet, checkField, extendField}
 pub mod Proof
 
@@ -41,6 +42,8 @@ pub record Refusals : Type 0 where
   pub check : (bytes plan : List ℕ) → By (But 14 (Rule 1 16)) (checkField bytes plan)
   pub hold : (bytes : List ℕ) → By (Rule 1 11) (heldSheet bytes)
   pub extend : (bytes more : List ℕ) → By (Rule 1 11) (extendField bytes more)
+  -- the sheet with the longest plan
+  pub longest : (n : ℕ) → By (Rule 3 3) (longestField n)
   -- the report program lends 3,786 bytes, so it never prints "refused 17"
   pub program : (bytes space : List ℕ) (k : ℕ) → Bytes bytes → 3786 ≤ length space → answerTo (itemsField reportOf bytes) space ≡ Refused k
       → Rule 1 10 k

@@ -11,6 +11,7 @@ ghost use Rattle.judge.specs.Judged.{planNumbers, finalClusters};
 ghost use Rattle.sketch.specs.Sketch.{addedOf};
 ghost use Rattle.account.specs.Account.{reportOf};
 ghost use Rattle.card.specs.Card.{setVerdict};
+ghost use Rattle.longest.specs.Longest.{longestField};
 ghost use Rattle.pattern.specs.Entries.{itemsField, rewriteField, verdictField, asJudgement, overNumbers};
 ghost use Rattle.pattern.specs.Entries.{heldSheet, checkField, extendField};
 use graph::Head;
@@ -247,4 +248,13 @@ pub fn card(number: usize) -> Verdict
     ensures { λ r. ⌜ r ≡ setVerdict 5 (number % 1024) ⌝ }
 {
     card::verdict(number)
+}
+
+// ---- the sheet with the longest plan
+
+// The sheet of n points with the longest plan, as bytes in lent space, or the rule of 3 and 17 that refuses.
+pub fn longest(n: usize, out: &mut [u8]) -> Written
+    ensures { λ r. ⌜ Answers (longestField n) (now (out .entry)) r (now (out .exit)) ⌝ }
+{
+    longest::write(n, out)
 }

@@ -8,6 +8,7 @@ ghost use Rattle.pattern.specs.Entries.{itemsField, rewriteField, verdictField,
 ghost use Rattle.sheet.specs.Facts.{blankConstraint};
 ghost use Prim.Native.Nat.{_%_};
 ghost use Rattle.card.specs.Card.{setVerdict};
+ghost use Rattle.longest.specs.Longest.{longestField};
 ghost use Rattle.pattern.specs.declared.Judgement.the-variants.{Is};
 ghost use Rattle.pattern_c.specs.Numbers.{asCount, asNumber, AnswersCount};
 ghost use Rattle.pattern_c.specs.Columns.{constraintIn, constraintsIn, sheetIn};
@@ -193,4 +194,12 @@ pub extern "C" fn pattern_card(number: usize) -> i32
 {
     let is = pattern::card(number);
     count(verdict_number(Judgement::Is(is)))
+}
+
+// The sheet of n points with the longest plan, as bytes in lent space, or the rule of 3 and 17 that refuses.
+#[no_mangle]
+pub extern "C" fn pattern_longest(n: usize, out: &mut [u8]) -> i32
+    ensures { λ r. ⌜ AnswersCount (longestField n) (now (out .entry)) r (now (out .exit)) ⌝ }
+{
+    count(pattern::longest(n, out))
 }

@@ -39,4 +39,5 @@ unsafe extern "C" {
         room: usize,
     ) -> i32;
     pub fn pattern_card(number: usize) -> i32;
+    pub fn pattern_longest(n: usize, out: *mut u8, room: usize) -> i32;
 }

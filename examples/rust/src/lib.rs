@@ -294,6 +294,24 @@ pub fn card(number: usize) -> Verdict {
     numbered(answer).expect("a verdict's number")
 }
 
+/// The sheet of n points with the longest plan, n - 2 steps, as bytes.
+///
+/// ```
+/// use pattern::Rule;
+///
+/// let mut space = [0; pattern::MOST_BYTES];
+/// let sheet = pattern::longest(64, &mut space)?;
+/// let mut plan = [0; pattern::MOST_PLAN];
+/// assert_eq!(pattern::plan(sheet, &mut plan)?.len(), 3 * 62);
+/// assert_eq!(pattern::longest(65, &mut space), Err(Rule(3)));
+/// # Ok::<(), Rule>(())
+/// ```
+pub fn longest(n: usize, out: &mut [u8]) -> Result<&[u8], Rule> {
+    // SAFETY: the list is a live slice of its length, and `out` is borrowed alone.
+    let answer = unsafe { c::pattern_longest(n, out.as_mut_ptr(), out.len()) };
+    written(answer, out)
+}
+
 /// The plan of a sheet: three cluster numbers a step, ascending. Constraint i is cluster i; step k makes cluster e + k.
 ///
 /// ```

@@ -17,9 +17,10 @@ use Rattle.space.specs.Space.Laws.{long-answer}
 use Rattle.sheet.specs.declared.Constraint.{Constraint}
 use Rattle.sheet.specs.declared.Sheet.{Sheet}
 use Rattle.sheet.specs.Facts.{Facts, factsOf}
-use Rattle.sheet.specs.Rules.{constraintFault, sheetFault}
-use Rattle.sheet.specs.Field.{Field, value, refused, next, Bytes}
+use Rattle.sheet.specs.Rules.{elementsInRange, constraintFault, sheetFault}
+use Rattle.sheet.specs.Field.{Field, value, refused, next, demand, Bytes}
 use Rattle.sheet.specs.Decode.{readSheet}
+use Rattle.sheet.specs.Encode.{sheetBytes}
 use Rattle.sheet.specs.Answer.{byRule, answerTo}
 use Rattle.sheet.specs.RoundTrip.{written-read}
 use Rattle.sheet.specs.Refusals.{Rule, But, By, given, ruled, Fault}
@@ -32,6 +33,7 @@ use Rattle.sketch.specs.declared.Taken.the-variants.{Refused as Not}
 use Rattle.sketch.specs.Sketch.{holdFault, extended, nextFault, addFault, asTaken, addAnswer}
 use Rattle.account.specs.Account.{reportOf}
 use Rattle.account.specs.Account.Room.{report-room}
+use Rattle.longest.specs.Longest.{longestSheet, longestField}
 use Rattle.pattern.specs.Entries.{itemsField, held, heldSheet, checkField, longer}
 use Rattle.pattern.specs.Refusals.{Short, Refusals}
 
@@ -128,6 +130,14 @@ by-longer : (f : Facts) (bytes : List ℕ) → By (Rule 1 11) (longer f bytes)
 unfolding longer
 by-longer f bytes = by-next (by-wider ten (by-constraints (f .elements) 1 (f .constraints) bytes)) (λ cs end. given)
 
+by-count : (n : ℕ) → By (Rule 3 3) (longestField n)
+unfolding longestField
+by-count n = by-range (elementsInRange n) (value (sheetBytes (longestSheet n)) []) given
+  where
+    by-range : (b : Bool) (x : Field (List ℕ)) → By (Rule 3 3) x → By (Rule 3 3) (demand b 3 x)
+    by-range true x h = h
+    by-range false x h = ruled {k = 3} (record { from = omega arith; to = omega arith })
+
 pub refusals : Refusals
 refusals = record {
   lent = lent;
@@ -140,5 +150,6 @@ refusals = record {
   check = checked;
   hold = by-sketch;
   extend = λ bytes more. by-next (by-next (by-sketch bytes) (λ f rest. by-next (by-longer f more) by-held)) (λ f rest. given);
+  longest = by-count;
   program = printed;
 }

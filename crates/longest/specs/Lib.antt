@@ -1,0 +1,2 @@
+-- The sheet with the longest plan.
+pub mod Longest
