@@ -112,7 +112,7 @@ int32_t pattern_over(const uint8_t *sheet, size_t len, uint64_t *out, size_t roo
 /* The verdicts, in the order they are tried. */
 enum pattern_verdict_name {
     PATTERN_OVER  = 0, /* some part has a constraint too many */
-    PATTERN_ANGLE = 1, /* some three lines are held by their angles alone */
+    PATTERN_ANGLE = 1, /* some three lines are held by their angles alone, or angles run round four parts or more */
     PATTERN_WELL  = 2, /* fully dimensioned, and built from parts three at a time */
     PATTERN_STUCK = 3, /* as many constraints as that needs, but no such construction */
     PATTERN_UNDER = 4  /* constraints are missing */

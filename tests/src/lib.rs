@@ -1,7 +1,7 @@
 //! A plain Rust implementation of document 01, written by its definitions, and what is needed to run the
 //! proved library beside it: random sheets, damage, lent space with guards, counts.
 //!
-//! The reference: `facts`, `rules`, `reader`, `writer`, `over`, `matching`, `merging`, `verdict`, `placements`,
+//! The reference: `facts`, `rules`, `reader`, `writer`, `over`, `matching`, `merging`, `rings`, `verdict`, `placements`,
 //! `report`, `plans`, `sketch`, and `interface`, which gives the answers the C interface must give.
 //! The runs: `random`, `graph`, `shapes`, `dress`, `tags`, `damage`, `space`, `run`, and `ffi`, the only unsafe code.
 
@@ -22,6 +22,7 @@ pub mod plans;
 pub mod random;
 pub mod reader;
 pub mod report;
+pub mod rings;
 pub mod rules;
 pub mod run;
 pub mod set;

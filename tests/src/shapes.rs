@@ -133,9 +133,23 @@ fn islands(n: usize, random: &mut Random) -> Graph {
     graph
 }
 
+/// Parts in a ring, each with an element in common with the next.
+fn frame(n: usize, random: &mut Random) -> Graph {
+    let mut graph = Graph::new(n);
+    let mut corner = 0;
+    while corner + 1 < n {
+        let size = random.between(2, 6.min(n - corner));
+        let part = if size < 3 || random.chance(50) { strip(size) } else { merge_tree(size, random) };
+        graph.take_in(&part, corner);
+        corner += size - 1;
+    }
+    graph.join(0, corner);
+    graph
+}
+
 /// A graph of one of the plain families.
 fn basic(n: usize, random: &mut Random) -> Graph {
-    match random.below(15) {
+    match random.below(16) {
         0 => strip(n),
         1 => fan(n),
         2 => wheel(n),
@@ -151,6 +165,7 @@ fn basic(n: usize, random: &mut Random) -> Graph {
             grown(&stuck, n, random.pick(&[0, 0, 30, 90]), random)
         }
         13 => scattered(n, random.below(2 * n), random),
+        14 if n >= 5 => frame(n, random),
         _ => scattered(n, random.below(MOST_CONSTRAINTS + 1), random),
     }
 }

@@ -1,10 +1,11 @@
-//! The verdict (document 01, "Verdict names").
+//! The verdict (document 01, "Verdict names"; document 02, 2026-03, on "angle").
 
 use crate::facts::Sheet;
 use crate::matching::by_matching;
 use crate::merging::Merges;
 use crate::over::Over;
-use crate::set::within;
+use crate::rings::has_ring;
+use crate::set::{Set, within};
 
 /// A verdict's name; its number is the C interface's.
 #[derive(Clone, Copy, PartialEq, Eq, PartialOrd, Ord, Debug)]
@@ -50,7 +51,7 @@ pub fn verdict(sheet: &Sheet, judged: &Judged) -> Verdict {
         return Verdict::Over;
     };
     let full = sheet.e() == 2 * sheet.n() - 3;
-    if merges.steps.iter().any(|step| within(step.joint, sheet.lines())) {
+    if angle_by_joint(sheet, merges) || angle_by_ring(sheet, merges) {
         Verdict::Angle
     } else if full && merges.finals.len() == 1 {
         Verdict::Well
@@ -59,4 +60,19 @@ pub fn verdict(sheet: &Sheet, judged: &Judged) -> Verdict {
     } else {
         Verdict::Under
     }
+}
+
+/// Some joint is three lines.
+pub fn angle_by_joint(sheet: &Sheet, merges: &Merges) -> bool {
+    merges.steps.iter().any(|step| within(step.joint, sheet.lines()))
+}
+
+/// Four or more final clusters make a ring of lines.
+pub fn angle_by_ring(sheet: &Sheet, merges: &Merges) -> bool {
+    has_ring(&final_sets(merges), sheet.lines())
+}
+
+/// The final clusters as sets.
+pub fn final_sets(merges: &Merges) -> Vec<Set> {
+    merges.finals.iter().map(|&(_, set)| set).collect()
 }

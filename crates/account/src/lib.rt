@@ -24,7 +24,7 @@ fn put_list(h: Head, start: &[u64; 200], sizes: &[i32; 200], run: Run, out: &mut
     let count = run.steps;
     let joints = run.joints;
     let slots = run.slots;
-    let verdict = engine::settle(&joints, count, h.n, h.e, h.lines);
+    let verdict = engine::settle(&joints, &slots, count, h.n, h.e, h.lines);
     let steps = engine::steps_of(run, start, sizes, h.lines, h.e);
     report::write_report(out, h.n, h.e, verdict, steps, count, &slots, h.e + count)
 }

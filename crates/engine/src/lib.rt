@@ -39,12 +39,25 @@ fn angled(joints: &[u64; ELEMENTS], steps: usize, lines: u64) -> bool
     false
 }
 
-// The verdict of a list of merges, after "over", for its final clusters: e less two a step are left.
-pub fn settle(joints: &[u64; ELEMENTS], steps: usize, n: usize, e: usize, lines: u64) -> Verdict
-    requires { ⌜ (steps ≤ 64) × (2 * steps ≤ e) × (n ≤ 64) × (e ≤ 200) × (length (now joints) ≡ 64) ⌝ }
-    ensures { λ r. ⌜ ((finals : List ℕ) → left finals + 2 * steps ≡ e → r ≡ judged lines n e (take steps (now (joints .entry))) finals) ⌝ }
+// The verdict of a list of merges, after "over", by its joints and its final clusters, of which e less two a step are left.
+pub fn settle(
+    joints: &[u64; ELEMENTS],
+    slots: &[u64; PLACES],
+    steps: usize,
+    n: usize,
+    e: usize,
+    lines: u64,
+) -> Verdict
+    requires { ⌜ (steps ≤ 64) × (2 * steps ≤ e) × (n ≤ 64) × (e + steps ≤ 192) × (length (now joints) ≡ 64) × (length (now slots) ≡ 192) ⌝ }
+    ensures { λ r. ⌜ ((finals : List ℕ) → take (e + steps) (now (slots .entry)) ≡ finals → left finals + 2 * steps ≡ e
+        → r ≡ judged lines n e (take steps (now (joints .entry))) finals) ⌝ }
 {
     if angled(joints, steps, lines) {
+        return Verdict::Angle;
+    }
+    let all = &slots[..];
+    let used = e + steps;
+    if rings::ringed(&all[0..used], lines) {
         return Verdict::Angle;
     }
     if e + 3 != 2 * n {

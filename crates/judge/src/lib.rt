@@ -63,7 +63,8 @@ fn listed(h: Head, run: Run) -> Judged
         → length (g .clusters) ≡ h .e → r ≡ listedOf g (m .p)) ⌝ }
 {
     let joints = run.joints;
-    let verdict = engine::settle(&joints, run.steps, h.n, h.e, h.lines);
+    let slots = run.slots;
+    let verdict = engine::settle(&joints, &slots, run.steps, h.n, h.e, h.lines);
     Judged {
         verdict,
         first: 0,
@@ -113,7 +114,7 @@ fn judged_verdict(h: Head, near: &[u64; 64], start: &[u64; 200]) -> Verdict
     verdict
 }
 
-// The verdict of a sheet with two lines or fewer, of which no joint is three lines, and fewer than 2n-3 constraints.
+// The verdict of a sheet with two lines or fewer, too few for a joint of three or a ring, and fewer than 2n-3 constraints.
 fn sparse_verdict(h: Head, near: &[u64; 64], start: &[u64; 200]) -> Verdict
     requires { ⌜ Drawn h (now near) (now start) × (ones (h .lines) ≤ 2) × (h .e + 3 < 2 * h .n) ⌝ }
     ensures { λ r. ⌜ ((z : List ℤ) → r ≡ verdictOf (graphIn h (now (start .entry)) z)) ⌝ }

@@ -7,7 +7,8 @@ use pattern_tests::interface::Found;
 use pattern_tests::merging::Merges;
 use pattern_tests::run::{Hex, Run, rules};
 use pattern_tests::set::Set;
-use pattern_tests::verdict::{Judged, verdict};
+use pattern_tests::rings;
+use pattern_tests::verdict::{Judged, angle_by_joint, angle_by_ring, final_sets, verdict};
 use pattern_tests::{calls, damage, dress, tags, writer};
 
 const ROUNDS: usize = 20_000;
@@ -23,6 +24,7 @@ fn main() -> ExitCode {
         if let Ok((sheet, judged)) = found.accepted() {
             run.count("sheets", verdict(sheet, judged).name());
             orders(&mut run, sheet, judged);
+            angles(&mut run, sheet, judged);
         }
         let damaged = damage::aimed(&bytes, &mut run.random);
         calls::plan(&mut run, &damaged, &Found::of(&damaged));
@@ -30,6 +32,10 @@ fn main() -> ExitCode {
     for verdict in ["over", "angle", "well", "stuck", "under"] {
         run.must("sheets", verdict, 500);
     }
+    for angle in ["by joint", "by ring", "by both", "by ring, no constraint missing"] {
+        run.must("angle", angle, 50);
+    }
+    run.must("rings", "searched", 1000);
     for function in ["pattern_verdict", "pattern_plan", "pattern_clusters"] {
         rules(1..=10).for_each(|rule| run.must(function, &rule, 100));
     }
@@ -45,6 +51,29 @@ fn orders(run: &mut Run, sheet: &Sheet, judged: &Judged) {
         let input = Hex(&writer::bytes(sheet)).to_string();
         run.same("reference", &input, sorted(&other), sorted(engine));
         run.same("reference", &input, verdict(sheet, &Judged::Merged(other)), verdict(sheet, judged));
+    }
+}
+
+/// Counts what an angle comes from; on sheets of few final clusters a ring is searched for by its definition too.
+fn angles(run: &mut Run, sheet: &Sheet, judged: &Judged) {
+    let Judged::Merged(merges) = judged else {
+        return;
+    };
+    let ring = angle_by_ring(sheet, merges);
+    match (angle_by_joint(sheet, merges), ring) {
+        (true, true) => run.count("angle", "by both"),
+        (true, false) => run.count("angle", "by joint"),
+        (false, true) => run.count("angle", "by ring"),
+        (false, false) => {}
+    }
+    if ring && sheet.e() == 2 * sheet.n() - 3 {
+        run.count("angle", "by ring, no constraint missing");
+    }
+    let finals = final_sets(merges);
+    if finals.len() <= 9 {
+        run.count("rings", "searched");
+        let input = Hex(&writer::bytes(sheet)).to_string();
+        run.same("reference", &input, ring, rings::search(&finals, sheet.lines()));
     }
 }
 

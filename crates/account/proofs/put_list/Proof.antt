@@ -22,15 +22,15 @@ module _ (c : tie.Start) where
 
 settle-requires : tie.Need-settle-requires
 settle-requires c κs =
-    let s = c .before .before .before .before in
-    (omega (arith, few s), few s .2, few s .0, omega (arith, few s), joints-long s)
+    let s = c .before .before .before .before .before in
+    (omega (arith, few s), few s .2, few s .0, omega (arith, few s), joints-long s, slots-long s)
 
 steps-of-requires : tie.Need-steps-of-requires
-steps-of-requires c κs = let s = c .before .before .before .before .before in (few s .1, few s .3)
+steps-of-requires c κs = let s = c .before .before .before .before .before .before in (few s .1, few s .3)
 
 -- the arrays when the report is written
 abbrev start : tie.After-struct-known → tie.Start
-start c = c .before .before .before .before .before .before .before .before .before
+start c = c .before .before .before .before .before .before .before .before .before .before
 
 write-report-requires : tie.Need-write-report-requires
 write-report-requires c κs =

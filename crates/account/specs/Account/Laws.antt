@@ -1,14 +1,11 @@
 -- The report of a list of merges, from the arrays that hold the graph and the list. Assumes nothing.
 use Prim.Native.Nat.{ℕ, _+_, _*_, _≤_}
 use native.Mathlib.Omega.{arith}
-use mathlib.Core.Path.{_≡_, refl, sym, ap, _∙_, subst}
+use mathlib.Core.Path.{_≡_, refl, sym, ap, subst}
 use mathlib.Core.List.{List}
 use lib.IntN.{ℤ}
 use lib.ListN.{length, take}
-use Rattle.theory.specs.Block.Laws.{take-block}
 use Rattle.theory.specs.Constraints.{NotOver}
-use Rattle.theory.specs.Merge.{final, left}
-use Rattle.theory.specs.Verdict.{judged}
 use Rattle.theory.specs.declared.Verdict.{Verdict}
 use Rattle.theory.specs.declared.Step.{Step}
 use Rattle.theory.specs.Graph.{Graph, stepsOf}
@@ -16,11 +13,10 @@ use Rattle.graph.specs.declared.Head.{Head}
 use Rattle.graph.specs.Lent.{graphIn, Sound}
 use Rattle.graph.specs.Lent.Sheets.{fine-few}
 use Rattle.merges.specs.Run.{runOf, Merged}
-use Rattle.merges.specs.Run.Laws.{length-final}
 use Rattle.merges.specs.declared.Run.{Run}
 use Rattle.engine.specs.Steps.{Stepped}
 use Rattle.engine.specs.Steps.Laws.{stepped-are}
-use Rattle.judge.specs.Judged.Laws.{steps-few, listed-verdict}
+use Rattle.judge.specs.Judged.Laws.{steps-few, listed-verdict, finals-are, Settled}
 use Rattle.report.specs.Report.{report}
 use Rattle.report.specs.Pieces.{AllSmall}
 use Rattle.report.specs.Report.Bound.{report-most, small-steps}
@@ -41,15 +37,8 @@ module _ (h : Head) (start : List ℕ) (sizes : List ℤ) (sound : Sound (h .n) 
   unfolding runOf
   steps-are = ap (λ (r : Run). r .steps) (m .is)
 
-  finals : take (h .e + run .steps) (run .slots) ≡ final (g .clusters) (m .p)
-  unfolding runOf
-  finals =
-      ap (λ (r : Run). take (h .e + run .steps) (r .slots)) (m .is)
-      ∙ take-block 192 0 (final (g .clusters) (m .p)) (h .e + run .steps) (omega (arith, length-final (m .p) (g .clusters), count, steps-are))
-
   -- what they give is the list's own
-  module _ {v : Verdict} {steps : List Step}
-      (is : (finals : List ℕ) → left finals + 2 * run .steps ≡ h .e → v ≡ judged (h .lines) (h .n) (h .e) (take (run .steps) (run .joints)) finals)
+  module _ {v : Verdict} {steps : List Step} (is : Settled h run v)
       (stepped : Stepped (h .lines) (h .e) sizes start run steps) where
     steps-list : take (run .steps) steps ≡ stepsOf g (m .p)
     steps-list =
@@ -58,7 +47,7 @@ module _ (h : Head) (start : List ℕ) (sizes : List ℤ) (sound : Sound (h .n) 
 
     pub reported : report (h .n) (h .e) v (take (run .steps) steps) (take (h .e + run .steps) (run .slots)) ≡ listReport g (m .p)
     unfolding listReport
-    reported = rw (listed-verdict g (sound .simple .pairs) m {h = h} refl refl count is, steps-list, finals, count)
+    reported = rw (listed-verdict g (sound .simple .pairs) m {h = h} refl refl count is, steps-list, finals-are (g .clusters) (sound .simple .pairs) m count, count)
 
     pub all-small : AllSmall (take (run .steps) steps)
     all-small =

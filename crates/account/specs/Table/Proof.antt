@@ -7,6 +7,8 @@ use Rattle.theory.specs.Constraints.{pair, has, carried}
 use Rattle.theory.specs.Over.{heavy, anyBelow, isOver, isTight, smaller, fewestBelow, smallestSet, next, overUpTo, overOf}
 use Rattle.theory.specs.Merge.{union, joint, cleared, put, total, left, joints}
 use Rattle.theory.specs.Plan.{openTest, thirdOf, secondOf, firstOf, plan, planOf, ascending}
+use Rattle.theory.specs.Ring as ring
+use Rattle.theory.specs.Ring.{ringed, stripped, once, linked}
 use Rattle.theory.specs.Verdict.{angled, judged}
 use Rattle.theory.specs.Placement.{jointKind, against, triangle, strip, stripOf, placed, ways}
 use Rattle.theory.specs.Graph.{listVerdict, stepOf, stepsFrom}
@@ -21,7 +23,7 @@ use Rattle.account.specs.Table.{Row, table, Printed}
 
 printed : map (λ (r : Row). reportOf (graphOf (r .facts))) table ≡ map (λ (r : Row). r .prints) table
 unfolding reportOf listReport report overReport stepLines stepLine clusterLines slotLine clusterLine decimal elements among at stepsFrom
-    stepOf ascending ways placed triangle strip stripOf against jointKind listVerdict judged angled planOf plan firstOf secondOf thirdOf
+    stepOf ascending ways placed triangle strip stripOf against jointKind listVerdict judged angled ringed stripped ring.strip once linked planOf plan firstOf secondOf thirdOf
     openTest put cleared union joint joints left total has carried ones _∩_ _∪_ elementsOf linesOf pair isOver anyBelow heavy isTight smaller
     fewestBelow smallestSet next overUpTo overOf
 printed = refl

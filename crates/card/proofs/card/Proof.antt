@@ -5,6 +5,7 @@ use Rattle.theory.specs.Constraints.{pair, has, carried}
 use Rattle.theory.specs.Over.{heavy, anyBelow, isOver, isTight, smaller, fewestBelow, smallestSet, next, overUpTo, overOf}
 use Rattle.theory.specs.Merge.{union, joint, cleared, put, total, left, joints}
 use Rattle.theory.specs.Plan.{openTest, thirdOf, secondOf, firstOf, plan, planOf}
+use Rattle.theory.specs.Ring.{ringed, stripped}
 use Rattle.theory.specs.Verdict.{angled, judged}
 use Rattle.theory.specs.Graph.{listVerdict, verdictOf}
 use Rattle.sheet.specs.Facts.{elementsOf, linesOf}
@@ -13,7 +14,8 @@ use Rattle.card.proofs.card.Statement.{statement}
 use Rattle.card.proofs.card.Tie as tie
 
 returns : tie.Need-returns
-unfolding allRight setVerdict pointsSheet standing eachTwo withEach verdictOf listVerdict judged angled planOf plan firstOf secondOf thirdOf
+unfolding allRight setVerdict pointsSheet standing eachTwo withEach verdictOf listVerdict judged angled ringed stripped planOf plan firstOf
+    secondOf thirdOf
     openTest put cleared union joint joints left total overOf overUpTo next isOver anyBelow heavy isTight smaller fewestBelow smallestSet
     has carried pair elementsOf linesOf ones _∩_ _∪_
 returns c = tt

@@ -10,6 +10,7 @@ use Rattle.theory.specs.Constraints.{pair, has, carried}
 use Rattle.theory.specs.Over.{heavy, anyBelow, isOver, isTight, smaller, fewestBelow, smallestSet, next, overUpTo, overOf}
 use Rattle.theory.specs.Merge.{union, joint, cleared, put, total, left, joints}
 use Rattle.theory.specs.Plan.{openTest, thirdOf, secondOf, firstOf, plan, planOf}
+use Rattle.theory.specs.Ring.{ringed, stripped}
 use Rattle.theory.specs.Verdict.{angled, judged}
 use Rattle.theory.specs.Graph.{listVerdict, verdictOf}
 use Rattle.sheet.specs.Facts.{elementsOf, linesOf}
@@ -38,7 +39,8 @@ test : (n : ℕ) (c : Counts) → T (equal (countsOf n) c) → countsOf n ≡ c
 test n c t = equal-same (countsOf n) c t
 
 pub counted : Counted
-unfolding countsOf countsBelow sets setVerdict pointsSheet standing eachTwo withEach verdictOf listVerdict judged angled planOf plan firstOf
+unfolding countsOf countsBelow sets setVerdict pointsSheet standing eachTwo withEach verdictOf listVerdict judged angled ringed stripped planOf
+    plan firstOf
     secondOf thirdOf openTest put cleared union joint joints left total overOf overUpTo next isOver anyBelow heavy isTight smaller fewestBelow
     smallestSet has carried pair elementsOf linesOf ones _∩_ _∪_
 counted = record {

@@ -13,7 +13,7 @@ returns : tie.Need-returns
 unfolding listed
 returns c = λ g m paired n lines e.
     ap₂ {C = Judged} (λ (v : Verdict) (r : Run). record { verdict = v; first = 0; set = 0; run = r })
-    (listed-verdict g paired m {h = c .before .before .before .args .h} n lines e (c .settle .ensures)) (m .is)
+    (listed-verdict g paired m {h = c .before .before .before .before .before .args .h} n lines e (c .settle .ensures)) (m .is)
 
 pub listed-spec : {M : Type 1} → statement M
 listed-spec = tie.close (tie.spec (λ c κs. search needs) returns)

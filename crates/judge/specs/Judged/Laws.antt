@@ -13,7 +13,7 @@ use Rattle.theory.specs.declared.Verdict.{Verdict}
 use Rattle.theory.specs.Graph.{Graph, listVerdict}
 use Rattle.graph.specs.declared.Head.{Head}
 use Rattle.merges.specs.Run.{runOf, Start, Merged}
-use Rattle.merges.specs.Run.Laws.{length-joints}
+use Rattle.merges.specs.Run.Laws.{length-joints, length-final}
 use Rattle.merges.specs.declared.Run.{Run}
 use Rattle.graph.specs.Lent.{Drawn}
 use Rattle.graph.specs.Lent.Sheets.{counted}
@@ -31,12 +31,22 @@ module _ (cs : List ℕ) (paired : Pairs cs) {run : Run} (m : Merged cs run) whe
   pub steps-few : 2 * run .steps ≤ length cs
   steps-few = omega (arith, steps-are)
 
+  pub finals-are : {e : ℕ} → length cs ≡ e → take (e + run .steps) (run .slots) ≡ final cs (m .p)
+  unfolding runOf
+  finals-are {e} count =
+      let steps-is = ap (λ (r : Run). r .steps) (m .is) in
+      ap (λ (r : Run). take (e + run .steps) (r .slots)) (m .is)
+      ∙ take-block 192 0 (final cs (m .p)) (e + run .steps) (omega (arith, length-final (m .p) cs, count, steps-is))
+
+-- the verdict is that of the joints and final clusters in a run's arrays
+abbrev pub Settled : Head → Run → Verdict → Type 0
+Settled h run v = (finals : List ℕ) → take (h .e + run .steps) (run .slots) ≡ finals → left finals + 2 * run .steps ≡ h .e
+    → v ≡ judged (h .lines) (h .n) (h .e) (take (run .steps) (run .joints)) finals
+
 pub listed-verdict : (g : Graph) → Pairs (g .clusters) → {run : Run} (m : Merged (g .clusters) run) {h : Head} {v : Verdict}
-    → g .n ≡ h .n → g .lines ≡ h .lines → length (g .clusters) ≡ h .e
-    → ((finals : List ℕ) → left finals + 2 * run .steps ≡ h .e → v ≡ judged (h .lines) (h .n) (h .e) (take (run .steps) (run .joints)) finals)
-    → v ≡ listVerdict g (m .p)
+    → g .n ≡ h .n → g .lines ≡ h .lines → length (g .clusters) ≡ h .e → Settled h run v → v ≡ listVerdict g (m .p)
 unfolding runOf listVerdict
 listed-verdict g paired m n lines e is =
     let cs = g .clusters in
-    is (final cs (m .p)) (steps-are cs paired m ∙ e)
+    is (final cs (m .p)) (finals-are cs paired m e) (steps-are cs paired m ∙ e)
     ∙ rw (m .is, ← lines, ← n, ← e, take-block 64 0 (joints cs (m .p)) (length (m .p)) (sym (length-joints (m .p) cs)))

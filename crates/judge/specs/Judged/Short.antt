@@ -20,6 +20,8 @@ use Rattle.theory.specs.Graph.Short.{not-angled, verdict-more, verdict-angle, v
 use Rattle.graph.specs.Lent.{Sound}
 use Rattle.peeling.specs.Core.{Core, Told}
 use Rattle.peeling.specs.Core.Peeling.{core-none}
+use Rattle.theory.specs.Over.Laws.{overOf-fine}
+use Rattle.theory.specs.Ring.Laws.{few-ringed, one-ringed}
 use Rattle.peeling.specs.Core.Merging.{loose-one}
 use Rattle.merges.specs.Run.{Merged, Planned}
 use Rattle.merges.specs.declared.Run.{Run}
@@ -56,10 +58,13 @@ module _ (g : Graph) (sound : Sound (g .n) (g .clusters)) where
   pub more-is : 2 * g .n < length cs + 3 → verdictOf g ≡ Over
   more-is h = verdict-more g (sound .two) (sound .simple .pairs) (sound .below) h
 
-  -- fewer than 2n-3 constraints, and no three lines
+  -- fewer than 2n-3 constraints, and too few lines for a joint of three or a ring
   pub fewer-is : ones (g .lines) ≤ 2 → findingOf g ≡ Fine → length cs + 3 < 2 * g .n → verdictOf g ≡ Under
   fewer-is few fine h =
-      verdict-fewer g fine (not-angled (g .lines) few cs (planOf cs) (plan-of-maximal cs (sound .simple .pairs) .valid)) (λ e. omega (arith, e))
+      let pairs = sound .simple .pairs in
+      let m = plan-of-maximal cs pairs in
+      verdict-fewer g fine (not-angled (g .lines) few cs (planOf cs) (m .valid))
+      (few-ringed cs pairs (overOf-fine (g .n) cs pairs (sound .below) fine) (planOf cs) m (g .lines) (omega arith)) (λ e. omega (arith, e))
 
   -- 2n-3 constraints that peel off to the last element
   module _ {left : ℕ} {angle : Bool} (full : length cs + 3 ≡ 2 * g .n) (t : Told cs (g .lines) left angle) (none : left ≡ 0) where
@@ -77,6 +82,7 @@ module _ (g : Graph) (sound : Sound (g .n) (g .clusters)) where
 
     pub well-peeled : angle ≡ false → verdictOf g ≡ Well
     well-peeled e =
-        verdict-one g none-found (sym angle-is ∙ e) full
-        (loose-one (g .n) cs (sound .two) (sound .most) (sound .simple .pairs) (sound .below) fine (t .core .loose none) full (planOf cs)
-        (plan-of-maximal cs (sound .simple .pairs)))
+        let m = plan-of-maximal cs (sound .simple .pairs) in
+        let one =
+        loose-one (g .n) cs (sound .two) (sound .most) (sound .simple .pairs) (sound .below) fine (t .core .loose none) full (planOf cs) m in
+        verdict-one g none-found (sym angle-is ∙ e) (one-ringed cs (sound .simple .pairs) fine (planOf cs) m (g .lines) one) full one

@@ -15,6 +15,7 @@ use Rattle.theory.specs.Merge.Count.{steps-left}
 use Rattle.theory.specs.Plan.{planOf}
 use Rattle.theory.specs.Plan.Laws.{plan-of-maximal}
 use Rattle.theory.specs.Graph.Laws.{fine-finding}
+use Rattle.theory.specs.Ring.Laws.{one-ringed}
 use Rattle.theory.specs.Graph.Short.{not-angled, verdict-one}
 use Rattle.sheet.specs.Facts.Laws.{elementsOf-length, linesOf-elementsOf}
 use Rattle.sheet.specs.Rules.{elementsInRange}
@@ -66,7 +67,7 @@ module _ (n : ℕ) (taken : elementsInRange n ≡ true) where
         well =
             verdict-one g fine
             (not-angled (g .lines) (omega (arith, ap ones (linesOf-elementsOf n 0 (pow-pos n)), size-zero)) cs (planOf cs) (plan-maximal .valid))
-            (omega (arith, full-count, count)) one-left;
+            (one-ringed cs (strip-pairs j) (strip-fine j) (planOf cs) plan-maximal (g .lines) one-left) (omega (arith, full-count, count)) one-left;
         steps = plan-steps;
         most = λ f accepted size fine-sheet ds order p valid.
             let turned = sheet-demand3 f accepted fine-sheet .orders ds order in

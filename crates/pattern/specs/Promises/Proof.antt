@@ -5,15 +5,15 @@ use mathlib.Core.Path.{_≡_, refl, sym, ap, _∙_, subst}
 use mathlib.Core.Logic.{_≢_, _↔_, Iff·trans}
 use mathlib.Core.List.{List, [], _∷_, _++_}
 use native.Mathlib.Omega.{arith}
-use lib.Count.{ones}
 use lib.ListN.{length, getD}
 use Rattle.theory.specs.Constraints.{Among, Pairs, Below, Perm, NotOver}
 use Rattle.theory.specs.Constraints.Perm.{same, skip, swap, then}
 use Rattle.theory.specs.Over.{IsOver}
 use Rattle.theory.specs.Over.Laws.{overOf-first}
-use Rattle.theory.specs.Merge.{Merge, Valid, Maximal, final, joints, live, left}
+use Rattle.theory.specs.Merge.{Merge, Maximal, final, joints, live, left}
 use Rattle.theory.specs.Plan.{planOf}
 use Rattle.theory.specs.Plan.Laws.{plan-of-maximal}
+use Rattle.theory.specs.Ring.Laws.{ringed-is}
 use Rattle.theory.specs.Verdict.{Meets, meets-angle, meets-well, meets-stuck, meets-under}
 use Rattle.theory.specs.Verdict.Laws.{judged-meets, under-below, stuck-several}
 use Rattle.theory.specs.Graph.{Graph, findingOf, listVerdict, verdictOf}
@@ -219,7 +219,9 @@ module _ (bytes : List ℕ) (f : Facts) (rest : List ℕ) (all : Bytes bytes) (r
     }
       where
         met : Meets (g .lines) (g .n) (length (g .clusters)) (joints (g .clusters) p) (final (g .clusters) p) (listVerdict g p)
-        met = judged-meets (g .lines) (g .n) (length (g .clusters)) (joints (g .clusters) p) (final (g .clusters) p)
+        met =
+            judged-meets (g .lines) (g .n) (length (g .clusters)) (joints (g .clusters) p) (final (g .clusters) p)
+            (ringed-is (g .clusters) pairs fine p v (g .lines))
 
         stuck-is : (w : Verdict) → Meets (g .lines) (g .n) (length (g .clusters)) (joints (g .clusters) p) (final (g .clusters) p) w → w ≡ Stuck
             → 2 ≤ left (final (g .clusters) p)

@@ -15,6 +15,7 @@ use Rattle.theory.specs.Merge.Count.{same-left}
 use Rattle.theory.specs.Plan.{planOf}
 use Rattle.theory.specs.Plan.Laws.{plan-of-maximal}
 use Rattle.theory.specs.Plan.Order.{joint-ascending}
+use Rattle.theory.specs.Ring.Laws.{same-ringed}
 use Rattle.theory.specs.Verdict.Laws.{angled-same, judged-same, judged-not-over}
 use Rattle.theory.specs.Graph.{Graph, findingOf, listVerdict, verdictBy, verdictOf, stepOf, stepsFrom}
 use Rattle.theory.specs.declared.Finding.{Finding}
@@ -37,6 +38,7 @@ same-verdict g h n l r pairs f p q v w =
     (final (g .clusters) p) (final (h .clusters) q)
     (angled-same (g .lines) (joints (g .clusters) p) (joints (h .clusters) q)
     (every-order (g .clusters) pairs f (h .clusters) r p q v w .same-joints))
+    (same-ringed (g .clusters) pairs f (h .clusters) r p q v w (g .lines))
     (same-left (g .clusters) pairs f (h .clusters) r p q v w)
     ∙ rw (n, l, ← length-perm r)
 

@@ -1,7 +1,7 @@
 -- Verdicts that need no list of merges. Assumes nothing.
-use mathlib.Core.Path.{_≡_, refl, sym, ap, _∙_, subst}
+use mathlib.Core.Path.{_≡_, refl, sym, ap, ap₂, _∙_, subst}
 use mathlib.Core.Logic.{_≢_, inl, inr}
-use mathlib.Core.Bool.{Bool, true, false}
+use mathlib.Core.Bool.{Bool, true, false, _||_}
 use mathlib.Core.List.{List, [], _∷_}
 use Prim.Native.Nat.{ℕ, _+_, _*_, _≤_, _<_}
 use native.Mathlib.Omega.{arith}
@@ -15,6 +15,7 @@ use Rattle.theory.specs.Merge.{Merge, three, put, final, joints, left, V
 use Rattle.theory.specs.Merge.Threes.{size-joint}
 use Rattle.theory.specs.Plan.{planOf}
 use Rattle.theory.specs.Over.Laws.{more-over}
+use Rattle.theory.specs.Ring.{ringed}
 use Rattle.theory.specs.Verdict.{angled, judged}
 use Rattle.theory.specs.Verdict.Laws.{angled-is}
 use Rattle.theory.specs.Graph.{Graph, findingOf, listVerdict, verdictOf}
@@ -52,11 +53,11 @@ module _ (g : Graph) where
     verdict-angle e =
         let l = eqb (left (final cs (planOf cs))) 1 in
         fine-verdict g fine
-        ∙ ap (λ (a : Bool). elim a
+        ∙ ap (λ (a : Bool). elim (a || ringed (g .lines) (final cs (planOf cs)))
         [ true ↦ Angle | false ↦ elim (eqb (length cs + 3) (2 * g .n)) [ true ↦ elim l [ true ↦ Well | false ↦ Stuck ] | false ↦ Under ] ]) e
 
-    -- none is
-    module _ (none : angled (g .lines) (joints cs (planOf cs)) ≡ false) where
+    -- none is, and no ring runs round
+    module _ (none : angled (g .lines) (joints cs (planOf cs)) ≡ false) (open-ended : ringed (g .lines) (final cs (planOf cs)) ≡ false) where
       -- what the count of constraints and of clusters left decides
       counted : (b : Bool) → eqb (length cs + 3) (2 * g .n) ≡ b
           → verdictOf g ≡ elim b [ true ↦ elim (eqb (left (final cs (planOf cs))) 1) [ true ↦ Well | false ↦ Stuck ] | false ↦ Under ]
@@ -65,7 +66,7 @@ module _ (g : Graph) where
           let l = eqb (left (final cs (planOf cs))) 1 in
           fine-verdict g fine
           ∙ ap (λ (a : Bool). elim a
-          [ true ↦ Angle | false ↦ elim (eqb (length cs + 3) (2 * g .n)) [ true ↦ elim l [ true ↦ Well | false ↦ Stuck ] | false ↦ Under ] ]) none
+          [ true ↦ Angle | false ↦ elim (eqb (length cs + 3) (2 * g .n)) [ true ↦ elim l [ true ↦ Well | false ↦ Stuck ] | false ↦ Under ] ]) (ap₂ _||_ none open-ended)
           ∙ ap (λ (a : Bool). elim a [ true ↦ elim l [ true ↦ Well | false ↦ Stuck ] | false ↦ Under ]) e
 
       -- fewer constraints than 2n-3

@@ -1,6 +1,6 @@
 -- What the verdict names say, by the tests and by the relation. Assumes nothing.
-use mathlib.Core.Path.{_≡_, refl, sym, ap₂, subst}
-use mathlib.Core.Logic.{_≢_, _↔_, inl, inr}
+use mathlib.Core.Path.{_≡_, refl, sym, ap, ap₂, subst}
+use mathlib.Core.Logic.{_≢_, _↔_, _⊎_, inl, inr, ⊎-elim}
 use mathlib.Core.Bool.{Bool, true, false, _||_}
 use mathlib.Core.List.{List, [], _∷_}
 use Prim.Native.Nat.{ℕ, _+_, _*_, _≤_, _<_}
@@ -14,9 +14,22 @@ use Rattle.theory.specs.Constraints.{Among, Pairs, Below, NotOver}
 use Rattle.theory.specs.Merge.{Merge, final, left, Valid}
 use Rattle.theory.specs.Merge.Count.{steps-left, steps-half}
 use Rattle.theory.specs.Over.Laws.{fine-most}
-use Rattle.theory.specs.Verdict.{verdictNumber, allLines, angled, judged, Angled, Meets, meets-angle, meets-well, meets-stuck, meets-under}
+use Rattle.theory.specs.Ring.{AngleRing, ringed}
+use Rattle.theory.specs.Verdict.{verdictNumber, allLines, angled, angleBound, judged, Angled, AngleBound, Meets}
+use Rattle.theory.specs.Verdict.{meets-angle, meets-well, meets-stuck, meets-under}
 use Rattle.theory.specs.declared.Verdict.{Verdict}
 use Rattle.theory.specs.declared.Verdict.the-variants.{Over, Angle, Well, Stuck, Under}
+
+-- ---- tests joined
+
+or-either : (a b : Bool) → T (a || b) → T a ⊎ T b
+or-either true b t = inl t
+or-either false b t = inr t
+
+either-or : (a b : Bool) → T a ⊎ T b → T (a || b)
+either-or true b h = tt
+either-or false b (inl t) = absurd t
+either-or false b (inr t) = t
 
 -- ---- what the names say
 
@@ -47,16 +60,20 @@ angled-is lines js t = let r = angled-some lines js t in (r .0, r .1, ∩≡⇒�
 pub is-angled : (lines : ℕ) (js : List ℕ) → Angled lines js → T (angled lines js)
 is-angled lines js (j, i, h) = some-angled lines js j i (eq-test (j ∩ lines) j (⊑⇒∩≡ j lines h))
 
-pub judged-meets : (lines n e : ℕ) (js s : List ℕ) → Meets lines n e js s (judged lines n e js s)
+-- where the test for a ring is right, as on the final clusters of every sheet that is not over
+pub judged-meets : (lines n e : ℕ) (js s : List ℕ) → (T (ringed lines s) ↔ AngleRing s lines) → Meets lines n e js s (judged lines n e js s)
 unfolding judged
-judged-meets lines n e js s = go (angled lines js) (eqb (e + 3) (2 * n)) (eqb (left s) 1) refl refl refl
+judged-meets lines n e js s ring = go (angleBound lines js s) (eqb (e + 3) (2 * n)) (eqb (left s) 1) refl refl refl
   where
-    none : angled lines js ≡ false → Angled lines js → ⊥
-    none q h = subst T q (is-angled lines js h)
+    bound : T (angleBound lines js s) → AngleBound lines js s
+    bound t = ⊎-elim (λ a. inl (angled-is lines js a)) (λ r. inr (ring .0 r)) (or-either (angled lines js) (ringed lines s) t)
 
-    go : (a b c : Bool) → angled lines js ≡ a → eqb (e + 3) (2 * n) ≡ b → eqb (left s) 1 ≡ c
+    none : angleBound lines js s ≡ false → AngleBound lines js s → ⊥
+    none q h = subst T q (either-or (angled lines js) (ringed lines s) (⊎-elim (λ a. inl (is-angled lines js a)) (λ r. inr (ring .1 r)) h))
+
+    go : (a b c : Bool) → angleBound lines js s ≡ a → eqb (e + 3) (2 * n) ≡ b → eqb (left s) 1 ≡ c
         → Meets lines n e js s (elim a [ true ↦ Angle | false ↦ elim b [ true ↦ elim c [ true ↦ Well | false ↦ Stuck ] | false ↦ Under ] ])
-    go true b c p q r = meets-angle (angled-is lines js (subst T (sym p) tt))
+    go true b c p q r = meets-angle (bound (subst T (sym p) tt))
     go false true true p q r = meets-well (none p) (eqb→eq (e + 3) (2 * n) (subst T (sym q) tt)) (eqb→eq (left s) 1 (subst T (sym r) tt))
     go false true false p q r = meets-stuck (none p) (eqb→eq (e + 3) (2 * n) (subst T (sym q) tt)) (false-ne (left s) 1 r)
     go false false c p q r = meets-under (none p) (false-ne (e + 3) (2 * n) q)
@@ -76,23 +93,25 @@ angled-same lines js ks h =
     (λ t. let r = angled-some lines js t in some-angled lines ks (r .0) (h (r .0) .0 (r .1)) (r .2))
     (λ t. let r = angled-some lines ks t in some-angled lines js (r .0) (h (r .0) .1 (r .1)) (r .2))
 
-pub judged-same : (lines n e : ℕ) (js ks s t : List ℕ) → angled lines js ≡ angled lines ks → left s ≡ left t
+pub judged-same : (lines n e : ℕ) (js ks s t : List ℕ) → angled lines js ≡ angled lines ks → ringed lines s ≡ ringed lines t → left s ≡ left t
     → judged lines n e js s ≡ judged lines n e ks t
 unfolding judged
-judged-same lines n e js ks s t a l =
+judged-same lines n e js ks s t a r l =
     ap₂ (λ (b : Bool) (k : ℕ). elim b
-    [ true ↦ Angle | false ↦ elim (eqb (e + 3) (2 * n)) [ true ↦ elim (eqb k 1) [ true ↦ Well | false ↦ Stuck ] | false ↦ Under ] ]) a l
+    [ true ↦ Angle | false ↦ elim (eqb (e + 3) (2 * n)) [ true ↦ elim (eqb k 1) [ true ↦ Well | false ↦ Stuck ] | false ↦ Under ] ]) (ap₂ _||_ a r) l
 
 -- ---- none of them is over
 
 pub judged-not-over : (lines n e : ℕ) (js s : List ℕ) → judged lines n e js s ≢ Over
-judged-not-over lines n e js s q = go (judged lines n e js s) (judged-meets lines n e js s) q
+unfolding judged
+judged-not-over lines n e js s q = named (angleBound lines js s) (eqb (e + 3) (2 * n)) (eqb (left s) 1) (ap verdictNumber q)
   where
-    go : (v : Verdict) → Meets lines n e js s v → v ≡ Over → ⊥
-    go v (meets-angle h) r = let z : _≡_ {A = ℕ} 0 1 = cc in omega arith
-    go v (meets-well a b c) r = let z : _≡_ {A = ℕ} 0 1 = cc in omega arith
-    go v (meets-stuck a b c) r = let z : _≡_ {A = ℕ} 0 1 = cc in omega arith
-    go v (meets-under a b) r = let z : _≡_ {A = ℕ} 0 1 = cc in omega arith
+    named : (a b c : Bool)
+        → verdictNumber (elim a [ true ↦ Angle | false ↦ elim b [ true ↦ elim c [ true ↦ Well | false ↦ Stuck ] | false ↦ Under ] ]) ≡ 0 → ⊥
+    named true b c e = omega arith
+    named false true true e = omega arith
+    named false true false e = omega arith
+    named false false c e = omega arith
 
 -- over by its number
 pub number-over : (v : Verdict) → verdictNumber v ≡ 0 → v ≡ Over
