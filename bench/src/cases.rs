@@ -99,6 +99,7 @@ pub fn for_plan() -> Vec<Case> {
     cases.extend(growing("Henneberg, no split", true, |n, random| shapes::henneberg(n, 0, random)));
     cases.extend([
         case("strip, mixed", PLAIN, true, |_| shapes::strip(64)),
+        case("book, mixed", PLAIN, true, |_| shapes::book(64)),
         case("merge tree, lines and tags", lines, true, |random| shapes::merge_tree(64, random)),
         case("Henneberg, no split, lines", lines, true, |random| shapes::henneberg(64, 0, random)),
         case("K2,31 closed late, lines", lines, false, |_| shapes::closed_late(64, 31)),

@@ -1,26 +1,28 @@
--- The engine's plan in arrays: merges that came first, until none is open. Assumes nothing.
-use mathlib.Core.Path.{_≡_, sym, _∙_, subst}
+-- The engine's plan in arrays: merges that came first, until none is open or enough are made. Assumes nothing.
+use mathlib.Core.Path.{_≡_, sym, ap, _∙_, subst}
+use mathlib.Core.Logic.{_⊎_, inl, inr}
 use mathlib.Core.List.{List, [], _∷_, _++_}
 use mathlib.Core.Option.{none, some}
-use Prim.Native.Nat.{ℕ, _+_, _<_}
-use lib.ListN.{length, take, replicate}
+use Prim.Native.Nat.{ℕ, _+_, _≤_, _<_}
+use native.Mathlib.Omega.{arith}
+use lib.ListN.{length, take, replicate, List·getD-eq-default}
 use Rattle.theory.specs.Block.{block}
+use Rattle.theory.specs.Block.Laws.{take-block}
 use Rattle.theory.specs.Constraints.{NotOver}
-use Rattle.theory.specs.Merge.{Merge, merge, OpenAt, put, final, Ended}
+use Rattle.theory.specs.Merge.{slot, Merge, merge, Three, three, OpenAt, put, final, Ended}
 use Rattle.theory.specs.Plan.{firstOf, First, IsPlan}
 use Rattle.theory.specs.Plan.Laws.{ascending-same, some-first, none-ended, plan-of-one}
-use Rattle.merges.specs.Run.{places, Start, Planned}
-use Rattle.merges.specs.Run.Laws.{final-snoc}
-use Rattle.merges.specs.Going.{Going, Made}
-use Rattle.merges.specs.Going.Laws.{open-same, slots-same, going-start, going-fewer, union-same, going-next, going-run}
-use Rattle.merges.specs.Search.Links.{Links, Linking, Since, Searchable}
-use Rattle.merges.proofs.Searching.{first-of-same, links-put, since-put, since-none, searchable}
+use Rattle.search.specs.State.{waits, Kept, Ready, Begun, Renewed, Fine}
+use Rattle.search.specs.State.Choice.{kept-todo}
+use Rattle.search.specs.State.Sheet.{all-low, fine-of, fine-same, ready-start, ready-put, ready-same, open-same}
+use Rattle.merges.specs.Run.{places, mostSteps, Start, Planned}
+use Rattle.merges.specs.Run.Laws.{final-snoc, valid-snoc}
+use Rattle.merges.specs.Going.{Slots, Going, Made}
+use Rattle.merges.specs.Going.Laws.{slots-same, used-is, used-few, steps-are, steps-few, going-start, going-fewer, going-next, going-run}
+use Rattle.merges.specs.Search.{Firsts, Running, Stopped}
+use Rattle.merges.proofs.Finding.{first-of-same}
 
--- ---- merges that came first, each at its turn
-
-abbrev pub Firsts : List ℕ → List Merge → Type 0
-Firsts s [] = Unit {0}
-Firsts s (m ∷ p) = First s m × Firsts (put s m) p
+-- ---- merges that came first
 
 firsts-snoc : (p : List Merge) (s : List ℕ) (m : Merge) → Firsts s p → First (final s p) m → Firsts s (p ++ (m ∷ []))
 firsts-snoc [] s m f g = (g, tt)
@@ -30,73 +32,131 @@ firsts-plan : (p : List Merge) (s : List ℕ) → Firsts s p → Ended (final s 
 firsts-plan [] s f e = e
 firsts-plan (r ∷ p) s f e = (f .0, firsts-plan p (put s r) (f .1) e)
 
--- ---- the run
+-- ---- before the first merge the rim is full
 
--- the arrays hold merges that came first, where the constraints are not over, and the links of the clusters that they leave
-pub record Running (cs : List ℕ) (e : ℕ) (slots links parts joints : List ℕ) (steps from last : ℕ) : Type 0 where
-  pub p : List Merge
-  pub going : Going cs e p slots parts joints steps
-  pub room : length links ≡ 64
-  pub linking : Links (final cs p) links
-  pub firsts : NotOver cs → Firsts cs p
-  pub since : NotOver cs → Since (final cs p) from last
+pub ready-begun : {cs : List ℕ} → NotOver cs → {p : List Merge} {slots : List ℕ} {used : ℕ} → Slots cs p slots used → {links hold todo : List ℕ}
+    → Begun slots used links hold → ((c : ℕ) → c < used → waits todo c ≡ 1) → Ready slots used 18446744073709551615 links hold todo
+ready-begun {cs} fine {p} w b t =
+    ready-start (fine-same (λ n. sym (slots-same w n)) (fine-of cs (w .pairs) fine p (w .valid))) (used-few w)
+    (λ n l. slots-same w n ∙ List·getD-eq-default (final cs p) 0 (omega (arith, used-is w))) b t
 
-pub running-start : {start slots links : List ℕ} {e : ℕ} → Start start e → slots ≡ block places 0 (take e start) → Links (take e start) links
-    → length links ≡ 64 → Running (take e start) e slots links (replicate places 0) (replicate 64 0) 0 0 0
-running-start b h ls n = record {
-  p = [];
-  going = going-start b h;
-  room = n;
-  linking = ls;
-  firsts = λ fine. tt;
-  since = λ fine. since-none;
-}
+-- the array begins with the constraints
+pub begin-same : {start slots : List ℕ} {e : ℕ} → Start start e → slots ≡ block places 0 (take e start) → take e slots ≡ take e start
+begin-same {start} {slots} {e} b h = ap (take e) h ∙ take-block places 0 (take e start) e (sym (b .count))
 
-module _ {cs : List ℕ} {e : ℕ} {slots links parts joints : List ℕ} {steps from last : ℕ}
-    (w : Running cs e slots links parts joints steps from last) where
-  can-search : NotOver cs → Searchable slots links (e + steps) from last
-  can-search fine = searchable fine (w .going .clusters) (w .linking) (w .since fine)
+pub running-start : {start slots links hold todo : List ℕ} {e : ℕ} → Start start e → slots ≡ block places 0 (take e start) → Begun slots e links hold
+    → ((c : ℕ) → c < e → waits todo c ≡ 1) → length todo ≡ 3
+    → Running (take e slots) e slots links hold todo (replicate places 0) (replicate 64 0) 0 18446744073709551615
+running-start {start} {slots} {links} {hold} {todo} {e} b h g t l =
+    let w = going-start b h in
+    subst (λ (cs : List ℕ). Running cs e slots links hold todo (replicate places 0) (replicate 64 0) 0 18446744073709551615) (sym (begin-same b h))
+    (record {
+      p = [];
+      going = w;
+      links-long = g .links-long;
+      hold-long = g .hold-long;
+      todo-long = l;
+      low = all-low;
+      firsts = λ fine. tt;
+      ready = λ fine. ready-begun fine (w .clusters)
+          (subst (λ (n : ℕ). Begun slots n links hold) (omega arith) g) (λ c k. t c (omega arith));
+    })
+
+module _ {cs : List ℕ} {e : ℕ} {slots links hold todo parts joints : List ℕ} {steps rim : ℕ}
+    (w : Running cs e slots links hold todo parts joints steps rim) where
+  same : (n : ℕ) → slot slots n ≡ slot (final cs (w .p)) n
+  same = slots-same (w .going .clusters)
 
   first-same : firstOf 0 slots ≡ firstOf 0 (final cs (w .p))
-  first-same = first-of-same slots (final cs (w .p)) (slots-same (w .going .clusters))
+  first-same = first-of-same slots (final cs (w .p)) same
+
+  pub running-few : steps ≤ mostSteps
+  running-few = omega (arith, steps-are (w .going), steps-few (w .going .clusters))
+
+  -- clusters that reach nothing wait no more
+  unfoldable pub running-kept : {todo′ : List ℕ} → Kept slots links rim todo todo′ → length todo′ ≡ 3
+      → Running cs e slots links hold todo′ parts joints steps rim
+  running-kept {todo′} kept long = record {
+    p = w .p;
+    going = w .going;
+    links-long = w .links-long;
+    hold-long = w .hold-long;
+    todo-long = long;
+    low = w .low;
+    firsts = w .firsts;
+    ready = λ fine.
+        let r = w .ready fine in
+        record {
+          fine = r .fine;
+          beyond = r .beyond;
+          rims = r .rims;
+          linking = r .linking;
+          holding = r .holding;
+          queued = kept-todo r (used-few (w .going .clusters)) todo′ kept;
+        };
+  }
+
+  pub running-ended : (Ready slots (e + steps) rim links hold todo → none ≡ firstOf 0 slots) → NotOver cs → Ended (final cs (w .p))
+  running-ended ended fine = none-ended (final cs (w .p)) (sym (ended (w .ready fine) ∙ first-same))
 
   module _ (i j k : ℕ) (l : i < j) (m : j < k) (o : OpenAt slots (merge i j k)) where
     -- what is open in the array is open in the list
     open-there : OpenAt (final cs (w .p)) (merge i j k)
-    open-there = open-same slots (final cs (w .p)) (slots-same (w .going .clusters)) (merge i j k) o
+    open-there = open-same slots (final cs (w .p)) same (merge i j k) o
 
-    pub running-fewer : steps < 62
+    pub running-fewer : steps < mostSteps
     running-fewer = going-fewer (w .going) open-there (ascending-same (merge i j k) l m)
 
-    pub running-next : (Searchable slots links (e + steps) from last → some (merge i j k) ≡ firstOf 0 slots)
-        → {u : ℕ} {slots′ links′ parts′ joints′ : List ℕ} → Made slots parts joints (e + steps) steps (merge i j k) u slots′ parts′ joints′
-        → Linking links u links′ → Running cs e slots′ links′ parts′ joints′ (steps + 1) i u
-    running-next first {u} {slots′} {links′} g ln =
-        let p = w .p in
-        let s = final cs p in
-        let x = merge i j k in
-        let up = ascending-same x l m in
-        let un = union-same (w .going) open-there up g in
-        record {
-          p = p ++ (x ∷ []);
-          going = going-next (w .going) open-there up g;
-          room = ln .long ∙ w .room;
-          linking = subst (λ (t : List ℕ). Links t links′) (sym (final-snoc p cs x))
-              (links-put s x (w .linking) (subst (λ (v : ℕ). Linking links v links′) un ln));
-          firsts = λ fine. firsts-snoc p cs x (w .firsts fine) (came-first fine);
-          since = λ fine. subst (λ (t : List ℕ). Since t i u) (sym (final-snoc p cs x))
-              (subst (λ (v : ℕ). Since (put s x) i v) (sym un) (since-put (came-first fine)));
-        }
+    pub running-next : (NotOver cs → some (merge i j k) ≡ firstOf 0 slots) → {links′ hold′ todo′ : List ℕ} {rim′ : ℕ}
+        → Renewed links hold todo (e + steps) rim (merge i j k) (three slots (merge i j k)) links′ hold′ todo′ rim′
+        → {u : ℕ} {slots′ parts′ joints′ : List ℕ} → Made slots parts joints (e + steps) steps (merge i j k) u slots′ parts′ joints′
+        → Running cs e slots′ links′ hold′ todo′ parts′ joints′ (steps + 1) rim′
+    running-next first {links′} {hold′} {todo′} {rim′} g {u} {slots′} {parts′} {joints′} n = record {
+      p = w .p ++ (x ∷ []);
+      going = next;
+      links-long = g .links-long;
+      hold-long = g .hold-long;
+      todo-long = g .todo-long;
+      low = λ y h. w .low y (g .gone .less y h);
+      firsts = λ fine. firsts-snoc (w .p) cs x (w .firsts fine) (some-first s x (sym (first fine ∙ first-same)));
+      ready = ready′;
+    }
       where
-        came-first : NotOver cs → First (final cs (w .p)) (merge i j k)
-        came-first fine = some-first (final cs (w .p)) (merge i j k) (sym (first (can-search fine) ∙ first-same))
+        x : Merge
+        x = merge i j k
 
-  -- none is open
-  pub running-end : (Searchable slots links (e + steps) from last → none ≡ firstOf 0 slots)
-      → Planned cs (record { steps = steps; parts = parts; joints = joints; slots = slots })
-  running-end ended = record {
-    merged = record { p = w .p; valid = w .going .clusters .valid; is = going-run (w .going) };
-    plan = λ fine.
-        let e = none-ended (final cs (w .p)) (sym (ended (can-search fine) ∙ first-same)) in
-        sym (plan-of-one cs (w .going .clusters .pairs) (w .p) (firsts-plan (w .p) cs (w .firsts fine) e));
-  }
+        s : List ℕ
+        s = final cs (w .p)
+
+        next : Going cs e (w .p ++ (merge i j k ∷ [])) slots′ parts′ joints′ (steps + 1)
+        next = going-next (w .going) open-there (ascending-same x l m) n
+
+        threes : three slots (merge i j k) ≡ three (final cs (w .p)) (merge i j k)
+        threes z = record { a = same i z; b = same j z; c = same k z }
+
+        ready′ : NotOver cs → Ready slots′ (e + (steps + 1)) rim′ links′ hold′ todo′
+        ready′ fine =
+            let used : e + steps ≡ length s = used-is (w .going .clusters) in
+            let r = subst (λ (n : ℕ). Ready s n rim links hold todo) used (ready-same same (w .ready fine)) in
+            let f = subst Fine (final-snoc (w .p) cs x)
+            (fine-of cs (w .going .clusters .pairs) fine (w .p ++ (x ∷ [])) (valid-snoc (w .p) cs x (w .going .clusters .valid) open-there)) in
+            let g′ = subst (λ (n : ℕ). Renewed links hold todo n rim x (three s x) links′ hold′ todo′ rim′) used
+            (subst (λ (t : Three). Renewed links hold todo (e + steps) rim x t links′ hold′ todo′ rim′) threes g) in
+            let q = ready-put r open-there (omega (arith, running-fewer, w .going .clusters .few, w .going .size)) (w .low) f g′ in
+            ready-same (λ n. sym (slots-same (next .clusters) n ∙ ap (λ (t : List ℕ). slot t n) (final-snoc (w .p) cs x)))
+            (subst (λ (n : ℕ). Ready (put s x) n rim′ links′ hold′ todo′) (omega arith) q)
+
+-- without a limit it goes on until none is open
+pub stopped-plan : {cs ds : List ℕ} → cs ≡ ds → {e : ℕ} {slots links hold todo parts joints : List ℕ} {steps rim : ℕ}
+    → Stopped cs e 64 slots links hold todo parts joints steps rim
+    → Planned ds (record { steps = steps; parts = parts; joints = joints; slots = slots })
+stopped-plan {cs} {ds} same {e} {slots} {links} {hold} {todo} {parts} {joints} {steps} w =
+    let r = w .running in
+    subst (λ (l : List ℕ). Planned l (record { steps = steps; parts = parts; joints = joints; slots = slots })) same (record {
+      merged = record { p = r .p; valid = r .going .clusters .valid; is = going-run (r .going) };
+      plan = λ fine. sym (plan-of-one cs (r .going .clusters .pairs) (r .p) (firsts-plan (r .p) cs (r .firsts fine) (ended (w .stops) fine)));
+    })
+  where
+    ended : (steps ≡ 64) ⊎ (NotOver cs → Ended (final cs (w .running .p))) → NotOver cs → Ended (final cs (w .running .p))
+    ended (inl e) fine = absurd (omega (arith, running-few (w .running)))
+    ended (inr h) fine = h fine

@@ -1,25 +1,26 @@
 // Merges of three clusters, masks by number in arrays: the engine's plan of a start, and merges made one by one on arrays that a caller lends.
-// Contracts cite specs/Run.antt and specs/Going.antt. The search for the first open merge stays in here (specs/Search.antt).
+// Contracts cite specs/Run.antt and specs/Going.antt. The crate `search` finds the first open merge; its arrays stay in here (specs/Search.antt).
 ghost use mathlib.Core.Path.{_≡_};
 ghost use mathlib.Core.List.{List, []};
-ghost use Prim.Native.Nat.{ℕ, _/_, _≤_, _<_};
+ghost use Prim.Native.Nat.{ℕ, _≤_, _<_};
 ghost use lib.ListN.{length, take};
 ghost use Rattle.theory.specs.Block.{block};
 ghost use Rattle.theory.specs.Constraints.{NotOver};
 ghost use Rattle.theory.specs.Merge.{Merge, merge as numbers, final};
 ghost use Rattle.theory.specs.Plan.{openTest, firstOf, isSome};
-ghost use Rattle.merges.specs.Run.{mostSteps, places, runOf, Start, Planned};
+ghost use Rattle.merges.specs.Run.{mostConstraints, mostSteps, places, runOf, Start, Planned};
 ghost use Rattle.merges.specs.Going.{Slots, Made};
-ghost use Rattle.merges.specs.Search.{hitOf, Tested};
-ghost use Rattle.merges.specs.Search.Links.{Outs, Lowest, Reaching, Meeting, Searchable, Links, Linking};
-ghost use Rattle.merges.specs.Search.Sums.{Sum, Sums, Resums};
+ghost use Rattle.merges.specs.Search.{hitOf, Tested, Running, Stopped};
+ghost use Rattle.search.specs.State.{Ready, Kept};
 
 // Places for the clusters of 125 constraints and 62 steps, and for three parts a step.
 pub const PLACES: usize = 192;
 // Places for an element or a step each.
 pub const ELEMENTS: usize = 64;
-// The search keeps the union of each eight clusters.
-const BLOCKS: usize = 24;
+// More than the steps of any plan, and the rim before any merge: every element.
+const NO_LIMIT: usize = 64;
+
+const FULL: u64 = 18446744073709551615;
 
 // ---- a list of merges
 
@@ -113,144 +114,7 @@ pub fn step(
     u
 }
 
-// ---- the search for the first open merge
-
-// The elements outside x that are linked to two of its own.
-fn outs(links: &[u64; ELEMENTS], x: u64) -> u64
-    ensures { λ r. ⌜ Outs (now (links .entry)) x r ⌝ }
-{
-    let mut rest = x;
-    let mut once: u64 = 0;
-    let mut twice: u64 = 0;
-    while rest != 0 {
-        let p = u64::trailing_zeros(rest) as usize;
-        let l = links[p];
-        twice = twice | (once & l);
-        once = once | l;
-        rest = rest & (rest - 1);
-    }
-    twice ^ (twice & x)
-}
-
-// The union of the clusters of a block: numbers 8b to 8b + 7.
-fn sum(slots: &[u64; PLACES], b: usize) -> u64
-    requires { ⌜ b < 24 ⌝ }
-    ensures { λ r. ⌜ Sum (now (slots .entry)) b r ⌝ }
-{
-    let mut all: u64 = 0;
-    let mut c = 8 * b;
-    while c < 8 * b + 8 {
-        all = all | slots[c];
-        c += 1;
-    }
-    all
-}
-
-// The union of each block.
-fn sums_of(slots: &[u64; PLACES]) -> [u64; BLOCKS]
-    ensures { λ r. ⌜ Sums (now (slots .entry)) r ⌝ }
-{
-    let mut sums = [0u64; BLOCKS];
-    let mut b: usize = 0;
-    while b < BLOCKS {
-        let s = sum(slots, b);
-        sums[b] = s;
-        b += 1;
-    }
-    sums
-}
-
-// The unions of the blocks after clusters i, j, k and n changed.
-fn resum(sums: &mut [u64; BLOCKS], slots: &[u64; PLACES], i: usize, j: usize, k: usize, n: usize)
-    requires { ⌜ (i < places) × (j < places) × (k < places) × (n < places) ⌝ }
-    ensures { λ r. ⌜ Resums (now (slots .entry)) (now (sums .entry)) i j k n (now (sums .exit)) ⌝ }
-{
-    let a = i / 8;
-    let b = j / 8;
-    let c = k / 8;
-    let d = n / 8;
-    let p = sum(slots, a);
-    let q = sum(slots, b);
-    let r = sum(slots, c);
-    let s = sum(slots, d);
-    sums[a] = p;
-    sums[b] = q;
-    sums[c] = r;
-    sums[d] = s;
-}
-
-// The lowest number from `from` on whose block meets both a and b; `used` if there is none.
-fn skip(sums: &[u64; BLOCKS], used: usize, from: usize, a: u64, b: u64) -> usize
-    requires { ⌜ (from ≤ used) × (used ≤ places) ⌝ }
-    ensures { λ r. ⌜ Lowest (λ c. Meeting (now (sums .entry)) a b (c / 8)) from used r ⌝ }
-{
-    let mut c = from;
-    while c < used {
-        let s = sums[c / 8];
-        if s & a != 0 {
-            if s & b != 0 {
-                return c;
-            }
-        }
-        c = 8 * (c / 8) + 8;
-    }
-    used
-}
-
-// The lowest cluster that reaches an element, below `from` only among those that meet `last`; `used` if there is none.
-fn lowest_reaching(
-    slots: &[u64; PLACES],
-    sums: &[u64; BLOCKS],
-    links: &[u64; ELEMENTS],
-    used: usize,
-    from: usize,
-    last: u64,
-) -> usize
-    requires { ⌜ (from ≤ used) × (used ≤ places) × Sums (now slots) (now sums) ⌝ }
-    ensures { λ r. ⌜ Lowest (Reaching (now (slots .entry)) (now (links .entry)) from last) 0 used r ⌝ }
-{
-    let mut c = skip(sums, from, 0, last, last);
-    while c < used {
-        let x = slots[c];
-        let near = if c < from { x & last } else { x };
-        if near != 0 {
-            let o = outs(links, x);
-            if o != 0 {
-                return c;
-            }
-        }
-        c += 1;
-        if c < from {
-            c = skip(sums, from, c, last, last);
-        }
-    }
-    used
-}
-
-// The lowest cluster from `from` on that meets both a and b; `used` if there is none.
-fn lowest_meeting(
-    slots: &[u64; PLACES],
-    sums: &[u64; BLOCKS],
-    used: usize,
-    from: usize,
-    a: u64,
-    b: u64,
-) -> usize
-    requires { ⌜ (from ≤ used) × (used ≤ places) × Sums (now slots) (now sums) ⌝ }
-    ensures { λ r. ⌜ Lowest (Meeting (now (slots .entry)) a b) from used r ⌝ }
-{
-    let mut c = skip(sums, used, from, a, b);
-    while c < used {
-        let x = slots[c];
-        if x & a != 0 {
-            if x & b != 0 {
-                return c;
-            }
-        }
-        c = skip(sums, used, c + 1, a, b);
-    }
-    used
-}
+// ---- the first open merge
 
 // What the search finds: the numbers of an open merge, ascending.
 enum Hit {
@@ -261,78 +125,109 @@ enum Hit {
 // The first open merge. Where two living clusters may share two elements, an open merge or nothing.
 fn first_open(
     slots: &[u64; PLACES],
-    sums: &[u64; BLOCKS],
     links: &[u64; ELEMENTS],
+    hold: &[u64; PLACES],
+    todo: &mut [u64; 3],
+    rim: u64,
     used: usize,
-    from: usize,
-    last: u64,
 ) -> Hit
-    requires { ⌜ (from ≤ used) × (used ≤ places) × Sums (now slots) (now sums) ⌝ }
+    requires { ⌜ (used ≤ places) × (length (now todo) ≡ 3) ⌝ }
     ensures tested { λ r. ⌜ Tested (now (slots .entry)) used r ⌝ }
-    ensures first { λ r. ⌜ (Searchable (now (slots .entry)) (now (links .entry)) used from last → hitOf r ≡ firstOf 0 (now (slots .entry))) ⌝ }
+    ensures first { λ r. ⌜ (Ready (now (slots .entry)) used rim (now (links .entry)) (now (hold .entry)) (now (todo .entry))
+        → hitOf r ≡ firstOf 0 (now (slots .entry))) ⌝ }
+    ensures kept { λ r. ⌜ Kept (now (slots .entry)) (now (links .entry)) rim (now (todo .entry)) (now (todo .exit))
+        × (length (now (todo .exit)) ≡ 3) ⌝ }
 {
-    let i = lowest_reaching(slots, sums, links, used, from, last);
-    if used <= i {
+    let r = search::lowest_reaching(slots, links, todo, rim);
+    let i = r.cluster;
+    let o = r.outs;
+    if PLACES <= i {
         return Hit::Nothing;
     }
     let x = slots[i];
-    let o = outs(links, x);
-    let j = lowest_meeting(slots, sums, used, i + 1, x, o);
-    if used <= j {
-        return Hit::Nothing;
-    }
-    let y = slots[j];
-    let k = lowest_meeting(slots, sums, used, j + 1, x ^ (x & y), y ^ (y & x));
+    let v = search::best(links, hold, x, o);
+    let j = v / 256;
+    let k = v % 256;
     if used <= k {
         return Hit::Nothing;
     }
-    if open3(x, y, slots[k]) {
+    if j <= i {
+        return Hit::Nothing;
+    }
+    if k <= j {
+        return Hit::Nothing;
+    }
+    if open3(x, slots[j], slots[k]) {
         Hit::At(i, j, k)
     } else {
         Hit::Nothing
     }
 }
 
-// Links the elements of u with each other.
-fn link(links: &mut [u64; ELEMENTS], u: u64)
-    requires { ⌜ length (now links) ≡ 64 ⌝ }
-    ensures { λ r. ⌜ Linking (now (links .entry)) u (now (links .exit)) ⌝ }
-{
-    let mut rest = u;
-    while rest != 0 {
-        let p = u64::trailing_zeros(rest) as usize;
-        links[p] = links[p] | u;
-        rest = rest & (rest - 1);
-    }
-}
-
-// The links of the clusters below `used`.
-fn link_all(slots: &[u64; PLACES], used: usize) -> [u64; ELEMENTS]
-    requires { ⌜ (used ≤ places) × (length (now slots) ≡ places) ⌝ }
-    ensures { λ r. ⌜ Links (take used (now (slots .entry))) r × (length r ≡ 64) ⌝ }
-{
-    let mut links = [0u64; ELEMENTS];
-    let mut i: usize = 0;
-    while i < used {
-        link(&mut links, slots[i]);
-        i += 1;
-    }
-    links
-}
-
-// ---- what the search answers
-
 // Is a merge open among the clusters below `used`, which merges of constraints that are not over have left?
 pub fn some_open(slots: &[u64; PLACES], used: usize) -> bool
     requires { ⌜ (used ≤ places) × (length (now slots) ≡ places) ⌝ }
     ensures { λ r. ⌜ ((cs : List ℕ) (p : List Merge) → NotOver cs → Slots cs p (now (slots .entry)) used → r ≡ isSome (firstOf 0 (final cs p))) ⌝ }
 {
-    let sums = sums_of(slots);
-    let links = link_all(slots, used);
-    match first_open(slots, &sums, &links, used, 0, 0) {
+    let mut links = [0u64; ELEMENTS];
+    let mut hold = [0u64; PLACES];
+    search::join_all(slots, used, &mut links, &mut hold);
+    let mut todo = search::todo_all(used);
+    match first_open(slots, &links, &hold, &mut todo, FULL, used) {
         Hit::At(_, _, _) => true,
         Hit::Nothing => false,
     }
+}
+
+// ---- merge after merge
+
+// How many merges were made, and the rim that they leave.
+struct Halt {
+    steps: usize,
+    rim: u64,
+}
+
+// Makes the first open merge over and over: until none is open, or until `limit` are made.
+fn advance(
+    slots: &mut [u64; PLACES],
+    parts: &mut [u16; PLACES],
+    joints: &mut [u64; ELEMENTS],
+    links: &mut [u64; ELEMENTS],
+    hold: &mut [u64; PLACES],
+    todo: &mut [u64; 3],
+    e: usize,
+    limit: usize,
+) -> Halt
+    requires { ⌜ (e ≤ mostConstraints) × Running (take e (now slots)) e (now slots) (now links) (now hold) (now todo) (now parts) (now joints) 0
+        18446744073709551615 ⌝ }
+    ensures { λ r. ⌜ Stopped (take e (now (slots .entry))) e limit (now (slots .exit)) (now (links .exit)) (now (hold .exit)) (now (todo .exit))
+        (now (parts .exit)) (now (joints .exit)) (r .steps) (r .rim) ⌝ }
+{
+    let mut steps: usize = 0;
+    let mut rim: u64 = FULL;
+    while steps < limit {
+        let used = e + steps;
+        let hit = first_open(slots, links, hold, todo, rim, used);
+        let Hit::At(i, j, k) = hit else {
+            return Halt { steps, rim };
+        };
+        rim = search::renew(
+            links,
+            hold,
+            todo,
+            used,
+            rim,
+            i,
+            j,
+            k,
+            slots[i],
+            slots[j],
+            slots[k],
+        );
+        step(slots, parts, joints, used, steps, i, j, k);
+        steps += 1;
+    }
+    Halt { steps, rim }
 }
 
 // The engine's plan for the constraints that are the first e of `start`. Of constraints that are over, a list of merges.
@@ -341,28 +236,26 @@ pub fn merge_all(start: &[u64; 200], e: usize) -> Run
     ensures { λ r. ⌜ Planned (take e (now (start .entry))) r ⌝ }
 {
     let mut slots = begin(start, e);
-    let mut sums = sums_of(&slots);
-    let mut links = link_all(&slots, e);
     let mut parts = [0u16; PLACES];
     let mut joints = [0u64; ELEMENTS];
-    let mut steps: usize = 0;
-    let mut from: usize = 0;
-    let mut last: u64 = 0;
-    loop {
-        let used = e + steps;
-        let hit = first_open(&slots, &sums, &links, used, from, last);
-        let Hit::At(i, j, k) = hit else {
-            return Run {
-                steps,
-                parts,
-                joints,
-                slots,
-            };
-        };
-        last = step(&mut slots, &mut parts, &mut joints, used, steps, i, j, k);
-        link(&mut links, last);
-        resum(&mut sums, &slots, i, j, k, used);
-        from = i;
-        steps += 1;
+    let mut links = [0u64; ELEMENTS];
+    let mut hold = [0u64; PLACES];
+    search::join_all(&slots, e, &mut links, &mut hold);
+    let mut todo = search::todo_all(e);
+    let halt = advance(
+        &mut slots,
+        &mut parts,
+        &mut joints,
+        &mut links,
+        &mut hold,
+        &mut todo,
+        e,
+        NO_LIMIT,
+    );
+    Run {
+        steps: halt.steps,
+        parts,
+        joints,
+        slots,
     }
 }

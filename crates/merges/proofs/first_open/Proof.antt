@@ -1,82 +1,84 @@
--- `merges::first_open` meets its contract: what it finds is tested, and by `First` it is the first. Assumes nothing.
+-- `merges::first_open` meets its contract: what it finds is tested, and by `Finding` it is the first. Assumes nothing.
 use mathlib.Core.Path.{sym, _∙_, subst}
-use Prim.Native.Nat.{_<_}
+use Prim.Native.Nat.{_/_, _%_, _<_}
 use native.Mathlib.Omega.{arith}
 use borrow.Author.Needs.{needs}
 use lib.Dec.{T}
 use Rattle.theory.specs.Merge.{slot, merge}
+use Rattle.theory.specs.Merge.Threes.{open-at}
 use Rattle.theory.specs.Plan.{First}
-use Rattle.theory.specs.Plan.Laws.{first-is, none-is}
+use Rattle.theory.specs.Plan.Laws.{first-is}
 use Rattle.theory.specs.Plan.Search.{open-test, test-open}
-use Rattle.merges.specs.Search.Links.{Searchable}
-use Rattle.merges.proofs.First.{open-at, nothing, j-used, k-used, found}
+use Rattle.search.specs.State.{Ready}
+use Rattle.merges.proofs.Finding.{none-found, chosen-first, chosen-used}
 use Rattle.merges.proofs.first_open.Statement.{statement}
 use Rattle.merges.proofs.first_open.Tie as tie
 
--- where the search can rely on its arrays, the second number is below `used`
-second : (c : tie.After-lowest-meeting)
-    → let a = c .before .before .before .before .before .args in
-    Searchable (a .slots .now) (a .links .now) (a .used) (a .from) (a .last) → c .lowest-meeting .result < a .used
-second c ready =
-    j-used ready (c .before .before .before .before .lowest-reaching .ensures) (c .before .before .before .if1 .left) (c .before .outs .ensures)
-    (c .lowest-meeting .ensures)
-
--- so is the third, and the three make the first open merge
-first : (c : tie.After-lowest-meeting2)
-    → let d = c .before .before .before .before .before .before .before in
-    let a = d .before .args in
-    Searchable (a .slots .now) (a .links .now) (a .used) (a .from) (a .last)
-    → (c .lowest-meeting2 .result < a .used)
-    × First (a .slots .now) (merge (d .lowest-reaching .result) (c .before .before .before .lowest-meeting .result) (c .lowest-meeting2 .result))
-first c ready =
-    let i = c .before .before .before .before .before .before .before .lowest-reaching .ensures in
-    let h = c .before .before .before .before .before .before .if1 .left in
-    let o = c .before .before .before .before .outs .ensures in
-    let j = c .before .before .before .lowest-meeting .ensures in
-    let k = c .lowest-meeting2 .ensures in
-    (k-used ready i h o j k, found ready i h o j k)
+-- where the search is ready, the three make the first open merge
+first : (b : tie.After-best)
+    → let a = b .before .before .before .before .before .args in
+    Ready (a .slots .now) (a .used) (a .rim) (a .links .now) (a .hold .now) (a .todo .now)
+    → First (a .slots .now) (merge (b .before .before .before .lowest-reaching .result .cluster) (b .best .result / 256) (b .best .result % 256))
+    × (b .best .result % 256 < a .used)
+first b ready =
+    let e = b .before .before .before .lowest-reaching .ensures in
+    let outs = e .1 .0 (omega (arith, b .before .before .if1 .left)) .0 in
+    let room = b .before .before .before .before .before .pre .0 in
+    (chosen-first room (e .0) ready outs (b .best .ensures .0), chosen-used room (e .0) ready outs (b .best .ensures .0))
 
 returns : tie.Need-returns
-returns c = (tt, λ ready. sym (none-is _ (nothing ready (c .before .lowest-reaching .ensures) (c .if1 .taken))))
+returns c =
+    let e = c .before .lowest-reaching .ensures in
+    (tt, (λ ready. none-found (c .before .before .before .pre .0) (e .0) ready (c .if1 .taken), e .1 .1))
 
 returns-2 : tie.Need-returns-2
 returns-2 c =
-    (tt, λ ready. absurd (omega (arith, second (c .before) ready, c .if2 .taken)))
+    let e = c .before .before .before .before .lowest-reaching .ensures in
+    (tt, (λ ready. absurd (omega (arith, first (c .before) ready .1, c .if2 .taken)), e .1 .1))
 
 returns-3 : tie.Need-returns-3
 returns-3 c =
-    (tt, λ ready. absurd (omega (arith, first (c .before) ready .0, c .if3 .taken)))
+    let e = c .before .before .before .before .before .lowest-reaching .ensures in
+    (tt, (λ ready. absurd (omega (arith, first (c .before .before) ready .0 .i<j, c .if3 .taken)), e .1 .1))
 
 returns-4 : tie.Need-returns-4
 returns-4 c =
-    let a = c .before .before .before .before .before .before .before .before .before .before .before .before .args in
-    let i = c .before .before .before .before .before .before .before .before .before .before .before .lowest-reaching in
-    let j = c .before .before .before .before .before .before .before .lowest-meeting in
-    let k = c .before .before .before .before .lowest-meeting2 in
-    let l : i .result < j .result = omega (arith, j .ensures .low) in
-    let m : j .result < k .result = omega (arith, k .ensures .low) in
-    let o = test-open (slot (a .slots .now) (i .result)) (slot (a .slots .now) (j .result)) (slot (a .slots .now) (k .result))
-    (subst T (sym (c .if4 .taken) ∙ c .before .open3 .ensures) tt) in (
-      (l, m, c .before .before .before .if3 .left, open-at (a .slots .now) (i .result) (j .result) (k .result) l m o),
-      λ ready. sym (first-is (a .slots .now) (merge (i .result) (j .result) (k .result)) (first (c .before .before .before .before) ready .1)),
-    )
+    let e = c .before .before .before .before .before .before .lowest-reaching .ensures in
+    (tt, (λ ready. absurd (omega (arith, first (c .before .before .before) ready .0 .j<k, c .if4 .taken)), e .1 .1))
 
 returns-5 : tie.Need-returns-5
 returns-5 c =
-    let a = c .before .before .before .before .before .before .before .before .before .before .before .before .args in
-    let i = c .before .before .before .before .before .before .before .before .before .before .before .lowest-reaching in
-    let j = c .before .before .before .before .before .before .before .lowest-meeting in
-    let k = c .before .before .before .before .lowest-meeting2 in (
+    let s = c .before .before .before .before .before .before .before .before .before .before .before .before .args .slots .now in
+    let b = c .before .before .before .before .before .before .before in
+    let r = b .before .before .before .lowest-reaching in
+    let i = r .result .cluster in
+    let v = b .best .result in
+    let l : i < v / 256 = omega (arith, c .before .before .before .before .before .if3 .left) in
+    let m : v / 256 < v % 256 = omega (arith, c .before .before .before .before .if4 .left) in
+    let o = test-open (slot s i) (slot s (v / 256)) (slot s (v % 256)) (subst T (sym (c .if5 .taken) ∙ c .before .open3 .ensures) tt) in (
+      (l, m, omega (arith, c .before .before .before .before .before .before .if2 .left), open-at s (merge i (v / 256) (v % 256)) o),
+      (λ ready. sym (first-is s (merge i (v / 256) (v % 256)) (first b ready .0)), r .ensures .1 .1),
+    )
+
+returns-6 : tie.Need-returns-6
+returns-6 c =
+    let s = c .before .before .before .before .before .before .before .before .before .before .before .before .args .slots .now in
+    let b = c .before .before .before .before .before .before .before in
+    let r = b .before .before .before .lowest-reaching in
+    let i = r .result .cluster in
+    let v = b .best .result in (
       tt,
-      λ ready.
-          absurd (subst T (sym (c .before .open3 .ensures) ∙ c .if4 .left)
-          (open-test (slot (a .slots .now) (i .result)) (slot (a .slots .now) (j .result)) (slot (a .slots .now) (k .result))
-          (first (c .before .before .before .before) ready .1 .isopen .open3))),
+      (
+        λ ready.
+            absurd (subst T (sym (c .before .open3 .ensures) ∙ c .if5 .left)
+            (open-test (slot s i) (slot s (v / 256)) (slot s (v % 256)) (first b ready .0 .isopen .open3))),
+        r .ensures .1 .1,
+      ),
     )
 
 pub first-open-spec : {M : Type 1} → statement M
 first-open-spec =
     tie.close
-    (tie.spec (λ c κs. search needs) returns (λ c. search needs) (λ c. search needs) (λ c κs. search needs)
-    (λ c. search needs) (λ c κs. search needs) returns-2 (λ c. search needs) (λ c. search needs) (λ c. search needs)
-    (λ c κs. search needs) returns-3 (λ c. search needs) (λ c. search needs) (λ c κs. search needs) returns-4 returns-5)
+    (tie.spec (λ c κs. search needs) returns (λ c. search needs) (λ c. search needs)
+    (λ c κs. c .before .before .lowest-reaching .ensures .1 .0 (omega (arith, c .before .if1 .left)) .1) returns-2 returns-3 returns-4
+    (λ c. search needs) (λ c. search needs) (λ c. search needs) (λ c. search needs) (λ c κs. search needs) returns-5 returns-6)

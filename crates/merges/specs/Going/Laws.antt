@@ -18,19 +18,6 @@ use Rattle.merges.specs.Run.Laws.{three-block, put-block}
 use Rattle.merges.specs.Going.{Slots, Going, Made}
 use Rattle.merges.specs.declared.Run.{Run}
 
--- ---- open merges go by what stands in the slots
-
-pub open-same : (a b : List ℕ) → ((n : ℕ) → slot a n ≡ slot b n) → (m : Merge) → OpenAt a m → OpenAt b m
-open-same a b same m o = record {
-  i≢j = o .i≢j;
-  j≢k = o .j≢k;
-  i≢k = o .i≢k;
-  livei = λ z. o .livei (same (m .i) ∙ z);
-  livej = λ z. o .livej (same (m .j) ∙ z);
-  livek = λ z. o .livek (same (m .k) ∙ z);
-  open3 = rw (← same (m .i), ← same (m .j), ← same (m .k)) (o .open3);
-}
-
 -- ---- the clusters
 
 module _ {cs : List ℕ} {p : List Merge} {slots : List ℕ} {used : ℕ} (w : Slots cs p slots used) where

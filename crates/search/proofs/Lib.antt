@@ -1,0 +1,11 @@
+-- Laws that the proofs of several functions share.
+pub mod Gather
+pub mod Sets
+pub mod Triple
+pub mod Two
+pub mod Passing
+pub mod Swept
+pub mod Storing
+pub mod Sets3
+pub mod Calling
+pub mod Starting

@@ -1,0 +1,63 @@
+-- `search::join` meets its contract: the loop keeps `Joining`. Assumes nothing.
+use mathlib.Core.Path.{refl}
+use Prim.Native.Nat.{_-_, _<_}
+use native.Mathlib.Omega.{arith}
+use borrow.Author.Needs.{needs}
+use lib.Bits.{and-le-r}
+use lib.Count.{trailingZeros}
+use Rattle.theory.specs.Set.Lowest.{lowest-below}
+use Rattle.search.proofs.Storing.{Joining, joining-none, joining-next, joining-all}
+use Rattle.search.proofs.join.Statement.{statement}
+use Rattle.search.proofs.join.Tie as tie
+
+abbrev Inv-loop : tie.InvT-loop
+Inv-loop links₀ hold₀ edge u dead made rest₀ links hold rest =
+    Joining links₀ hold₀ edge u (dead .a) (dead .b) (dead .c) (made .a) (made .b) (made .c) links hold rest
+
+abbrev μ-loop : tie.MeasureT-loop
+μ-loop links₀ hold₀ edge u dead made rest₀ links hold rest = rest
+
+-- the lowest element is below 64
+low : (c : tie.In-loop Inv-loop μ-loop) → trailingZeros 64 (c .before .loop .rest) < 64
+low c = lowest-below 64 (c .before .loop .rest) (c .before .loop .inv .left .fits) (c .loop-test .taken)
+
+loop-holds : tie.Need-loop-holds Inv-loop μ-loop
+loop-holds c = joining-none (search needs) (c .pre .0) (c .pre .1)
+
+-- the same, further on in the loop
+low-b : (c : tie.After-struct-known2 Inv-loop μ-loop) → trailingZeros 64 (c .before .before .before .before .before .loop .rest) < 64
+low-b c = low (c .before .before .before .before)
+
+low-c : (c : tie.After-struct-known4 Inv-loop μ-loop)
+    → trailingZeros 64 (c .before .before .before .before .before .before .before .before .loop .rest) < 64
+low-c c = low-b (c .before .before .before)
+
+low-d : (c : tie.After-struct-known6 Inv-loop μ-loop)
+    → trailingZeros 64 (c .before .before .before .before .before .before .before .before .before .before .before .loop .rest) < 64
+low-d c = low-c (c .before .before .before)
+
+loop-again : tie.Need-loop-again Inv-loop μ-loop
+loop-again c =
+    let t = c .before .before .before .before .before .before .before .before .before .before in
+    joining-next (t .before .loop .inv) _ refl (t .loop-test .taken)
+
+loop-less : tie.Need-loop-less Inv-loop μ-loop
+loop-less c =
+    let r = c .before .before .before .before .before .before .before .before .before .before .before .loop .rest in
+    let n = c .before .before .before .before .before .before .before .before .before .before .loop-test .taken in
+    omega (arith, n, and-le-r r (r - 1))
+
+returns : tie.Need-returns Inv-loop μ-loop
+returns c = joining-all (c .before .loop .inv) (c .loop-test .left) (search needs) (c .before .before .pre .0)
+
+pub join-spec : {M : Type 1} → statement M
+join-spec =
+    tie.close
+    (tie.spec Inv-loop μ-loop loop-holds (λ c. omega (arith, low c)) (λ c. omega (arith, low c)) low (λ c. omega (arith, low (c .before)))
+    (λ c. low (c .before)) (λ c. omega (arith, low (c .before))) (λ c. omega (arith, low (c .before))) (λ c. omega (arith, low-b c))
+    (λ c. omega (arith, low-b c)) (λ c. omega (arith, low-b c)) (λ c. omega (arith, low-b c)) (λ c. omega (arith, low-b c))
+    (λ c. omega (arith, low-c c)) (λ c. omega (arith, low-c c)) (λ c. omega (arith, low-c c)) (λ c. omega (arith, low-c c))
+    (λ c. omega (arith, low-c c)) (λ c. omega (arith, low-c c)) (λ c. omega (arith, low-d c)) (λ c. omega (arith, low-d c))
+    (λ c. omega (arith, low-d c))
+    (λ c. let n = c .before .before .before .before .before .before .before .before .before .before .loop-test .taken in omega (arith, n)) loop-less
+    loop-again returns)
