@@ -1,2 +1,3 @@
--- What the programs read.
+-- What the programs read and print.
 pub mod Numbers
+pub mod Refused

@@ -1,12 +1,16 @@
 // What the programs share: reading the input, printing an answer, and the numbers of a saved plan.
 ghost use mathlib.Core.Path.{_≡_};
-ghost use Prim.Native.Nat.{_+_, _*_};
+ghost use Prim.Native.Nat.{_+_, _*_, _≤_};
 ghost use mathlib.Core.List.{_++_};
-ghost use lib.ListN.{length, drop};
+ghost use lib.ListN.{length, take, drop};
 ghost use Rattle.io.specs.Counts.{Counts};
 ghost use Rattle.console.specs.Numbers.{numbersFor};
+ghost use Rattle.console.specs.Refused.{refusedLine};
 use libc::STDOUT_FILENO;
 use space::Written;
+use space::put_byte;
+use space::put_decimal;
+use space::put_text;
 
 // Writes bytes to standard output; where that fails, says so on standard error.
 fn put(bytes: &[u8]) -> bool {
@@ -17,17 +21,21 @@ fn put(bytes: &[u8]) -> bool {
     whole
 }
 
-// The line "refused" and the rule's number.
+// The line "refused" and the rule's number, to the front of a block; answers its length.
+fn refusal(rule: u8, out: &mut [u8; 12]) -> usize
+    requires { ⌜ length (now out) ≡ 12 ⌝ }
+    ensures { λ r. ⌜ (r ≤ length (now (out .exit))) × (take r (now (out .exit)) ≡ refusedLine rule) ⌝ }
+{
+    let a1 = put_text(out, 0, b"refused ");
+    let a2 = put_decimal(out, a1, rule as usize);
+    put_byte(out, a2, b'\n')
+}
+
+// Prints that line.
 fn refuse(rule: u8) {
-    let mut digits = [0u8; 20];
-    let n = io::decimal(rule as u64, &mut digits);
-    if !put(b"refused ") {
-        return;
-    }
-    if !put(&digits[..n]) {
-        return;
-    }
-    put(b"\n");
+    let mut line: [u8; 12] = [0; 12];
+    let n = refusal(rule, &mut line);
+    put(&line[0..n]);
 }
 
 // Prints what was written into lent space, or the line "refused" and the rule's number.

@@ -4,14 +4,13 @@ use native.Mathlib.Omega.{arith}
 use mathlib.Core.Path.{_≡_, ap, _∙_}
 use mathlib.Core.List.{List}
 use lib.ListN.{length, take}
-use lib.Seq.{take-at}
 use Rattle.space.specs.declared.Written.{Written}
 use Rattle.space.specs.Space.{Put, answer, after}
-use Rattle.space.specs.Space.Laws.{sets-front}
+use Rattle.space.specs.Space.Laws.{put-stands}
 
 module _ {items buffer filled : List ℕ} {len : ℕ} (room : length items ≤ length buffer) (p : Put buffer 0 items len filled) where
   kept : take (len - 0) filled ≡ items
-  kept = ap (take (len - 0)) (p .after-is (omega arith) ∙ sets-front items buffer room) ∙ take-at items _ (len - 0) (omega (arith, p .next-is))
+  kept = ap (λ (k : ℕ). take k filled) {x = len - 0} {y = len} (omega arith) ∙ put-stands room p
 
   pub buffered : (space : List ℕ) {left : List ℕ} {r : Written}
       → (r ≡ answer (take (len - 0) filled) space) × (left ≡ after (take (len - 0) filled) space)

@@ -2,7 +2,7 @@
 use borrow.Author.Needs.{needs}
 use native.Mathlib.Omega.{arith}
 use Rattle.space.specs.Space.Laws.{_then_}
-use Rattle.report.specs.Report.Length.{decimal-length}
+use Rattle.space.specs.Text.Laws.{decimal-length}
 use Rattle.report.proofs.put_number.Statement.{statement}
 use Rattle.report.proofs.put_number.Tie as tie
 

@@ -32,7 +32,8 @@ use Rattle.theory.specs.declared.Step.{Step}
 use Rattle.report.specs.Elements.Laws.{elements-size}
 use Rattle.report.specs.Report.{waysName, verdictLine, elementsLine, stepLine, slotLine, stepLines, clusterLines, report}
 use Rattle.report.specs.Pieces.{Small, AllSmall}
-use Rattle.report.specs.Report.Length.{decimal-length, decimal-two, verdict-length, elements-length, step-length, slot-length}
+use Rattle.space.specs.Text.Laws.{decimal-length}
+use Rattle.report.specs.Report.Length.{decimal-two, verdict-length, elements-length, step-length, slot-length}
 
 -- ---- step lines
 

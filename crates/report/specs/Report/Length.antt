@@ -17,6 +17,7 @@ use Rattle.theory.specs.declared.Ways.{Ways}
 use Rattle.theory.specs.declared.Ways.the-variants.{Known, Unknown}
 use Rattle.theory.specs.declared.Step.{Step}
 use Rattle.space.specs.Text.{digit, decimal}
+use Rattle.space.specs.Text.Laws.{decimal-length}
 use Rattle.report.specs.Elements.{member, among, elements}
 use Rattle.report.specs.Elements.Laws.{elements-most}
 use Rattle.report.specs.Report.{kindName, waysName, verdictLine, elementsLine, stepLine, slotLine, stepLines, clusterLines, report, overReport}
@@ -24,16 +25,6 @@ use Rattle.report.specs.Pieces.{numbers}
 use Rattle.report.specs.Report.Laws.{step-pieces, slot-dead, slot-living, over-pieces}
 
 -- ---- numbers and sets
-
-pub decimal-length : (n : ℕ) → length (decimal n) ≤ 3
-unfolding decimal
-decimal-length n = go (ltb n 10) (ltb n 100)
-  where
-    go : (a b : Bool) → length
-        (cond a (digit n ∷ []) (cond b (digit (n / 10) ∷ digit (n % 10) ∷ []) (digit (n / 100) ∷ digit (n / 10 % 10) ∷ digit (n % 10) ∷ []))) ≤ 3
-    go true b = omega arith
-    go false true = omega arith
-    go false false = omega arith
 
 pub decimal-two : (n : ℕ) → n < 100 → length (decimal n) ≤ 2
 unfolding decimal

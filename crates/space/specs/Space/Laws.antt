@@ -6,8 +6,8 @@ use native.Mathlib.Omega.{arith}
 use borrow.Author.Tests.{lt-ltb, le-ltb}
 use mathlib.Core.Path.{_≡_, refl, sym, ap, _∙_}
 use mathlib.Core.List.{List, [], _∷_, _++_}
-use lib.ListN.{length, drop, set, length-append}
-use lib.Seq.{sets, sets-eq, length-sets}
+use lib.ListN.{length, take, drop, set, length-append}
+use lib.Seq.{sets, sets-eq, length-sets, take-at}
 use Rattle.space.specs.declared.Written.the-variants.{Done, Refused}
 use Rattle.space.specs.Space.{Put, answer, after}
 
@@ -77,3 +77,8 @@ put-after {items} {space} h p = rw (le-ltb _ _ h) (p .after-is (omega arith) ∙
 pub put-done : {items space left : List ℕ} {next : ℕ} → length items ≤ length space → Put space 0 items next left
     → (Done next ≡ answer items space) × (left ≡ after items space)
 put-done h p = (ap Done (p .next-is ∙ zero-add _) ∙ sym (long-answer _ _ h), put-after h p)
+
+-- items put from the front of a space that has room for them stand there
+pub put-stands : {items space left : List ℕ} {next : ℕ} → length items ≤ length space → Put space 0 items next left → take next left ≡ items
+put-stands {items} {space} {left} {next} room p =
+    ap (take next) (p .after-is (omega arith) ∙ sets-front items space room) ∙ take-at items _ next (omega (arith, p .next-is))
