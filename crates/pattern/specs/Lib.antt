@@ -2,4 +2,5 @@
 pub mod Entries
 pub mod Refusals
 pub mod Promises
+pub mod Counts
 pub mod Untagged

@@ -13,11 +13,12 @@ use Rattle.pattern.specs.declared.Judgement.the-variants.{Is, Refused as No}
 use Rattle.space.specs.declared.Written.{Written}
 use Rattle.space.specs.declared.Written.the-variants.{Done, Refused}
 pub mod Laws
+pub mod Counts
 
 abbrev pub minus : ℕ → ℤ
 minus k = negℤ (pos k)
 
--- no answer has 2^31 items: a sheet or report has some thousand bytes, a list at most some hundred items
+-- no answer has 2^31 items: a sheet or report has some thousand bytes, a list at most some hundred items (`uncut`, from `pattern` Counts)
 abbrev pub asCount : Written → ℤ
 asCount (Done n) = pos (cond (ltb n 2147483648) n 2147483647)
 asCount (Refused k) = minus k

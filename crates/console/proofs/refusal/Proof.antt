@@ -13,7 +13,8 @@ put-decimal-requires c κs =
 put-byte-requires : tie.Need-put-byte-requires
 put-byte-requires c κs =
     let text = c .before .before .before in
-    omega (arith, decimal-length (text .before .before .before .args .rule), c .before .put-decimal .ensures .next-is, text .put-text .ensures .next-is)
+    let start = text .before .before .before in
+    omega (arith, decimal-length (start .args .rule), c .before .put-decimal .ensures .next-is, text .put-text .ensures .next-is)
 
 returns : tie.Need-returns
 returns c =

@@ -31,7 +31,7 @@ use Rattle.pattern.specs.Entries.{held, heldSheet, checkField, longer}
 
 -- ---- rule 11
 
-held-value : (f : Facts) (rest : List ℕ) {g : Facts} {t : List ℕ} → held f rest ≡ value g t → (f ≡ g) × (rest ≡ t) × (overFault (graphOf f) ≡ 0)
+pub held-value : (f : Facts) (rest : List ℕ) {g : Facts} {t : List ℕ} → held f rest ≡ value g t → (f ≡ g) × (rest ≡ t) × (overFault (graphOf f) ≡ 0)
 held-value f rest {g} {t} e = by (overFault (graphOf f)) refl e
   where
     by : (k : ℕ) → overFault (graphOf f) ≡ k → byRule k (value f rest) ≡ value g t → (f ≡ g) × (rest ≡ t) × (overFault (graphOf f) ≡ 0)

@@ -1,0 +1,26 @@
+-- How many items a call answers at most, whatever the bytes: a report, a sheet and a list are short, so that no count for C is cut (`asCount` of
+-- `pattern_c` Numbers). Document 01, "Refused", rule 17, asks for space of that length. Shown by `counts` of Counts/Proof.antt.
+use Prim.Native.Nat.{ℕ, _≤_}
+use mathlib.Core.Path.{_≡_}
+use mathlib.Core.List.{List}
+use lib.ListN.{length}
+use Rattle.sheet.specs.declared.Sheet.{Sheet}
+use Rattle.sheet.specs.Field.{Field, value, Bytes}
+use Rattle.judge.specs.Judged.{planNumbers, finalClusters}
+use Rattle.writer.specs.Write.{writeField}
+use Rattle.account.specs.Account.{reportOf}
+use Rattle.pattern.specs.Entries.{itemsField, rewriteField, overNumbers, checkField, extendField}
+pub mod Proof
+
+abbrev pub AtMost : ℕ → Field (List ℕ) → Type 0
+AtMost most x = (items rest : List ℕ) → x ≡ value items rest → length items ≤ most
+
+pub record Counts : Type 0 where
+  pub report : (bytes : List ℕ) → Bytes bytes → AtMost 3786 (itemsField reportOf bytes)
+  pub check : (bytes plan : List ℕ) → Bytes bytes → AtMost 3786 (checkField bytes plan)
+  pub plan : (bytes : List ℕ) → Bytes bytes → AtMost 186 (itemsField planNumbers bytes)
+  pub clusters : (bytes : List ℕ) → Bytes bytes → AtMost 125 (itemsField finalClusters bytes)
+  pub over : (bytes : List ℕ) → AtMost 2 (itemsField overNumbers bytes)
+  pub rewrite : (bytes : List ℕ) → Bytes bytes → AtMost 1414 (rewriteField bytes)
+  pub write : (s : Sheet) → AtMost 1414 (writeField s)
+  pub extend : (bytes more : List ℕ) → Bytes bytes → Bytes more → AtMost 1414 (extendField bytes more)

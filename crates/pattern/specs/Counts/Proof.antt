@@ -1,0 +1,127 @@
+-- What a call answers is short: the bounds of reports and sheets, and of the merges of constraints that are not over. Assumes nothing.
+use Prim.Native.Nat.{ℕ, zero, suc, _+_, _*_, _≤_}
+use native.Mathlib.Omega.{arith}
+use mathlib.Core.Path.{_≡_, refl, sym, ap, _∙_}
+use mathlib.Core.List.{List, [], map}
+use lib.ListN.{length, length-append, length-take}
+use Rattle.theory.specs.Constraints.{NotOver}
+use Rattle.theory.specs.Over.Laws.{overOf-fine, fine-most}
+use Rattle.theory.specs.Merge.{final, left}
+use Rattle.theory.specs.Merge.Count.{steps-left}
+use Rattle.theory.specs.Plan.{planOf, ascending}
+use Rattle.theory.specs.Plan.Laws.{plan-of-maximal}
+use Rattle.theory.specs.Graph.{Graph, findingOf}
+use Rattle.theory.specs.declared.Finding.{Finding}
+use Rattle.theory.specs.declared.Finding.the-variants.{Fine, First}
+use Rattle.sheet.specs.declared.Sheet.{Sheet}
+use Rattle.sheet.specs.Facts.{Facts, factsOf}
+use Rattle.sheet.specs.Field.{Field, value, next, Bytes}
+use Rattle.sheet.specs.Field.Laws.{next-value, refused-value}
+use Rattle.sheet.specs.Rules.{sheetFault}
+use Rattle.sheet.specs.Rules.Laws.{elements-most, constraints-most}
+use Rattle.sheet.specs.Decode.{readSheet}
+use Rattle.sheet.specs.Encode.{sheetBytes}
+use Rattle.sheet.specs.Encode.Laws.{sheet-length}
+use Rattle.sheet.specs.Accepted.{Accepted}
+use Rattle.sheet.specs.Accepted.Laws.{accepted-two, accepted-most, sheetFault-none}
+use Rattle.sheet.specs.Graph.{graphOf}
+use Rattle.sheet.specs.Answer.{byRule}
+use Rattle.sheet.specs.RoundTrip.{written-read, written-most}
+use Rattle.merges.specs.Run.{flat}
+use Rattle.merges.specs.Run.Laws.{length-numbers}
+use Rattle.engine.specs.Lists.Laws.{living-count}
+use Rattle.judge.specs.Judged.{planBy, planNumbers, finalsBy, finalClusters}
+use Rattle.plans.specs.Check.{savedSteps}
+use Rattle.sketch.specs.Sketch.{extended}
+use Rattle.account.specs.Account.{listReport, reportOf, savedFault}
+use Rattle.account.specs.Account.Room.{report-room, saved-room}
+use Rattle.account.specs.Own.Proof.{paired, below}
+use Rattle.pattern.specs.Entries.{held, heldSheet, overItems, overNumbers, checkField, longer, extendedSheet, extendField}
+use Rattle.pattern.specs.Entries.Sketches.{held-accepted, held-value, check-saved, longer-last, few-constraints}
+use Rattle.pattern.specs.Counts.{AtMost, Counts}
+
+-- items after a value, or a rule and then items
+after-value : {A : Type 0} (x : Field A) (what : A → List ℕ) {most : ℕ} → ((a : A) (t : List ℕ) → x ≡ value a t → length (what a) ≤ most)
+    → AtMost most (next x (λ a t. value (what a) []))
+after-value x what {most} h items rest e =
+    next-value x _ e (λ a t was e1. let same : what a ≡ items = cc in omega (arith, h a t was, ap length same))
+
+after-rule : (k : ℕ) (what : List ℕ) {most : ℕ} → (k ≡ 0 → length what ≤ most) → AtMost most (byRule k (value what []))
+after-rule zero what h items rest e = let same : what ≡ items = cc in omega (arith, h refl, ap length same)
+after-rule (suc k) what h items rest e = refused-value e
+
+-- ---- an accepted sheet that is not over has at most 125 constraints
+
+module _ (f : Facts) (a : Accepted f) where
+  abbrev g : Graph
+  g = graphOf f
+
+  few : findingOf g ≡ Fine → length (g .clusters) ≤ 125
+  few q =
+      let fine : NotOver (g .clusters) = overOf-fine (g .n) (g .clusters) (paired f a) (below f a) q in
+      omega (arith, fine-most (g .n) (g .clusters) (accepted-two f a) (below f a) fine, accepted-most f a)
+
+  merged : left (final (g .clusters) (planOf (g .clusters))) + 2 * length (planOf (g .clusters)) ≡ length (g .clusters)
+  merged = steps-left (g .clusters) (paired f a) (planOf (g .clusters)) (plan-of-maximal (g .clusters) (paired f a) .valid)
+
+  plan-short : length (planNumbers g) ≤ 186
+  unfolding planNumbers
+  plan-short = by (findingOf g) refl
+    where
+      by : (o : Finding) → findingOf g ≡ o → length (flat (map ascending (planBy g o))) ≤ 186
+      by Fine q = omega (arith, length-numbers (planOf (g .clusters)), merged, few q)
+      by (First c x) q = omega (arith, length-numbers [])
+
+  clusters-short : length (finalClusters g) ≤ 125
+  unfolding finalClusters
+  clusters-short = by (findingOf g) refl
+    where
+      by : (o : Finding) → findingOf g ≡ o → length (finalsBy g o) ≤ 125
+      by Fine q = omega (arith, living-count (final (g .clusters) (planOf (g .clusters))), merged, few q)
+      by (First c x) q = omega arith
+
+over-short : (o : Finding) → length (overItems o) ≤ 2
+over-short Fine = omega arith
+over-short (First c x) = omega arith
+
+written-short : (s : Sheet) → sheetFault s ≡ 0 → length (sheetBytes (factsOf s)) ≤ 1414
+written-short s z =
+    let (n, e, _) = sheetFault-none s z in
+    sheet-length (factsOf s) (omega (arith, elements-most (s .n) n, length-take (s .n) (s .elements)))
+    (omega (arith, constraints-most (s .e) e, length-take (s .e) (s .constraints)))
+
+-- ---- by bytes
+
+module _ (bytes : List ℕ) (all : Bytes bytes) where
+  accepted : (f : Facts) (t : List ℕ) → readSheet bytes ≡ value f t → Accepted f
+  accepted f t e = written-read bytes f t all e .2
+
+  check-short : (plan : List ℕ) → AtMost 3786 (checkField bytes plan)
+  unfolding heldSheet
+  check-short plan items rest e =
+      next-value (heldSheet bytes) _ e (λ h u was e1. next-value (readSheet bytes) held was (λ f t read e2.
+      after-rule (savedFault (graphOf f) plan) (listReport (graphOf f) (savedSteps plan)) (λ z. saved-room f (accepted f t read) plan z) items rest
+      (sym (check-saved bytes plan f t read) ∙ e)))
+
+  extend-short : (more : List ℕ) → Bytes more → AtMost 1414 (extendField bytes more)
+  extend-short more all-more =
+      after-value (extendedSheet bytes more) sheetBytes (λ g t e.
+      next-value (heldSheet bytes) _ e (λ f u was e1. next-value (longer f more) held e1 (λ g2 v read e2.
+      let (c, l, k, is) = longer-last f more all-more read in
+      let (h, o) = held-accepted bytes f u all was in
+      let short : length (sheetBytes (extended f c)) ≤ 1414 =
+      sheet-length (extended f c) (accepted-most f h) (rw length-append (omega (arith, few-constraints f h o))) in
+      omega (arith, short, ap (λ (x : Facts). length (sheetBytes x)) (sym is ∙ held-value g2 v e2 .0)))))
+
+pub counts : Counts
+counts = record {
+  report = λ bytes all. after-value (readSheet bytes) (λ f. reportOf (graphOf f)) (λ f t e. report-room f (accepted bytes all f t e));
+  check = λ bytes plan all. check-short bytes all plan;
+  plan = λ bytes all. after-value (readSheet bytes) (λ f. planNumbers (graphOf f)) (λ f t e. plan-short f (accepted bytes all f t e));
+  clusters = λ bytes all. after-value (readSheet bytes) (λ f. finalClusters (graphOf f)) (λ f t e. clusters-short f (accepted bytes all f t e));
+  over = λ bytes. after-value (readSheet bytes) (λ f. overNumbers (graphOf f)) (λ f t e. over-short (findingOf (graphOf f)));
+  rewrite = λ bytes all. after-value (readSheet bytes) _ (λ f t e.
+      let r = written-read bytes f t all e in omega (arith, written-most f (r .2), ap length (r .1)));
+  write = λ s. after-rule (sheetFault s) (sheetBytes (factsOf s)) (written-short s);
+  extend = λ bytes more all all-more. extend-short bytes all more all-more;
+}

@@ -1,0 +1,16 @@
+-- No answer is cut at 2^31-1: its items are at most some thousand (`pattern` Counts). Assumes nothing.
+use Prim.Native.Nat.{ℕ, _<_}
+use native.Mathlib.Omega.{arith}
+use mathlib.Core.Path.{_≡_}
+use mathlib.Core.List.{List}
+use borrow.Author.Tests.{lt-ltb}
+use lib.IntN.{pos}
+use lib.ListN.{length}
+use Rattle.space.specs.declared.Written.the-variants.{Done}
+use Rattle.sheet.specs.Field.{Field, value}
+use Rattle.pattern.specs.Counts.{AtMost}
+use Rattle.pattern_c.specs.Numbers.{asCount}
+
+pub uncut : {most : ℕ} {x : Field (List ℕ)} → AtMost most x → most < 2147483648 → (items rest : List ℕ) → x ≡ value items rest
+    → asCount (Done (length items)) ≡ pos (length items)
+uncut short few items rest e = rw (lt-ltb (length items) 2147483648 (omega (arith, short items rest e, few)))
