@@ -52,7 +52,7 @@ extern "C" {
 #define PATTERN_MAX_REPORT      3786 /* bytes of a report: with this room no report is refused by 17 */
 #define PATTERN_MAX_PLAN        186  /* numbers of a plan, three a step: with this room no plan is refused by 17 */
 #define PATTERN_MAX_CLUSTERS    125  /* clusters that are left: with this room no list of them is refused by 17 */
-#define PATTERN_MAX_STACK       34816 /* bytes of stack that a call takes */
+#define PATTERN_MAX_STACK       32768 /* bytes of stack that a call takes */
 
 /* The rules that refuse, in checking order. */
 enum pattern_rule {

@@ -95,6 +95,8 @@ pub fn for_over() -> Vec<Case> {
 /// Sheets for plans, verdicts and reports.
 pub fn for_plan() -> Vec<Case> {
     let lines = Dress { lines: 30, tags: 50 };
+    let most = Dress { lines: 90, tags: 0 };
+    let all = Dress { lines: 100, tags: 0 };
     let mut cases = for_over();
     cases.extend(growing("Henneberg, no split", true, |n, random| shapes::henneberg(n, 0, random)));
     cases.extend([
@@ -104,6 +106,8 @@ pub fn for_plan() -> Vec<Case> {
         case("Henneberg, no split, lines", lines, true, |random| shapes::henneberg(64, 0, random)),
         case("K2,31 closed late, lines", lines, false, |_| shapes::closed_late(64, 31)),
         case("Henneberg less 1, lines", lines, true, |random| less(shapes::henneberg(64, 0, random), 1, random)),
+        case("ring of parts, all lines", all, true, |random| shapes::frame(64, random)),
+        case("merge tree less 8, 90% lines", most, true, |random| less(shapes::merge_tree(64, random), 8, random)),
         case("K2,31 closed late", PLAIN, false, |_| shapes::closed_late(64, 31)),
         case("K2,44 closed late", PLAIN, false, |_| shapes::closed_late(64, 44)),
         case("fan, spokes last", PLAIN, false, |_| reversed(shapes::fan(64))),

@@ -27,6 +27,9 @@ fn check_step(clusters: &Clusters, three: Three) -> Result<(), Rule> {
     let living = |number| clusters.living(number).ok_or(13);
     let (a, b, c) = (living(p)?, living(q)?, living(r)?);
     refuse(p == q || p == r || q == r, 13)?;
-    assert!([a & b, a & c, b & c].into_iter().all(|shared| size(shared) <= 1), "two living clusters share two elements");
+    assert!(
+        [a & b, a & c, b & c].into_iter().all(|shared| size(shared) <= 1),
+        "two living clusters share two elements"
+    );
     refuse(joint(a, b, c).is_none(), 15)
 }

@@ -134,7 +134,7 @@ fn islands(n: usize, random: &mut Random) -> Graph {
 }
 
 /// Parts in a ring, each with an element in common with the next.
-fn frame(n: usize, random: &mut Random) -> Graph {
+pub fn frame(n: usize, random: &mut Random) -> Graph {
     let mut graph = Graph::new(n);
     let mut corner = 0;
     while corner + 1 < n {

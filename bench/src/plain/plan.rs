@@ -174,7 +174,8 @@ fn merge_all(sheet: &Sheet) -> Merging {
 
 /// The verdict's number: 0 over, 1 angle, 2 well, 3 stuck, 4 under.
 pub fn verdict_of(sheet: &Sheet, merging: &Merging) -> i32 {
-    let angle = merging.steps().iter().any(|step| step.joint & !sheet.lines == 0);
+    let joint = merging.steps().iter().any(|step| step.joint & !sheet.lines == 0);
+    let angle = joint || has_ring(&merging.sets[..merging.made], sheet.lines);
     let left = sheet.e - 2 * merging.count;
     match (angle, sheet.e == 2 * sheet.n - 3, left) {
         (true, _, _) => 1,
@@ -182,6 +183,25 @@ pub fn verdict_of(sheet: &Sheet, merging: &Merging) -> i32 {
         (_, true, _) => 3,
         _ => 4,
     }
+}
+
+/// Whether clusters make a ring of lines: lines in fewer than two of the clusters that hold two of them are stripped off.
+fn has_ring(clusters: &[u64], mut lines: u64) -> bool {
+    while lines != 0 {
+        let (mut once, mut twice) = (0, 0);
+        for &cluster in clusters {
+            let held = cluster & lines;
+            if held & held.wrapping_sub(1) != 0 {
+                twice |= once & held;
+                once |= held;
+            }
+        }
+        if twice == lines {
+            return true;
+        }
+        lines = twice;
+    }
+    false
 }
 
 /// The verdict on a sheet's bytes, or minus the rule.

@@ -5,9 +5,9 @@ use std::process::ExitCode;
 use pattern_tests::facts::{MOST_ELEMENTS, Sheet};
 use pattern_tests::interface::Found;
 use pattern_tests::merging::Merges;
+use pattern_tests::rings;
 use pattern_tests::run::{Hex, Run, rules};
 use pattern_tests::set::Set;
-use pattern_tests::rings;
 use pattern_tests::verdict::{Judged, angle_by_joint, angle_by_ring, final_sets, verdict};
 use pattern_tests::{calls, damage, dress, tags, writer};
 
