@@ -8,10 +8,7 @@ use lib.Count.{ones}
 use lib.ListN.{length, length-map}
 use Rattle.theory.specs.Constraints.{Among, Pairs, Below, Perm}
 use Rattle.theory.specs.Constraints.Laws.{perm-map, size-pair, pair-below}
-use Rattle.theory.specs.Verdict.{verdictNumber}
-use Rattle.theory.specs.Verdict.Laws.{number-over}
 use Rattle.theory.specs.Graph.{Graph, findingOf, verdictOf}
-use Rattle.theory.specs.Graph.Laws.{first-verdict, fine-not-over}
 use Rattle.theory.specs.Demand as demand
 use Rattle.theory.specs.Demand.Proof.{demand3}
 use Rattle.theory.specs.declared.Finding.{Finding}
@@ -70,21 +67,6 @@ module _ (g : Graph) where
   pub first-fault : {c x : ℕ} → findingOf g ≡ First c x → overFault g ≡ 11
   unfolding overFault
   first-fault q = ap overRule q
-
-  -- 11 by the verdict's number
-  pub over-numbered : verdictNumber (verdictOf g) ≡ 0 → overFault g ≡ 11
-  over-numbered v = go (findingOf g) refl
-    where
-      go : (o : Finding) → findingOf g ≡ o → overFault g ≡ 11
-      go Fine q = absurd (fine-not-over g q (number-over (verdictOf g) v))
-      go (First c x) q = first-fault q
-
-  pub other-numbered : verdictNumber (verdictOf g) ≢ 0 → overFault g ≡ 0
-  other-numbered v = go (findingOf g) refl
-    where
-      go : (o : Finding) → findingOf g ≡ o → overFault g ≡ 0
-      go Fine q = fine-fault q
-      go (First c x) q = absurd (v (ap verdictNumber (first-verdict g q)))
 
 -- ---- accepted sheets
 

@@ -10,7 +10,7 @@ use lib.Count.{ones}
 use lib.ListN.{length, take, getD, set, length-set, replicate, length-replicate}
 use lib.Seq.{getD-set-same, getD-set-other, getD-take, length-take-le}
 use Rattle.theory.specs.Set.{_∈_, _∩_, _∪_, _⊑_, at}
-use Rattle.theory.specs.Set.Laws.{at-∪, at-le, at-zero, at-same, at-other, bit, ⊑-size-≡, size-pow, size-add, ⊑-refl, ⊑⇒∪≡, ∈-∪ˡ}
+use Rattle.theory.specs.Set.Laws.{at-∪, at-le, at-zero, at-same, at-other, bit, ⊑-size-≡, size-pow, size-add, ∈-∪ˡ}
 use Rattle.theory.specs.Set.Laws.{∈-∪ʳ, other, both}
 use Rattle.theory.specs.Set.Less.{less-other, less-and, size-less, sub-less}
 use Rattle.theory.specs.Constraints.{pair, has, carried, Among, Pairs}
@@ -69,11 +69,6 @@ pair-is m x y two e f n = sym (⊑-size-≡ m (pair x y) (pair-in x y m e f) (om
 -- one of them is x, and the other
 pub pair-with : (m x : ℕ) → ones m ≡ 2 → x ∈ m → (y : ℕ) × (y ≢ x) × (m ≡ pair x y)
 pair-with m x two e = let o = other m x (omega arith) in (o .0, o .2, pair-is m x (o .0) two e (o .1) (Ne·symm (o .2)))
-
--- its ends are two elements
-pub pair-apart : (x y : ℕ) → ones (pair x y) ≡ 2 → x ≢ y
-unfolding pair
-pair-apart x y two q = omega (arith, two, ap (λ (z : ℕ). ones (pair x z)) (sym q), ap ones (⊑⇒∪≡ (2 ^ x) (2 ^ x) (⊑-refl (2 ^ x))), size-pow x)
 
 pub pair-other : (x y z : ℕ) → x ≢ z → pair x y ≡ pair x z → y ≡ z
 pair-other x y z n e = ⊎-elim (λ (p : z ≡ x). absurd (n (sym p))) (λ (p : z ≡ y). sym p) (at-pair z x y (ap (at z) e ∙ at-end x z .1))

@@ -76,11 +76,6 @@ open-bc s i j k o =
 pub open-ascending : (s : List ℕ) (m : Merge) → OpenAt s m → OpenAt s (ascending m)
 open-ascending s = by-exchange (OpenAt s) (open-ab s) (open-bc s)
 
--- and back: what ascending has, the merge itself has
-pub ascending-open : (s : List ℕ) (m : Merge) → OpenAt s (ascending m) → OpenAt s m
-ascending-open s m =
-    by-exchange (λ (r : Merge). OpenAt s r → OpenAt s m) (λ i j k h o. h (open-ab s j i k o)) (λ i j k h o. h (open-bc s i k j o)) m (λ o. o)
-
 -- three different numbers ascend
 climbs : (m : Merge) → (ascending m .i ≤ ascending m .j) × (ascending m .j ≤ ascending m .k)
 unfolding ascending
