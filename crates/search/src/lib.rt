@@ -154,7 +154,7 @@ fn met(hold: &[u64; PLACES], p: usize, q: usize, z: usize) -> usize
 }
 
 // The key of the clusters that join z to the two elements of x that it is linked with; a high number if it is linked with fewer.
-pub fn joined(links: &[u64; ELEMENTS], hold: &[u64; PLACES], x: u64, z: usize) -> usize
+fn joined(links: &[u64; ELEMENTS], hold: &[u64; PLACES], x: u64, z: usize) -> usize
     requires { ⌜ z < 64 ⌝ }
     ensures { λ r. ⌜ Joined (now (hold .entry)) (linked (now (links .entry)) z ∩ x) z r × (r < 65536) ⌝ }
 {
