@@ -129,6 +129,19 @@ int32_t pattern_verdict(const uint8_t *sheet, size_t len);
 int32_t pattern_plan(const uint8_t *sheet, size_t len, uint16_t *out, size_t room);
 
 /*
+ * All that two sets of elements have in common, bit i for element i: for any two sets, those of
+ * pattern_initial and pattern_clusters among them.
+ */
+uint64_t pattern_shared(uint64_t a, uint64_t b);
+
+/*
+ * The clusters that a plan starts from, by number: cluster i is the two ends of constraint i, bit k
+ * for element k. Of an over sheet too. Tries rules 1 to 10, then 17. There are as many as the sheet
+ * has constraints, at most PATTERN_MAX_CONSTRAINTS.
+ */
+int32_t pattern_initial(const uint8_t *sheet, size_t len, uint64_t *out, size_t room);
+
+/*
  * The clusters that are left when no merge is open, by number: bit i for element i. An over sheet
  * answers 0. Tries rules 1 to 10, then 17. There are at most PATTERN_MAX_CLUSTERS.
  */

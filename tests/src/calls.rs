@@ -3,6 +3,7 @@
 use crate::facts::{Columns, Rule};
 use crate::interface::{self, Found};
 use crate::run::{Hex, Run, outcome};
+use crate::set::{Set, elements, one, size};
 use crate::space::Space;
 use crate::{ffi, writer};
 
@@ -27,6 +28,22 @@ pub fn over(run: &mut Run, bytes: &[u8]) {
     let given = Space::holding(bytes, &mut run.random);
     let answer = interface::over(bytes);
     run.lent("pattern_over", &Hex(bytes), &answer, |out| ffi::over(given.held(), out));
+}
+
+/// Compares `pattern_initial` on some bytes.
+#[inline]
+pub fn initial(run: &mut Run, bytes: &[u8]) {
+    let given = Space::holding(bytes, &mut run.random);
+    let answer = interface::initial(bytes);
+    run.lent("pattern_initial", &Hex(bytes), &answer, |out| ffi::initial(given.held(), out));
+}
+
+/// Compares `pattern_shared` on two sets.
+#[inline]
+pub fn shared(run: &mut Run, a: Set, b: Set) {
+    let both = elements(a).filter(|&i| b >> i & 1 == 1).map(one).sum();
+    run.count("shared elements", size(both).min(3));
+    run.same("pattern_shared", &format_args!("{a:x} {b:x}"), ffi::shared(a, b), both);
 }
 
 /// Compares `pattern_verdict`, `pattern_plan` and `pattern_clusters` on some bytes.

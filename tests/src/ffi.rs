@@ -65,6 +65,18 @@ pub fn plan(sheet: &[u8], out: &mut [u16]) -> i32 {
     unsafe { c::pattern_plan(sheet.as_ptr(), sheet.len(), out.as_mut_ptr(), out.len()) }
 }
 
+/// `pattern_shared`
+#[inline]
+pub fn shared(a: u64, b: u64) -> u64 {
+    unsafe { c::pattern_shared(a, b) }
+}
+
+/// `pattern_initial`
+#[inline]
+pub fn initial(sheet: &[u8], out: &mut [u64]) -> i32 {
+    unsafe { c::pattern_initial(sheet.as_ptr(), sheet.len(), out.as_mut_ptr(), out.len()) }
+}
+
 /// `pattern_clusters`
 #[inline]
 pub fn clusters(sheet: &[u8], out: &mut [u64]) -> i32 {
@@ -114,6 +126,8 @@ mod tests {
             assert_eq!(c::pattern_verdict(null(), 0), -1);
             assert_eq!(c::pattern_plan(null(), 0, null_mut(), 0), -1);
             assert_eq!(c::pattern_plan(sheet, len, null_mut(), 0), 0);
+            assert_eq!(c::pattern_initial(null(), 0, null_mut(), 0), -1);
+            assert_eq!(c::pattern_initial(sheet, len, null_mut(), 0), 0);
             assert_eq!(c::pattern_clusters(null(), 0, null_mut(), 0), -1);
             assert_eq!(c::pattern_clusters(sheet, len, null_mut(), 0), 0);
             assert_eq!(c::pattern_report(null(), 0, out, room), -1);

@@ -4,6 +4,7 @@
 use crate::facts::{Rule, Sheet};
 use crate::matching::by_matching;
 use crate::reader::read;
+use crate::set::{Set, one};
 use crate::verdict::{Judged, judge};
 use crate::{plans, report, sketch, verdict, writer};
 
@@ -16,6 +17,11 @@ pub fn rewrite(bytes: &[u8]) -> Result<Vec<u8>, Rule> {
 pub fn over(bytes: &[u8]) -> Result<Vec<u64>, Rule> {
     let over = by_matching(&read(bytes)?);
     Ok(over.map_or(Vec::new(), |over| vec![over.first as u64, over.set]))
+}
+
+/// `pattern_initial`: the two ends of each constraint.
+pub fn initial(bytes: &[u8]) -> Result<Vec<Set>, Rule> {
+    Ok(read(bytes)?.constraints.iter().map(|c| one(c.first.into()) + one(c.second.into())).collect())
 }
 
 /// `pattern_add`: the sheet with one more constraint.

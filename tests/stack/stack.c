@@ -16,7 +16,7 @@
 static uint8_t sheet[PATTERN_MAX_SHEET + 1], bytes[PATTERN_MAX_REPORT];
 static size_t len;
 static uint16_t plan[PATTERN_MAX_PLAN];
-static uint64_t items[PATTERN_MAX_CLUSTERS];
+static uint64_t items[PATTERN_MAX_CONSTRAINTS];
 static uint8_t firsts[PATTERN_MAX_CONSTRAINTS], seconds[PATTERN_MAX_CONSTRAINTS], maps[PATTERN_MAX_CONSTRAINTS];
 static int32_t sizes[PATTERN_MAX_CONSTRAINTS];
 static size_t n, e;
@@ -44,6 +44,7 @@ static void *write_(void *u)
 static void *over(void *u) { pattern_over(sheet, len, items, PATTERN_MAX_CLUSTERS); return u; }
 static void *verdict(void *u) { pattern_verdict(sheet, len); return u; }
 static void *plan_(void *u) { pattern_plan(sheet, len, plan, PATTERN_MAX_PLAN); return u; }
+static void *initial(void *u) { pattern_initial(sheet, len, items, PATTERN_MAX_CONSTRAINTS); return u; }
 static void *clusters(void *u) { pattern_clusters(sheet, len, items, PATTERN_MAX_CLUSTERS); return u; }
 static void *report(void *u) { pattern_report(sheet, len, bytes, sizeof bytes); return u; }
 static void *check(void *u)
@@ -85,7 +86,7 @@ int main(int argc, char **argv)
 {
     static const struct { const char *name; void *(*call)(void *); } calls[] = {
         {"pattern_rewrite", rewrite}, {"pattern_write", write_}, {"pattern_over", over}, {"pattern_verdict", verdict}, {"pattern_plan", plan_},
-        {"pattern_clusters", clusters}, {"pattern_report", report}, {"pattern_check_plan", check}, {"pattern_add", add},
+        {"pattern_initial", initial}, {"pattern_clusters", clusters}, {"pattern_report", report}, {"pattern_check_plan", check}, {"pattern_add", add},
     };
     size_t most[sizeof calls / sizeof *calls] = {0};
     facts();

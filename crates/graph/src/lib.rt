@@ -31,22 +31,6 @@ pub fn size_of(size: Size) -> i32
     }
 }
 
-// The set of one element.
-fn single(a: u8) -> u64
-    requires { ⌜ a < 64 ⌝ }
-    ensures { λ r. ⌜ r ≡ 2 ^ a ⌝ }
-{
-    1 << a
-}
-
-// The set of two elements.
-fn pair_of(a: u8, b: u8) -> u64
-    requires { ⌜ (a < 64) × (b < 64) ⌝ }
-    ensures { λ r. ⌜ r ≡ pair a b ⌝ }
-{
-    single(a) | single(b)
-}
-
 // Notes constraint i, between a and b; z is its size, 0 if it is missing.
 pub fn note(
     near: &mut [u64; 64],
@@ -63,7 +47,7 @@ pub fn note(
         → InArrays (cs ++ c ∷ []) (now (near .exit)) (now (start .exit)) (now (sizes .exit))) ⌝ }
 {
     sheet::note_pair(near, a, b);
-    start[i] = pair_of(a, b);
+    start[i] = sets::pair(a, b);
     sizes[i] = z;
 }
 

@@ -6,7 +6,8 @@ ghost use Prim.Native.Nat.{ℕ, _≤_, _<_};
 ghost use lib.ListN.{length, take};
 ghost use Rattle.theory.specs.Block.{block};
 ghost use Rattle.theory.specs.Constraints.{NotOver};
-ghost use Rattle.theory.specs.Merge.{Merge, merge as numbers, final};
+ghost use Rattle.theory.specs.Set.{_∩_};
+ghost use Rattle.theory.specs.Merge.{Merge, merge as numbers, Three, joint, final};
 ghost use Rattle.theory.specs.Plan.{openTest, firstOf, isSome};
 ghost use Rattle.merges.specs.Run.{mostConstraints, mostSteps, places, runOf, Start, Planned};
 ghost use Rattle.merges.specs.Going.{Slots, Made};
@@ -44,13 +45,12 @@ pub fn no_run() -> Run
     }
 }
 
-// Does each two of the three share exactly one element, three different ones in all?
-pub fn open3(a: u64, b: u64, c: u64) -> bool
-    ensures { λ r. ⌜ r ≡ openTest a b c ⌝ }
+// ---- what each two of three clusters share
+
+// Of the sets that each two share: does each have one element, three different ones in all?
+fn one_each(x: u64, y: u64, z: u64) -> bool
+    ensures { λ r. ⌜ ((a b c : ℕ) → x ≡ a ∩ b → y ≡ b ∩ c → z ≡ a ∩ c → r ≡ openTest a b c) ⌝ }
 {
-    let x = a & b;
-    let y = b & c;
-    let z = a & c;
     if u64::count_ones(x) != 1 {
         return false;
     }
@@ -68,6 +68,22 @@ pub fn open3(a: u64, b: u64, c: u64) -> bool
     }
     x != z
 }
+
+// Is the merge of the three open?
+pub fn open3(a: u64, b: u64, c: u64) -> bool
+    ensures { λ r. ⌜ r ≡ openTest a b c ⌝ }
+{
+    one_each(sets::shared(a, b), sets::shared(b, c), sets::shared(a, c))
+}
+
+// Its joint.
+fn joint3(a: u64, b: u64, c: u64) -> u64
+    ensures { λ r. ⌜ ((t : Three) → t .a ≡ a → t .b ≡ b → t .c ≡ c → r ≡ joint t) ⌝ }
+{
+    sets::shared(a, b) | sets::shared(b, c) | sets::shared(a, c)
+}
+
+// ---- on lent arrays
 
 // The clusters before any merge: the first e of `start`.
 pub fn begin(start: &[u64; 200], e: usize) -> [u64; PLACES]
@@ -102,7 +118,7 @@ pub fn step(
     let a = slots[i];
     let b = slots[j];
     let c = slots[k];
-    joints[steps] = (a & b) | (b & c) | (a & c);
+    joints[steps] = joint3(a, b, c);
     parts[3 * steps] = i as u16;
     parts[3 * steps + 1] = j as u16;
     parts[3 * steps + 2] = k as u16;

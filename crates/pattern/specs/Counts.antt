@@ -9,7 +9,7 @@ use Rattle.sheet.specs.Field.{Field, value, Bytes}
 use Rattle.judge.specs.Judged.{planNumbers, finalClusters}
 use Rattle.writer.specs.Write.{writeField}
 use Rattle.account.specs.Account.{reportOf}
-use Rattle.pattern.specs.Entries.{itemsField, rewriteField, overNumbers, checkField, extendField}
+use Rattle.pattern.specs.Entries.{itemsField, rewriteField, overNumbers, initialClusters, checkField, extendField}
 pub mod Proof
 
 abbrev pub AtMost : ℕ → Field (List ℕ) → Type 0
@@ -19,6 +19,7 @@ pub record Counts : Type 0 where
   pub report : (bytes : List ℕ) → Bytes bytes → AtMost 3786 (itemsField reportOf bytes)
   pub check : (bytes plan : List ℕ) → Bytes bytes → AtMost 3786 (checkField bytes plan)
   pub plan : (bytes : List ℕ) → Bytes bytes → AtMost 186 (itemsField planNumbers bytes)
+  pub initial : (bytes : List ℕ) → Bytes bytes → AtMost 200 (itemsField initialClusters bytes)
   pub clusters : (bytes : List ℕ) → Bytes bytes → AtMost 125 (itemsField finalClusters bytes)
   pub over : (bytes : List ℕ) → AtMost 2 (itemsField overNumbers bytes)
   pub rewrite : (bytes : List ℕ) → Bytes bytes → AtMost 1414 (rewriteField bytes)

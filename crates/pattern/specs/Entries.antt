@@ -38,6 +38,10 @@ abbrev pub asJudgement : Field Verdict → Judgement
 asJudgement (value v rest) = Is v
 asJudgement (refused k) = Refused k
 
+-- its initial clusters, one set a constraint, of an over sheet too (document 02, 2026-09)
+abbrev pub initialClusters : Graph → List ℕ
+initialClusters g = g .clusters
+
 -- of an over one the first constraint and the smallest set; no item where it is not over
 abbrev pub overItems : Finding → List ℕ
 overItems Fine = []

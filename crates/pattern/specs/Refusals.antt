@@ -33,7 +33,7 @@ pub record Refusals : Type 0 where
   pub read : (bytes : List ℕ) → By (Rule 1 10) (readSheet bytes)
   pub verdict : (bytes : List ℕ) → By (Rule 1 10) (verdictField bytes)
   pub rewrite : (bytes : List ℕ) → By (Rule 1 10) (rewriteField bytes)
-  -- over, plan, clusters and report
+  -- over, plan, initial and final clusters, report
   pub items : (what : Graph → List ℕ) (bytes : List ℕ) → By (Rule 1 10) (itemsField what bytes)
   -- the writer, and an addition to a held sketch by value: no bytes, so neither 4 nor 10
   pub write : (s : Sheet) → By (But 4 (Rule 3 9)) (writeField s)

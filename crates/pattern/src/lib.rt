@@ -1,7 +1,9 @@
 // The public crate: every entry point that a user calls, each with its whole contract and no precondition. specs/ says what each answers.
 ghost use mathlib.Core.Path.{_≡_};
 ghost use mathlib.Core.List.{[], _∷_};
-ghost use Prim.Native.Nat.{_%_};
+ghost use Prim.Native.Nat.{_%_, _≤_};
+ghost use lib.ListN.{length, take};
+ghost use Rattle.theory.specs.Set.{_∩_};
 ghost use Rattle.space.specs.Space.{answer, after};
 ghost use Rattle.sheet.specs.Answer.{Answers};
 ghost use Rattle.sheet.specs.Decode.{readSheet};
@@ -12,7 +14,7 @@ ghost use Rattle.sketch.specs.Sketch.{addedOf};
 ghost use Rattle.account.specs.Account.{reportOf};
 ghost use Rattle.card.specs.Card.{setVerdict};
 ghost use Rattle.longest.specs.Longest.{longestField};
-ghost use Rattle.pattern.specs.Entries.{itemsField, rewriteField, verdictField, asJudgement, overNumbers};
+ghost use Rattle.pattern.specs.Entries.{itemsField, rewriteField, verdictField, asJudgement, overNumbers, initialClusters};
 ghost use Rattle.pattern.specs.Entries.{heldSheet, checkField, extendField};
 use graph::Head;
 use reader::Cursor;
@@ -119,6 +121,43 @@ pub fn plan(bytes: &[u8], out: &mut [u16]) -> Written
     let judged = judge::judge(head, &near, &start);
     let run = judged.run;
     engine::put_plan(run, out)
+}
+
+// All that two sets of elements share.
+pub fn shared(a: u64, b: u64) -> u64
+    ensures { λ r. ⌜ r ≡ a ∩ b ⌝ }
+{
+    sets::shared(a, b)
+}
+
+// The first e numbers of `start` into lent space, or 17.
+fn put_start(start: &[u64; 200], e: usize, out: &mut [u64]) -> Written
+    requires { ⌜ (e ≤ 200) × (length (now start) ≡ 200) ⌝ }
+    ensures { λ r. ⌜ (r ≡ answer (take e (now (start .entry))) (now (out .entry)))
+        × (now (out .exit) ≡ after (take e (now (start .entry))) (now (out .entry))) ⌝ }
+{
+    if out.len() < e {
+        return Written::Refused(17);
+    }
+    let mut i: usize = 0;
+    while i < e {
+        i = space::put_number64(out, i, start[i]);
+    }
+    Written::Done(e)
+}
+
+// The initial clusters as sets, by number: one a constraint, of an over sheet too.
+pub fn initial(bytes: &[u8], out: &mut [u64]) -> Written
+    ensures { λ r. ⌜ Answers (itemsField initialClusters (now (bytes .entry))) (now (out .entry)) r (now (out .exit)) ⌝ }
+{
+    let mut near = [0u64; 64];
+    let mut start = [0u64; 200];
+    let mut sizes = [0i32; 200];
+    let got = reader::read_graph(bytes, &mut near, &mut start, &mut sizes);
+    let GraphRead::Value(head) = got else {
+        return Written::Refused(got.refusal());
+    };
+    put_start(&start, head.e, out)
 }
 
 // The final clusters as sets, by number; none of an over sheet.

@@ -1,10 +1,11 @@
 // The entry points for C: numbers and slices alone, each slice a pointer and a length. include/pattern.h declares them. An answer is the count of
 // items written, or minus the number of the rule that refuses; specs/ says it.
 ghost use mathlib.Core.Path.{_≡_};
+ghost use Rattle.theory.specs.Set.{_∩_};
 ghost use Rattle.writer.specs.Write.{writeField};
 ghost use Rattle.judge.specs.Judged.{planNumbers, finalClusters};
 ghost use Rattle.account.specs.Account.{reportOf};
-ghost use Rattle.pattern.specs.Entries.{itemsField, rewriteField, verdictField, asJudgement, overNumbers, checkField, extendField};
+ghost use Rattle.pattern.specs.Entries.{itemsField, rewriteField, verdictField, asJudgement, overNumbers, initialClusters, checkField, extendField};
 ghost use Rattle.sheet.specs.Facts.{blankConstraint};
 ghost use Prim.Native.Nat.{_%_};
 ghost use Rattle.card.specs.Card.{setVerdict};
@@ -153,6 +154,22 @@ pub extern "C" fn pattern_plan(sheet: &[u8], out: &mut [u16]) -> i32
     ensures { λ r. ⌜ AnswersCount (itemsField planNumbers (now (sheet .entry))) (now (out .entry)) r (now (out .exit)) ⌝ }
 {
     count(pattern::plan(sheet, out))
+}
+
+// All that two sets of elements share.
+#[no_mangle]
+pub extern "C" fn pattern_shared(a: u64, b: u64) -> u64
+    ensures { λ r. ⌜ r ≡ a ∩ b ⌝ }
+{
+    pattern::shared(a, b)
+}
+
+// The initial clusters as sets, element i as bit i, by cluster number: one a constraint, of an over sheet too.
+#[no_mangle]
+pub extern "C" fn pattern_initial(sheet: &[u8], out: &mut [u64]) -> i32
+    ensures { λ r. ⌜ AnswersCount (itemsField initialClusters (now (sheet .entry))) (now (out .entry)) r (now (out .exit)) ⌝ }
+{
+    count(pattern::initial(sheet, out))
 }
 
 // The final clusters as sets, element i as bit i, by cluster number; none of an over sheet.

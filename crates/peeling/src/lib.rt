@@ -3,12 +3,12 @@
 // (document 01, "Verdict names: over"). The contracts cite this crate's `Core`.
 ghost use mathlib.Core.Path.{_≡_};
 ghost use mathlib.Core.List.{List};
-ghost use Prim.Native.Nat.{ℕ, _-_, _^_, _≤_, _<_};
+ghost use Prim.Native.Nat.{ℕ, _≤_, _<_};
 ghost use mathlib.Core.Bool.{_&&_, _||_};
 ghost use lib.Count.{ones};
 ghost use lib.Dec.{eqb};
 ghost use lib.ListN.{getD};
-ghost use Rattle.theory.specs.Set.{_∈_, _⊑_, at, full};
+ghost use Rattle.theory.specs.Set.{_⊑_, at, full};
 ghost use Rattle.theory.specs.Near.{Simple, Near};
 ghost use Rattle.theory.specs.Verdict.{allLines};
 ghost use Rattle.peeling.specs.Core.{Core, Dense, Largest, Light, Heavy, Mutual, Taken, Told};
@@ -20,29 +20,6 @@ pub fn wide(x: u8) -> usize
     x as usize
 }
 
-// The set of one element.
-pub fn single(x: u8) -> u64
-    requires { ⌜ x < 64 ⌝ }
-    ensures { λ r. ⌜ r ≡ 2 ^ x ⌝ }
-{
-    1u64 << (x as u32)
-}
-
-// A set without its lowest element.
-fn drop_low(m: u64) -> u64
-    ensures { λ r. ⌜ ones r ≡ ones m - 1 ⌝ }
-{
-    if m == 0 { 0 } else { m & (m - 1) }
-}
-
-// The lowest element of a set.
-pub fn lowest(m: u64) -> u8
-    requires { ⌜ 0 < m ⌝ }
-    ensures { λ r. ⌜ (r < 64) × (r ∈ m) ⌝ }
-{
-    u64::trailing_zeros(m) as u8
-}
-
 // The elements with two neighbours at most.
 fn light_all(near: &[u64; 64]) -> u64
     ensures { λ r. ⌜ Light (now (near .entry)) (full 64) r × ((x : ℕ) → x < 64 → at x r ≡ 0 → 3 ≤ ones (getD (now (near .entry)) x 0)) ⌝ }
@@ -51,8 +28,8 @@ fn light_all(near: &[u64; 64]) -> u64
     let mut x: u8 = 0;
     while x < 64 {
         let i = wide(x);
-        if drop_low(drop_low(near[i])) == 0 {
-            todo = todo | single(x);
+        if sets::without_lowest(sets::without_lowest(near[i])) == 0 {
+            todo = todo | sets::single(x);
         }
         x = x + 1;
     }
@@ -67,10 +44,10 @@ fn light_of(near: &[u64; 64], left: u64, who: u64) -> u64
     let mut todo: u64 = 0;
     let mut m = who;
     while m != 0 {
-        let x = lowest(m);
+        let x = sets::lowest(m);
         let i = wide(x);
-        let bit = single(x);
-        if drop_low(drop_low(near[i] & left)) == 0 {
+        let bit = sets::single(x);
+        if sets::without_lowest(sets::without_lowest(near[i] & left)) == 0 {
             todo = todo | bit;
         }
         m = m - bit;
@@ -111,9 +88,9 @@ fn peel(near: &[u64; 64], low: u64, lines: u64) -> Peeling
     let mut todo = low;
     let mut angle = false;
     while todo != 0 {
-        let x = lowest(todo);
+        let x = sets::lowest(todo);
         let i = wide(x);
-        let bit = single(x);
+        let bit = sets::single(x);
         angle = either(three_lines(bit | (near[i] & left), lines), angle);
         left = left - bit;
         todo = (todo - bit) | light_of(near, left, near[i] & left);

@@ -60,7 +60,7 @@ fn visit(queue: &mut [u8; 64], from: &mut [u8; 64], f: Front, y: u8, p: u8) -> F
     ensures { λ r. ⌜ Visit (now (queue .entry)) (now (from .entry)) (f .seen) (f .count) y p (now (queue .exit))
         (now (from .exit)) (r .seen) (r .count) ⌝ }
 {
-    let bit = peeling::single(y);
+    let bit = sets::single(y);
     if f.seen & bit != 0 {
         return f;
     }
@@ -98,7 +98,7 @@ fn seek(own: [[u8; 2]; 64], queue: &mut [u8; 64], from: &mut [u8; 64], a: u8, b:
     queue[0] = a;
     queue[1] = b;
     let mut f = Front {
-        seen: peeling::single(a) | peeling::single(b),
+        seen: sets::single(a) | sets::single(b),
         count: 2,
     };
     let mut p: usize = 0;
@@ -197,7 +197,7 @@ fn other_end(pair: u64, a: u8) -> u8
     requires { ⌜ (ones pair ≡ 2) × (a < 64) × (a ∈ pair) ⌝ }
     ensures { λ r. ⌜ (r < 64) × (r ∈ pair) × (a ≢ r) ⌝ }
 {
-    peeling::lowest(pair - peeling::single(a))
+    sets::lowest(pair - sets::single(a))
 }
 
 // The first of e constraints that makes those up to it over, with the smallest set, where the sets within core tell. An end that has one constraint
@@ -215,7 +215,7 @@ fn search(start: &[u64; 200], e: usize, core: u64) -> Finding
     while c < e {
         let pair = start[c];
         if pair & core == pair {
-            let a = peeling::lowest(pair);
+            let a = sets::lowest(pair);
             let b = other_end(pair, a);
             if pair & twice == pair {
                 let t = gather(own, &mut queue, &mut from, a, b);

@@ -332,6 +332,37 @@ pub fn plan<'a>(sheet: &[u8], out: &'a mut [u16]) -> Result<&'a [u16], Rule> {
     written(answer, out)
 }
 
+/// All that two sets of elements have in common, element i as bit i.
+///
+/// ```
+/// // two parts that share the points 1 and 2
+/// assert_eq!(pattern::shared(0b0111, 0b1110), 0b0110);
+/// ```
+pub fn shared(a: u64, b: u64) -> u64 {
+    // SAFETY: the call takes numbers alone.
+    unsafe { c::pattern_shared(a, b) }
+}
+
+/// The clusters that a plan starts from, by number: the two ends of each constraint, element i as bit i; of an over sheet too.
+///
+/// ```
+/// # use pattern::{Constraint, Facts, Kind};
+/// # let mut space = [0; pattern::MOST_WRITTEN];
+/// # let between = |first, second| Constraint { first, second, size: Some(300) };
+/// # let constraints = [between(0, 1), between(0, 2), between(1, 2)];
+/// # let sheet = pattern::write(&Facts { kinds: &[Kind::Point; 3], constraints: &constraints }, &mut space)?;
+/// let mut space = [0; pattern::MOST_CONSTRAINTS];
+/// let sets = pattern::initial(sheet, &mut space)?;
+/// assert_eq!(sets, [0b011, 0b101, 0b110]);
+/// assert_eq!(pattern::shared(sets[0], sets[1]), 0b001);
+/// # Ok::<(), pattern::Rule>(())
+/// ```
+pub fn initial<'a>(sheet: &[u8], out: &'a mut [u64]) -> Result<&'a [u64], Rule> {
+    // SAFETY: each list is a live slice of its length, and `out` is borrowed alone.
+    let answer = unsafe { c::pattern_initial(sheet.as_ptr(), sheet.len(), out.as_mut_ptr(), out.len()) };
+    written(answer, out)
+}
+
 /// The clusters that are left when no merge is open, by number: element i as bit i.
 pub fn clusters<'a>(sheet: &[u8], out: &'a mut [u64]) -> Result<&'a [u64], Rule> {
     // SAFETY: each list is a live slice of its length, and `out` is borrowed alone.

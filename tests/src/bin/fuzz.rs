@@ -17,6 +17,7 @@ fn main() -> ExitCode {
         let found = Found::of(&bytes);
         calls::rewrite(&mut run, &bytes);
         calls::over(&mut run, &bytes);
+        calls::initial(&mut run, &bytes);
         calls::plan(&mut run, &bytes, &found);
         calls::report(&mut run, &bytes, &found);
         let saved = found.plan().unwrap_or_default();

@@ -1,53 +1,12 @@
--- `merges::open3` meets its contract: each test is one part of `openTest`. Assumes nothing.
-use borrow.Author.Tests.{eq-eqb, ne-eqb}
-use Rattle.theory.specs.Set.{_∩_}
-use Rattle.theory.specs.Plan.{openTest}
+-- `merges::open3` meets its contract. Assumes nothing.
+use borrow.Author.Needs.{needs}
 use Rattle.merges.proofs.open3.Statement.{statement}
 use Rattle.merges.proofs.open3.Tie as tie
 
 returns : tie.Need-returns
-unfolding openTest _∩_
-returns c = simp (ne-eqb _ _ (c .if1 .taken))
-
-returns-2 : tie.Need-returns-2
-unfolding openTest _∩_
-returns-2 c = simp (eq-eqb _ _ (c .before .if1 .left), ne-eqb _ _ (c .if2 .taken))
-
-returns-3 : tie.Need-returns-3
-unfolding openTest _∩_
-returns-3 c = simp (eq-eqb _ _ (c .before .before .if1 .left), eq-eqb _ _ (c .before .if2 .left), ne-eqb _ _ (c .if3 .taken))
-
-returns-4 : tie.Need-returns-4
-unfolding openTest _∩_
-returns-4 c =
-    simp (
-      eq-eqb _ _ (c .before .before .before .if1 .left),
-      eq-eqb _ _ (c .before .before .if2 .left),
-      eq-eqb _ _ (c .before .if3 .left),
-      eq-eqb _ _ (c .if4 .taken),
-    )
-
-returns-5 : tie.Need-returns-5
-unfolding openTest _∩_
-returns-5 c =
-    simp (
-      eq-eqb _ _ (c .before .before .before .before .if1 .left),
-      eq-eqb _ _ (c .before .before .before .if2 .left),
-      eq-eqb _ _ (c .before .before .if3 .left),
-      ne-eqb _ _ (c .before .if4 .left),
-      eq-eqb _ _ (c .if5 .taken),
-    )
-
-returns-6 : tie.Need-returns-6
-unfolding openTest _∩_
-returns-6 c =
-    simp (
-      eq-eqb _ _ (c .before .before .before .before .if1 .left),
-      eq-eqb _ _ (c .before .before .before .if2 .left),
-      eq-eqb _ _ (c .before .before .if3 .left),
-      ne-eqb _ _ (c .before .if4 .left),
-      ne-eqb _ _ (c .if5 .left),
-    )
+returns c =
+    c .one-each .ensures (c .before .before .before .before .args .a) (c .before .before .before .before .args .b) (c .before .before .before .before .args .c)
+    (c .before .before .before .shared .ensures) (c .before .before .shared2 .ensures) (c .before .shared3 .ensures)
 
 pub open3-spec : {M : Type 1} → statement M
-open3-spec = tie.close (tie.spec returns returns-2 returns-3 returns-4 returns-5 returns-6)
+open3-spec = tie.close (tie.spec (λ c κs. search needs) (λ c κs. search needs) (λ c κs. search needs) (λ c κs. search needs) returns)

@@ -3,7 +3,7 @@ use Prim.Native.Nat.{ℕ, zero, suc, _+_, _*_, _≤_}
 use native.Mathlib.Omega.{arith}
 use mathlib.Core.Path.{_≡_, refl, sym, ap, _∙_}
 use mathlib.Core.List.{List, [], map}
-use lib.ListN.{length, length-append, length-take}
+use lib.ListN.{length, length-append, length-take, length-map}
 use Rattle.theory.specs.Constraints.{NotOver}
 use Rattle.theory.specs.Over.Laws.{overOf-fine, fine-most}
 use Rattle.theory.specs.Merge.{final, left}
@@ -24,7 +24,7 @@ use Rattle.sheet.specs.Encode.{sheetBytes}
 use Rattle.sheet.specs.Encode.Laws.{sheet-length}
 use Rattle.sheet.specs.Accepted.{Accepted}
 use Rattle.sheet.specs.Accepted.Laws.{accepted-two, accepted-most, sheetFault-none}
-use Rattle.sheet.specs.Graph.{graphOf}
+use Rattle.sheet.specs.Graph.{clusterOf, graphOf}
 use Rattle.sheet.specs.Answer.{byRule}
 use Rattle.sheet.specs.RoundTrip.{written-read, written-most}
 use Rattle.merges.specs.Run.{flat}
@@ -36,7 +36,7 @@ use Rattle.sketch.specs.Sketch.{extended}
 use Rattle.account.specs.Account.{listReport, reportOf, savedFault}
 use Rattle.account.specs.Account.Room.{report-room, saved-room}
 use Rattle.account.specs.Own.Proof.{paired, below}
-use Rattle.pattern.specs.Entries.{held, heldSheet, overItems, overNumbers, checkField, longer, extendedSheet, extendField}
+use Rattle.pattern.specs.Entries.{held, heldSheet, initialClusters, overItems, overNumbers, checkField, longer, extendedSheet, extendField}
 use Rattle.pattern.specs.Entries.Sketches.{held-accepted, held-value, check-saved, longer-last, few-constraints}
 use Rattle.pattern.specs.Counts.{AtMost, Counts}
 
@@ -63,6 +63,9 @@ module _ (f : Facts) (a : Accepted f) where
 
   merged : left (final (g .clusters) (planOf (g .clusters))) + 2 * length (planOf (g .clusters)) ≡ length (g .clusters)
   merged = steps-left (g .clusters) (paired f a) (planOf (g .clusters)) (plan-of-maximal (g .clusters) (paired f a) .valid)
+
+  initial-short : length (initialClusters g) ≤ 200
+  initial-short = omega (arith, length-map (f .constraints) clusterOf, constraints-most (length (f .constraints)) (a .constraints-in-range))
 
   plan-short : length (planNumbers g) ≤ 186
   unfolding planNumbers
@@ -118,6 +121,7 @@ counts = record {
   report = λ bytes all. after-value (readSheet bytes) (λ f. reportOf (graphOf f)) (λ f t e. report-room f (accepted bytes all f t e));
   check = λ bytes plan all. check-short bytes all plan;
   plan = λ bytes all. after-value (readSheet bytes) (λ f. planNumbers (graphOf f)) (λ f t e. plan-short f (accepted bytes all f t e));
+  initial = λ bytes all. after-value (readSheet bytes) (λ f. initialClusters (graphOf f)) (λ f t e. initial-short f (accepted bytes all f t e));
   clusters = λ bytes all. after-value (readSheet bytes) (λ f. finalClusters (graphOf f)) (λ f t e. clusters-short f (accepted bytes all f t e));
   over = λ bytes. after-value (readSheet bytes) (λ f. overNumbers (graphOf f)) (λ f t e. over-short (findingOf (graphOf f)));
   rewrite = λ bytes all. after-value (readSheet bytes) _ (λ f t e.

@@ -23,19 +23,19 @@ abbrev μ-loop : tie.MeasureT-loop
 loop-holds : tie.Need-loop-holds Inv-loop μ-loop
 loop-holds c = (omega arith, light-none (c .args .near .now) (full 64), λ y l z. absurd (omega arith))
 
-mul-drop-low : tie.Need-mul-drop-low Inv-loop μ-loop
-mul-drop-low c = omega (arith, c .wide .ensures)
+mul-without-lowest : tie.Need-mul-without-lowest Inv-loop μ-loop
+mul-without-lowest c = omega (arith, c .wide .ensures)
 
-element-copy-out-drop-low : tie.Need-element-copy-out-drop-low Inv-loop μ-loop
-element-copy-out-drop-low c = omega (arith, c .wide .ensures)
+element-copy-out-without-lowest : tie.Need-element-copy-out-without-lowest Inv-loop μ-loop
+element-copy-out-without-lowest c = omega (arith, c .wide .ensures)
 
 loop-again : tie.Need-loop-again Inv-loop μ-loop
 loop-again c =
     let near = c .before .before .before .before .before .before .before .args .near .now in
     let l = c .before .before .before .before .before .before .loop in
     let i = c .before .before .before .before .wide in
-    let p = c .before .before .drop-low in
-    let q = c .before .drop-low2 in (
+    let p = c .before .before .without-lowest in
+    let q = c .before .without-lowest2 in (
       omega arith,
       ⊎-elim
           (λ w. light-all-code near (l .todo) (l .inv .1) (c .before .before .before .before .before .loop-test .taken) (i .ensures) (w .1 .ensures)
@@ -59,6 +59,6 @@ returns c =
 pub light-all-spec : {M : Type 1} → statement M
 light-all-spec =
     tie.close
-    (tie.spec Inv-loop μ-loop loop-holds (λ c κs. search needs) mul-drop-low element-copy-out-drop-low
+    (tie.spec Inv-loop μ-loop loop-holds (λ c κs. search needs) mul-without-lowest element-copy-out-without-lowest
     (λ c κs. search needs) (λ c κs. search needs) (λ c κs. search needs) (λ c. omega arith) (λ c. omega arith)
     loop-again returns)

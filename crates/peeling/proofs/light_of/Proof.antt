@@ -29,11 +29,11 @@ loop-holds c = (c .pre, light-none (c .args .near .now) (c .args .left), λ y o 
 single-requires : tie.Need-single-requires Inv-loop μ-loop
 single-requires c κs = c .before .lowest .ensures .0
 
-mul-drop-low : tie.Need-mul-drop-low Inv-loop μ-loop
-mul-drop-low c = omega (arith, c .before .wide .ensures, c .before .before .lowest .ensures .0)
+mul-without-lowest : tie.Need-mul-without-lowest Inv-loop μ-loop
+mul-without-lowest c = omega (arith, c .before .wide .ensures, c .before .before .lowest .ensures .0)
 
-element-copy-out-drop-low : tie.Need-element-copy-out-drop-low Inv-loop μ-loop
-element-copy-out-drop-low c = omega (arith, c .before .wide .ensures, c .before .before .lowest .ensures .0)
+element-copy-out-without-lowest : tie.Need-element-copy-out-without-lowest Inv-loop μ-loop
+element-copy-out-without-lowest c = omega (arith, c .before .wide .ensures, c .before .before .lowest .ensures .0)
 
 sub-m : tie.Need-sub-m Inv-loop μ-loop
 sub-m c = omega (
@@ -60,8 +60,8 @@ loop-again c =
     let x = c .before .before .before .before .before .before .lowest in
     let i = c .before .before .before .before .before .wide in
     let b = c .before .before .before .before .single in
-    let p = c .before .before .drop-low in
-    let q = c .before .drop-low2 in (
+    let p = c .before .before .without-lowest in
+    let q = c .before .without-lowest2 in (
       ⊑-trans (subst (λ (z : ℕ). l .m - z ⊑ l .m) (sym (b .ensures)) (less-sub (x .result) (l .m) (x .ensures .1))) (l .inv .0),
       ⊎-elim
           (λ w. light-code (a .near .now) (a .left) (l .todo) (l .inv .1)
@@ -89,5 +89,5 @@ returns c =
 pub light-of-spec : {M : Type 1} → statement M
 light-of-spec =
     tie.close
-    (tie.spec Inv-loop μ-loop loop-holds (λ c κs. search needs) (λ c κs. search needs) single-requires mul-drop-low
-    element-copy-out-drop-low (λ c κs. search needs) (λ c κs. search needs) sub-m loop-less loop-again returns)
+    (tie.spec Inv-loop μ-loop loop-holds (λ c κs. search needs) (λ c κs. search needs) single-requires mul-without-lowest
+    element-copy-out-without-lowest (λ c κs. search needs) (λ c κs. search needs) sub-m loop-less loop-again returns)

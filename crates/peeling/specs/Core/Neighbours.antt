@@ -2,7 +2,7 @@
 use mathlib.Core.Path.{_≡_, sym, ap, _∙_, subst}
 use mathlib.Core.Logic.{_≢_, _⊎_, inl, inr, ⊎-elim}
 use mathlib.Core.List.{List}
-use Prim.Native.Nat.{ℕ, _-_, _^_, _≤_, _<_}
+use Prim.Native.Nat.{ℕ, zero, suc, _-_, _^_, _≤_, _<_}
 use native.Mathlib.Decide.{ℕ-discrete, decLe}
 use native.Mathlib.Omega.{arith}
 use lib.Bits.{bitAnd, bitOr}
@@ -12,18 +12,28 @@ use lib.Pow.{pow-lt}
 use Rattle.theory.specs.Set.{_∈_, _∩_, _∪_, _⊑_, at, full}
 use Rattle.theory.specs.Set.Laws.{at-∪, at-le, at-zero, at-same, at-other, bit, size-zero, size-none, ⊑⇒size≤, ⊑-refl, a∩b⊑a, ∩-comm, ∩-mono}
 use Rattle.theory.specs.Set.Laws.{⊑⇒∩≡, both, out, cut-below, below-full}
-use Rattle.theory.specs.Set.Less.{at-below, less-same, less-other, less-sub, less-out, less-in}
+use Rattle.theory.specs.Set.Less.{drop-low, at-below, less-same, less-other, less-sub, less-out, less-in}
 use Rattle.peeling.specs.Core.{Light, Heavy, Mutual}
 
 pub near-sub : (m u v : ℕ) → u ⊑ v → ones (m ∩ u) ≤ ones (m ∩ v)
 near-sub m u v h = ⊑⇒size≤ (m ∩ v) (m ∩ u) (∩-mono (⊑-refl m) h)
 
--- without its two lowest elements a set is empty
-pub two-most : (k p q : ℕ) → ones p ≡ ones k - 1 → ones q ≡ ones p - 1 → q ≡ 0 → ones k ≤ 2
-two-most k p q ep eq z = omega (arith, ap ones z, size-zero)
+-- without its lowest element a set has one element less
+one-fewer : (k p : ℕ) → p ≡ k ∩ (k - 1) → ones p ≡ ones k - 1
+unfolding _∩_
+one-fewer zero p e = ap ones e ∙ size-zero ∙ sym (ap (λ (n : ℕ). n - 1) size-zero)
+one-fewer (suc k) p e = omega (arith, ap ones e, drop-low (suc k) (omega arith))
 
-pub three-least : (k p q : ℕ) → ones p ≡ ones k - 1 → ones q ≡ ones p - 1 → q ≢ 0 → 3 ≤ ones k
-three-least k p q ep eq n = elim (decLe 1 (ones q)) [ yes h ↦ omega arith | no h ↦ absurd (n (size-none q (omega arith))) ]
+-- without its two lowest elements a set is empty
+module _ (k p q : ℕ) (ep : p ≡ k ∩ (k - 1)) (eq : q ≡ p ∩ (p - 1)) where
+  pub two-most : q ≡ 0 → ones k ≤ 2
+  two-most z = omega (arith, one-fewer k p ep, one-fewer p q eq, ap ones z, size-zero)
+
+  pub three-least : q ≢ 0 → 3 ≤ ones k
+  three-least n = elim (decLe 1 (ones q)) [
+    | yes h ↦ omega (arith, one-fewer k p ep, one-fewer p q eq)
+    | no h ↦ absurd (n (size-none q (omega arith)))
+  ]
 
 pub full-at : (n x : ℕ) → x < n → x ∈ full n
 full-at n x l = omega (arith, below-full n (2 ^ x) (pow-lt l) .le x, at-same x, at-le x (full n))

@@ -67,7 +67,7 @@ returns c =
     let lc = in-list (s .pre .0) h in
     let a = c .before .before .before .before .before .before .before .before .before .before .lowest in
     let b = c .before .before .before .before .before .before .before .before .before .other-end in
-    let ends = ends-at (s .pre .0) h refl (a .ensures) (b .ensures) in
+    let ends = ends-at (s .pre .0) h refl (a .ensures .0, a .ensures .1) (b .ensures) in
     let g = c .before .before .before .before .before .gather in
     let within = c .before .before .before .before .before .before .before .before .before .before .before .if1 .taken in
     let i = told-in (s .pre .1) (l .c) lc (standing-item (s .pre .0) (l .c) h) within in
@@ -84,7 +84,7 @@ place-requires c κs =
     let lc = in-list (s .pre .0) h in
     let a = c .before .before .lowest in
     let b = c .before .other-end in
-    let ends = ends-at (s .pre .0) h refl (a .ensures) (b .ensures) in
+    let ends = ends-at (s .pre .0) h refl (a .ensures .0, a .ensures .1) (b .ensures) in
     let q = standing-item (s .pre .0) (l .c) h in
     let i = told-in (s .pre .1) (l .c) lc q (c .before .before .before .if1 .taken) in
     let cs = take (s .args .e) (s .args .start .now) in
@@ -117,7 +117,7 @@ loop-again c =
     (λ v.
     let a = v .1 in
     let b = v .2 in
-    let ends = ends-at (s .pre .0) h refl (a .ensures) (b .ensures) in
+    let ends = ends-at (s .pre .0) h refl (a .ensures .0, a .ensures .1) (b .ensures) in
     let i = told-in (s .pre .1) (l .c) lc q (v .0 .taken) in
     let r : Ready cs (s .args .core) (l .c) (a .result) (b .result) (v .3 .own) =
     ⊎-elim

@@ -5,8 +5,8 @@ use native.Mathlib.Nat.{one-mul, lt-suc-self}
 use native.Mathlib.Omega.{arith}
 use lib.Pow.{shl-exact}
 use borrow.Author.Needs.{needs}
-use Rattle.peeling.proofs.single.Statement.{statement}
-use Rattle.peeling.proofs.single.Tie as tie
+use Rattle.sets.proofs.single.Statement.{statement}
+use Rattle.sets.proofs.single.Tie as tie
 
 returns : tie.Need-returns
 returns c = shl-exact 1 (c .args .x) 64 (lt-suc-self 1) (omega arith) ∙ one-mul (2 ^ (c .args .x))

@@ -1,9 +1,10 @@
 -- `lowest` meets its contract. Assumes nothing.
+use mathlib.Core.Path.{refl}
 use native.Mathlib.Omega.{arith}
 use lib.Count.{trailingZeros, trailing-le}
 use Rattle.theory.specs.Set.Less.{trailing-at, at-below}
-use Rattle.peeling.proofs.lowest.Statement.{statement}
-use Rattle.peeling.proofs.lowest.Tie as tie
+use Rattle.sets.proofs.lowest.Statement.{statement}
+use Rattle.sets.proofs.lowest.Tie as tie
 
 cast-result : tie.Need-cast-result
 cast-result c = omega (arith, trailing-le 64 (c .args .m))
@@ -11,7 +12,7 @@ cast-result c = omega (arith, trailing-le 64 (c .args .m))
 returns : tie.Need-returns
 returns c =
     let l = trailing-at 64 (c .args .m) (c .pre) (omega arith) in
-    (at-below 64 (trailingZeros 64 (c .args .m)) (c .args .m) (omega arith) l, l)
+    (at-below 64 (trailingZeros 64 (c .args .m)) (c .args .m) (omega arith) l, l, refl)
 
 pub lowest-spec : {M : Type 1} → statement M
 lowest-spec = tie.close (tie.spec cast-result returns)

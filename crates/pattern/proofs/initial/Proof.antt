@@ -1,0 +1,37 @@
+-- `pattern::initial` meets its contract: the clusters of the graph that is read. Assumes nothing.
+use borrow.Author.Needs.{needs}
+use mathlib.Core.Path.{refl, sym, ap}
+use mathlib.Core.List.{[]}
+use Rattle.theory.specs.Graph.{Graph}
+use Rattle.sheet.specs.Field.{value, Bytes}
+use Rattle.sheet.specs.Answer.Laws.{answers-refused, answers-items}
+use Rattle.pattern.specs.Entries.Reading.{FactsRead, refused-read, facts-read}
+use Rattle.pattern.proofs.initial.Statement.{statement}
+use Rattle.pattern.proofs.initial.Tie as tie
+
+returns : tie.Need-returns
+returns c =
+    answers-refused (rw (refused-read _ (c .before .before .before .read-graph .ensures) (c .before .enum-told .given .1) (c .refusal .ensures)))
+
+-- the facts of the sheet
+read : (c : tie.After-start2)
+    → FactsRead (c .before .before .before .before .before .before .before .before .before .before .args .bytes .now)
+    (c .before .before .got .given .0 .0)
+    (c .before .before .before .before .read-graph .last .1 .0) (c .before .before .before .before .read-graph .last .1 .1 .0)
+    (c .before .before .before .before .read-graph .last .1 .1 .1 .0)
+read c =
+    let all : Bytes _ =
+    record { each = λ i. c .before .before .before .before .before .before .before .before .before .shared-slice-known .given i .fits } in
+    facts-read _ (c .before .before .before .before .read-graph .ensures) all (c .before .before .got .given .1)
+
+returns-2 : tie.Need-returns-2
+returns-2 c =
+    let f = read (c .before .before .before .before) in
+    answers-items (c .before .before .put-start .ensures)
+    (rw (f .reads) (ap (λ (g : Graph). value (g .clusters) []) (sym (f .graph-read))))
+
+pub initial-spec : {M : Type 1} → statement M
+initial-spec =
+    tie.close
+    (tie.spec (λ c κs. (refl, refl, refl)) (λ c. search needs) (λ c. search needs) (λ c κs. search needs) returns
+    (λ c κs. (read (c .before) .drawn-is .few, read (c .before) .drawn-is .places)) (λ c. search needs) returns-2)

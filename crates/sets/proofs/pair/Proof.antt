@@ -1,0 +1,15 @@
+-- `pair` meets its contract. Assumes nothing.
+use mathlib.Core.Path.{ap₂}
+use lib.Bits.{bitOr}
+use Rattle.theory.specs.Set.{_∪_}
+use Rattle.theory.specs.Constraints.{pair}
+use borrow.Author.Needs.{needs}
+use Rattle.sets.proofs.pair.Statement.{statement}
+use Rattle.sets.proofs.pair.Tie as tie
+
+returns : tie.Need-returns
+unfolding pair _∪_
+returns c = ap₂ bitOr (c .before .single .ensures) (c .single2 .ensures)
+
+pub pair-spec : {M : Type 1} → statement M
+pair-spec = tie.close (tie.spec (λ c κs. search needs) (λ c κs. search needs) returns)

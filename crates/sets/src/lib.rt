@@ -1,0 +1,44 @@
+// Sets of elements as 64-bit numbers, element x being digit x: how every crate above makes them and takes them apart. Contracts cite theory's Set.
+ghost use mathlib.Core.Path.{_≡_};
+ghost use Prim.Native.Nat.{_-_, _^_, _<_};
+ghost use lib.Count.{trailingZeros};
+ghost use Rattle.theory.specs.Set.{_∈_, _∩_};
+ghost use Rattle.theory.specs.Constraints.{pair as pairOf};
+
+// The set of one element.
+pub fn single(x: u8) -> u64
+    requires { ⌜ x < 64 ⌝ }
+    ensures { λ r. ⌜ r ≡ 2 ^ x ⌝ }
+{
+    1u64 << (x as u32)
+}
+
+// The set of two elements.
+pub fn pair(a: u8, b: u8) -> u64
+    requires { ⌜ (a < 64) × (b < 64) ⌝ }
+    ensures { λ r. ⌜ r ≡ pairOf a b ⌝ }
+{
+    single(a) | single(b)
+}
+
+// The lowest element of a set.
+pub fn lowest(m: u64) -> u8
+    requires { ⌜ 0 < m ⌝ }
+    ensures { λ r. ⌜ (r < 64) × (r ∈ m) × (r ≡ trailingZeros 64 m) ⌝ }
+{
+    u64::trailing_zeros(m) as u8
+}
+
+// A set without its lowest element; the empty set stays as it is.
+pub fn without_lowest(m: u64) -> u64
+    ensures { λ r. ⌜ r ≡ m ∩ (m - 1) ⌝ }
+{
+    if m == 0 { 0 } else { m & (m - 1) }
+}
+
+// All that two sets share (document 02, 2026-09).
+pub fn shared(a: u64, b: u64) -> u64
+    ensures { λ r. ⌜ r ≡ a ∩ b ⌝ }
+{
+    a & b
+}
