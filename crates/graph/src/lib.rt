@@ -2,7 +2,7 @@
 // is packed into them and out again. Contracts cite this crate's specs.
 ghost use mathlib.Core.Path.{_≡_};
 ghost use mathlib.Core.List.{List, _∷_, [], _++_};
-ghost use Prim.Native.Nat.{ℕ, _^_, _<_, _≤_};
+ghost use Prim.Native.Nat.{ℕ, _<_, _≤_};
 ghost use Rattle.theory.specs.Constraints.{pair};
 ghost use lib.IntN.{pos};
 ghost use lib.ListN.{length, replicate};

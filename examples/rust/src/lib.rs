@@ -347,7 +347,7 @@ pub fn shared(a: u64, b: u64) -> u64 {
 ///
 /// ```
 /// # use pattern::{Constraint, Facts, Kind};
-/// # let mut space = [0; pattern::MOST_WRITTEN];
+/// # let mut space = [0; pattern::MOST_BYTES];
 /// # let between = |first, second| Constraint { first, second, size: Some(300) };
 /// # let constraints = [between(0, 1), between(0, 2), between(1, 2)];
 /// # let sheet = pattern::write(&Facts { kinds: &[Kind::Point; 3], constraints: &constraints }, &mut space)?;

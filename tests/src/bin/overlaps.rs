@@ -29,7 +29,8 @@ fn main() -> ExitCode {
             let (i, j) = (run.random.below(clusters.len()), run.random.below(clusters.len()));
             calls::shared(&mut run, clusters[i], clusters[j]);
         }
-        calls::initial(&mut run, &damage::aimed(&bytes, &mut run.random));
+        let damaged = damage::aimed(&bytes, &mut run.random);
+        calls::initial(&mut run, &damaged);
     }
     rules(1..=10).for_each(|rule| run.must("pattern_initial", &rule, 100));
     rules([17]).for_each(|rule| run.must("pattern_initial", &rule, 100));
