@@ -95,6 +95,7 @@ pub fn for_over() -> Vec<Case> {
 /// Sheets for plans, verdicts and reports.
 pub fn for_plan() -> Vec<Case> {
     let lines = Dress { lines: 30, tags: 50 };
+    let few = Dress { lines: 6, tags: 0 };
     let most = Dress { lines: 90, tags: 0 };
     let all = Dress { lines: 100, tags: 0 };
     let mut cases = for_over();
@@ -106,6 +107,11 @@ pub fn for_plan() -> Vec<Case> {
         case("Henneberg, no split, lines", lines, true, |random| shapes::henneberg(64, 0, random)),
         case("K2,31 closed late, lines", lines, false, |_| shapes::closed_late(64, 31)),
         case("Henneberg less 1, lines", lines, true, |random| less(shapes::henneberg(64, 0, random), 1, random)),
+        case("strip, 6% lines", few, false, |_| shapes::strip(64)),
+        case("strip less 1, 6% lines", few, true, |random| less(shapes::strip(64), 1, random)),
+        case("merge tree less 8, 6% lines", few, true, |random| less(shapes::merge_tree(64, random), 8, random)),
+        case("row, all lines", all, false, |_| shapes::row(64)),
+        case("row, mixed, all lines", all, true, |_| shapes::row(64)),
         case("ring of parts, all lines", all, true, |random| shapes::frame(64, random)),
         case("merge tree less 8, 90% lines", most, true, |random| less(shapes::merge_tree(64, random), 8, random)),
         case("K2,31 closed late", PLAIN, false, |_| shapes::closed_late(64, 31)),

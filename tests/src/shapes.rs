@@ -22,6 +22,11 @@ pub fn wheel(n: usize) -> Graph {
     graph
 }
 
+/// Each element to the next.
+pub fn row(n: usize) -> Graph {
+    Graph::of(n, (1..n).map(|k| (k - 1, k)))
+}
+
 /// Each element to the next, and the last to the first.
 pub fn ring(n: usize) -> Graph {
     Graph::of(n, (0..n).map(|k| (k, (k + 1) % n)))

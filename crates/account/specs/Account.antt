@@ -8,6 +8,7 @@ use Rattle.theory.specs.Plan.{planOf}
 use Rattle.theory.specs.Graph.{Graph, findingOf, listVerdict, stepsOf}
 use Rattle.theory.specs.declared.Finding.{Finding}
 use Rattle.theory.specs.declared.Finding.the-variants.{Fine, First}
+use Rattle.theory.specs.declared.Verdict.{Verdict}
 use Rattle.sheet.specs.Field.{Field, value}
 use Rattle.sheet.specs.Rules.{or-else}
 use Rattle.sheet.specs.Answer.{byRule}
@@ -18,9 +19,13 @@ pub mod Laws
 pub mod Answers
 pub mod Room
 
--- the report of a list of merges of the constraints, with the list's own verdict, steps and final clusters
+-- the report of a list of merges of the constraints under a verdict, with the list's own steps and final clusters
+abbrev pub reportWith : Graph → Verdict → List Merge → List ℕ
+reportWith g v p = report (g .n) (length (g .clusters)) v (stepsOf g p) (final (g .clusters) p)
+
+-- with its own verdict
 unfoldable pub listReport : Graph → List Merge → List ℕ
-listReport g p = report (g .n) (length (g .clusters)) (listVerdict g p) (stepsOf g p) (final (g .clusters) p)
+listReport g p = reportWith g (listVerdict g p) p
 
 -- of a sheet that is not over, the report of the engine's plan; else the first constraint and the smallest set
 abbrev pub reportBy : Graph → Finding → List ℕ

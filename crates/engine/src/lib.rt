@@ -8,6 +8,7 @@ ghost use lib.IntN.{natAbs, _-ℤ_};
 ghost use Rattle.theory.specs.Verdict.{angled as someLines, judged};
 ghost use Rattle.theory.specs.Placement.{jointKind, against as comparison, triangle as triangleWays, stripOf, placed};
 ghost use Rattle.theory.specs.Merge.{left, merge as numbers};
+ghost use Rattle.theory.specs.Ring.{ringed};
 ghost use Rattle.merges.specs.Run.{places};
 ghost use Rattle.engine.specs.Steps.{waysBy, stepAt, blankStep, Stepped};
 ghost use Rattle.space.specs.Space.{Put, answer, after};
@@ -39,6 +40,19 @@ fn angled(joints: &[u64; ELEMENTS], steps: usize, lines: u64) -> bool
     false
 }
 
+// Do the final clusters, of which e less two a step are left, make a ring of lines? One cluster makes none.
+fn round(slots: &[u64; PLACES], steps: usize, e: usize, lines: u64) -> bool
+    requires { ⌜ (steps ≤ 64) × (e + steps ≤ 192) × (length (now slots) ≡ 192) ⌝ }
+    ensures { λ r. ⌜ ((finals : List ℕ) → take (e + steps) (now (slots .entry)) ≡ finals → left finals + 2 * steps ≡ e → r ≡ ringed lines finals) ⌝ }
+{
+    if 2 * steps + 1 == e {
+        return false;
+    }
+    let all = &slots[..];
+    let used = e + steps;
+    rings::ringed(&all[0..used], lines)
+}
+
 // The verdict of a list of merges, after "over", by its joints and its final clusters, of which e less two a step are left.
 pub fn settle(
     joints: &[u64; ELEMENTS],
@@ -55,9 +69,7 @@ pub fn settle(
     if angled(joints, steps, lines) {
         return Verdict::Angle;
     }
-    let all = &slots[..];
-    let used = e + steps;
-    if rings::ringed(&all[0..used], lines) {
+    if round(slots, steps, e, lines) {
         return Verdict::Angle;
     }
     if e + 3 != 2 * n {

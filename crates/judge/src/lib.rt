@@ -114,6 +114,22 @@ fn judged_verdict(h: Head, near: &[u64; 64], start: &[u64; 200]) -> Verdict
     verdict
 }
 
+// The verdict by way of the search for an over set and the merges.
+fn merged_verdict(h: Head, near: &[u64; 64], start: &[u64; 200]) -> Verdict
+    requires { ⌜ Drawn h (now near) (now start) ⌝ }
+    ensures { λ r. ⌜ ((z : List ℤ) → r ≡ verdictOf (graphIn h (now (start .entry)) z)) ⌝ }
+{
+    match over_of(h, near, start) {
+        Finding::First { .. } => Verdict::Over,
+        Finding::Fine => {
+            let run = merges::merge_all(start, h.e);
+            let joints = run.joints;
+            let slots = run.slots;
+            engine::settle(&joints, &slots, run.steps, h.n, h.e, h.lines)
+        }
+    }
+}
+
 // The verdict of a sheet with two lines or fewer, too few for a joint of three or a ring, and fewer than 2n-3 constraints.
 fn sparse_verdict(h: Head, near: &[u64; 64], start: &[u64; 200]) -> Verdict
     requires { ⌜ Drawn h (now near) (now start) × (ones (h .lines) ≤ 2) × (h .e + 3 < 2 * h .n) ⌝ }
@@ -154,7 +170,7 @@ pub fn verdict_of(h: Head, near: &[u64; 64], start: &[u64; 200]) -> Verdict
         return full_verdict(h, near, start);
     }
     if 2 < u64::count_ones(h.lines) {
-        return judged_verdict(h, near, start);
+        return merged_verdict(h, near, start);
     }
     sparse_verdict(h, near, start)
 }

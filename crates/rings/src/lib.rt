@@ -1,7 +1,16 @@
 // Angles that run round (document 02, 2026-03): whether clusters make a ring of lines, by stripping off the lines that lead nowhere. Contracts cite
 // theory's Ring.
 ghost use mathlib.Core.Path.{_≡_};
-ghost use Rattle.theory.specs.Ring.{strip, ringed as isRinged};
+ghost use Rattle.theory.specs.Ring.{linked as linkedOf, strip, ringed as isRinged};
+
+// The lines of l that a cluster holds, none if there is only one.
+fn linked(cluster: u64, l: u64) -> u64
+    ensures { λ r. ⌜ r ≡ linkedOf l cluster ⌝ }
+{
+    let m = cluster & l;
+    let more = if m == 0 { 0 } else { m & (m - 1) };
+    if more == 0 { 0 } else { m }
+}
 
 // Of the lines l, those that lie in two or more of the clusters that hold two or more of them.
 fn strip_lines(clusters: &[u64], l: u64) -> u64
@@ -12,11 +21,9 @@ fn strip_lines(clusters: &[u64], l: u64) -> u64
     let mut i: usize = clusters.len();
     while i > 0 {
         i -= 1;
-        let m = clusters[i] & l;
-        if u64::count_ones(m) >= 2 {
-            twice = (m & once) | twice;
-            once = m | once;
-        }
+        let m = linked(clusters[i], l);
+        twice = (m & once) | twice;
+        once = m | once;
     }
     twice
 }

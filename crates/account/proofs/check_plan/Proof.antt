@@ -33,15 +33,15 @@ check-plan-requires c κs =
     let d = start c .pre in (starts d (omega (arith, fine-few (d .sound) (fine c), counted d)), fine c)
 
 -- the plan is taken
-module _ (c : tie.After-put-list-arg) where
+module _ (c : tie.After-put-settled-arg) where
   abbrev asked : tie.After-check-plan
   asked = c .before .before .before .before
 
   took : Took (graph (asked .before)) (start (asked .before) .args .plan .now) (asked .check-plan .result) (asked .check-plan .ensures)
   took = saved-taken _ _ _ _ (c .before .enum-told .given .1)
 
-put-list-requires : tie.Need-put-list-requires
-put-list-requires c κs =
+put-settled-requires : tie.Need-put-settled-requires
+put-settled-requires c κs =
     let d = start (asked c .before) .pre in (d .sound, counted d, fine (asked c .before), took c .merged)
 
 returns-2 : tie.Need-returns-2
@@ -56,11 +56,11 @@ returns-3 : tie.Need-returns-3
 returns-3 c =
     let a = c .before .before .before in
     let k = asked a .before in
-    answers-items (c .before .before .put-list .ensures (took a .merged))
+    answers-items (c .before .before .put-settled .ensures (took a .merged))
     (rule-none _ (sym (k .before .over-fault .ensures _) ∙ k .if1 .left) ∙ took a .gives)
 
 pub check-plan-spec : {M : Type 1} → statement M
 check-plan-spec =
     tie.close
-    (tie.spec (λ c κs. search needs) returns check-plan-requires (λ c. search needs) (λ c. search needs) put-list-requires returns-2
+    (tie.spec (λ c κs. search needs) returns check-plan-requires (λ c. search needs) (λ c. search needs) put-settled-requires returns-2
     (λ c. search needs) returns-3)

@@ -14,28 +14,19 @@ module _ (c : tie.Start) where
   few : (c .args .h .n ≤ 64) × (c .args .h .e ≤ 125) × (2 * c .args .run .steps ≤ c .args .h .e) × (c .args .run .steps ≤ 62)
   few = room (c .args .h) (c .args .start .now) (c .args .sizes .now) (c .pre .0) (c .pre .1) (c .pre .2) (c .pre .3)
 
-  joints-long : length (c .args .run .joints) ≡ 64
-  joints-long = search needs
-
   slots-long : length (c .args .run .slots) ≡ 192
   slots-long = search needs
 
-settle-requires : tie.Need-settle-requires
-settle-requires c κs =
-    let s = c .before .before .before .before .before in
-    (omega (arith, few s), few s .2, few s .0, omega (arith, few s), joints-long s, slots-long s)
-
 steps-of-requires : tie.Need-steps-of-requires
-steps-of-requires c κs = let s = c .before .before .before .before .before .before in (few s .1, few s .3)
+steps-of-requires c κs = let s = c .before .before in (few s .1, few s .3)
 
 -- the arrays when the report is written
 abbrev start : tie.After-struct-known → tie.Start
-start c = c .before .before .before .before .before .before .before .before .before .before
+start c = c .before .before .before .before .before .before
 
 write-report-requires : tie.Need-write-report-requires
 write-report-requires c κs =
     let s = start c in
-    let v = c .before .before .before .before .settle .ensures in
     let w = c .before .before .before .steps-of .ensures in (
       (
         omega (arith, few s),
@@ -43,24 +34,23 @@ write-report-requires c κs =
         few s .3,
         omega (arith, few s),
         slots-long s,
-        all-small _ _ _ (s .pre .0) (s .pre .1) (s .pre .2) (s .pre .3) v w,
+        all-small _ _ _ (s .pre .0) (s .pre .1) (s .pre .2) (s .pre .3) w,
       ),
-      not-long _ _ _ (s .pre .0) (s .pre .1) (s .pre .2) (s .pre .3) v w,
+      not-long _ _ _ (s .pre .0) (s .pre .1) (s .pre .2) (s .pre .3) w _,
     )
 
 returns : tie.Need-returns
 returns c m =
     let k = c .before .before .before in
     let s = start k in
-    let r = reported _ _ _ (s .pre .0) (s .pre .1) (s .pre .2) m (k .before .before .before .before .settle .ensures)
-    (k .before .before .before .steps-of .ensures) in
+    let r = reported _ _ _ (s .pre .0) (s .pre .1) (s .pre .2) m (k .before .before .before .steps-of .ensures) (s .args .verdict) in
     let w = c .before .before .write-report .ensures in
     (w .0 ∙ ap (λ (l : List ℕ). answer l (s .args .out .now)) r, w .1 ∙ ap (λ (l : List ℕ). after l (s .args .out .now)) r)
 
 pub put-list-spec : {M : Type 1} → statement M
 put-list-spec =
     tie.close
-    (tie.spec settle-requires steps-of-requires (λ c. record {
+    (tie.spec steps-of-requires (λ c. record {
       fits =
           omega (arith, few (start c));
     }) write-report-requires (λ c. search needs) returns)

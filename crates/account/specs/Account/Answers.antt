@@ -29,7 +29,7 @@ use Rattle.plans.specs.declared.Checked.{Checked}
 use Rattle.plans.specs.Check.{savedSteps, planFault, answerOf, checkOf}
 use Rattle.plans.specs.Check.Laws.{accepted-maximal}
 use Rattle.report.specs.Report.{overReport}
-use Rattle.account.specs.Account.{listReport, reportBy, reportOf, savedFault, savedField}
+use Rattle.account.specs.Account.{reportWith, listReport, reportBy, reportOf, savedFault, savedField}
 
 -- ---- the judgement
 
@@ -58,10 +58,10 @@ module _ (g : Graph) (sound : Sound (g .n) (g .clusters)) (j : Judged) (e : j �
   pub record PlanFound : Type 0 where
     pub notOver : NotOver (g .clusters)
     pub merged : Merged (g .clusters) (j .run)
-    pub report-is : listReport g (merged .p) ≡ reportOf g
+    pub report-is : reportWith g (j .verdict) (merged .p) ≡ reportOf g
 
   pub plan-found : verdictNumber (j .verdict) ≢ 0 → PlanFound
-  unfolding judgedOf reportOf listed
+  unfolding judgedOf reportOf listed listReport
   plan-found v = by-finding (findingOf g) refl
     where
       by-finding : (o : Finding) → findingOf g ≡ o → PlanFound
@@ -72,7 +72,7 @@ module _ (g : Graph) (sound : Sound (g .n) (g .clusters)) (j : Judged) (e : j �
           valid = plan-of-maximal (g .clusters) (sound .simple .pairs) .valid;
           is = ap (λ (x : Judged). x .run) (e ∙ ap (judgedBy g) q);
         };
-        report-is = sym (ap (reportBy g) q);
+        report-is = ap (λ (x : Judged). reportWith g (x .verdict) (planOf (g .clusters))) (e ∙ ap (judgedBy g) q) ∙ sym (ap (reportBy g) q);
       }
       by-finding (First c x) q = absurd (v (ap (λ (x : Judged). verdictNumber (x .verdict)) (e ∙ ap (judgedBy g) q)))
 

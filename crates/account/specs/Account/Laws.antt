@@ -20,7 +20,7 @@ use Rattle.judge.specs.Judged.Laws.{steps-few, listed-verdict, finals-are, Sett
 use Rattle.report.specs.Report.{report}
 use Rattle.report.specs.Pieces.{AllSmall}
 use Rattle.report.specs.Report.Bound.{report-most, small-steps}
-use Rattle.account.specs.Account.{listReport}
+use Rattle.account.specs.Account.{reportWith, listReport}
 
 module _ (h : Head) (start : List ℕ) (sizes : List ℤ) (sound : Sound (h .n) (take (h .e) start)) (count : length (take (h .e) start) ≡ h .e)
     (fine : NotOver (take (h .e) start)) {run : Run} (m : Merged (take (h .e) start) run) where
@@ -38,21 +38,23 @@ module _ (h : Head) (start : List ℕ) (sizes : List ℤ) (sound : Sound (h .n) 
   steps-are = ap (λ (r : Run). r .steps) (m .is)
 
   -- what they give is the list's own
-  module _ {v : Verdict} {steps : List Step} (is : Settled h run v)
-      (stepped : Stepped (h .lines) (h .e) sizes start run steps) where
+  module _ {steps : List Step} (stepped : Stepped (h .lines) (h .e) sizes start run steps) where
     steps-list : take (run .steps) steps ≡ stepsOf g (m .p)
     steps-list =
         stepped-are g (m .p) run start sizes steps (m .valid) (m .is) (ap (λ (e : ℕ). take e start) count) (ap (λ (e : ℕ). take e sizes) count)
         (omega (arith, room, steps-are)) (rw count stepped)
 
-    pub reported : report (h .n) (h .e) v (take (run .steps) steps) (take (h .e + run .steps) (run .slots)) ≡ listReport g (m .p)
-    unfolding listReport
-    reported = rw (listed-verdict g (sound .simple .pairs) m {h = h} refl refl count is, steps-list, finals-are (g .clusters) (sound .simple .pairs) m count, count)
+    pub reported : (v : Verdict) → report (h .n) (h .e) v (take (run .steps) steps) (take (h .e + run .steps) (run .slots)) ≡ reportWith g v (m .p)
+    reported v = rw (steps-list, finals-are (g .clusters) (sound .simple .pairs) m count, count)
 
     pub all-small : AllSmall (take (run .steps) steps)
     all-small =
         subst AllSmall (sym steps-list) (small-steps g (g .clusters) (m .p) (m .valid) (omega (arith, count, room, steps-are)))
 
-    pub not-long : length (report (h .n) (h .e) v (take (run .steps) steps) (take (h .e + run .steps) (run .slots))) ≤ 3786
-    unfolding listReport
-    not-long = rw reported (report-most g (sound .simple .pairs) (m .p) (m .valid) _ (sound .two) (sound .most) (sound .below) fine)
+    pub not-long : (v : Verdict) → length (report (h .n) (h .e) v (take (run .steps) steps) (take (h .e + run .steps) (run .slots))) ≤ 3786
+    not-long v = rw (reported v) (report-most g (sound .simple .pairs) (m .p) (m .valid) _ (sound .two) (sound .most) (sound .below) fine)
+
+  -- with the verdict of the arrays
+  pub settled-report : {v : Verdict} → Settled h run v → reportWith g v (m .p) ≡ listReport g (m .p)
+  unfolding listReport
+  settled-report is = ap (λ (w : Verdict). reportWith g w (m .p)) (listed-verdict g (sound .simple .pairs) m {h = h} refl refl count is)

@@ -1,45 +1,31 @@
 -- `engine::settle` meets its contract: the names are tried in the paper's order. Assumes nothing.
-use mathlib.Core.Path.{_≡_, sym, ap, _∙_}
+use mathlib.Core.Path.{_≡_, sym, _∙_}
 use mathlib.Core.Logic.{_≢_}
-use mathlib.Core.List.{List}
-use Prim.Native.Nat.{ℕ, _+_, _-_}
-use lib.ListN.{take}
 use native.Mathlib.Omega.{arith}
 use borrow.Author.Tests.{eq-eqb, ne-eqb}
 use Rattle.theory.specs.Merge.{left}
-use Rattle.theory.specs.Ring.{ringed}
 use Rattle.theory.specs.Verdict.{judged, angled}
 use borrow.Author.Needs.{needs}
 use Rattle.engine.proofs.settle.Statement.{statement}
 use Rattle.engine.proofs.settle.Tie as tie
 
-abbrev start : tie.After-ringed → tie.Start
-start c = c .before .before .before .before .before
-
 returns : tie.Need-returns
 unfolding judged angled
 returns c finals are left-is = simp (sym (c .before .angled .ensures) ∙ c .if1 .taken)
-
--- the part of the slots that is looked at are the final clusters
-ring-is : (c : tie.After-ringed) (finals : List ℕ) → take (start c .args .e + start c .args .steps) (start c .args .slots .now) ≡ finals
-    → c .ringed .result ≡ ringed (start c .args .lines) finals
-ring-is c finals are =
-    let whole : start c .args .e + start c .args .steps - 0 ≡ start c .args .e + start c .args .steps = omega arith in
-    c .ringed .ensures ∙ ap (ringed (start c .args .lines)) (ap (λ (n : ℕ). take n (start c .args .slots .now)) whole ∙ are)
 
 returns-2 : tie.Need-returns-2
 unfolding judged angled
 returns-2 c finals are left-is =
     let k = c .before in
-    simp (sym (k .before .before .before .before .angled .ensures) ∙ k .before .before .before .if1 .left, sym (ring-is k finals are) ∙ c .if2 .taken)
+    simp (sym (k .before .before .angled .ensures) ∙ k .before .if1 .left, sym (k .round .ensures finals are left-is) ∙ c .if2 .taken)
 
 returns-3 : tie.Need-returns-3
 unfolding judged angled
 returns-3 c finals are left-is =
     let k = c .before .before in
     simp (
-      sym (k .before .before .before .before .angled .ensures) ∙ k .before .before .before .if1 .left,
-      sym (ring-is k finals are) ∙ c .before .if2 .left,
+      sym (k .before .before .angled .ensures) ∙ k .before .if1 .left,
+      sym (k .round .ensures finals are left-is) ∙ c .before .if2 .left,
       ne-eqb _ _ (c .if3 .taken),
     )
 
@@ -49,8 +35,8 @@ returns-4 c finals are left-is =
     let k = c .before .before .before in
     let one : left finals ≡ 1 = omega (arith, c .if4 .taken) in
     simp (
-      sym (k .before .before .before .before .angled .ensures) ∙ k .before .before .before .if1 .left,
-      sym (ring-is k finals are) ∙ c .before .before .if2 .left,
+      sym (k .before .before .angled .ensures) ∙ k .before .if1 .left,
+      sym (k .round .ensures finals are left-is) ∙ c .before .before .if2 .left,
       eq-eqb _ _ (c .before .if3 .left),
       eq-eqb _ _ one,
     )
@@ -61,8 +47,8 @@ returns-5 c finals are left-is =
     let k = c .before .before .before in
     let more : left finals ≢ 1 = λ one. c .if4 .left (omega (arith, one)) in
     simp (
-      sym (k .before .before .before .before .angled .ensures) ∙ k .before .before .before .if1 .left,
-      sym (ring-is k finals are) ∙ c .before .before .if2 .left,
+      sym (k .before .before .angled .ensures) ∙ k .before .if1 .left,
+      sym (k .round .ensures finals are left-is) ∙ c .before .before .if2 .left,
       eq-eqb _ _ (c .before .if3 .left),
       ne-eqb _ _ more,
     )
@@ -70,6 +56,5 @@ returns-5 c finals are left-is =
 pub settle-spec : {M : Type 1} → statement M
 settle-spec =
     tie.close
-    (tie.spec (λ c κs. search needs) returns (λ c. search needs) (λ c. search needs) (λ c. search needs) (λ c. search needs)
-    (λ c κs. search needs) returns-2 (λ c. search needs) (λ c. search needs) returns-3 (λ c. search needs) (λ c. search needs) returns-4
-    returns-5)
+    (tie.spec (λ c κs. search needs) returns (λ c κs. search needs) returns-2 (λ c. search needs) (λ c. search needs) returns-3 (λ c. search needs)
+    (λ c. search needs) returns-4 returns-5)

@@ -1,7 +1,7 @@
 -- `rings::strip_lines` meets its contract: the clusters are taken from the last to the first, as the definition goes. Assumes nothing.
 use borrow.Author.Needs.{needs}
 use Rattle.rings.specs.Turns.{Swept}
-use Rattle.rings.specs.Turns.Laws.{sweep-start, sweep-many, sweep-few, sweep-end}
+use Rattle.rings.specs.Turns.Laws.{sweep-start, sweep, sweep-end}
 use Rattle.rings.proofs.strip_lines.Statement.{statement}
 use Rattle.rings.proofs.strip_lines.Tie as tie
 
@@ -12,14 +12,11 @@ abbrev μ-loop : tie.MeasureT-loop
 μ-loop clusters l once₀ twice₀ i₀ once twice i = i
 
 loop-again : tie.Need-loop-again Inv-loop μ-loop
-loop-again c = let l = c .before .before .before .loop in sweep-many _ _ (l .i) (l .once) (l .twice) (l .inv) (search needs) (search needs)
-
-loop-again-2 : tie.Need-loop-again-2 Inv-loop μ-loop
-loop-again-2 c = let l = c .before .before .before .loop in sweep-few _ _ (l .i) (l .once) (l .twice) (l .inv) (search needs) (search needs)
+loop-again c = let l = c .before .before .before .loop in sweep _ _ (l .i) (l .once) (l .twice) (l .inv) (search needs) (c .linked .ensures)
 
 pub strip-lines-spec : {M : Type 1} → statement M
 strip-lines-spec =
     tie.close
-    (tie.spec Inv-loop μ-loop (λ c. sweep-start (c .args .l) (c .args .clusters .now)) (λ c. search needs) (λ c. search needs) (λ c. search needs)
-    (λ c. search needs) loop-again (λ c. search needs) loop-again-2
+    (tie.spec Inv-loop μ-loop (λ c. sweep-start (c .before .args .l) (c .before .args .clusters .now)) (λ c. search needs) (λ c. search needs) (λ c. search needs)
+    (λ c κs. search needs) (λ c. search needs) loop-again
     (λ c. let l = c .before .loop in sweep-end _ _ (l .i) (l .once) (l .twice) (l .inv) (search needs)))
