@@ -51,6 +51,8 @@ extern "C" {
 #define PATTERN_MAX_WRITTEN     1414 /* bytes of a written sheet: with this room no sheet is refused by 17 */
 #define PATTERN_MAX_REPORT      3786 /* bytes of a report: with this room no report is refused by 17 */
 #define PATTERN_MAX_PLAN        186  /* numbers of a plan, three a step: with this room no plan is refused by 17 */
+#define PATTERN_MAX_STEPS       62   /* steps of a plan: with room for so many no list of them is refused by 17 */
+#define PATTERN_STEP            7    /* numbers of a step in a list of steps, in the order of struct pattern_step */
 #define PATTERN_MAX_CLUSTERS    125  /* clusters that are left: with this room no list of them is refused by 17 */
 #define PATTERN_MAX_STACK       32768 /* bytes of stack that a call takes */
 
@@ -169,6 +171,35 @@ int32_t pattern_report(const uint8_t *sheet, size_t len, uint8_t *out, size_t ro
  * 16, then 17. Answers the count of bytes.
  */
 int32_t pattern_check_plan(const uint8_t *sheet, size_t len, const uint16_t *plan, size_t count, uint8_t *out, size_t room);
+
+/* A step of a plan: what its line in the report gives. The numbers of a step in a list of steps stand in this order. */
+struct pattern_step {
+    uint64_t made;     /* the number of the cluster made */
+    uint64_t parts[3]; /* the numbers of its three parts, ascending */
+    uint64_t joint;    /* the three elements that they share, bit i for element i */
+    uint64_t lines;    /* how many of these are lines: 0 is ppp, 1 ppl, 2 pll, 3 lll */
+    uint64_t ways;     /* how many placements there are, or PATTERN_WAYS_UNKNOWN */
+};
+
+#define PATTERN_WAYS_UNKNOWN 256 /* the placements are not known: ? in the report */
+
+/*
+ * The steps of a sheet's plan, PATTERN_STEP numbers each, in plan order. room counts numbers, so that
+ * a list of structs is lent as
+ *
+ *   struct pattern_step steps[PATTERN_MAX_STEPS];
+ *   int32_t count = pattern_steps(sheet, len, (uint64_t *)steps, PATTERN_MAX_STEPS * PATTERN_STEP);
+ *
+ * and holds count / PATTERN_STEP steps.
+ * Tries rules 1 to 10, 11, then 17. Answers the count of numbers.
+ */
+int32_t pattern_steps(const uint8_t *sheet, size_t len, uint64_t *out, size_t room);
+
+/*
+ * The steps of a saved plan in the same form, in the saved order, the parts of each ascending. Tries
+ * the rules of pattern_check_plan. Answers the count of numbers.
+ */
+int32_t pattern_saved_steps(const uint8_t *sheet, size_t len, const uint16_t *plan, size_t count, uint64_t *out, size_t room);
 
 /*
  * Adds one constraint to a sketch: writes the sheet with that constraint last. The constraint is

@@ -79,6 +79,22 @@ pub fn check_plan(run: &mut Run, bytes: &[u8], plan: &[u16]) -> Option<Rule> {
     answer.err()
 }
 
+/// Compares `pattern_steps` on some bytes.
+#[inline]
+pub fn steps(run: &mut Run, bytes: &[u8], found: &Found) {
+    let given = Space::holding(bytes, &mut run.random);
+    run.lent("pattern_steps", &Hex(bytes), &found.steps(), |out| ffi::steps(given.held(), out));
+}
+
+/// Compares `pattern_saved_steps` on some bytes and a plan.
+#[inline]
+pub fn saved_steps(run: &mut Run, bytes: &[u8], plan: &[u16]) {
+    let (given, saved) = (Space::holding(bytes, &mut run.random), Space::holding(plan, &mut run.random));
+    let answer = interface::saved_steps(bytes, plan);
+    let input = format!("{}, plan {plan:?}", Hex(bytes));
+    run.lent("pattern_saved_steps", &input, &answer, |out| ffi::saved_steps(given.held(), saved.held(), out));
+}
+
 /// Compares `pattern_add` on some bytes and a constraint's bytes.
 #[inline]
 pub fn add(run: &mut Run, bytes: &[u8], constraint: &[u8]) {

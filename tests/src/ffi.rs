@@ -96,6 +96,19 @@ pub fn check_plan(sheet: &[u8], plan: &[u16], out: &mut [u8]) -> i32 {
     unsafe { c::pattern_check_plan(sheet.as_ptr(), sheet.len(), list, count, out.as_mut_ptr(), out.len()) }
 }
 
+/// `pattern_steps`
+#[inline]
+pub fn steps(sheet: &[u8], out: &mut [u64]) -> i32 {
+    unsafe { c::pattern_steps(sheet.as_ptr(), sheet.len(), out.as_mut_ptr(), out.len()) }
+}
+
+/// `pattern_saved_steps`
+#[inline]
+pub fn saved_steps(sheet: &[u8], plan: &[u16], out: &mut [u64]) -> i32 {
+    let (list, count) = (plan.as_ptr(), plan.len());
+    unsafe { c::pattern_saved_steps(sheet.as_ptr(), sheet.len(), list, count, out.as_mut_ptr(), out.len()) }
+}
+
 /// `pattern_add`
 #[inline]
 pub fn add(sheet: &[u8], constraint: &[u8], out: &mut [u8]) -> i32 {
@@ -135,6 +148,10 @@ mod tests {
             assert_eq!(c::pattern_check_plan(null(), 0, null(), 0, null_mut(), 0), -1);
             assert_eq!(c::pattern_check_plan(sheet, len, null(), 0, null_mut(), 0), -17);
             assert_eq!(c::pattern_check_plan(sheet, len, null(), 0, out, room), 39);
+            assert_eq!(c::pattern_steps(null(), 0, null_mut(), 0), -1);
+            assert_eq!(c::pattern_steps(sheet, len, null_mut(), 0), 0);
+            assert_eq!(c::pattern_saved_steps(null(), 0, null(), 0, null_mut(), 0), -1);
+            assert_eq!(c::pattern_saved_steps(sheet, len, null(), 0, null_mut(), 0), 0);
             assert_eq!(c::pattern_add(null(), 0, null(), 0, null_mut(), 0), -1);
             assert_eq!(c::pattern_add(sheet, len, null(), 0, out, room), -2);
             assert_eq!(c::pattern_add(sheet, len, b"\0\x01\0".as_ptr(), 3, null_mut(), 0), -17);

@@ -6,7 +6,7 @@ use crate::matching::by_matching;
 use crate::reader::read;
 use crate::set::{Set, one};
 use crate::verdict::{Judged, judge};
-use crate::{plans, report, sketch, verdict, writer};
+use crate::{plans, records, report, sketch, verdict, writer};
 
 /// `pattern_rewrite`: the sheet read and written again.
 pub fn rewrite(bytes: &[u8]) -> Result<Vec<u8>, Rule> {
@@ -34,6 +34,13 @@ pub fn check_plan(bytes: &[u8], plan: &[u16]) -> Result<Vec<u8>, Rule> {
     let sheet = read(bytes)?;
     let merges = plans::check(&sheet, plan)?;
     Ok(report::report(&sheet, &Judged::Merged(merges)).into_bytes())
+}
+
+/// `pattern_saved_steps`: the steps of a saved plan.
+pub fn saved_steps(bytes: &[u8], plan: &[u16]) -> Result<Vec<u64>, Rule> {
+    let sheet = read(bytes)?;
+    let merges = plans::check(&sheet, plan)?;
+    Ok(records::numbers(&sheet, &merges))
 }
 
 /// What the engine finds of a sheet's bytes.
@@ -65,6 +72,14 @@ impl Found {
             Judged::Over(_) => Vec::new(),
             Judged::Merged(merges) => merges.numbers(),
         })
+    }
+
+    /// `pattern_steps`: the steps of the engine's plan, or rule 11.
+    pub fn steps(&self) -> Result<Vec<u64>, Rule> {
+        match self.accepted()? {
+            (_, Judged::Over(_)) => Err(11),
+            (sheet, Judged::Merged(merges)) => Ok(records::numbers(sheet, merges)),
+        }
     }
 
     /// `pattern_clusters`: the final clusters by number.

@@ -16,7 +16,7 @@
 static uint8_t sheet[PATTERN_MAX_SHEET + 1], bytes[PATTERN_MAX_REPORT];
 static size_t len;
 static uint16_t plan[PATTERN_MAX_PLAN];
-static uint64_t items[PATTERN_MAX_CONSTRAINTS];
+static uint64_t items[PATTERN_MAX_CONSTRAINTS], numbers[PATTERN_MAX_STEPS * PATTERN_STEP];
 static uint8_t firsts[PATTERN_MAX_CONSTRAINTS], seconds[PATTERN_MAX_CONSTRAINTS], maps[PATTERN_MAX_CONSTRAINTS];
 static int32_t sizes[PATTERN_MAX_CONSTRAINTS];
 static size_t n, e;
@@ -53,6 +53,13 @@ static void *check(void *u)
     pattern_check_plan(sheet, len, plan, count < 0 ? 0 : (size_t)count, bytes, sizeof bytes);
     return u;
 }
+static void *steps(void *u) { pattern_steps(sheet, len, numbers, PATTERN_MAX_STEPS * PATTERN_STEP); return u; }
+static void *saved_steps(void *u)
+{
+    int32_t count = pattern_plan(sheet, len, plan, PATTERN_MAX_PLAN);
+    pattern_saved_steps(sheet, len, plan, count < 0 ? 0 : (size_t)count, numbers, PATTERN_MAX_STEPS * PATTERN_STEP);
+    return u;
+}
 static void *add(void *u)
 {
     static const uint8_t more[] = {0, 1, PATTERN_SIZED, 1, 0, 0, 0};
@@ -87,6 +94,7 @@ int main(int argc, char **argv)
     static const struct { const char *name; void *(*call)(void *); } calls[] = {
         {"pattern_rewrite", rewrite}, {"pattern_write", write_}, {"pattern_over", over}, {"pattern_verdict", verdict}, {"pattern_plan", plan_},
         {"pattern_initial", initial}, {"pattern_clusters", clusters}, {"pattern_report", report}, {"pattern_check_plan", check}, {"pattern_add", add},
+        {"pattern_steps", steps}, {"pattern_saved_steps", saved_steps},
     };
     size_t most[sizeof calls / sizeof *calls] = {0};
     facts();

@@ -15,6 +15,19 @@ fn main() {
     #[cfg(feature = "yardstick")]
     contenders.push(Contender::new("yardstick", pattern_bench::yardstick::verdict));
     table::print("verdict", &cases, &mut contenders);
+    table::print("step records, beside the plan alone", &cases, &mut [steps(), plan_alone()]);
+}
+
+/// The records of the steps, seven numbers each; it answers their count.
+fn steps() -> Contender {
+    let mut out = [0; 512];
+    Contender::new("records", move |bytes| ffi::steps(bytes, &mut out).max(0) / 7)
+}
+
+/// The plan, three numbers a step; it answers the count of steps.
+fn plan_alone() -> Contender {
+    let mut out = [0; 256];
+    Contender::new("plan", move |bytes| ffi::plan(bytes, &mut out) / 3)
 }
 
 /// A contender with lent numbers of its own.

@@ -9,7 +9,8 @@ use Rattle.sheet.specs.Field.{Field, value, Bytes}
 use Rattle.judge.specs.Judged.{planNumbers, finalClusters}
 use Rattle.writer.specs.Write.{writeField}
 use Rattle.account.specs.Account.{reportOf}
-use Rattle.pattern.specs.Entries.{itemsField, rewriteField, overNumbers, initialClusters, checkField, extendField}
+use Rattle.steps.specs.Records.{numbersField}
+use Rattle.pattern.specs.Entries.{itemsField, rewriteField, overNumbers, initialClusters, checkField, stepsField, savedStepsField, extendField}
 pub mod Proof
 
 abbrev pub AtMost : ℕ → Field (List ℕ) → Type 0
@@ -21,6 +22,8 @@ pub record Counts : Type 0 where
   pub plan : (bytes : List ℕ) → Bytes bytes → AtMost 186 (itemsField planNumbers bytes)
   pub initial : (bytes : List ℕ) → Bytes bytes → AtMost 200 (itemsField initialClusters bytes)
   pub clusters : (bytes : List ℕ) → Bytes bytes → AtMost 125 (itemsField finalClusters bytes)
+  pub steps : (bytes : List ℕ) → Bytes bytes → AtMost 434 (numbersField (stepsField bytes))
+  pub saved-steps : (bytes plan : List ℕ) → Bytes bytes → AtMost 434 (numbersField (savedStepsField bytes plan))
   pub over : (bytes : List ℕ) → AtMost 2 (itemsField overNumbers bytes)
   pub rewrite : (bytes : List ℕ) → Bytes bytes → AtMost 1414 (rewriteField bytes)
   pub write : (s : Sheet) → AtMost 1414 (writeField s)

@@ -6,6 +6,7 @@ use Rattle.theory.specs.Graph.{Graph, findingOf, verdictOf}
 use Rattle.theory.specs.declared.Finding.{Finding}
 use Rattle.theory.specs.declared.Finding.the-variants.{Fine, First}
 use Rattle.theory.specs.declared.Verdict.{Verdict}
+use Rattle.theory.specs.declared.Step.{Step}
 use Rattle.sheet.specs.Facts.{Facts}
 use Rattle.sheet.specs.Field.{Field, value, refused, next}
 use Rattle.sheet.specs.Decode.{constraints, readSheet}
@@ -14,10 +15,12 @@ use Rattle.sheet.specs.WithoutTags.{withoutTags}
 use Rattle.sheet.specs.Graph.{graphOf, overFault}
 use Rattle.sheet.specs.Answer.{byRule}
 use Rattle.account.specs.Account.{savedField}
+use Rattle.steps.specs.Records.{planSteps, savedRecords}
 use Rattle.pattern.specs.declared.Judgement.{Judgement}
 use Rattle.pattern.specs.declared.Judgement.the-variants.{Is, Refused}
 pub mod Reading
 pub mod Sketches
+pub mod Steps
 pub mod Agree
 
 -- ---- an accepted sheet (document 01, "Refused": 1 to 10)
@@ -61,6 +64,13 @@ heldSheet bytes = next (readSheet bytes) held
 -- a saved plan checked against it: 12 to 16 of the plan
 abbrev pub checkField : List ℕ → List ℕ → Field (List ℕ)
 checkField bytes plan = next (heldSheet bytes) (λ f rest. savedField (graphOf f) plan)
+
+-- the steps of the engine's plan, a record each, and those of a saved plan (document 02, 2026-04)
+abbrev pub stepsField : List ℕ → Field (List Step)
+stepsField bytes = next (heldSheet bytes) (λ f rest. value (planSteps (graphOf f)) [])
+
+abbrev pub savedStepsField : List ℕ → List ℕ → Field (List Step)
+savedStepsField bytes plan = next (heldSheet bytes) (λ f rest. savedRecords (graphOf f) plan)
 
 -- the facts with one more constraint, its bytes as a sheet has them: 2 and 6 to 9 of its fields, 10 of bytes that follow them
 unfoldable pub longer : Facts → List ℕ → Field Facts

@@ -17,7 +17,9 @@ use Rattle.sketch.specs.declared.Taken.the-variants.{Refused as Not}
 use Rattle.sketch.specs.Sketch.{addAnswer}
 use Rattle.account.specs.Account.{reportOf}
 use Rattle.longest.specs.Longest.{longestField}
-use Rattle.pattern.specs.Entries.{itemsField, rewriteField, verdictField, heldSheet, checkField, extendField}
+use Rattle.theory.specs.declared.Step.{Step}
+use Rattle.steps.specs.Records.{filledTo}
+use Rattle.pattern.specs.Entries.{itemsField, rewriteField, verdictField, heldSheet, checkField, stepsField, savedStepsField, extendField}
 pub mod Proof
 
 -- the items are more than the space takes
@@ -26,6 +28,12 @@ pub record Short (x : Field (List ℕ)) (space : List ℕ) : Type 0 where
   pub rest : List ℕ
   pub gives : x ≡ value items rest
   pub longer : length space < length items
+
+pub record ShortList (x : Field (List Step)) (list : List Step) : Type 0 where
+  pub steps : List Step
+  pub rest : List ℕ
+  pub gives : x ≡ value steps rest
+  pub longer : length list < length steps
 
 pub record Refusals : Type 0 where
   -- over lent space a call is refused by the rule that refuses its items, or by 17 where the space is shorter than they are
@@ -40,6 +48,10 @@ pub record Refusals : Type 0 where
   pub add : (s : Sheet) (c : Constraint) (k : ℕ) → addAnswer s c ≡ Not k → But 4 (But 10 (Rule 3 11)) k
   -- the plan check; 14 is not used (request 2026-06)
   pub check : (bytes plan : List ℕ) → By (But 14 (Rule 1 16)) (checkField bytes plan)
+  -- step records, of the engine's plan and of a saved one; over a lent list of records a call is refused so, or by 17 where the list is shorter
+  pub steps : (bytes : List ℕ) → By (Rule 1 11) (stepsField bytes)
+  pub saved-steps : (bytes plan : List ℕ) → By (But 14 (Rule 1 16)) (savedStepsField bytes plan)
+  pub records : (x : Field (List Step)) (list : List Step) (k : ℕ) → filledTo x list ≡ Refused k → (x ≡ refused k) ⊎ ((k ≡ 17) × ShortList x list)
   pub hold : (bytes : List ℕ) → By (Rule 1 11) (heldSheet bytes)
   pub extend : (bytes more : List ℕ) → By (Rule 1 11) (extendField bytes more)
   -- the sheet with the longest plan

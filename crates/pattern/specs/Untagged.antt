@@ -7,7 +7,7 @@ use Rattle.sheet.specs.Facts.{Facts}
 use Rattle.sheet.specs.Field.{value, Bytes}
 use Rattle.sheet.specs.Decode.{readSheet}
 use Rattle.sheet.specs.WithoutTags.{dropTags, withoutTags}
-use Rattle.pattern.specs.Entries.{itemsField, rewriteField, verdictField, heldSheet, checkField, longer, extendField}
+use Rattle.pattern.specs.Entries.{itemsField, rewriteField, verdictField, heldSheet, checkField, stepsField, savedStepsField, longer, extendField}
 pub mod Proof
 
 -- two sheets that no entry point tells apart, whatever else it is given: a call's answer, and what it leaves in lent space, go by its field alone
@@ -18,6 +18,8 @@ pub record SameAnswers (a b : List ℕ) : Type 0 where
   pub items : (what : Graph → List ℕ) → itemsField what a ≡ itemsField what b
   pub rewrite : rewriteField a ≡ rewriteField b
   pub check : (plan : List ℕ) → checkField a plan ≡ checkField b plan
+  pub steps : stepsField a ≡ stepsField b
+  pub saved-steps : (plan : List ℕ) → savedStepsField a plan ≡ savedStepsField b plan
   pub hold : heldSheet a ≡ heldSheet b
   pub extend : (more : List ℕ) → extendField a more ≡ extendField b more
 

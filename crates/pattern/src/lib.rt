@@ -14,8 +14,10 @@ ghost use Rattle.sketch.specs.Sketch.{addedOf};
 ghost use Rattle.account.specs.Account.{reportOf};
 ghost use Rattle.card.specs.Card.{setVerdict};
 ghost use Rattle.longest.specs.Longest.{longestField};
+ghost use Rattle.steps.specs.Records.{Fills, numbersField};
+ghost use Rattle.steps.specs.Listing.{Listed};
 ghost use Rattle.pattern.specs.Entries.{itemsField, rewriteField, verdictField, asJudgement, overNumbers, initialClusters};
-ghost use Rattle.pattern.specs.Entries.{heldSheet, checkField, extendField};
+ghost use Rattle.pattern.specs.Entries.{heldSheet, checkField, stepsField, savedStepsField, extendField};
 use graph::Head;
 use reader::Cursor;
 use reader::GraphRead;
@@ -25,7 +27,9 @@ use sheet::Constraint;
 use sheet::Sheet;
 use sketch::Added;
 use space::Written;
+use steps::Listing;
 use theory::Finding;
+use theory::Step;
 use theory::Verdict;
 
 // The sheet that some bytes stand for, or the rule of 1 to 10 that refuses them.
@@ -203,6 +207,72 @@ pub fn check_plan(bytes: &[u8], plan: &[u16], out: &mut [u8]) -> Written
         return Written::Refused(got.refusal());
     };
     account::check_plan(head, &near, &start, &sizes, plan, out)
+}
+
+// ---- the plan as a list of step records
+
+// The steps of the engine's plan by value, or the rule of 1 to 11 that refuses.
+fn plan_listing(bytes: &[u8]) -> Listing
+    ensures { λ r. ⌜ Listed (stepsField (now (bytes .entry))) r ⌝ }
+{
+    let mut near = [0u64; 64];
+    let mut start = [0u64; 200];
+    let mut sizes = [0i32; 200];
+    let got = reader::read_graph(bytes, &mut near, &mut start, &mut sizes);
+    let GraphRead::Value(head) = got else {
+        return steps::refused(got.refusal());
+    };
+    steps::plan_steps(head, &near, &start, &sizes)
+}
+
+// The steps of a saved plan by value, or the rule of 1 to 16 that refuses.
+fn saved_listing(bytes: &[u8], plan: &[u16]) -> Listing
+    ensures { λ r. ⌜ Listed (savedStepsField (now (bytes .entry)) (now (plan .entry))) r ⌝ }
+{
+    let mut near = [0u64; 64];
+    let mut start = [0u64; 200];
+    let mut sizes = [0i32; 200];
+    let got = reader::read_graph(bytes, &mut near, &mut start, &mut sizes);
+    let GraphRead::Value(head) = got else {
+        return steps::refused(got.refusal());
+    };
+    steps::saved_steps(head, &near, &start, &sizes, plan)
+}
+
+// The engine's plan as records in a list that the caller lends, one for each step, or the rule of 1 to 11 and 17 that refuses.
+pub fn steps(bytes: &[u8], out: &mut [Step]) -> Written
+    ensures { λ r. ⌜ Fills (stepsField (now (bytes .entry))) (now (out .entry)) r (now (out .exit)) ⌝ }
+{
+    let l = plan_listing(bytes);
+    steps::fill(out, l)
+}
+
+// A saved plan's steps, in the saved order, as records in a list that the caller lends, or the rule of 1 to 17 that refuses.
+pub fn saved_steps(bytes: &[u8], plan: &[u16], out: &mut [Step]) -> Written
+    ensures { λ r. ⌜ Fills (savedStepsField (now (bytes .entry)) (now (plan .entry))) (now (out .entry)) r (now (out .exit)) ⌝ }
+{
+    let l = saved_listing(bytes, plan);
+    steps::fill(out, l)
+}
+
+// The records of the engine's plan as numbers, seven a step, in lent space, or the rule of 1 to 11 and 17 that refuses.
+pub fn step_numbers(bytes: &[u8], out: &mut [u64]) -> Written
+    ensures { λ r. ⌜ Answers (numbersField (stepsField (now (bytes .entry)))) (now (out .entry)) r (now (out .exit)) ⌝ }
+{
+    let l = plan_listing(bytes);
+    let list = steps::no_records();
+    let filled = steps::fill_on(l, list);
+    steps::put_numbers(filled, out)
+}
+
+// The records of a saved plan as numbers, seven a step, in lent space, or the rule of 1 to 17 that refuses.
+pub fn saved_step_numbers(bytes: &[u8], plan: &[u16], out: &mut [u64]) -> Written
+    ensures { λ r. ⌜ Answers (numbersField (savedStepsField (now (bytes .entry)) (now (plan .entry)))) (now (out .entry)) r (now (out .exit)) ⌝ }
+{
+    let l = saved_listing(bytes, plan);
+    let list = steps::no_records();
+    let filled = steps::fill_on(l, list);
+    steps::put_numbers(filled, out)
 }
 
 // ---- a held sketch

@@ -6,6 +6,8 @@ ghost use Rattle.writer.specs.Write.{writeField};
 ghost use Rattle.judge.specs.Judged.{planNumbers, finalClusters};
 ghost use Rattle.account.specs.Account.{reportOf};
 ghost use Rattle.pattern.specs.Entries.{itemsField, rewriteField, verdictField, asJudgement, overNumbers, initialClusters, checkField, extendField};
+ghost use Rattle.pattern.specs.Entries.{stepsField, savedStepsField};
+ghost use Rattle.steps.specs.Records.{numbersField};
 ghost use Rattle.sheet.specs.Facts.{blankConstraint};
 ghost use Prim.Native.Nat.{_%_};
 ghost use Rattle.card.specs.Card.{setVerdict};
@@ -194,6 +196,23 @@ pub extern "C" fn pattern_check_plan(sheet: &[u8], plan: &[u16], out: &mut [u8])
     ensures { λ r. ⌜ AnswersCount (checkField (now (sheet .entry)) (now (plan .entry))) (now (out .entry)) r (now (out .exit)) ⌝ }
 {
     count(pattern::check_plan(sheet, plan, out))
+}
+
+// The steps of the engine's plan, seven numbers each: the cluster made, its three parts, the joint as a set, how many of its elements are lines, and how
+// many placements there are, 256 where that is not known; or the rule of 1 to 11 and 17 that refuses.
+#[no_mangle]
+pub extern "C" fn pattern_steps(sheet: &[u8], out: &mut [u64]) -> i32
+    ensures { λ r. ⌜ AnswersCount (numbersField (stepsField (now (sheet .entry)))) (now (out .entry)) r (now (out .exit)) ⌝ }
+{
+    count(pattern::step_numbers(sheet, out))
+}
+
+// The steps of a saved plan in the saved order, seven numbers each, or the rule of 1 to 17 that refuses.
+#[no_mangle]
+pub extern "C" fn pattern_saved_steps(sheet: &[u8], plan: &[u16], out: &mut [u64]) -> i32
+    ensures { λ r. ⌜ AnswersCount (numbersField (savedStepsField (now (sheet .entry)) (now (plan .entry)))) (now (out .entry)) r (now (out .exit)) ⌝ }
+{
+    count(pattern::saved_step_numbers(sheet, plan, out))
 }
 
 // The sheet with one more constraint, given as its bytes in a sheet, or the rule of 1 to 11 and 17 that refuses them.

@@ -32,6 +32,15 @@ unsafe extern "C" {
         out: *mut u8,
         room: usize,
     ) -> i32;
+    pub fn pattern_steps(sheet: *const u8, len: usize, out: *mut u64, room: usize) -> i32;
+    pub fn pattern_saved_steps(
+        sheet: *const u8,
+        len: usize,
+        plan: *const u16,
+        count: usize,
+        out: *mut u64,
+        room: usize,
+    ) -> i32;
     pub fn pattern_add(
         sheet: *const u8,
         len: usize,

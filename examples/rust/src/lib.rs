@@ -39,6 +39,8 @@ pub const MOST_READ: usize = 1814;
 pub const MOST_REPORT: usize = 3786;
 /// The most numbers of a plan, three a step.
 pub const MOST_PLAN: usize = 186;
+/// The most steps of a plan.
+pub const MOST_STEPS: usize = 62;
 /// The most clusters that are left.
 pub const MOST_CLUSTERS: usize = 125;
 
@@ -361,6 +363,73 @@ pub fn initial<'a>(sheet: &[u8], out: &'a mut [u64]) -> Result<&'a [u64], Rule> 
     // SAFETY: each list is a live slice of its length, and `out` is borrowed alone.
     let answer = unsafe { c::pattern_initial(sheet.as_ptr(), sheet.len(), out.as_mut_ptr(), out.len()) };
     written(answer, out)
+}
+
+/// The kind of a step's joint: how many of its elements are points and how many lines.
+#[derive(Clone, Copy, PartialEq, Eq, Debug)]
+pub enum JointKind {
+    Ppp,
+    Ppl,
+    Pll,
+    Lll,
+}
+
+/// A step of a plan: what its line in the report gives.
+#[derive(Clone, Copy, PartialEq, Eq, Debug)]
+pub struct Step {
+    /// The number of the cluster made.
+    pub made: usize,
+    /// The numbers of its parts, ascending.
+    pub parts: [usize; 3],
+    /// The elements that these share: element i as bit i.
+    pub joint: u64,
+    pub kind: JointKind,
+    /// How many placements there are, where that is known.
+    pub ways: Option<u8>,
+}
+
+/// How many numbers a step has in a list of steps.
+const STEP: usize = 7;
+
+impl Step {
+    /// The step of its numbers.
+    fn of(numbers: &[u64]) -> Step {
+        let &[made, i, j, k, joint, lines, ways] = numbers else { panic!("a step has seven numbers") };
+        let kind = [JointKind::Ppp, JointKind::Ppl, JointKind::Pll, JointKind::Lll][lines as usize];
+        Step { made: made as usize, parts: [i, j, k].map(|part| part as usize), joint, kind, ways: u8::try_from(ways).ok() }
+    }
+}
+
+/// The plan of a sheet as steps, each with what its line in the report gives. An over sheet is refused.
+///
+/// ```
+/// use pattern::{JointKind, Rule, Step};
+///
+/// # let mut space = [0; pattern::MOST_BYTES];
+/// # let constraints = [(0, 1), (0, 2), (1, 2)].map(|(a, b)| pattern::Constraint::sized(a, b, 300));
+/// # let facts = pattern::Facts { kinds: &[pattern::Kind::Point; 3], constraints: &constraints };
+/// # let sheet = pattern::write(&facts, &mut space)?;
+/// let step = Step { made: 3, parts: [0, 1, 2], joint: 0b111, kind: JointKind::Ppp, ways: Some(2) };
+/// assert_eq!(pattern::steps(sheet)?, [step]);
+/// assert_eq!(pattern::saved_steps(sheet, &[2, 0, 1])?, [step]);
+/// assert_eq!(pattern::saved_steps(sheet, &[]), Err(Rule(16)));
+/// # Ok::<(), Rule>(())
+/// ```
+pub fn steps(sheet: &[u8]) -> Result<Vec<Step>, Rule> {
+    let mut out = [0; STEP * MOST_STEPS];
+    // SAFETY: each list is a live slice of its length, and `out` is borrowed alone.
+    let answer = unsafe { c::pattern_steps(sheet.as_ptr(), sheet.len(), out.as_mut_ptr(), out.len()) };
+    Ok(written(answer, &out)?.chunks(STEP).map(Step::of).collect())
+}
+
+/// The steps of a plan that was saved, in the saved order.
+pub fn saved_steps(sheet: &[u8], plan: &[u16]) -> Result<Vec<Step>, Rule> {
+    let mut out = [0; STEP * MOST_STEPS];
+    // SAFETY: each list is a live slice of its length, and `out` is borrowed alone.
+    let answer = unsafe {
+        c::pattern_saved_steps(sheet.as_ptr(), sheet.len(), plan.as_ptr(), plan.len(), out.as_mut_ptr(), out.len())
+    };
+    Ok(written(answer, &out)?.chunks(STEP).map(Step::of).collect())
 }
 
 /// The clusters that are left when no merge is open, by number: element i as bit i.

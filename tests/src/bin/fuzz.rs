@@ -23,6 +23,8 @@ fn main() -> ExitCode {
         let saved = found.plan().unwrap_or_default();
         let plan = plan(&saved, &mut run.random);
         calls::check_plan(&mut run, &bytes, &plan);
+        calls::steps(&mut run, &bytes, &found);
+        calls::saved_steps(&mut run, &bytes, &plan);
         let constraint = constraint(&bytes, &mut run.random);
         calls::add(&mut run, &bytes, &constraint);
         let facts = facts(&bytes, &mut run.random);

@@ -6,11 +6,13 @@ use mathlib.Core.List.{List, [], map}
 use lib.ListN.{length, length-append, length-take, length-map}
 use Rattle.theory.specs.Constraints.{NotOver}
 use Rattle.theory.specs.Over.Laws.{overOf-fine, fine-most}
-use Rattle.theory.specs.Merge.{final, left}
+use Rattle.theory.specs.Merge.{Merge, Valid, final, left}
 use Rattle.theory.specs.Merge.Count.{steps-left}
 use Rattle.theory.specs.Plan.{planOf, ascending}
 use Rattle.theory.specs.Plan.Laws.{plan-of-maximal}
-use Rattle.theory.specs.Graph.{Graph, findingOf}
+use Rattle.theory.specs.Graph.{Graph, findingOf, stepsOf}
+use Rattle.theory.specs.Graph.Laws.{length-steps}
+use Rattle.theory.specs.declared.Step.{Step}
 use Rattle.theory.specs.declared.Finding.{Finding}
 use Rattle.theory.specs.declared.Finding.the-variants.{Fine, First}
 use Rattle.sheet.specs.declared.Sheet.{Sheet}
@@ -25,18 +27,23 @@ use Rattle.sheet.specs.Encode.Laws.{sheet-length}
 use Rattle.sheet.specs.Accepted.{Accepted}
 use Rattle.sheet.specs.Accepted.Laws.{accepted-two, accepted-most, sheetFault-none}
 use Rattle.sheet.specs.Graph.{clusterOf, graphOf}
+use Rattle.sheet.specs.Graph.Laws.{fault-none}
 use Rattle.sheet.specs.Answer.{byRule}
 use Rattle.sheet.specs.RoundTrip.{written-read, written-most}
 use Rattle.merges.specs.Run.{flat}
 use Rattle.merges.specs.Run.Laws.{length-numbers}
 use Rattle.engine.specs.Lists.Laws.{living-count}
 use Rattle.judge.specs.Judged.{planBy, planNumbers, finalsBy, finalClusters}
-use Rattle.plans.specs.Check.{savedSteps}
+use Rattle.plans.specs.Check.{savedSteps, planFault}
+use Rattle.plans.specs.Check.Laws.{accepted-maximal}
 use Rattle.sketch.specs.Sketch.{extended}
 use Rattle.account.specs.Account.{listReport, reportOf, savedFault}
 use Rattle.account.specs.Account.Room.{report-room, saved-room}
 use Rattle.account.specs.Own.Proof.{paired, below}
-use Rattle.pattern.specs.Entries.{held, heldSheet, initialClusters, overItems, overNumbers, checkField, longer, extendedSheet, extendField}
+use Rattle.steps.specs.Records.{planSteps, stepNumbers, numbersField}
+use Rattle.steps.specs.Records.Laws.{length-numbers as length-records}
+use Rattle.pattern.specs.Entries.{held, heldSheet, initialClusters, overItems, overNumbers, checkField, stepsField, savedStepsField}
+use Rattle.pattern.specs.Entries.{longer, extendedSheet, extendField}
 use Rattle.pattern.specs.Entries.Sketches.{held-accepted, held-value, check-saved, longer-last, few-constraints}
 use Rattle.pattern.specs.Counts.{AtMost, Counts}
 
@@ -49,6 +56,10 @@ after-value x what {most} h items rest e =
 after-rule : (k : ℕ) (what : List ℕ) {most : ℕ} → (k ≡ 0 → length what ≤ most) → AtMost most (byRule k (value what []))
 after-rule zero what h items rest e = let same : what ≡ items = cc in omega (arith, h refl, ap length same)
 after-rule (suc k) what h items rest e = refused-value e
+
+rule-value : {A : Type 0} (k : ℕ) (x : Field A) {a : A} {t : List ℕ} → byRule k x ≡ value a t → (k ≡ 0) × (x ≡ value a t)
+rule-value zero x e = (refl, e)
+rule-value (suc k) x e = refused-value e
 
 -- ---- an accepted sheet that is not over has at most 125 constraints
 
@@ -74,6 +85,11 @@ module _ (f : Facts) (a : Accepted f) where
       by : (o : Finding) → findingOf g ≡ o → length (flat (map ascending (planBy g o))) ≤ 186
       by Fine q = omega (arith, length-numbers (planOf (g .clusters)), merged, few q)
       by (First c x) q = omega (arith, length-numbers [])
+
+  -- seven numbers a step, and two clusters fewer at each
+  steps-short : findingOf g ≡ Fine → (p : List Merge) → Valid (g .clusters) p → length (stepNumbers (stepsOf g p)) ≤ 434
+  steps-short q p v =
+      omega (arith, length-records (stepsOf g p), length-steps g (g .clusters) p, steps-left (g .clusters) (paired f a) p v, few q)
 
   clusters-short : length (finalClusters g) ≤ 125
   unfolding finalClusters
@@ -106,6 +122,29 @@ module _ (bytes : List ℕ) (all : Bytes bytes) where
       after-rule (savedFault (graphOf f) plan) (listReport (graphOf f) (savedSteps plan)) (λ z. saved-room f (accepted f t read) plan z) items rest
       (sym (check-saved bytes plan f t read) ∙ e)))
 
+  -- the steps of a list of merges of a held sheet
+  few-numbers : (x : Field (List Step)) → ((steps : List Step) (u : List ℕ) → x ≡ value steps u → length (stepNumbers steps) ≤ 434) → AtMost 434 (numbersField x)
+  few-numbers x h items rest e =
+      next-value x _ e (λ steps u was e1. let same : stepNumbers steps ≡ items = cc in omega (arith, h steps u was, ap length same))
+
+  steps-few : AtMost 434 (numbersField (stepsField bytes))
+  unfolding planSteps
+  steps-few = few-numbers (stepsField bytes) (λ steps u was. next-value (heldSheet bytes) _ was (λ f t is e.
+      let (a, o) = held-accepted bytes f t all is in
+      let g = graphOf f in
+      let same : stepsOf g (planOf (g .clusters)) ≡ steps = cc in
+      let short = steps-short f a (fault-none g o) (planOf (g .clusters)) (plan-of-maximal (g .clusters) (paired f a) .valid) in
+      omega (arith, short, ap (λ (l : List Step). length (stepNumbers l)) same)))
+
+  saved-few : (plan : List ℕ) → AtMost 434 (numbersField (savedStepsField bytes plan))
+  saved-few plan = few-numbers (savedStepsField bytes plan) (λ steps u was. next-value (heldSheet bytes) _ was (λ f t is e.
+      let (a, o) = held-accepted bytes f t all is in
+      let g = graphOf f in
+      let (z, e1) = rule-value (planFault (g .clusters) plan) (value (stepsOf g (savedSteps plan)) []) e in
+      let same : stepsOf g (savedSteps plan) ≡ steps = cc in
+      let short = steps-short f a (fault-none g o) (savedSteps plan) (accepted-maximal (g .clusters) plan .0 z .1 .valid) in
+      omega (arith, short, ap (λ (l : List Step). length (stepNumbers l)) same)))
+
   extend-short : (more : List ℕ) → Bytes more → AtMost 1414 (extendField bytes more)
   extend-short more all-more =
       after-value (extendedSheet bytes more) sheetBytes (λ g t e.
@@ -122,6 +161,8 @@ counts = record {
   check = λ bytes plan all. check-short bytes all plan;
   plan = λ bytes all. after-value (readSheet bytes) (λ f. planNumbers (graphOf f)) (λ f t e. plan-short f (accepted bytes all f t e));
   initial = λ bytes all. after-value (readSheet bytes) (λ f. initialClusters (graphOf f)) (λ f t e. initial-short f (accepted bytes all f t e));
+  steps = steps-few;
+  saved-steps = λ bytes plan all. saved-few bytes all plan;
   clusters = λ bytes all. after-value (readSheet bytes) (λ f. finalClusters (graphOf f)) (λ f t e. clusters-short f (accepted bytes all f t e));
   over = λ bytes. after-value (readSheet bytes) (λ f. overNumbers (graphOf f)) (λ f t e. over-short (findingOf (graphOf f)));
   rewrite = λ bytes all. after-value (readSheet bytes) _ (λ f t e.

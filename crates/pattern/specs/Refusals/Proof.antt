@@ -10,7 +10,8 @@ use lib.Dec.{ltb}
 use lib.ListN.{length}
 use Rattle.theory.specs.declared.Finding.{Finding}
 use Rattle.theory.specs.declared.Finding.the-variants.{Fine, First}
-use Rattle.theory.specs.Graph.{Graph, findingOf, verdictOf}
+use Rattle.theory.specs.Graph.{Graph, findingOf, verdictOf, stepsOf}
+use Rattle.theory.specs.declared.Step.{Step}
 use Rattle.space.specs.declared.Written.the-variants.{Done, Refused}
 use Rattle.space.specs.Space.{answer}
 use Rattle.space.specs.Space.Laws.{long-answer}
@@ -27,15 +28,16 @@ use Rattle.sheet.specs.Refusals.{Rule, But, By, given, ruled, Fault}
 use Rattle.sheet.specs.Refusals.Laws.{by-next, by-wider, which, by-constraints, by-sheet}
 use Rattle.sheet.specs.Refusals.Laws.{fault-else, fault-wider, OfFacts, fault-constraint, fault-sheet}
 use Rattle.sheet.specs.Graph.{graphOf, overRule, overFault}
-use Rattle.plans.specs.Check.{planFault}
+use Rattle.plans.specs.Check.{savedSteps, planFault}
 use Rattle.plans.specs.Check.Laws.{fault-range}
 use Rattle.sketch.specs.declared.Taken.the-variants.{Refused as Not}
 use Rattle.sketch.specs.Sketch.{holdFault, extended, nextFault, addFault, asTaken, addAnswer}
-use Rattle.account.specs.Account.{reportOf}
+use Rattle.account.specs.Account.{listReport, reportOf}
+use Rattle.steps.specs.Records.{filledTo}
 use Rattle.account.specs.Account.Room.{report-room}
 use Rattle.longest.specs.Longest.{longestSheet, longestField}
-use Rattle.pattern.specs.Entries.{itemsField, held, heldSheet, checkField, longer}
-use Rattle.pattern.specs.Refusals.{Short, Refusals}
+use Rattle.pattern.specs.Entries.{itemsField, held, heldSheet, longer}
+use Rattle.pattern.specs.Refusals.{Short, ShortList, Refusals}
 
 -- items into lent space: 17 alone, where it is shorter
 lent : (x : Field (List ℕ)) (space : List ℕ) (k : ℕ) → answerTo x space ≡ Refused k → (x ≡ refused k) ⊎ ((k ≡ 17) × Short x space)
@@ -48,6 +50,18 @@ lent (value items rest) space k e = by (ltb (length space) (length items)) refl 
     by true p h =
         let n : k ≡ 17 = cc in
         inr (n, record { items = items; rest = rest; gives = refl; longer = ltb-true (length space) (length items) p })
+    by false p h = absurd (let z : _≡_ {A = ℕ} 0 1 = cc in omega arith)
+
+-- records into a lent list: the same
+lent-list : (x : Field (List Step)) (list : List Step) (k : ℕ) → filledTo x list ≡ Refused k → (x ≡ refused k) ⊎ ((k ≡ 17) × ShortList x list)
+lent-list (refused j) list k e = let n : j ≡ k = cc in inl (rw n)
+lent-list (value steps rest) list k e = by (ltb (length list) (length steps)) refl e
+  where
+    by : (b : Bool) → ltb (length list) (length steps) ≡ b → cond b (Refused 17) (Done (length steps)) ≡ Refused k
+        → (value steps rest ≡ refused k) ⊎ ((k ≡ 17) × ShortList (value steps rest) list)
+    by true p h =
+        let n : k ≡ 17 = cc in
+        inr (n, record { steps = steps; rest = rest; gives = refl; longer = ltb-true (length list) (length steps) p })
     by false p h = absurd (let z : _≡_ {A = ℕ} 0 1 = cc in omega arith)
 
 -- 3,786 bytes take every report
@@ -121,8 +135,10 @@ by-sketch : (bytes : List ℕ) → By (Rule 1 11) (heldSheet bytes)
 unfolding heldSheet
 by-sketch bytes = by-next (by-wider ten (by-sheet bytes)) by-held
 
-checked : (bytes plan : List ℕ) → By (But 14 (Rule 1 16)) (checkField bytes plan)
-checked bytes plan =
+-- the rules of the plan check, after those of the sheet
+checked : {A : Type 0} (bytes plan : List ℕ) (what : Facts → A)
+    → By (But 14 (Rule 1 16)) (next (heldSheet bytes) (λ f rest. byRule (planFault (graphOf f .clusters) plan) (value (what f) [])))
+checked bytes plan what =
     by-next (by-wider (λ k h. (record { from = h .from; to = omega (arith, h .to) }, λ z. omega (arith, h .to))) (by-sketch bytes))
     (λ f rest. by-rule (planFault (graphOf f .clusters) plan) _ (fault-plan (graphOf f .clusters) plan) given)
 
@@ -147,7 +163,10 @@ refusals = record {
   items = λ what bytes. by-next (by-sheet bytes) (λ f rest. given);
   write = λ s. by-rule (sheetFault s) _ (fault-sheet s) given;
   add = added;
-  check = checked;
+  check = λ bytes plan. checked bytes plan (λ f. listReport (graphOf f) (savedSteps plan));
+  steps = λ bytes. by-next (by-sketch bytes) (λ f rest. given);
+  saved-steps = λ bytes plan. checked bytes plan (λ f. stepsOf (graphOf f) (savedSteps plan));
+  records = lent-list;
   hold = by-sketch;
   extend = λ bytes more. by-next (by-next (by-sketch bytes) (λ f rest. by-next (by-longer f more) by-held)) (λ f rest. given);
   longest = by-count;

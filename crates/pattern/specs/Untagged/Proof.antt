@@ -20,6 +20,8 @@ same-answers a b reads same = record {
   items = λ what. rw reads;
   rewrite = rw (reads, same);
   check = λ plan. rw reads;
+  steps = rw reads;
+  saved-steps = λ plan. rw reads;
   hold = rw reads;
   extend = λ more. rw reads;
 }

@@ -1,0 +1,33 @@
+-- `pattern::plan_listing` meets its contract: 11, or the steps of the engine's plan, of the graph that is read. Assumes nothing.
+use borrow.Author.Needs.{needs}
+use mathlib.Core.Path.{refl}
+use mathlib.Core.List.{[]}
+use Rattle.sheet.specs.Field.{value, Bytes}
+use Rattle.steps.specs.Records.{planSteps}
+use Rattle.pattern.specs.Entries.Reading.{FactsRead, refused-read, facts-read}
+use Rattle.pattern.specs.Entries.Steps.{refused-listed, read-listed}
+use Rattle.pattern.proofs.plan_listing.Statement.{statement}
+use Rattle.pattern.proofs.plan_listing.Tie as tie
+
+returns : tie.Need-returns
+returns c =
+    refused-listed (λ g. value (planSteps g) []) _
+    (refused-read _ (c .before .before .before .before .read-graph .ensures) (c .before .before .enum-told .given .1) (c .before .refusal .ensures))
+    (c .refused .ensures)
+
+-- the facts of the sheet
+read : (c : tie.After-sizes2)
+    → FactsRead (c .before .before .before .before .before .before .before .before .before .before .before .args .bytes .now) (c .before .before .before .before .got .given .0 .0)
+    (c .before .before .before .before .before .before .read-graph .last .1 .0) (c .before .before .before .before .before .before .read-graph .last .1 .1 .0) (c .before .before .before .before .before .before .read-graph .last .1 .1 .1 .0)
+read c =
+    let all : Bytes _ = record { each = λ i. c .before .before .before .before .before .before .before .before .before .before .shared-slice-known .given i .fits } in
+    facts-read _ (c .before .before .before .before .before .before .read-graph .ensures) all (c .before .before .before .before .got .given .1)
+
+returns-2 : tie.Need-returns-2
+returns-2 c = read-listed (λ g. value (planSteps g) []) _ (read (c .before)) (c .plan-steps .ensures)
+
+pub plan-listing-spec : {M : Type 1} → statement M
+plan-listing-spec =
+    tie.close
+    (tie.spec (λ c κs. (refl, refl, refl)) (λ c. search needs) (λ c. search needs) (λ c κs. search needs) (λ c κs. search needs) returns
+    (λ c κs. read c .drawn-is) returns-2)
