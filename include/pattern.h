@@ -13,7 +13,7 @@
  * State    There is none. Nothing is allocated or kept between calls; any threads may call at once,
  *          each with an `out` of its own.
  * Stack    A call takes at most PATTERN_MAX_STACK bytes of its thread's stack, as measured by
- *          tests/stack/run on x86-64; pattern_check_plan takes the most.
+ *          tests/stack/run on x86-64; pattern_steps takes the most.
  *
  * A sheet in bytes; docs/FORMAT.md says the same at length, with the report's lines:
  *
@@ -54,7 +54,7 @@ extern "C" {
 #define PATTERN_MAX_STEPS       62   /* steps of a plan: with room for so many no list of them is refused by 17 */
 #define PATTERN_STEP            7    /* numbers of a step in a list of steps, in the order of struct pattern_step */
 #define PATTERN_MAX_CLUSTERS    125  /* clusters that are left: with this room no list of them is refused by 17 */
-#define PATTERN_MAX_STACK       32768 /* bytes of stack that a call takes */
+#define PATTERN_MAX_STACK       36864 /* bytes of stack that a call takes */
 
 /* The rules that refuse, in checking order. */
 enum pattern_rule {
