@@ -9,11 +9,11 @@
  *          the lists is read or written.
  * Answers  0 or more: the count of items written to the front of `out`; the rest is unchanged.
  *          Below 0: minus the number of the rule that refuses the call (enum pattern_rule);
- *          all of `out` is unchanged. Test the sign before you use an answer as a count.
+ *          all of `out`, or of a record, is unchanged. Test the sign before you use an answer as a count.
  * State    There is none. Nothing is allocated or kept between calls; any threads may call at once,
- *          each with an `out` of its own.
+ *          each with an `out` of its own. A held sketch is bytes of the caller's (pattern_hold).
  * Stack    A call takes at most PATTERN_MAX_STACK bytes of its thread's stack, as measured by
- *          tests/stack/run on x86-64; pattern_steps takes the most.
+ *          tests/stack/run on x86-64; pattern_place takes the most.
  *
  * A sheet in bytes; docs/FORMAT.md says the same at length, with the report's lines:
  *
@@ -54,6 +54,7 @@ extern "C" {
 #define PATTERN_MAX_STEPS       62   /* steps of a plan: with room for so many no list of them is refused by 17 */
 #define PATTERN_STEP            7    /* numbers of a step in a list of steps, in the order of struct pattern_step */
 #define PATTERN_MAX_CLUSTERS    125  /* clusters that are left: with this room no list of them is refused by 17 */
+#define PATTERN_MAX_RECORD      891  /* bytes of a record: with this room no sketch is refused by 17 */
 #define PATTERN_MAX_STACK       36864 /* bytes of stack that a call takes */
 
 /* The rules that refuse, in checking order. */
@@ -68,13 +69,15 @@ enum pattern_rule {
     PATTERN_MAP         = 8,  /* an unknown map bit, or no size for two points or two lines */
     PATTERN_SIZE        = 9,  /* the size is outside its range above, a written 0 included */
     PATTERN_EXTRA       = 10, /* bytes follow the last constraint */
-    PATTERN_IS_OVER     = 11, /* the sheet is over, or an added constraint would make it so */
+    PATTERN_IS_OVER     = 11, /* the sheet is over, or one more constraint would make it so */
     PATTERN_PLAN_COUNT  = 12, /* the count of numbers in a plan is not a multiple of three */
     PATTERN_NO_CLUSTER  = 13, /* a step names a number that is no living cluster, or one twice */
     /* 14 is not used: two living clusters of a sheet that is not over never share two elements */
     PATTERN_NOT_OPEN    = 15, /* the clusters of a step do not make an open merge */
     PATTERN_UNFINISHED  = 16, /* after the last step a merge is still open */
-    PATTERN_ROOM        = 17  /* `out` is shorter than the answer */
+    PATTERN_ROOM        = 17, /* `out` is shorter than the answer, or a record than what it must hold */
+    PATTERN_ANOTHER     = 24, /* another number of constraints is held than was told */
+    PATTERN_RECORD      = 27  /* the record stands for no sheet that may be held */
 };
 
 /* Bits of a constraint's map. */
@@ -202,16 +205,47 @@ int32_t pattern_steps(const uint8_t *sheet, size_t len, uint64_t *out, size_t ro
 int32_t pattern_saved_steps(const uint8_t *sheet, size_t len, const uint16_t *plan, size_t count, uint64_t *out, size_t room);
 
 /*
- * Adds one constraint to a sketch: writes the sheet with that constraint last. The constraint is
- * given as its bytes in a sheet: first end, second end, map, then the size and the tag that the map
- * names; the tag is dropped. Tries rules 1 to 11 of the sheet, then 2 and 6 to 9 in the order of the
- * constraint's fields, 10 where bytes follow them, 11, and 17. Answers the count of bytes;
- * pattern_verdict of them is the sketch's new verdict.
+ * A held sketch. The caller keeps it in a record, bytes of its own that it lends to each call:
+ *
+ *   2 bytes   how many bytes of a sheet follow, lowest byte first
+ *   a sheet   as above; what stands beyond it has no influence
+ *
+ * PATTERN_MAX_RECORD bytes have room for every held sketch. The record holds facts alone, and only
+ * pattern_hold and pattern_place write to it. One whose bytes stand for no sheet that may be held, one
+ * that is refused by 1 to 10 or is over, is refused by 27, before all else; so is one that is cut.
  */
-int32_t pattern_add(
-    const uint8_t *sheet, size_t len,
-    const uint8_t *constraint, size_t constraint_len,
-    uint8_t *out, size_t room);
+
+/*
+ * Holds a sheet: writes the record of the same sheet without its tags. Tries rules 1 to 11, then 17.
+ * Answers the count of bytes. The number of constraints that a record of pattern_hold and
+ * pattern_place holds is PATTERN_HELD(record).
+ */
+int32_t pattern_hold(const uint8_t *sheet, size_t len, uint8_t *record, size_t room);
+
+#define PATTERN_HELD(record) ((record)[7 + ((record)[6] + 7) / 8])
+
+/*
+ * Asks what one more constraint would do: the verdict, one of the names above, that the sketch with it
+ * last would have, or the rule that refuses it. Tries rules 27, 6 to 9, and 11 where it would make the
+ * sketch over. Changes nothing.
+ */
+int32_t pattern_ask(
+    const uint8_t *record, size_t room,
+    uint8_t first,  /* the first end, the lower one */
+    uint8_t second, /* the second end */
+    uint8_t map,    /* PATTERN_SIZED; other bits have no influence */
+    int32_t size);  /* distance in tenths of a millimetre, or angle in hundredths of a degree */
+
+/*
+ * Places the constraint: answers as asking would, and the record then holds it last. held is the number
+ * of constraints held when it was asked. Tries rules 27, 24 where another number is held, 6 to 9, 11,
+ * and 17 where the record has no room for it. A refusal leaves every byte as it was.
+ */
+int32_t pattern_place(
+    uint8_t *record, size_t room, uint8_t first, uint8_t second, uint8_t map, int32_t size, size_t held);
+
+/* The sheet in a record again. Tries rules 27 and 17. Answers the count of bytes. */
+int32_t pattern_held(const uint8_t *record, size_t record_room, uint8_t *out, size_t room);
 
 /*
  * The verdict of five points with some of the ten distances between them, from a card of all 1,024

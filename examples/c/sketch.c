@@ -1,4 +1,4 @@
-/* Builds a sketch one distance at a time and prints what each does to it; then its report, and the report for its plan told backwards. */
+/* Builds a sketch one distance at a time, asking before each is placed, and prints what it does; then its report, and the report for its plan told backwards. */
 #include <stdio.h>
 
 #include "pattern.h"
@@ -8,23 +8,25 @@ static const char *const names[] = {"over", "angle", "well", "stuck", "under"};
 int main(void)
 {
     /* four points and no constraint, then six distances of 30 mm */
-    uint8_t sheet[PATTERN_MAX_WRITTEN] = {'P', 'F', '0', '1', 4, 0, 0};
-    size_t len = 7;
+    static const uint8_t points[] = {'P', 'F', '0', '1', 4, 0, 0};
     static const uint8_t pairs[6][2] = {{0, 1}, {0, 2}, {1, 2}, {1, 3}, {2, 3}, {0, 3}};
+    uint8_t record[PATTERN_MAX_RECORD];
+    pattern_hold(points, sizeof points, record, sizeof record);
 
     for (int i = 0; i < 6; i++) {
-        const uint8_t constraint[] = {pairs[i][0], pairs[i][1], PATTERN_SIZED, 300 & 255, 300 >> 8, 0, 0};
-        uint8_t more[PATTERN_MAX_WRITTEN];
-        int32_t count = pattern_add(sheet, len, constraint, sizeof constraint, more, sizeof more);
-        if (count < 0) {
-            printf("%d %d: refused %d\n", pairs[i][0], pairs[i][1], (int)-count);
+        uint8_t a = pairs[i][0], b = pairs[i][1];
+        size_t held = PATTERN_HELD(record);
+        int32_t asked = pattern_ask(record, sizeof record, a, b, PATTERN_SIZED, 300);
+        if (asked < 0) {
+            printf("%d %d: refused %d\n", a, b, (int)-asked);
             continue;
         }
-        len = (size_t)count;
-        for (size_t k = 0; k < len; k++)
-            sheet[k] = more[k];
-        printf("%d %d: %s\n", pairs[i][0], pairs[i][1], names[pattern_verdict(sheet, len)]);
+        pattern_place(record, sizeof record, a, b, PATTERN_SIZED, 300, held);
+        printf("%d %d: %s\n", a, b, names[asked]);
     }
+
+    uint8_t sheet[PATTERN_MAX_WRITTEN];
+    size_t len = (size_t)pattern_held(record, sizeof record, sheet, sizeof sheet);
 
     uint8_t report[PATTERN_MAX_REPORT];
     int32_t count = pattern_report(sheet, len, report, sizeof report);

@@ -1,11 +1,12 @@
 //! The calls that the runs share: each function of the library beside the reference's answer.
 
-use crate::facts::{Columns, Rule};
+use crate::facts::{Columns, Constraint, Rule};
 use crate::interface::{self, Found};
 use crate::run::{Hex, Run, outcome};
 use crate::set::{Set, elements, one, size};
 use crate::space::Space;
-use crate::{ffi, writer};
+use crate::verdict::judge;
+use crate::{ffi, sketch, writer};
 
 /// Compares `pattern_rewrite` on some bytes.
 #[inline]
@@ -95,11 +96,45 @@ pub fn saved_steps(run: &mut Run, bytes: &[u8], plan: &[u16]) {
     run.lent("pattern_saved_steps", &input, &answer, |out| ffi::saved_steps(given.held(), saved.held(), out));
 }
 
-/// Compares `pattern_add` on some bytes and a constraint's bytes.
+/// Compares `pattern_hold` on some bytes.
 #[inline]
-pub fn add(run: &mut Run, bytes: &[u8], constraint: &[u8]) {
-    let (given, next) = (Space::holding(bytes, &mut run.random), Space::holding(constraint, &mut run.random));
-    let answer = interface::add(bytes, constraint);
-    let input = format!("{}, constraint {}", Hex(bytes), Hex(constraint));
-    run.lent("pattern_add", &input, &answer, |out| ffi::add(given.held(), next.held(), out));
+pub fn hold(run: &mut Run, bytes: &[u8]) {
+    let given = Space::holding(bytes, &mut run.random);
+    let answer = interface::hold(bytes);
+    run.lent("pattern_hold", &Hex(bytes), &answer, |out| ffi::hold(given.held(), out));
+}
+
+/// Compares `pattern_ask` on a record.
+#[inline]
+pub fn ask(run: &mut Run, record: &[u8], more: &Constraint) {
+    let given = Space::holding(record, &mut run.random);
+    let before = given.cells().to_vec();
+    let answer = sketch::ask(record, more);
+    let input = format!("{}, {more:?}", Hex(record));
+    run.count("pattern_ask", outcome(&answer));
+    run.same("pattern_ask", &input, (ffi::ask(given.held(), more), given.cells()), (number(answer), &before));
+}
+
+/// Compares `pattern_place` on a record with its guards, and gives the record as it is left.
+#[inline]
+pub fn place(run: &mut Run, record: &[u8], more: &Constraint, held: usize) -> Vec<u8> {
+    let mut space = Space::holding(record, &mut run.random);
+    let placed = sketch::place(record, more, held);
+    let verdict = placed.as_ref().map(|next| crate::verdict::verdict(next, &judge(next)) as u8);
+    let (wrote, cells) = space.expected(&placed.as_ref().map(sketch::record).map_err(|&rule| rule));
+    let wanted = if wrote < 0 { wrote } else { number(verdict.map_err(|&rule| rule)) };
+    let input = format!("{}, {more:?}, {held} held", Hex(record));
+    let answer = if wrote == -17 { Err(17) } else { placed.as_ref().map_err(|&rule| rule) };
+    run.count("pattern_place", outcome(&answer));
+    let got = ffi::place(space.lent(), more, held);
+    run.same("pattern_place", &input, (got, space.cells()), (wanted, &cells));
+    space.held().to_vec()
+}
+
+/// Compares `pattern_held` on a record.
+#[inline]
+pub fn held(run: &mut Run, record: &[u8]) {
+    let given = Space::holding(record, &mut run.random);
+    let answer = sketch::in_record(record).map(|sheet| writer::bytes(&sheet));
+    run.lent("pattern_held", &Hex(record), &answer, |out| ffi::held(given.held(), out));
 }

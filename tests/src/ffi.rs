@@ -2,7 +2,7 @@
 //!
 //! Each wrapper is `#[inline]`, so that a program links only the functions it calls.
 
-use crate::facts::Columns;
+use crate::facts::{Columns, Constraint, map};
 
 #[path = "../../examples/rust/src/c.rs"]
 mod c;
@@ -109,11 +109,30 @@ pub fn saved_steps(sheet: &[u8], plan: &[u16], out: &mut [u64]) -> i32 {
     unsafe { c::pattern_saved_steps(sheet.as_ptr(), sheet.len(), list, count, out.as_mut_ptr(), out.len()) }
 }
 
-/// `pattern_add`
+/// `pattern_hold`
 #[inline]
-pub fn add(sheet: &[u8], constraint: &[u8], out: &mut [u8]) -> i32 {
-    let (bytes, count) = (constraint.as_ptr(), constraint.len());
-    unsafe { c::pattern_add(sheet.as_ptr(), sheet.len(), bytes, count, out.as_mut_ptr(), out.len()) }
+pub fn hold(sheet: &[u8], record: &mut [u8]) -> i32 {
+    unsafe { c::pattern_hold(sheet.as_ptr(), sheet.len(), record.as_mut_ptr(), record.len()) }
+}
+
+/// `pattern_ask`
+#[inline]
+pub fn ask(record: &[u8], more: &Constraint) -> i32 {
+    let (size, map) = (more.size.unwrap_or(7), map(more));
+    unsafe { c::pattern_ask(record.as_ptr(), record.len(), more.first, more.second, map, size) }
+}
+
+/// `pattern_place`
+#[inline]
+pub fn place(record: &mut [u8], more: &Constraint, held: usize) -> i32 {
+    let (size, map) = (more.size.unwrap_or(7), map(more));
+    unsafe { c::pattern_place(record.as_mut_ptr(), record.len(), more.first, more.second, map, size, held) }
+}
+
+/// `pattern_held`
+#[inline]
+pub fn held(record: &[u8], out: &mut [u8]) -> i32 {
+    unsafe { c::pattern_held(record.as_ptr(), record.len(), out.as_mut_ptr(), out.len()) }
 }
 
 #[cfg(test)]
@@ -152,9 +171,16 @@ mod tests {
             assert_eq!(c::pattern_steps(sheet, len, null_mut(), 0), 0);
             assert_eq!(c::pattern_saved_steps(null(), 0, null(), 0, null_mut(), 0), -1);
             assert_eq!(c::pattern_saved_steps(sheet, len, null(), 0, null_mut(), 0), 0);
-            assert_eq!(c::pattern_add(null(), 0, null(), 0, null_mut(), 0), -1);
-            assert_eq!(c::pattern_add(sheet, len, null(), 0, out, room), -2);
-            assert_eq!(c::pattern_add(sheet, len, b"\0\x01\0".as_ptr(), 3, null_mut(), 0), -17);
+            assert_eq!(c::pattern_hold(null(), 0, null_mut(), 0), -1);
+            assert_eq!(c::pattern_hold(sheet, len, null_mut(), 0), -17);
+            assert_eq!(c::pattern_hold(sheet, len, out, room), 9);
+            assert_eq!(c::pattern_ask(null(), 0, 0, 1, 0, 0), -27);
+            assert_eq!(c::pattern_ask(out, room, 0, 1, 0, 0), 2);
+            assert_eq!(c::pattern_place(null_mut(), 0, 0, 1, 0, 0, 0), -27);
+            assert_eq!(c::pattern_place(out, room, 0, 1, 0, 0, 1), -24);
+            assert_eq!(c::pattern_place(out, 9, 0, 1, 0, 0, 0), -17);
+            assert_eq!(c::pattern_held(null(), 0, null_mut(), 0), -27);
+            assert_eq!(c::pattern_held(out, room, null_mut(), 0), -17);
         }
     }
 }

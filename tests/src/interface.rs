@@ -4,6 +4,7 @@
 use crate::facts::{Rule, Sheet};
 use crate::matching::by_matching;
 use crate::reader::read;
+use crate::rules::refuse;
 use crate::set::{Set, one};
 use crate::verdict::{Judged, judge};
 use crate::{plans, records, report, sketch, verdict, writer};
@@ -24,9 +25,11 @@ pub fn initial(bytes: &[u8]) -> Result<Vec<Set>, Rule> {
     Ok(read(bytes)?.constraints.iter().map(|c| one(c.first.into()) + one(c.second.into())).collect())
 }
 
-/// `pattern_add`: the sheet with one more constraint.
-pub fn add(bytes: &[u8], constraint: &[u8]) -> Result<Vec<u8>, Rule> {
-    Ok(writer::bytes(&sketch::add(&read(bytes)?, constraint)?))
+/// `pattern_hold`: the record of the sheet.
+pub fn hold(bytes: &[u8]) -> Result<Vec<u8>, Rule> {
+    let sheet = read(bytes)?;
+    refuse(by_matching(&sheet).is_some(), 11)?;
+    Ok(sketch::record(&sheet))
 }
 
 /// `pattern_check_plan`: the report for a saved plan.

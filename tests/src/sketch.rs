@@ -1,18 +1,50 @@
-//! A held sketch takes one more constraint (document 01, "A held sketch").
+//! A held sketch by a plain list of constraints (document 01, "A held sketch"; document 02, 2026-05).
 
-use crate::facts::{Rule, Sheet};
+use crate::facts::{Constraint, Rule, Sheet};
 use crate::matching::by_matching;
-use crate::reader::{self, Fields};
-use crate::rules::refuse;
+use crate::rules::{ends, missing_size, refuse, written_size};
+use crate::verdict::{judge, verdict};
+use crate::{reader, writer};
 
-/// The sketch held from a sheet with one more constraint, given as its bytes in a sheet.
-pub fn add(sheet: &Sheet, constraint: &[u8]) -> Result<Sheet, Rule> {
-    refuse(by_matching(sheet).is_some(), 11)?;
-    let mut fields = Fields::new(constraint);
-    let next = reader::constraint(&mut fields, &sheet.kinds, &sheet.constraints)?;
-    fields.end()?;
-    let mut more = sheet.clone();
-    more.constraints.push(next);
-    refuse(by_matching(&more).is_some(), 11)?;
-    Ok(more)
+/// The list with one constraint more, by 6 to 9 and 11.
+pub fn next(held: &Sheet, more: &Constraint) -> Result<Sheet, Rule> {
+    ends(more.first, more.second, held.n(), &held.constraints)?;
+    let kind = |end: u8| held.kinds[usize::from(end)];
+    match more.size {
+        Some(size) => written_size(kind(more.first), kind(more.second), size)?,
+        None => missing_size(kind(more.first), kind(more.second))?,
+    }
+    let mut next = held.clone();
+    next.constraints.push(*more);
+    refuse(by_matching(&next).is_some(), 11)?;
+    Ok(next)
+}
+
+/// The sheet that a record stands for: 27 where it may not be held.
+pub fn in_record(record: &[u8]) -> Result<Sheet, Rule> {
+    let (count, rest) = record.split_first_chunk::<2>().ok_or(27)?;
+    let bytes = rest.get(..usize::from(u16::from_le_bytes(*count))).ok_or(27)?;
+    let sheet = reader::read(bytes).map_err(|_| 27)?;
+    refuse(by_matching(&sheet).is_some(), 27)?;
+    Ok(sheet)
+}
+
+/// The record of a sheet.
+pub fn record(sheet: &Sheet) -> Vec<u8> {
+    let bytes = writer::bytes(sheet);
+    let count = u16::try_from(bytes.len()).expect("a sheet is short");
+    count.to_le_bytes().into_iter().chain(bytes).collect()
+}
+
+/// What asking answers of a record: the verdict.
+pub fn ask(record: &[u8], more: &Constraint) -> Result<u8, Rule> {
+    let next = next(&in_record(record)?, more)?;
+    Ok(verdict(&next, &judge(&next)) as u8)
+}
+
+/// What placing gives: the list with the constraint.
+pub fn place(record: &[u8], more: &Constraint, told: usize) -> Result<Sheet, Rule> {
+    let held = in_record(record)?;
+    refuse(held.e() != told, 24)?;
+    next(&held, more)
 }

@@ -52,7 +52,7 @@ pub fn length(sheet: &[u8]) -> usize {
 
 #[cfg(test)]
 mod tests {
-    use crate::interface::{Found, add, rewrite};
+    use crate::interface::{Found, rewrite};
 
     /// Two points and a line: (0,1) of size 300 with a tag, (0,2) without size with a tag, (1,2) of size -5 without.
     const TAGGED: &[u8] =
@@ -72,12 +72,5 @@ mod tests {
     fn a_cut_tag() {
         let cut = |at: usize| rewrite(&TAGGED[..at]).unwrap_err();
         assert_eq!([14, 15, 19, 20].map(cut), [2; 4]);
-        assert_eq!(add(b"PF01\x02\0\0", b"\0\x01\x03\x2c\x01\0\0\x34"), Err(2));
-    }
-
-    #[test]
-    fn the_tag_of_one_more() {
-        let more = b"PF01\x02\0\x01\0\x01\x01\x2c\x01\0\0".to_vec();
-        assert_eq!(add(b"PF01\x02\0\0", b"\0\x01\x03\x2c\x01\0\0\x34\x12"), Ok(more));
     }
 }

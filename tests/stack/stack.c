@@ -60,17 +60,21 @@ static void *saved_steps(void *u)
     pattern_saved_steps(sheet, len, plan, count < 0 ? 0 : (size_t)count, numbers, PATTERN_MAX_STEPS * PATTERN_STEP);
     return u;
 }
-static void *add(void *u)
+static uint8_t record_[PATTERN_MAX_RECORD];
+static void *hold(void *u) { pattern_hold(sheet, len, record_, sizeof record_); return u; }
+static void *ask(void *u)
 {
-    static const uint8_t more[] = {0, 1, PATTERN_SIZED, 1, 0, 0, 0};
-    for (uint8_t k = 0; k < 64; k++) {
-        uint8_t one[sizeof more];
-        memcpy(one, more, sizeof more);
-        one[1] = k;
-        pattern_add(sheet, len, one, sizeof one, bytes, sizeof bytes);
-    }
+    for (uint8_t k = 0; k < 64; k++)
+        pattern_ask(record_, sizeof record_, 0, k, PATTERN_SIZED, 1);
     return u;
 }
+static void *place(void *u)
+{
+    for (uint8_t k = 0; k < 64; k++)
+        pattern_place(record_, sizeof record_, 0, k, PATTERN_SIZED, 1, PATTERN_HELD(record_));
+    return u;
+}
+static void *held(void *u) { pattern_held(record_, sizeof record_, bytes, sizeof bytes); return u; }
 
 static size_t used(void *(*call)(void *))
 {
@@ -93,7 +97,8 @@ int main(int argc, char **argv)
 {
     static const struct { const char *name; void *(*call)(void *); } calls[] = {
         {"pattern_rewrite", rewrite}, {"pattern_write", write_}, {"pattern_over", over}, {"pattern_verdict", verdict}, {"pattern_plan", plan_},
-        {"pattern_initial", initial}, {"pattern_clusters", clusters}, {"pattern_report", report}, {"pattern_check_plan", check}, {"pattern_add", add},
+        {"pattern_initial", initial}, {"pattern_clusters", clusters}, {"pattern_report", report}, {"pattern_check_plan", check}, {"pattern_hold", hold},
+        {"pattern_ask", ask}, {"pattern_place", place}, {"pattern_held", held},
         {"pattern_steps", steps}, {"pattern_saved_steps", saved_steps},
     };
     size_t most[sizeof calls / sizeof *calls] = {0};

@@ -4,13 +4,15 @@ use Prim.Native.Nat.{ℕ, _≤_}
 use mathlib.Core.Path.{_≡_}
 use mathlib.Core.List.{List}
 use lib.ListN.{length}
+use Rattle.sheet.specs.declared.Constraint.{Constraint}
 use Rattle.sheet.specs.declared.Sheet.{Sheet}
 use Rattle.sheet.specs.Field.{Field, value, Bytes}
 use Rattle.judge.specs.Judged.{planNumbers, finalClusters}
 use Rattle.writer.specs.Write.{writeField}
 use Rattle.account.specs.Account.{reportOf}
 use Rattle.steps.specs.Records.{numbersField}
-use Rattle.pattern.specs.Entries.{itemsField, rewriteField, overNumbers, initialClusters, checkField, stepsField, savedStepsField, extendField}
+use Rattle.records.specs.Record.{placeField, writtenField, sheetField}
+use Rattle.pattern.specs.Entries.{itemsField, rewriteField, overNumbers, initialClusters, checkField, stepsField, savedStepsField, holdField}
 pub mod Proof
 
 abbrev pub AtMost : ℕ → Field (List ℕ) → Type 0
@@ -27,4 +29,7 @@ pub record Counts : Type 0 where
   pub over : (bytes : List ℕ) → AtMost 2 (itemsField overNumbers bytes)
   pub rewrite : (bytes : List ℕ) → Bytes bytes → AtMost 1414 (rewriteField bytes)
   pub write : (s : Sheet) → AtMost 1414 (writeField s)
-  pub extend : (bytes more : List ℕ) → Bytes bytes → Bytes more → AtMost 1414 (extendField bytes more)
+  -- a record has room for every held sketch where it has that many bytes
+  pub hold-in : (bytes : List ℕ) → Bytes bytes → AtMost 891 (holdField bytes)
+  pub place-in : (lent : List ℕ) (c : Constraint) (held : ℕ) → Bytes lent → AtMost 891 (writtenField (placeField lent c held))
+  pub held-in : (lent : List ℕ) → Bytes lent → AtMost 889 (sheetField lent)

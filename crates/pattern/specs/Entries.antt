@@ -8,20 +8,17 @@ use Rattle.theory.specs.declared.Finding.the-variants.{Fine, First}
 use Rattle.theory.specs.declared.Verdict.{Verdict}
 use Rattle.theory.specs.declared.Step.{Step}
 use Rattle.sheet.specs.Facts.{Facts}
-use Rattle.sheet.specs.Field.{Field, value, refused, next}
-use Rattle.sheet.specs.Decode.{constraints, readSheet}
-use Rattle.sheet.specs.Encode.{sheetBytes}
+use Rattle.sheet.specs.Field.{Field, value, next}
+use Rattle.sheet.specs.Decode.{readSheet}
 use Rattle.sheet.specs.WithoutTags.{withoutTags}
 use Rattle.sheet.specs.Graph.{graphOf, overFault}
 use Rattle.sheet.specs.Answer.{byRule}
 use Rattle.account.specs.Account.{savedField}
 use Rattle.steps.specs.Records.{planSteps, savedRecords}
-use Rattle.pattern.specs.declared.Judgement.{Judgement}
-use Rattle.pattern.specs.declared.Judgement.the-variants.{Is, Refused}
+use Rattle.records.specs.Record.{writtenField}
 pub mod Reading
 pub mod Sketches
 pub mod Steps
-pub mod Agree
 
 -- ---- an accepted sheet (document 01, "Refused": 1 to 10)
 
@@ -36,10 +33,6 @@ rewriteField bytes = next (readSheet bytes) (λ f rest. value (withoutTags bytes
 -- its verdict (document 01, "Verdict names")
 abbrev pub verdictField : List ℕ → Field Verdict
 verdictField bytes = next (readSheet bytes) (λ f rest. value (verdictOf (graphOf f)) [])
-
-abbrev pub asJudgement : Field Verdict → Judgement
-asJudgement (value v rest) = Is v
-asJudgement (refused k) = Refused k
 
 -- its initial clusters, one set a constraint, of an over sheet too (document 02, 2026-09)
 abbrev pub initialClusters : Graph → List ℕ
@@ -72,14 +65,6 @@ stepsField bytes = next (heldSheet bytes) (λ f rest. value (planSteps (graphOf 
 abbrev pub savedStepsField : List ℕ → List ℕ → Field (List Step)
 savedStepsField bytes plan = next (heldSheet bytes) (λ f rest. savedRecords (graphOf f) plan)
 
--- the facts with one more constraint, its bytes as a sheet has them: 2 and 6 to 9 of its fields, 10 of bytes that follow them
-unfoldable pub longer : Facts → List ℕ → Field Facts
-longer f bytes =
-    next (constraints (f .elements) 1 (f .constraints) bytes) (λ cs end. value (record { elements = f .elements; constraints = cs }) end)
-
--- the held sketch with that constraint (document 01, "A held sketch"), and its sheet
-abbrev pub extendedSheet : List ℕ → List ℕ → Field Facts
-extendedSheet bytes more = next (heldSheet bytes) (λ f rest. next (longer f more) held)
-
-abbrev pub extendField : List ℕ → List ℕ → Field (List ℕ)
-extendField bytes more = next (extendedSheet bytes more) (λ f rest. value (sheetBytes f) [])
+-- the sketch held from it, in the record that its owner lends (document 02, 2026-05); what is asked of the record and placed in it, `records` Record says
+abbrev pub holdField : List ℕ → Field (List ℕ)
+holdField bytes = writtenField (heldSheet bytes)

@@ -16,15 +16,18 @@ use Rattle.theory.specs.Demand.{Agree, Demand3}
 use Rattle.theory.specs.declared.Step.{Step}
 use Rattle.theory.specs.declared.Verdict.the-variants.{Over, Stuck, Under}
 use Rattle.sheet.specs.declared.Constraint.{Constraint}
-use Rattle.sheet.specs.Facts.{Facts}
+use Rattle.sheet.specs.Facts.{Facts, sheetOf}
 use Rattle.sheet.specs.Field.{value, refused}
 use Rattle.sheet.specs.Accepted.{Accepted}
+use Rattle.sheet.specs.Answer.{afterTo}
 use Rattle.sheet.specs.Graph.{graphOf, reordered}
 use Rattle.judge.specs.Judged.{planNumbers, finalClusters}
 use Rattle.plans.specs.Check.{savedSteps}
 use Rattle.report.specs.Report.{overReport}
+use Rattle.sketch.specs.Runs.{Event, answersTo, afterAll, Run}
+use Rattle.records.specs.Runs.{answersIn, allIn, SameFacts}
 use Rattle.account.specs.Account.{listReport, reportOf}
-use Rattle.pattern.specs.Entries.{itemsField, verdictField, overNumbers, heldSheet, checkField}
+use Rattle.pattern.specs.Entries.{itemsField, verdictField, overNumbers, heldSheet, checkField, holdField}
 pub mod Proof
 
 -- ---- over (demand 2): some set of m ≥ 2 elements carries more than 2m-3 constraints if and only if
@@ -81,6 +84,17 @@ pub record OwnList (bytes : List ℕ) (g : Graph) (p : List Merge) (plan told : 
   pub clusters : (finals : List ℕ) × (itemsField finalClusters bytes ≡ value finals [])
       × ((x : ℕ) → Among x finals ↔ live (final (g .clusters) p) x) × (length finals ≡ left (final (g .clusters) p))
 
+-- ---- a held sketch (document 02, 2026-05): asks and placings in any mix answer as a plain list of constraints would
+
+pub record HeldRuns (bytes : List ℕ) (f : Facts) : Type 0 where
+  -- by value
+  pub hold : heldSheet bytes ≡ value f []
+  pub value-runs : (events : List Event) → Run (sheetOf f) events
+  -- in lent bytes with room for every held sketch: the same answers, and the same facts after them
+  pub lent-runs : (lent : List ℕ) → 891 ≤ length lent → (events : List Event)
+      → (answersIn (afterTo (holdField bytes) lent) events ≡ answersTo (sheetOf f) events)
+      × SameFacts (allIn (afterTo (holdField bytes) lent) events) (afterAll (sheetOf f) events)
+
 -- ---- the page
 
 pub record Promises (bytes : List ℕ) (f : Facts) : Type 0 where
@@ -93,3 +107,4 @@ pub record Promises (bytes : List ℕ) (f : Facts) : Type 0 where
   pub saved : (plan told : List ℕ) → checkField bytes plan ≡ value told [] → OwnList bytes (graphOf f) (savedSteps plan) plan told
   pub accepts : verdictOf (graphOf f) ≢ Over → (plan : List ℕ)
       → ((told : List ℕ) × (checkField bytes plan ≡ value told [])) ↔ ((length plan % 3 ≡ 0) × Maximal (graphOf f .clusters) (savedSteps plan))
+  pub runs : verdictOf (graphOf f) ≢ Over → HeldRuns bytes f

@@ -2,8 +2,9 @@
 use Prim.Native.Nat.{ℕ, _≤_, _<_}
 use mathlib.Core.Path.{_≡_}
 use mathlib.Core.Logic.{_⊎_}
-use mathlib.Core.List.{List}
+use mathlib.Core.List.{List, [], _∷_}
 use lib.ListN.{length}
+use Rattle.theory.specs.Constraints.{Among}
 use Rattle.theory.specs.Graph.{Graph}
 use Rattle.space.specs.declared.Written.the-variants.{Refused}
 use Rattle.sheet.specs.declared.Constraint.{Constraint}
@@ -13,13 +14,14 @@ use Rattle.sheet.specs.Decode.{readSheet}
 use Rattle.sheet.specs.Answer.{answerTo}
 use Rattle.sheet.specs.Refusals.{Rule, But, By}
 use Rattle.writer.specs.Write.{writeField}
-use Rattle.sketch.specs.declared.Taken.the-variants.{Refused as Not}
-use Rattle.sketch.specs.Sketch.{addAnswer}
+use Rattle.sketch.specs.declared.Judgement.the-variants.{Refused as Not}
+use Rattle.sketch.specs.Sketch.{askAnswer, placeAnswer}
+use Rattle.records.specs.Record.{askField, placeField, sheetField}
 use Rattle.account.specs.Account.{reportOf}
 use Rattle.longest.specs.Longest.{longestField}
 use Rattle.theory.specs.declared.Step.{Step}
 use Rattle.steps.specs.Records.{filledTo}
-use Rattle.pattern.specs.Entries.{itemsField, rewriteField, verdictField, heldSheet, checkField, stepsField, savedStepsField, extendField}
+use Rattle.pattern.specs.Entries.{itemsField, rewriteField, verdictField, heldSheet, checkField, stepsField, savedStepsField, holdField}
 pub mod Proof
 
 -- the items are more than the space takes
@@ -35,6 +37,10 @@ pub record ShortList (x : Field (List Step)) (list : List Step) : Type 0 where
   pub gives : x ≡ value steps rest
   pub longer : length list < length steps
 
+-- the rules that refuse an ask
+abbrev pub Asking : List ℕ
+Asking = 27 ∷ 6 ∷ 7 ∷ 8 ∷ 9 ∷ 11 ∷ []
+
 pub record Refusals : Type 0 where
   -- over lent space a call is refused by the rule that refuses its items, or by 17 where the space is shorter than they are
   pub lent : (x : Field (List ℕ)) (space : List ℕ) (k : ℕ) → answerTo x space ≡ Refused k → (x ≡ refused k) ⊎ ((k ≡ 17) × Short x space)
@@ -43,9 +49,8 @@ pub record Refusals : Type 0 where
   pub rewrite : (bytes : List ℕ) → By (Rule 1 10) (rewriteField bytes)
   -- over, plan, initial and final clusters, report
   pub items : (what : Graph → List ℕ) (bytes : List ℕ) → By (Rule 1 10) (itemsField what bytes)
-  -- the writer, and an addition to a held sketch by value: no bytes, so neither 4 nor 10
+  -- the writer: no bytes, so not 4
   pub write : (s : Sheet) → By (But 4 (Rule 3 9)) (writeField s)
-  pub add : (s : Sheet) (c : Constraint) (k : ℕ) → addAnswer s c ≡ Not k → But 4 (But 10 (Rule 3 11)) k
   -- the plan check; 14 is not used (request 2026-06)
   pub check : (bytes plan : List ℕ) → By (But 14 (Rule 1 16)) (checkField bytes plan)
   -- step records, of the engine's plan and of a saved one; over a lent list of records a call is refused so, or by 17 where the list is shorter
@@ -53,7 +58,13 @@ pub record Refusals : Type 0 where
   pub saved-steps : (bytes plan : List ℕ) → By (But 14 (Rule 1 16)) (savedStepsField bytes plan)
   pub records : (x : Field (List Step)) (list : List Step) (k : ℕ) → filledTo x list ≡ Refused k → (x ≡ refused k) ⊎ ((k ≡ 17) × ShortList x list)
   pub hold : (bytes : List ℕ) → By (Rule 1 11) (heldSheet bytes)
-  pub extend : (bytes more : List ℕ) → By (Rule 1 11) (extendField bytes more)
+  -- a held sketch, by value and in lent bytes; placing in those by 17 too
+  pub ask : (s : Sheet) (c : Constraint) (k : ℕ) → askAnswer s c ≡ Not k → Among k Asking
+  pub place : (s : Sheet) (c : Constraint) (held k : ℕ) → placeAnswer s c held ≡ Not k → Among k (24 ∷ Asking)
+  pub hold-in : (bytes : List ℕ) → By (Rule 1 11) (holdField bytes)
+  pub ask-in : (lent : List ℕ) (c : Constraint) → By (λ k. Among k Asking) (askField lent c)
+  pub place-in : (lent : List ℕ) (c : Constraint) (held : ℕ) → By (λ k. Among k (24 ∷ Asking)) (placeField lent c held)
+  pub held-in : (lent : List ℕ) → By (Rule 27 27) (sheetField lent)
   -- the sheet with the longest plan
   pub longest : (n : ℕ) → By (Rule 3 3) (longestField n)
   -- the report program lends 3,786 bytes, so it never prints "refused 17"

@@ -6,8 +6,8 @@ use Rattle.theory.specs.Graph.{Graph}
 use Rattle.sheet.specs.Facts.{Facts}
 use Rattle.sheet.specs.Field.{value, Bytes}
 use Rattle.sheet.specs.Decode.{readSheet}
-use Rattle.sheet.specs.WithoutTags.{dropTags, withoutTags}
-use Rattle.pattern.specs.Entries.{itemsField, rewriteField, verdictField, heldSheet, checkField, stepsField, savedStepsField, longer, extendField}
+use Rattle.sheet.specs.WithoutTags.{withoutTags}
+use Rattle.pattern.specs.Entries.{itemsField, rewriteField, verdictField, heldSheet, checkField, stepsField, savedStepsField, holdField}
 pub mod Proof
 
 -- two sheets that no entry point tells apart, whatever else it is given: a call's answer, and what it leaves in lent space, go by its field alone
@@ -21,12 +21,8 @@ pub record SameAnswers (a b : List ℕ) : Type 0 where
   pub steps : stepsField a ≡ stepsField b
   pub saved-steps : (plan : List ℕ) → savedStepsField a plan ≡ savedStepsField b plan
   pub hold : heldSheet a ≡ heldSheet b
-  pub extend : (more : List ℕ) → extendField a more ≡ extendField b more
+  pub hold-in : holdField a ≡ holdField b
 
 pub record Untagged : Type 0 where
   -- an accepted sheet is answered as the sheet without its tags
   pub sheet : (bytes : List ℕ) (f : Facts) (rest : List ℕ) → Bytes bytes → readSheet bytes ≡ value f rest → SameAnswers bytes (withoutTags bytes)
-  -- and one more constraint given as bytes as the one without its tag
-  pub constraint : (bytes : List ℕ) (f : Facts) (rest : List ℕ) → heldSheet bytes ≡ value f rest
-      → (more : List ℕ) (g : Facts) (end : List ℕ) → Bytes more → longer f more ≡ value g end
-      → extendField bytes more ≡ extendField bytes (dropTags 1 more)

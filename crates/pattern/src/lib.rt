@@ -5,27 +5,26 @@ ghost use Prim.Native.Nat.{_%_, _≤_};
 ghost use lib.ListN.{length, take};
 ghost use Rattle.theory.specs.Set.{_∩_};
 ghost use Rattle.space.specs.Space.{answer, after};
-ghost use Rattle.sheet.specs.Answer.{Answers};
+ghost use Rattle.sheet.specs.Answer.{Answers, afterTo};
 ghost use Rattle.sheet.specs.Decode.{readSheet};
 ghost use Rattle.reader.specs.Answers.{asReading};
 ghost use Rattle.writer.specs.Write.{writeField};
 ghost use Rattle.judge.specs.Judged.{planNumbers, finalClusters};
-ghost use Rattle.sketch.specs.Sketch.{addedOf};
+ghost use Rattle.sketch.specs.Sketch.{askAnswer, placedOf};
+ghost use Rattle.records.specs.Record.{asJudgement, askField, placeField, writtenField, placedIn, sheetField};
 ghost use Rattle.account.specs.Account.{reportOf};
 ghost use Rattle.card.specs.Card.{setVerdict};
 ghost use Rattle.longest.specs.Longest.{longestField};
 ghost use Rattle.steps.specs.Records.{Fills, numbersField};
 ghost use Rattle.steps.specs.Listing.{Listed};
-ghost use Rattle.pattern.specs.Entries.{itemsField, rewriteField, verdictField, asJudgement, overNumbers, initialClusters};
-ghost use Rattle.pattern.specs.Entries.{heldSheet, checkField, stepsField, savedStepsField, extendField};
-use graph::Head;
-use reader::Cursor;
+ghost use Rattle.pattern.specs.Entries.{itemsField, rewriteField, verdictField, overNumbers, initialClusters};
+ghost use Rattle.pattern.specs.Entries.{heldSheet, checkField, stepsField, savedStepsField, holdField};
 use reader::GraphRead;
 use reader::Outcome;
 use reader::Reading;
 use sheet::Constraint;
 use sheet::Sheet;
-use sketch::Added;
+use sketch::Judgement;
 use space::Written;
 use steps::Listing;
 use theory::Finding;
@@ -88,12 +87,6 @@ pub fn over(bytes: &[u8], out: &mut [u64]) -> Written
         return Written::Done(0);
     };
     put_two(constraint as u64, set, out)
-}
-
-// The answer to a call for a verdict.
-pub enum Judgement {
-    Is(Verdict),
-    Refused(u8),
 }
 
 // The verdict of a sheet.
@@ -299,17 +292,27 @@ pub fn hold(bytes: &[u8]) -> Reading
     }
 }
 
-// A held sketch with one more constraint and its verdict, or the rule of 6 to 9 and 11 that refuses it; of a value that no sketch may hold, the rule
-// of 3, 5 to 9 and 11 that refuses to hold it.
-pub fn add(held: Sheet, c: Constraint) -> Added
-    ensures { λ r. ⌜ r ≡ addedOf held c ⌝ }
+// Asking: the verdict of a held sketch with one more constraint, or the rule of 27, 6 to 9 and 11 that refuses it.
+pub fn ask(s: &Sheet, c: Constraint) -> Judgement
+    ensures { λ r. ⌜ r ≡ askAnswer (now (s .entry)) c ⌝ }
 {
-    sketch::add(held, c)
+    sketch::asking(*s, c)
 }
 
-// A sheet with one more constraint, both as bytes, or the rule of 1 to 11 and 17 that refuses them.
-pub fn extend(bytes: &[u8], constraint: &[u8], out: &mut [u8]) -> Written
-    ensures { λ r. ⌜ Answers (extendField (now (bytes .entry)) (now (constraint .entry))) (now (out .entry)) r (now (out .exit)) ⌝ }
+// Placing: a held sketch takes one more constraint, and answers as asking would; or the rule of 27, 24, 6 to 9 and 11 refuses it.
+pub fn place(s: &mut Sheet, c: Constraint, held: usize) -> Judgement
+    ensures { λ r. ⌜ (r ≡ placedOf (now (s .entry)) c held .answer) × (now (s .exit) ≡ placedOf (now (s .entry)) c held .sketch) ⌝ }
+{
+    let r = sketch::placing(*s, c, held);
+    *s = r.sketch;
+    r.answer
+}
+
+// ---- a held sketch in lent bytes
+
+// The sketch held from a sheet, as a record in lent bytes, or the rule of 1 to 11 and 17 that refuses it.
+pub fn hold_in(bytes: &[u8], lent: &mut [u8]) -> Written
+    ensures { λ r. ⌜ Answers (holdField (now (bytes .entry))) (now (lent .entry)) r (now (lent .exit)) ⌝ }
 {
     let mut near = [0u64; 64];
     let mut start = [0u64; 200];
@@ -318,35 +321,34 @@ pub fn extend(bytes: &[u8], constraint: &[u8], out: &mut [u8]) -> Written
     let GraphRead::Value(head) = got else {
         return Written::Refused(got.refusal());
     };
-    let held = judge::over_fault(head, &near, &start);
-    if held != 0 {
-        return Written::Refused(held);
+    let over = judge::over_fault(head, &near, &start);
+    if over != 0 {
+        return Written::Refused(over);
     }
-    let n = head.n;
-    let e = head.e;
-    let lines = head.lines;
-    let front = Cursor { at: 0 };
-    let last = reader::read_constraints(
-        constraint,
-        front,
-        n,
-        lines,
-        e,
-        e + 1,
-        &mut near,
-        &mut start,
-        &mut sizes,
-    );
-    let Outcome::Accepted = last else {
-        return Written::Refused(reader::refusal(last));
-    };
-    let next = Head { n, e: e + 1, lines };
-    let fault = judge::over_fault(next, &near, &start);
-    if fault != 0 {
-        return Written::Refused(fault);
-    }
-    let more = graph::sheet_of(next, &start, &sizes);
-    writer::write_accepted(more, out)
+    let sheet = graph::sheet_of(head, &start, &sizes);
+    records::write(sheet, lent)
+}
+
+// Asking of a record.
+pub fn ask_in(lent: &[u8], c: Constraint) -> Judgement
+    ensures { λ r. ⌜ r ≡ asJudgement (askField (now (lent .entry)) c) ⌝ }
+{
+    records::ask(lent, c)
+}
+
+// Placing in a record: also 17, where it has no room.
+pub fn place_in(lent: &mut [u8], c: Constraint, held: usize) -> Judgement
+    ensures { λ r. ⌜ (r ≡ placedIn (placeField (now (lent .entry)) c held) (now (lent .entry)))
+        × (now (lent .exit) ≡ afterTo (writtenField (placeField (now (lent .entry)) c held)) (now (lent .entry))) ⌝ }
+{
+    records::place(lent, c, held)
+}
+
+// The sheet in a record again, as bytes in lent space, or the rule of 27 and 17 that refuses.
+pub fn held_in(lent: &[u8], out: &mut [u8]) -> Written
+    ensures { λ r. ⌜ Answers (sheetField (now (lent .entry))) (now (out .entry)) r (now (out .exit)) ⌝ }
+{
+    records::sheet(lent, out)
 }
 
 // ---- the card of five points

@@ -12,8 +12,15 @@ use Rattle.sheet.specs.Facts.{elementsOf, blankConstraint}
 pub mod Laws
 
 -- bit 0 of the map does not stand: no size is given; no other bit has an influence
+abbrev pub bare : ℕ → Bool
+bare map = eqb (map % 2) 0
+
 abbrev pub unsized : List ℕ → ℕ → Bool
-unsized maps i = eqb (getD maps i 0 % 2) 0
+unsized maps i = bare (getD maps i 0)
+
+-- one constraint from its numbers
+abbrev pub constraintFrom : ℕ → ℕ → ℕ → ℤ → Constraint
+constraintFrom first second map size = record { first = first; second = second; size = cond (bare map) Missing (Given size) }
 
 -- place i lies within every list that its map needs: the ends and the map, and the sizes where one is given
 abbrev pub listed : List ℕ → List ℕ → List ℕ → List ℤ → ℕ → Bool
@@ -22,11 +29,8 @@ listed firsts seconds maps sizes i =
 
 -- the blank constraint, which rule 6 refuses, where the place is not listed
 abbrev pub constraintIn : List ℕ → List ℕ → List ℕ → List ℤ → ℕ → Constraint
-constraintIn firsts seconds maps sizes i = cond (listed firsts seconds maps sizes i) (record {
-  first = getD firsts i 0;
-  second = getD seconds i 0;
-  size = cond (unsized maps i) Missing (Given (getD sizes i (pos 0)));
-}) blankConstraint
+constraintIn firsts seconds maps sizes i = cond (listed firsts seconds maps sizes i)
+    (constraintFrom (getD firsts i 0) (getD seconds i 0) (getD maps i 0) (getD sizes i (pos 0))) blankConstraint
 
 -- the first k places
 unfoldable pub constraintsIn : List ℕ → List ℕ → List ℕ → List ℤ → ℕ → List Constraint

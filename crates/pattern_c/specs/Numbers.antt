@@ -5,11 +5,13 @@ use mathlib.Core.Path.{_≡_}
 use mathlib.Core.List.{List}
 use lib.Dec.{ltb}
 use lib.IntN.{ℤ, pos, negℤ}
+use Rattle.sheet.specs.Facts.{Facts}
 use Rattle.sheet.specs.Field.{Field}
 use Rattle.sheet.specs.Answer.{answerTo, afterTo}
 use Rattle.theory.specs.Verdict.{verdictNumber}
-use Rattle.pattern.specs.declared.Judgement.{Judgement}
-use Rattle.pattern.specs.declared.Judgement.the-variants.{Is, Refused as No}
+use Rattle.sketch.specs.declared.Judgement.{Judgement}
+use Rattle.sketch.specs.declared.Judgement.the-variants.{Is, Refused as No}
+use Rattle.records.specs.Record.{writtenField, placedIn}
 use Rattle.space.specs.declared.Written.{Written}
 use Rattle.space.specs.declared.Written.the-variants.{Done, Refused}
 pub mod Laws
@@ -32,3 +34,8 @@ asNumber (No k) = Refused k
 pub record AnswersCount (x : Field (List ℕ)) (space : List ℕ) (r : ℤ) (left : List ℕ) : Type 0 where
   pub answer-is : r ≡ asCount (answerTo x space)
   pub left-is : left ≡ afterTo x space
+
+-- what placing gives of these facts answers as a number, and what it leaves in the record
+pub record PlacedCount (x : Field Facts) (lent : List ℕ) (r : ℤ) (left : List ℕ) : Type 0 where
+  pub answer-is : r ≡ asCount (asNumber (placedIn x lent))
+  pub left-is : left ≡ afterTo (writtenField x) lent

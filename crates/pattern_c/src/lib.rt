@@ -5,20 +5,21 @@ ghost use Rattle.theory.specs.Set.{_∩_};
 ghost use Rattle.writer.specs.Write.{writeField};
 ghost use Rattle.judge.specs.Judged.{planNumbers, finalClusters};
 ghost use Rattle.account.specs.Account.{reportOf};
-ghost use Rattle.pattern.specs.Entries.{itemsField, rewriteField, verdictField, asJudgement, overNumbers, initialClusters, checkField, extendField};
+ghost use Rattle.pattern.specs.Entries.{itemsField, rewriteField, verdictField, overNumbers, initialClusters, checkField, holdField};
+ghost use Rattle.records.specs.Record.{asJudgement, askField, placeField, sheetField};
 ghost use Rattle.pattern.specs.Entries.{stepsField, savedStepsField};
 ghost use Rattle.steps.specs.Records.{numbersField};
 ghost use Rattle.sheet.specs.Facts.{blankConstraint};
 ghost use Prim.Native.Nat.{_%_};
 ghost use Rattle.card.specs.Card.{setVerdict};
 ghost use Rattle.longest.specs.Longest.{longestField};
-ghost use Rattle.pattern.specs.declared.Judgement.the-variants.{Is};
-ghost use Rattle.pattern_c.specs.Numbers.{asCount, asNumber, AnswersCount};
-ghost use Rattle.pattern_c.specs.Columns.{constraintIn, constraintsIn, sheetIn};
-use pattern::Judgement;
+ghost use Rattle.sketch.specs.declared.Judgement.the-variants.{Is};
+ghost use Rattle.pattern_c.specs.Numbers.{asCount, asNumber, AnswersCount, PlacedCount};
+ghost use Rattle.pattern_c.specs.Columns.{constraintFrom, constraintIn, constraintsIn, sheetIn};
 use sheet::Constraint;
 use sheet::Sheet;
 use sheet::Size;
+use sketch::Judgement;
 use space::Written;
 
 // The count of items written, or minus the rule's number.
@@ -215,12 +216,66 @@ pub extern "C" fn pattern_saved_steps(sheet: &[u8], plan: &[u16], out: &mut [u64
     count(pattern::saved_step_numbers(sheet, plan, out))
 }
 
-// The sheet with one more constraint, given as its bytes in a sheet, or the rule of 1 to 11 and 17 that refuses them.
-#[no_mangle]
-pub extern "C" fn pattern_add(sheet: &[u8], constraint: &[u8], out: &mut [u8]) -> i32
-    ensures { λ r. ⌜ AnswersCount (extendField (now (sheet .entry)) (now (constraint .entry))) (now (out .entry)) r (now (out .exit)) ⌝ }
+// ---- a held sketch in a record of lent bytes
+
+// A constraint from its numbers; bit 0 of the map: the size is given.
+fn constraint_from(first: u8, second: u8, map: u8, size: i32) -> Constraint
+    ensures { λ r. ⌜ r ≡ constraintFrom first second map size ⌝ }
 {
-    count(pattern::extend(sheet, constraint, out))
+    if map % 2 == 0 {
+        return Constraint {
+            first,
+            second,
+            size: Size::Missing,
+        };
+    }
+    Constraint {
+        first,
+        second,
+        size: Size::Given(size),
+    }
+}
+
+// The sketch held from a sheet, as a record, or the rule of 1 to 11 and 17 that refuses it.
+#[no_mangle]
+pub extern "C" fn pattern_hold(sheet: &[u8], lent: &mut [u8]) -> i32
+    ensures { λ r. ⌜ AnswersCount (holdField (now (sheet .entry))) (now (lent .entry)) r (now (lent .exit)) ⌝ }
+{
+    count(pattern::hold_in(sheet, lent))
+}
+
+// Asking: the verdict of the sketch with that constraint as its number, or minus the rule of 27, 6 to 9 and 11 that refuses it.
+#[no_mangle]
+pub extern "C" fn pattern_ask(lent: &[u8], first: u8, second: u8, map: u8, size: i32) -> i32
+    ensures { λ r. ⌜ r ≡ asCount (asNumber (asJudgement (askField (now (lent .entry)) (constraintFrom first second map size)))) ⌝ }
+{
+    let c = constraint_from(first, second, map, size);
+    count(verdict_number(pattern::ask_in(lent, c)))
+}
+
+// Placing: the answer of asking, and the record then with that constraint; also the rules 24 and 17.
+#[no_mangle]
+pub extern "C" fn pattern_place(
+    lent: &mut [u8],
+    first: u8,
+    second: u8,
+    map: u8,
+    size: i32,
+    held: usize,
+) -> i32
+    ensures { λ r. ⌜ PlacedCount (placeField (now (lent .entry)) (constraintFrom first second map size) held) (now (lent .entry)) r
+        (now (lent .exit)) ⌝ }
+{
+    let c = constraint_from(first, second, map, size);
+    count(verdict_number(pattern::place_in(lent, c, held)))
+}
+
+// The sheet in a record again, as bytes in lent space, or the rule of 27 and 17 that refuses.
+#[no_mangle]
+pub extern "C" fn pattern_held(lent: &[u8], out: &mut [u8]) -> i32
+    ensures { λ r. ⌜ AnswersCount (sheetField (now (lent .entry))) (now (out .entry)) r (now (out .exit)) ⌝ }
+{
+    count(pattern::held_in(lent, out))
 }
 
 // The verdict of five points with the distances whose bit stands in a number, 0 over, 1 angle, 2 well, 3 stuck, 4 under.

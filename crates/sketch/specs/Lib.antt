@@ -1,3 +1,4 @@
--- A held sketch: which constraints it takes, and what it is then.
+-- A held sketch: what asking and placing answer, and what the sketch is then.
 pub mod Sketch
+pub mod Placing
 pub mod Runs

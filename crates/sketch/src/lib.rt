@@ -1,22 +1,32 @@
-// A held sketch by value: the facts of a sheet that is not over, and one constraint more. Document 01, "A held sketch". specs/Sketch.antt says which
-// rule refuses, what is answered and what the sketch is then.
+// A held sketch: asking what one constraint more would do, and placing it. Document 01, "A held sketch"; document 02, 2026-05. specs/Sketch.antt says
+// which rule refuses, what is answered and what the sketch is then.
 ghost use mathlib.Core.Path.{_≡_};
-ghost use Prim.Native.Nat.{_<_};
-ghost use Rattle.sketch.specs.Sketch.{stored, addedOf};
+ghost use mathlib.Core.List.{List};
+ghost use Prim.Native.Nat.{_+_, _*_, _<_, _≤_};
+ghost use lib.IntN.{ℤ};
+ghost use Rattle.theory.specs.Graph.{findingOf, verdictOf};
+ghost use Rattle.theory.specs.declared.Finding.the-variants.{Fine};
+ghost use Rattle.sheet.specs.Facts.{Facts};
+ghost use Rattle.sheet.specs.Rules.{or-else};
+ghost use Rattle.sheet.specs.Graph.{overFault};
+ghost use Rattle.graph.specs.Lent.{graphIn, SheetIn, Drawn};
+ghost use Rattle.sketch.specs.Sketch.{by27, stored, askAnswer, placedOf};
+ghost use Rattle.sketch.specs.Placing.{lastRule, lastAnswer, PlacedIn};
 use graph::Head;
 use sheet::Constraint;
 use sheet::Sheet;
+use theory::Finding;
 use theory::Verdict;
 
-// The answer to an addition: the verdict of the sketch with the constraint, or the rule that refuses it.
-pub enum Taken {
+// The answer to a call for a verdict: the verdict, or the rule that refuses.
+pub enum Judgement {
     Is(Verdict),
     Refused(u8),
 }
 
-// The answer, and the sketch after it: a refusal leaves it as it was.
-pub struct Added {
-    pub answer: Taken,
+// What placing answers, and the sketch after it: a refusal leaves it as it was.
+pub struct Placed {
+    pub answer: Judgement,
     pub sketch: Sheet,
 }
 
@@ -32,60 +42,142 @@ fn store(s: Sheet, c: Constraint) -> Sheet
     more
 }
 
-// A refusal leaves the sketch.
-fn refused(s: Sheet, k: u8) -> Added
-    ensures { λ r. ⌜ (r .answer ≡ Taken.Refused k) × (r .sketch ≡ s) ⌝ }
+// ---- in arrays
+
+// 27 of a graph that is over, else the rule.
+fn unless_over(h: Head, near: &[u64; 64], start: &[u64; 200], rule: u8) -> u8
+    requires { ⌜ Drawn h (now near) (now start) ⌝ }
+    ensures { λ r. ⌜ ((z : List ℤ) → r ≡ or-else (by27 (overFault (graphIn h (now (start .entry)) z))) rule) ⌝ }
 {
-    Added {
-        answer: Taken::Refused(k),
-        sketch: s,
+    let verdict = judge::verdict_of(h, near, start);
+    if verdict.number() == 0 { 27 } else { rule }
+}
+
+// The verdict of a graph that is not over, with fewer than 2n-3 constraints.
+fn fine_verdict(h: Head, near: &[u64; 64], start: &[u64; 200]) -> Verdict
+    requires { ⌜ Drawn h (now near) (now start) × (h .e + 3 < 2 * h .n) × ((z : List ℤ) → findingOf (graphIn h (now start) z) ≡ Fine) ⌝ }
+    ensures { λ r. ⌜ ((z : List ℤ) → r ≡ verdictOf (graphIn h (now (start .entry)) z)) ⌝ }
+{
+    if u64::count_ones(h.lines) <= 2 {
+        return Verdict::Under;
+    }
+    let run = merges::merge_all(start, h.e);
+    let joints = run.joints;
+    let slots = run.slots;
+    engine::settle(&joints, &slots, run.steps, h.n, h.e, h.lines)
+}
+
+// The rule that refuses the last of e constraints, by the first that makes them over.
+fn last_rule(first: usize, e: usize) -> u8
+    requires { ⌜ first < e ⌝ }
+    ensures { λ r. ⌜ r ≡ lastRule first e ⌝ }
+{
+    if first + 1 == e { 11 } else { 27 }
+}
+
+// What the last constraint of a graph with 2n-3 constraints is answered: most that are not over have a verdict without a search for the first.
+fn judge_full_last(h: Head, near: &[u64; 64], start: &[u64; 200]) -> Judgement
+    requires { ⌜ Drawn h (now near) (now start) ⌝ }
+    ensures { λ r. ⌜ ((z : List ℤ) → r ≡ lastAnswer (graphIn h (now (start .entry)) z)) ⌝ }
+{
+    let verdict = judge::verdict_of(h, near, start);
+    if verdict.number() != 0 {
+        return Judgement::Is(verdict);
+    }
+    match judge::over_of(h, near, start) {
+        Finding::First { constraint, .. } => { Judgement::Refused(last_rule(constraint, h.e)) }
+        Finding::Fine => Judgement::Is(verdict),
     }
 }
 
-// The sketch with one more constraint and its verdict, or the rule that refuses: of a value that no sketch may hold, the one that refuses to hold it.
-pub fn add(s: Sheet, c: Constraint) -> Added
-    ensures { λ r. ⌜ r ≡ addedOf s c ⌝ }
+// What the last constraint of a graph is answered, by the first that makes it over: it is looked for once.
+fn judge_last(h: Head, near: &[u64; 64], start: &[u64; 200]) -> Judgement
+    requires { ⌜ Drawn h (now near) (now start) × (h .e + 3 ≤ 2 * h .n) ⌝ }
+    ensures { λ r. ⌜ ((z : List ℤ) → r ≡ lastAnswer (graphIn h (now (start .entry)) z)) ⌝ }
 {
-    let facts = sheet::sheet_fault(s);
-    if facts != 0 {
-        return refused(s, facts);
+    if h.e + 3 == 2 * h.n {
+        return judge_full_last(h, near, start);
+    }
+    match judge::over_of(h, near, start) {
+        Finding::First { constraint, .. } => { Judgement::Refused(last_rule(constraint, h.e)) }
+        Finding::Fine => Judgement::Is(fine_verdict(h, near, start)),
+    }
+}
+
+// A constraint offered by the number held to the sheet in the arrays, and noted there last: its verdict, or the rule that refuses it. Whatever is
+// refused anyway is refused by 27 where the sheet is over.
+pub fn place_next(
+    h: Head,
+    near: &mut [u64; 64],
+    start: &mut [u64; 200],
+    sizes: &mut [i32; 200],
+    c: Constraint,
+    held: usize,
+) -> Judgement
+    requires { ⌜ ((f : Facts) × SheetIn f h (now near) (now start) (now sizes)) ⌝ }
+    ensures { λ r. ⌜ ((f : Facts) → SheetIn f h (now (near .entry)) (now (start .entry)) (now (sizes .entry))
+        → PlacedIn f c held h r (now (near .exit)) (now (start .exit)) (now (sizes .exit))) ⌝ }
+{
+    let n = h.n;
+    let e = h.e;
+    if 2 * n < e + 3 {
+        return Judgement::Refused(27);
+    }
+    if held != e {
+        return Judgement::Refused(unless_over(h, near, start, 24));
+    }
+    let rule = sheet::constraint_fault(near, n, h.lines, c);
+    if rule != 0 {
+        return Judgement::Refused(unless_over(h, near, start, rule));
+    }
+    if e + 3 == 2 * n {
+        return Judgement::Refused(unless_over(h, near, start, 11));
+    }
+    let size = c.size;
+    let z = graph::size_of(size);
+    graph::note(near, start, sizes, e, c.first, c.second, z);
+    let next = Head {
+        n,
+        e: e + 1,
+        lines: h.lines,
+    };
+    judge_last(next, near, start)
+}
+
+// ---- by value
+
+// What asking answers: the verdict, or the refusal, that the sketch with that constraint would get.
+pub fn asking(s: Sheet, c: Constraint) -> Judgement
+    ensures { λ r. ⌜ r ≡ askAnswer s c ⌝ }
+{
+    if sheet::sheet_fault(s) != 0 {
+        return Judgement::Refused(27);
     }
     let mut near = [0u64; 64];
     let mut start = [0u64; 200];
     let mut sizes = [0i32; 200];
     let head = graph::fill(s, &mut near, &mut start, &mut sizes);
-    let held = judge::over_fault(head, &near, &start);
-    if held != 0 {
-        return refused(s, held);
+    place_next(head, &mut near, &mut start, &mut sizes, c, head.e)
+}
+
+// What placing answers, and the sketch after it.
+pub fn placing(s: Sheet, c: Constraint, held: usize) -> Placed
+    ensures { λ r. ⌜ r ≡ placedOf s c held ⌝ }
+{
+    if sheet::sheet_fault(s) != 0 {
+        return Placed {
+            answer: Judgement::Refused(27),
+            sketch: s,
+        };
     }
-    let last = sheet::constraint_fault(&near, head.n, head.lines, c);
-    if last != 0 {
-        return refused(s, last);
-    }
-    let e = head.e;
-    let size = c.size;
-    graph::note(
-        &mut near,
-        &mut start,
-        &mut sizes,
-        e,
-        c.first,
-        c.second,
-        graph::size_of(size),
-    );
-    let next = Head {
-        n: head.n,
-        e: e + 1,
-        lines: head.lines,
+    let mut near = [0u64; 64];
+    let mut start = [0u64; 200];
+    let mut sizes = [0i32; 200];
+    let head = graph::fill(s, &mut near, &mut start, &mut sizes);
+    let answer = place_next(head, &mut near, &mut start, &mut sizes, c, held);
+    let Judgement::Is(_) = answer else {
+        return Placed { answer, sketch: s };
     };
-    let more = store(s, c);
-    let over = judge::over_fault(next, &near, &start);
-    if over != 0 {
-        return refused(s, over);
-    }
-    let verdict = judge::verdict_of(next, &near, &start);
-    Added {
-        answer: Taken::Is(verdict),
-        sketch: more,
-    }
+    let sketch = store(s, c);
+    Placed { answer, sketch }
 }

@@ -44,6 +44,9 @@ pub const MOST_STEPS: usize = 62;
 /// The most clusters that are left.
 pub const MOST_CLUSTERS: usize = 125;
 
+/// The most bytes of a held sketch's record.
+pub const MOST_RECORD: usize = 891;
+
 /// The number of the rule that refuses a call.
 #[derive(Clone, Copy, PartialEq, Eq, Debug)]
 pub struct Rule(pub u8);
@@ -62,12 +65,14 @@ impl Rule {
             8 => "the map has an unknown bit, or lacks the size of two points or two lines",
             9 => "the size is outside its range",
             10 => "bytes follow the last constraint",
-            11 => "the sheet is over, or the added constraint would make it so",
+            11 => "the sheet is over, or one more constraint would make it so",
             12 => "the count of numbers in the plan is not a multiple of three",
             13 => "a step names a number that is no living cluster, or one cluster twice",
             15 => "the clusters of a step do not make an open merge",
             16 => "after the last step a merge is still open",
             17 => "the lent space is shorter than the answer",
+            24 => "another number of constraints is held",
+            27 => "the record stands for no sheet that may be held",
             _ => "no rule of this library",
         }
     }
@@ -101,22 +106,6 @@ impl Constraint {
     /// A constraint with a size.
     pub fn sized(first: u8, second: u8, size: i32) -> Constraint {
         Constraint { first, second, size: Some(size) }
-    }
-
-    /// The constraint as its bytes in a sheet, at the front of the space.
-    ///
-    /// ```
-    /// use pattern::Constraint;
-    ///
-    /// let mut space = [0; 7];
-    /// assert_eq!(Constraint::sized(0, 3, 300).bytes(&mut space), b"\0\x03\x01\x2c\x01\0\0");
-    /// ```
-    pub fn bytes<'a>(&self, out: &'a mut [u8; 7]) -> &'a [u8] {
-        let size = self.size.map(i32::to_le_bytes);
-        let fields = [self.first, self.second, self.map()];
-        let all = fields.iter().chain(size.iter().flatten());
-        let count = out.iter_mut().zip(all).map(|(place, &byte)| *place = byte).count();
-        &out[..count]
     }
 
     /// The bit map: bit 0 where the size is given.
@@ -474,26 +463,69 @@ pub fn check_plan<'a>(sheet: &[u8], plan: &[u16], out: &'a mut [u8]) -> Result<&
     written(answer, out).map(text)
 }
 
-/// The sheet with one more constraint, given as its bytes in a sheet.
+/// A held sketch: it owns its record, and placing alone changes it.
 ///
 /// ```
-/// use pattern::{Constraint, Rule, Verdict};
+/// use pattern::{Constraint, Rule, Sketch, Verdict};
 ///
-/// let (mut bytes, mut space) = ([0; 7], [0; pattern::MOST_BYTES]);
-/// let more = Constraint::sized(0, 1, 300);
-/// let sheet = pattern::add(b"PF01\x02\0\0", more.bytes(&mut bytes), &mut space)?;
-/// assert_eq!(pattern::verdict(sheet)?, Verdict::Well);
+/// let mut sketch = Sketch::hold(b"PF01\x02\0\0")?;
+/// let (held, more) = (sketch.count(), Constraint::sized(0, 1, 300));
+/// assert_eq!(sketch.ask(&more)?, Verdict::Well); // nothing changes
+/// assert_eq!(sketch.place(&more, held)?, Verdict::Well);
+/// assert_eq!(sketch.count(), 1);
+///
+/// assert_eq!(sketch.ask(&more), Err(Rule(7)));
+/// assert_eq!(sketch.place(&more, held), Err(Rule(24))); // another number is held now
 ///
 /// let mut space = [0; pattern::MOST_BYTES];
-/// assert_eq!(pattern::add(sheet, more.bytes(&mut bytes), &mut space), Err(Rule(7)));
+/// assert_eq!(pattern::verdict(sketch.sheet(&mut space)?)?, Verdict::Well);
 /// # Ok::<(), Rule>(())
 /// ```
-pub fn add<'a>(sheet: &[u8], constraint: &[u8], out: &'a mut [u8]) -> Result<&'a [u8], Rule> {
-    // SAFETY: each list is a live slice of its length, and `out` is borrowed alone.
-    let answer = unsafe {
-        c::pattern_add(sheet.as_ptr(), sheet.len(), constraint.as_ptr(), constraint.len(), out.as_mut_ptr(), out.len())
-    };
-    written(answer, out)
+#[derive(Clone, PartialEq, Eq, Debug)]
+pub struct Sketch {
+    record: [u8; MOST_RECORD],
+}
+
+impl Sketch {
+    /// Holds a sheet.
+    pub fn hold(sheet: &[u8]) -> Result<Sketch, Rule> {
+        let mut record = [0; MOST_RECORD];
+        // SAFETY: each list is a live slice of its length, and the record is borrowed alone.
+        let answer = unsafe { c::pattern_hold(sheet.as_ptr(), sheet.len(), record.as_mut_ptr(), record.len()) };
+        written(answer, &record)?;
+        Ok(Sketch { record })
+    }
+
+    /// How many constraints it holds.
+    pub fn count(&self) -> usize {
+        let n = usize::from(self.record[6]);
+        self.record[7 + n.div_ceil(8)].into()
+    }
+
+    /// The verdict of the sketch with one more constraint.
+    pub fn ask(&self, more: &Constraint) -> Result<Verdict, Rule> {
+        let (record, size) = (&self.record, more.size.unwrap_or(0));
+        // SAFETY: the record is a live slice of its length.
+        let answer =
+            unsafe { c::pattern_ask(record.as_ptr(), record.len(), more.first, more.second, more.map(), size) };
+        numbered(answer).ok_or(Rule(answer.unsigned_abs() as u8))
+    }
+
+    /// Places a constraint that was asked when so many were held: the asked verdict.
+    pub fn place(&mut self, more: &Constraint, held: usize) -> Result<Verdict, Rule> {
+        let (record, size) = (&mut self.record, more.size.unwrap_or(0));
+        let (first, second, map) = (more.first, more.second, more.map());
+        // SAFETY: the record is a live slice of its length, and is borrowed alone.
+        let answer = unsafe { c::pattern_place(record.as_mut_ptr(), record.len(), first, second, map, size, held) };
+        numbered(answer).ok_or(Rule(answer.unsigned_abs() as u8))
+    }
+
+    /// The sheet that it holds.
+    pub fn sheet<'a>(&self, out: &'a mut [u8]) -> Result<&'a [u8], Rule> {
+        // SAFETY: each list is a live slice of its length, and `out` is borrowed alone.
+        let answer = unsafe { c::pattern_held(self.record.as_ptr(), self.record.len(), out.as_mut_ptr(), out.len()) };
+        written(answer, out)
+    }
 }
 
 /// A report's bytes are ASCII.

@@ -2,11 +2,11 @@
 
 use std::process::ExitCode;
 
-use pattern_tests::facts::{Columns, MOST_ELEMENTS};
+use pattern_tests::facts::{Columns, Constraint, MOST_ELEMENTS};
 use pattern_tests::interface::Found;
 use pattern_tests::random::Random;
 use pattern_tests::run::Run;
-use pattern_tests::{calls, damage, dress, reader, tags, writer};
+use pattern_tests::{calls, damage, dress, reader, tags};
 
 const CALLS: u64 = 1_000_000;
 
@@ -25,8 +25,12 @@ fn main() -> ExitCode {
         calls::check_plan(&mut run, &bytes, &plan);
         calls::steps(&mut run, &bytes, &found);
         calls::saved_steps(&mut run, &bytes, &plan);
-        let constraint = constraint(&bytes, &mut run.random);
-        calls::add(&mut run, &bytes, &constraint);
+        calls::hold(&mut run, &bytes);
+        let (record, more) = (record(&bytes, &mut run.random), constraint(&bytes, &mut run.random));
+        calls::ask(&mut run, &record, &more);
+        let held = run.random.below(6);
+        calls::place(&mut run, &record, &more, held);
+        calls::held(&mut run, &record);
         let facts = facts(&bytes, &mut run.random);
         calls::write(&mut run, &facts);
     }
@@ -72,19 +76,25 @@ fn plan(saved: &[u16], random: &mut Random) -> Vec<u16> {
     }
 }
 
-/// A constraint's bytes for a sheet: sound, damaged or random.
-fn constraint(sheet: &[u8], random: &mut Random) -> Vec<u8> {
-    let random_bytes = |random: &mut Random| (0..random.below(12)).map(|_| random.byte() >> random.below(8)).collect();
-    let Ok(sheet) = reader::read(sheet) else {
-        return random_bytes(random);
-    };
-    let plain = writer::constraint_bytes(&dress::next(&sheet.kinds, random));
-    let sound = tags::on_constraint(&plain, 30, random);
-    match random.below(4) {
-        0 => random_bytes(random),
-        1 => damage::changed(&sound, random),
-        2 => damage::appended(&sound, random),
-        _ => sound,
+/// A record that counts these bytes, or another number of them.
+fn record(bytes: &[u8], random: &mut Random) -> Vec<u8> {
+    let count = if random.chance(90) { bytes.len() } else { random.below(2000) };
+    let mut out = (count as u16).to_le_bytes().to_vec();
+    out.extend_from_slice(bytes);
+    let room = out.len() + random.below(40);
+    out.resize_with(room, || random.byte());
+    out
+}
+
+/// A constraint for a sheet: sound or random.
+fn constraint(sheet: &[u8], random: &mut Random) -> Constraint {
+    match reader::read(sheet) {
+        Ok(sheet) if random.chance(80) => dress::next(&sheet.kinds, random),
+        _ => Constraint {
+            first: random.byte() >> random.below(8),
+            second: random.byte() >> random.below(8),
+            size: random.chance(80).then(|| random.bits() as i32 >> random.below(32)),
+        },
     }
 }
 

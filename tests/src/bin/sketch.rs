@@ -1,59 +1,134 @@
-//! Held sketches beside the reference: `pattern_add`, and the engine on the sketches that it leaves.
+//! Held sketches beside a plain list of constraints: runs of asks and placings with right and stale numbers, on sound and
+//! damaged records, and the engine on the sketches that they leave.
 
 use std::process::ExitCode;
 
-use pattern_tests::facts::{MOST_ELEMENTS, Sheet};
+use pattern_tests::facts::{Constraint, Kind, MOST_ELEMENTS, Sheet};
 use pattern_tests::interface::Found;
 use pattern_tests::run::{Run, rules};
 use pattern_tests::{calls, damage, dress, sketch, tags, writer};
 
-const ROUNDS: usize = 10_000;
+const ROUNDS: usize = 4_000;
+/// Room for every held sketch.
+const MOST_RECORD: usize = 891;
 
 fn main() -> ExitCode {
     let mut run = Run::start("sketch", 50_463_036);
     for round in 0..ROUNDS {
         let most = if round % 4 == 0 { MOST_ELEMENTS } else { 20 };
         let sheet = dress::any(most, &mut run.random);
-        additions(&mut run, &sheet);
+        holds(&mut run, &sheet);
+        events(&mut run, &sheet);
         if round % 20 == 0 {
-            grow(&mut run, sheet);
+            grow(&mut run, &sheet);
         }
     }
-    rules((1..=11).chain([17])).for_each(|rule| run.must("pattern_add", &rule, 100));
-    run.must("pattern_add", "accepted", 1000);
+    rules((1..=11).chain([17])).for_each(|rule| run.must("pattern_hold", &rule, 20));
+    rules([6, 7, 8, 9, 11, 27]).for_each(|rule| run.must("pattern_ask", &rule, 100));
+    rules([6, 7, 8, 9, 11, 17, 24, 27]).for_each(|rule| run.must("pattern_place", &rule, 100));
+    rules([17, 27]).for_each(|rule| run.must("pattern_held", &rule, 100));
+    for call in ["pattern_hold", "pattern_ask", "pattern_place", "pattern_held"] {
+        run.must(call, "accepted", 1000);
+    }
     run.finish()
 }
 
-/// Compares a held sketch's next constraint: sound, changed, followed by more, cut, and to a damaged sheet.
-fn additions(run: &mut Run, sheet: &Sheet) {
+/// Compares the holding of a sheet, with tags and damaged.
+fn holds(run: &mut Run, sheet: &Sheet) {
     let bytes = tags::any(sheet, &mut run.random);
-    let sound = next(run, sheet);
-    calls::add(run, &bytes, &sound);
-    let changed = damage::changed(&sound, &mut run.random);
-    calls::add(run, &bytes, &changed);
-    let appended = damage::appended(&sound, &mut run.random);
-    calls::add(run, &bytes, &appended);
-    let cut = run.random.below(sound.len());
-    calls::add(run, &bytes, &sound[..cut]);
+    calls::hold(run, &bytes);
     let damaged = damage::aimed(&bytes, &mut run.random);
-    calls::add(run, &damaged, &sound);
+    calls::hold(run, &damaged);
 }
 
-/// Compares constraints offered one after another to a sketch that begins without any.
-fn grow(run: &mut Run, sheet: Sheet) {
-    let mut held = Sheet { constraints: Vec::new(), ..sheet };
-    for _ in 0..4 * held.n() {
-        let bytes = writer::bytes(&held);
-        let next = next(run, &held);
-        calls::add(run, &bytes, &next);
-        held = sketch::add(&held, &next).unwrap_or(held);
+/// A record of a sheet, over or not, in some room, with any bytes beyond it.
+fn record(run: &mut Run, sheet: &Sheet) -> Vec<u8> {
+    let mut record = sketch::record(sheet);
+    let room = match run.random.below(4) {
+        0 => record.len() + run.random.below(9),
+        _ => MOST_RECORD.max(record.len()),
+    };
+    record.resize_with(room, || run.random.byte());
+    record
+}
+
+/// Compares a run of asks and placings on one record; between them some on a damaged copy of it.
+fn events(run: &mut Run, sheet: &Sheet) {
+    let mut held = sheet.clone();
+    held.constraints.truncate(run.random.below(sheet.e() + 1));
+    let mut record = record(run, &held);
+    for _ in 0..run.random.between(1, 12) {
+        let more = offered(run, &held);
+        let told = number(run, held.e());
+        match run.random.below(6) {
+            0 | 1 => calls::ask(run, &record, &more),
+            2..=4 => {
+                record = calls::place(run, &record, &more, told);
+                held = sketch::in_record(&record).unwrap_or(held);
+            }
+            _ => {
+                let broken = broken(run, &record);
+                calls::ask(run, &broken, &more);
+                calls::place(run, &broken, &more, told);
+                calls::held(run, &broken);
+            }
+        }
     }
+    calls::held(run, &record);
+}
+
+/// The number of constraints that is told: the one held, or another.
+fn number(run: &mut Run, held: usize) -> usize {
+    match run.random.below(8) {
+        0 => held + 1,
+        1 => held.saturating_sub(1),
+        2 => run.random.bits() as usize >> run.random.below(64),
+        _ => held,
+    }
+}
+
+/// A record with a fault: a byte changed, the count, the end cut.
+fn broken(run: &mut Run, record: &[u8]) -> Vec<u8> {
+    let mut out = damage::changed(record, &mut run.random);
+    match run.random.below(4) {
+        0 => out.truncate(run.random.below(out.len())),
+        1 => out[run.random.below(2)] = run.random.byte(),
+        2 => out[2 + run.random.below(30).min(record.len() - 3)] ^= 1 << run.random.below(8),
+        _ => {}
+    }
+    out
+}
+
+/// A constraint for a sketch: sound, or with a fault in one field.
+fn offered(run: &mut Run, held: &Sheet) -> Constraint {
+    let mut more = dress::next(&held.kinds, &mut run.random);
+    match run.random.below(10) {
+        0 => more.first = run.random.byte() >> run.random.below(8),
+        1 => more.second = run.random.byte() >> run.random.below(8),
+        2 => more.size = None,
+        3 => more.size = Some(run.random.pick(&[0, 40_001, -40_001, 18_000, -18_000, i32::MIN, i32::MAX])),
+        4 if held.e() > 0 => {
+            let old = held.constraints[run.random.below(held.e())];
+            (more.first, more.second) = (old.first, old.second);
+        }
+        _ => {}
+    }
+    more
+}
+
+/// Compares constraints offered one after another to a sketch that begins without any, and the engine on what it is then.
+fn grow(run: &mut Run, sheet: &Sheet) {
+    let kinds: Vec<Kind> = sheet.kinds.clone();
+    let mut held = Sheet { kinds, constraints: Vec::new() };
+    let mut record = record(run, &held);
+    record.resize(MOST_RECORD, 0);
+    for _ in 0..4 * held.n() {
+        let more = dress::next(&held.kinds, &mut run.random);
+        calls::ask(run, &record, &more);
+        record = calls::place(run, &record, &more, held.e());
+        held = sketch::next(&held, &more).unwrap_or(held);
+    }
+    calls::held(run, &record);
     let bytes = writer::bytes(&held);
     calls::plan(run, &bytes, &Found::of(&bytes));
-}
-
-/// The bytes of a constraint that a sketch may take, some with a tag.
-fn next(run: &mut Run, sheet: &Sheet) -> Vec<u8> {
-    let plain = writer::constraint_bytes(&dress::next(&sheet.kinds, &mut run.random));
-    tags::on_constraint(&plain, 30, &mut run.random)
 }

@@ -18,25 +18,23 @@ fn main() -> ExitCode {
         let most = if round % 4 == 0 { MOST_ELEMENTS } else { 20 };
         let sheet = dress::any(most, &mut run.random);
         let plain = writer::bytes(&sheet);
-        let next = writer::constraint_bytes(&dress::next(&sheet.kinds, &mut run.random));
         let plan = Found::of(&plain).plan().unwrap_or_default();
-        let wanted = answers(&plain, &plan, &next);
+        let wanted = answers(&plain, &plan);
         run.same("pattern_rewrite", &Hex(&plain), &wanted.rewritten, &plain);
         for (hundredths, name) in [(0, "no tag"), (50, "some tags"), (100, "every tag")] {
             let tagged = tags::on(&plain, hundredths, &mut run.random);
-            let tagged_next = tags::on_constraint(&next, hundredths, &mut run.random);
             run.count("sheets", name);
-            run.same("tags", &Hex(&tagged), &answers(&tagged, &plan, &tagged_next), &wanted);
+            run.same("tags", &Hex(&tagged), &answers(&tagged, &plan), &wanted);
             calls::rewrite(&mut run, &tagged);
-            calls::add(&mut run, &tagged, &tagged_next);
+            calls::hold(&mut run, &tagged);
         }
     }
     run.must("pattern_rewrite", "accepted", 10_000);
-    run.must("pattern_add", "accepted", 1_000);
+    run.must("pattern_hold", "accepted", 1_000);
     run.finish()
 }
 
-/// What the library answers of a sheet, a plan saved for it and one more constraint.
+/// What the library answers of a sheet and a plan saved for it.
 #[derive(PartialEq, Debug)]
 struct Answers {
     rewritten: Vec<u8>,
@@ -46,11 +44,11 @@ struct Answers {
     clusters: Vec<u64>,
     report: Vec<u8>,
     checked: Result<Vec<u8>, i32>,
-    added: Result<Vec<u8>, i32>,
+    held: Result<Vec<u8>, i32>,
 }
 
 /// The library's answers of an accepted sheet.
-fn answers(sheet: &[u8], plan: &[u16], next: &[u8]) -> Answers {
+fn answers(sheet: &[u8], plan: &[u16]) -> Answers {
     let accepted = "an accepted sheet";
     Answers {
         rewritten: lent(|out| ffi::rewrite(sheet, out)).expect(accepted),
@@ -60,7 +58,7 @@ fn answers(sheet: &[u8], plan: &[u16], next: &[u8]) -> Answers {
         clusters: lent(|out| ffi::clusters(sheet, out)).expect(accepted),
         report: lent(|out| ffi::report(sheet, out)).expect(accepted),
         checked: lent(|out| ffi::check_plan(sheet, plan, out)),
-        added: lent(|out| ffi::add(sheet, next, out)),
+        held: lent(|out| ffi::hold(sheet, out)),
     }
 }
 

@@ -3,7 +3,7 @@ use borrow.Author.Needs.{needs}
 use mathlib.Core.Path.{refl, ap, _∙_}
 use Rattle.theory.specs.Graph.{verdictOf}
 use Rattle.sheet.specs.Field.{Bytes}
-use Rattle.pattern.specs.declared.Judgement.the-variants.{Is}
+use Rattle.sketch.specs.declared.Judgement.the-variants.{Is}
 use Rattle.pattern.specs.Entries.Reading.{FactsRead, refused-read, facts-read}
 use Rattle.pattern.proofs.verdict.Statement.{statement}
 use Rattle.pattern.proofs.verdict.Tie as tie

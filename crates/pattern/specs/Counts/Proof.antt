@@ -3,7 +3,7 @@ use Prim.Native.Nat.{ℕ, zero, suc, _+_, _*_, _≤_}
 use native.Mathlib.Omega.{arith}
 use mathlib.Core.Path.{_≡_, refl, sym, ap, _∙_}
 use mathlib.Core.List.{List, [], map}
-use lib.ListN.{length, length-append, length-take, length-map}
+use lib.ListN.{length, length-map}
 use Rattle.theory.specs.Constraints.{NotOver}
 use Rattle.theory.specs.Over.Laws.{overOf-fine, fine-most}
 use Rattle.theory.specs.Merge.{Merge, Valid, final, left}
@@ -15,18 +15,16 @@ use Rattle.theory.specs.Graph.Laws.{length-steps}
 use Rattle.theory.specs.declared.Step.{Step}
 use Rattle.theory.specs.declared.Finding.{Finding}
 use Rattle.theory.specs.declared.Finding.the-variants.{Fine, First}
-use Rattle.sheet.specs.declared.Sheet.{Sheet}
 use Rattle.sheet.specs.Facts.{Facts, factsOf}
 use Rattle.sheet.specs.Field.{Field, value, next, Bytes}
 use Rattle.sheet.specs.Field.Laws.{next-value, refused-value}
 use Rattle.sheet.specs.Rules.{sheetFault}
-use Rattle.sheet.specs.Rules.Laws.{elements-most, constraints-most}
+use Rattle.sheet.specs.Rules.Laws.{constraints-most}
 use Rattle.sheet.specs.Decode.{readSheet}
 use Rattle.sheet.specs.Encode.{sheetBytes}
-use Rattle.sheet.specs.Encode.Laws.{sheet-length}
 use Rattle.sheet.specs.Accepted.{Accepted}
-use Rattle.sheet.specs.Accepted.Laws.{accepted-two, accepted-most, sheetFault-none}
-use Rattle.sheet.specs.Graph.{clusterOf, graphOf}
+use Rattle.sheet.specs.Accepted.Laws.{accepted-two, accepted-most}
+use Rattle.sheet.specs.Graph.{clusterOf, graphOf, overFault}
 use Rattle.sheet.specs.Graph.Laws.{fault-none}
 use Rattle.sheet.specs.Answer.{byRule}
 use Rattle.sheet.specs.RoundTrip.{written-read, written-most}
@@ -36,15 +34,18 @@ use Rattle.engine.specs.Lists.Laws.{living-count}
 use Rattle.judge.specs.Judged.{planBy, planNumbers, finalsBy, finalClusters}
 use Rattle.plans.specs.Check.{savedSteps, planFault}
 use Rattle.plans.specs.Check.Laws.{accepted-maximal}
-use Rattle.sketch.specs.Sketch.{extended}
+use Rattle.steps.specs.Records.{planSteps, stepNumbers, numbersField}
+use Rattle.steps.specs.Records.Laws.{length-numbers as length-records}
+use Rattle.sketch.specs.Sketch.{by27}
+use Rattle.records.specs.Record.{recordBytes, recordSheet, placeField, sheetField}
+use Rattle.records.specs.Record.Laws.{record-accepted, sheet-short}
+use Rattle.records.specs.Record.Room.{held-length, record-room, by27-none, placed-room}
 use Rattle.account.specs.Account.{listReport, reportOf, savedFault}
 use Rattle.account.specs.Account.Room.{report-room, saved-room}
 use Rattle.account.specs.Own.Proof.{paired, below}
-use Rattle.steps.specs.Records.{planSteps, stepNumbers, numbersField}
-use Rattle.steps.specs.Records.Laws.{length-numbers as length-records}
 use Rattle.pattern.specs.Entries.{held, heldSheet, initialClusters, overItems, overNumbers, checkField, stepsField, savedStepsField}
-use Rattle.pattern.specs.Entries.{longer, extendedSheet, extendField}
-use Rattle.pattern.specs.Entries.Sketches.{held-accepted, held-value, check-saved, longer-last, few-constraints}
+use Rattle.pattern.specs.Entries.{holdField}
+use Rattle.pattern.specs.Entries.Sketches.{held-accepted, check-saved}
 use Rattle.pattern.specs.Counts.{AtMost, Counts}
 
 -- items after a value, or a rule and then items
@@ -103,11 +104,14 @@ over-short : (o : Finding) → length (overItems o) ≤ 2
 over-short Fine = omega arith
 over-short (First c x) = omega arith
 
-written-short : (s : Sheet) → sheetFault s ≡ 0 → length (sheetBytes (factsOf s)) ≤ 1414
-written-short s z =
-    let (n, e, _) = sheetFault-none s z in
-    sheet-length (factsOf s) (omega (arith, elements-most (s .n) n, length-take (s .n) (s .elements)))
-    (omega (arith, constraints-most (s .e) e, length-take (s .e) (s .constraints)))
+-- ---- by a record
+
+module _ (lent : List ℕ) (all : Bytes lent) where
+  held-short : AtMost 889 (sheetField lent)
+  held-short items rest e =
+      next-value (recordSheet lent) _ e (λ f t was e1.
+      after-rule (by27 (overFault (graphOf f))) (sheetBytes f) (λ z. held-length f (record-accepted lent all was .1) (by27-none (overFault (graphOf f)) z))
+      items rest e1)
 
 -- ---- by bytes
 
@@ -145,15 +149,8 @@ module _ (bytes : List ℕ) (all : Bytes bytes) where
       let short = steps-short f a (fault-none g o) (savedSteps plan) (accepted-maximal (g .clusters) plan .0 z .1 .valid) in
       omega (arith, short, ap (λ (l : List Step). length (stepNumbers l)) same)))
 
-  extend-short : (more : List ℕ) → Bytes more → AtMost 1414 (extendField bytes more)
-  extend-short more all-more =
-      after-value (extendedSheet bytes more) sheetBytes (λ g t e.
-      next-value (heldSheet bytes) _ e (λ f u was e1. next-value (longer f more) held e1 (λ g2 v read e2.
-      let (c, l, k, is) = longer-last f more all-more read in
-      let (h, o) = held-accepted bytes f u all was in
-      let short : length (sheetBytes (extended f c)) ≤ 1414 =
-      sheet-length (extended f c) (accepted-most f h) (rw length-append (omega (arith, few-constraints f h o))) in
-      omega (arith, short, ap (λ (x : Facts). length (sheetBytes x)) (sym is ∙ held-value g2 v e2 .0)))))
+  hold-short : AtMost 891 (holdField bytes)
+  hold-short = after-value (heldSheet bytes) recordBytes (λ f t e. let (h, o) = held-accepted bytes f t all e in record-room f h o)
 
 pub counts : Counts
 counts = record {
@@ -167,6 +164,8 @@ counts = record {
   over = λ bytes. after-value (readSheet bytes) (λ f. overNumbers (graphOf f)) (λ f t e. over-short (findingOf (graphOf f)));
   rewrite = λ bytes all. after-value (readSheet bytes) _ (λ f t e.
       let r = written-read bytes f t all e in omega (arith, written-most f (r .2), ap length (r .1)));
-  write = λ s. after-rule (sheetFault s) (sheetBytes (factsOf s)) (written-short s);
-  extend = λ bytes more all all-more. extend-short bytes all more all-more;
+  write = λ s. after-rule (sheetFault s) (sheetBytes (factsOf s)) (sheet-short s);
+  hold-in = hold-short;
+  place-in = λ lent c held all. after-value (placeField lent c held) recordBytes (placed-room lent c held all);
+  held-in = λ lent all. held-short lent all;
 }

@@ -26,14 +26,15 @@ use Rattle.theory.specs.declared.Verdict.{Verdict}
 use Rattle.theory.specs.declared.Verdict.the-variants.{Over, Angle, Well, Stuck, Under}
 use Rattle.sheet.specs.declared.Constraint.{Constraint}
 use Rattle.sheet.specs.Answer.{byRule}
-use Rattle.sheet.specs.Facts.{Facts}
+use Rattle.space.specs.Space.{after}
+use Rattle.sheet.specs.Facts.{Facts, sheetOf}
 use Rattle.sheet.specs.Field.{Field, value, refused, Bytes}
 use Rattle.sheet.specs.Decode.{readSheet}
 use Rattle.sheet.specs.Accepted.{Accepted}
 use Rattle.sheet.specs.Rules.{or-else}
 use Rattle.sheet.specs.RoundTrip.{written-read}
 use Rattle.sheet.specs.Graph.{graphOf, reordered, overFault}
-use Rattle.sheet.specs.Accepted.Laws.{accepted-two}
+use Rattle.sheet.specs.Accepted.Laws.{accepted-two, factsOf-sheetOf}
 use Rattle.sheet.specs.Graph.Laws.{clusters-pairs, clusters-below, sheet-demand3, first-fault, fine-fault}
 use Rattle.engine.specs.Lists.{livingOf}
 use Rattle.engine.specs.Lists.Laws.{living-live, living-count}
@@ -42,12 +43,16 @@ use Rattle.judge.specs.Judged.{planNumbers, finalClusters}
 use Rattle.plans.specs.Check.{savedSteps, planFault}
 use Rattle.plans.specs.Check.Laws.{whole-saved, fault-range}
 use Rattle.report.specs.Report.{report, overReport, verdictLine}
+use Rattle.sketch.specs.Runs.Proof.{sheet-held, runs}
+use Rattle.records.specs.Record.{recordBytes}
+use Rattle.records.specs.Record.Room.{record-room}
+use Rattle.records.specs.Runs.Proof.{after-stands, after-long, record-runs}
 use Rattle.account.specs.Account.{listReport, reportBy, reportOf, savedFault}
 use Rattle.account.specs.Own.{ReportsOwn, EngineList}
 use Rattle.account.specs.Own.Proof.{own-lists}
 use Rattle.pattern.specs.Entries.{itemsField, verdictField, overItems, overNumbers, heldSheet, checkField}
 use Rattle.pattern.specs.Entries.Sketches.{check-saved}
-use Rattle.pattern.specs.Promises.{OverTold, SameInOrders, NameSays, OwnList, Promises}
+use Rattle.pattern.specs.Promises.{OverTold, SameInOrders, NameSays, OwnList, HeldRuns, Promises}
 
 -- a report that is not the over report: the ninth byte is the first of the verdict's name
 unlike : (v : Verdict) (r q : List ℕ) → v ≢ Over → verdictLine v ++ r ≡ verdictLine Over ++ q → ⊥
@@ -296,6 +301,23 @@ module _ (bytes : List ℕ) (f : Facts) (rest : List ℕ) (all : Bytes bytes) (r
       whole told zero z e = let m = own-lists f accepted .saved plan .accepted .0 z in (m .1, m .2)
       whole told (suc k) z e = let x : _≡_ {A = ℕ} 0 1 = cc in absurd (omega arith)
 
+  -- ---- a held sketch
+
+  held-runs : verdictOf g ≢ Over → HeldRuns bytes f
+  unfolding heldSheet
+  held-runs v =
+      let o = fine-fault g (not-over-fine g v) in
+      let is : heldSheet bytes ≡ value f [] = rw (reads, o) (ap (value f) (written-read bytes f rest all reads .0)) in
+      let h = sheet-held f accepted o in
+      record {
+        hold = is;
+        value-runs = λ events. runs .run (sheetOf f) h events;
+        lent-runs = λ lent long events.
+            let fits : length (recordBytes f) ≤ length lent = omega (arith, record-room f accepted o) in
+            rw is (record-runs .run (after (recordBytes f) lent) (sheetOf f) (omega (arith, after-long f accepted lent fits)) h
+            (after-stands f accepted lent fits ∙ ap (λ (x : Facts). value x []) (sym (factsOf-sheetOf f))) events);
+      }
+
   pub promises : Promises bytes f
   promises = record {
     over = over-told;
@@ -311,4 +333,5 @@ module _ (bytes : List ℕ) (f : Facts) (rest : List ℕ) (all : Bytes bytes) (r
         );
     saved = saved-own;
     accepts = accepts;
+    runs = held-runs;
   }

@@ -5,12 +5,12 @@ use borrow.Author.Tests.{ltb-true}
 use mathlib.Core.Path.{_≡_, refl, sym, _∙_, subst}
 use mathlib.Core.Logic.{_⊎_, inl, inr}
 use mathlib.Core.Bool.{Bool, true, false, cond}
-use mathlib.Core.List.{List, []}
-use lib.Dec.{ltb}
+use mathlib.Core.List.{List, [], _∷_}
+use lib.Dec.{eqb, ltb}
 use lib.ListN.{length}
 use Rattle.theory.specs.declared.Finding.{Finding}
 use Rattle.theory.specs.declared.Finding.the-variants.{Fine, First}
-use Rattle.theory.specs.Graph.{Graph, findingOf, verdictOf, stepsOf}
+use Rattle.theory.specs.Graph.{Graph, findingOf, stepsOf}
 use Rattle.theory.specs.declared.Step.{Step}
 use Rattle.space.specs.declared.Written.the-variants.{Done, Refused}
 use Rattle.space.specs.Space.{answer}
@@ -18,26 +18,30 @@ use Rattle.space.specs.Space.Laws.{long-answer}
 use Rattle.sheet.specs.declared.Constraint.{Constraint}
 use Rattle.sheet.specs.declared.Sheet.{Sheet}
 use Rattle.sheet.specs.Facts.{Facts, factsOf}
-use Rattle.sheet.specs.Rules.{elementsInRange, constraintFault, sheetFault}
-use Rattle.sheet.specs.Field.{Field, value, refused, next, demand, Bytes}
+use Rattle.sheet.specs.Rules.{elementsInRange, faultUnless, or-else, sheetFault}
+use Rattle.sheet.specs.Field.{Field, value, refused, next, demand, field, Bytes}
 use Rattle.sheet.specs.Decode.{readSheet}
 use Rattle.sheet.specs.Encode.{sheetBytes}
 use Rattle.sheet.specs.Answer.{byRule, answerTo}
 use Rattle.sheet.specs.RoundTrip.{written-read}
 use Rattle.sheet.specs.Refusals.{Rule, But, By, given, ruled, Fault}
-use Rattle.sheet.specs.Refusals.Laws.{by-next, by-wider, which, by-constraints, by-sheet}
-use Rattle.sheet.specs.Refusals.Laws.{fault-else, fault-wider, OfFacts, fault-constraint, fault-sheet}
+use Rattle.sheet.specs.Refusals.Laws.{by-next, by-wider, which, by-sheet}
+use Rattle.sheet.specs.Refusals.Laws.{fault-else, fault-sheet}
 use Rattle.sheet.specs.Graph.{graphOf, overRule, overFault}
 use Rattle.plans.specs.Check.{savedSteps, planFault}
 use Rattle.plans.specs.Check.Laws.{fault-range}
-use Rattle.sketch.specs.declared.Taken.the-variants.{Refused as Not}
-use Rattle.sketch.specs.Sketch.{holdFault, extended, nextFault, addFault, asTaken, addAnswer}
+use Rattle.theory.specs.declared.Verdict.{Verdict}
+use Rattle.theory.specs.Constraints.{Among}
+use Rattle.sketch.specs.declared.Judgement.the-variants.{Refused as Not}
+use Rattle.sketch.specs.Sketch.{nextFault, by27, askFault, placeFault, askRule, placeRule, asJudged, askAnswer, placeAnswer}
+use Rattle.sketch.specs.Runs.Proof.{Rule as Told-rule, next-rule}
+use Rattle.records.specs.Record.{as27, counted, recordSheet}
 use Rattle.account.specs.Account.{listReport, reportOf}
 use Rattle.steps.specs.Records.{filledTo}
 use Rattle.account.specs.Account.Room.{report-room}
 use Rattle.longest.specs.Longest.{longestSheet, longestField}
-use Rattle.pattern.specs.Entries.{itemsField, held, heldSheet, longer}
-use Rattle.pattern.specs.Refusals.{Short, ShortList, Refusals}
+use Rattle.pattern.specs.Entries.{itemsField, held, heldSheet}
+use Rattle.pattern.specs.Refusals.{Short, ShortList, Asking, Refusals}
 
 -- items into lent space: 17 alone, where it is shorter
 lent : (x : Field (List ℕ)) (space : List ℕ) (k : ℕ) → answerTo x space ≡ Refused k → (x ≡ refused k) ⊎ ((k ≡ 17) × Short x space)
@@ -91,29 +95,50 @@ fault-over rules h g = by (findingOf g)
     by Fine = tt
     by (First c x) = h
 
-abbrev Adding : ℕ → Type 0
-Adding = But 4 (But 10 (Rule 3 11))
+abbrev Placing : ℕ → Type 0
+Placing k = Among k (24 ∷ Asking)
 
-fault-add : (s : Sheet) (c : Constraint) → Fault Adding (addFault s c)
-unfolding addFault holdFault nextFault
-fault-add s c =
-    let wider : (k : ℕ) → OfFacts k → Adding k =
-    λ k h. ((record { from = h .0 .from; to = omega (arith, h .0 .to) }, λ z. omega (arith, h .0 .to)), h .1) in
-    let over = fault-over Adding ((record { from = omega arith; to = omega arith }, λ z. omega arith), λ z. omega arith) in
-    let f = factsOf s in
-    fault-else Adding (holdFault s) (nextFault f c)
-    (fault-else Adding (sheetFault s) (overFault (graphOf f)) (fault-wider OfFacts Adding (sheetFault s) wider (fault-sheet s)) (over (graphOf f)))
-    (fault-else Adding (constraintFault (f .elements) (f .constraints) c) (overFault (graphOf (extended f c)))
-    (fault-wider OfFacts Adding (constraintFault (f .elements) (f .constraints) c) wider (fault-constraint (f .elements) (f .constraints) c))
-    (over (graphOf (extended f c))))
+-- what refuses one constraint more, after 27 of an over sheet
+module _ (rules : ℕ → Type 0) (wider : (k : ℕ) → Among k Asking → rules k) where
+  named : (k : ℕ) → Told-rule k → Fault rules k
+  named zero h = tt
+  named (suc k) (inl e) = absurd (omega arith)
+  named (suc k) (inr h) = wider (suc k) (inr h)
 
-added : (s : Sheet) (c : Constraint) (k : ℕ) → addAnswer s c ≡ Not k → Adding k
-unfolding addAnswer
-added s c k e = by (addFault s c) (fault-add s c) e
+  fault-27 : (k : ℕ) → Fault rules (by27 k)
+  fault-27 zero = tt
+  fault-27 (suc k) = wider 27 (inl refl)
+
+  fault-ask : (f : Facts) (c : Constraint) → Fault rules (askFault f c)
+  unfolding askFault
+  fault-ask f c = fault-else rules (by27 (overFault (graphOf f))) (nextFault f c) (fault-27 (overFault (graphOf f))) (named (nextFault f c) (next-rule f c))
+
+fault-place : (f : Facts) (c : Constraint) (held : ℕ) → Fault Placing (placeFault f c held)
+unfolding placeFault
+fault-place f c held =
+    fault-else Placing (by27 (overFault (graphOf f))) _ (fault-27 Placing (λ k h. inr h) (overFault (graphOf f))) (by (eqb held (length (f .constraints))))
   where
-    by : (j : ℕ) → Fault Adding j → asTaken j (verdictOf (graphOf (extended (factsOf s) c))) ≡ Not k → Adding k
-    by zero h q = absurd (let z : _≡_ {A = ℕ} 0 1 = cc in omega arith)
-    by (suc j) h q = let n : suc j ≡ k = cc in subst Adding n h
+    by : (b : Bool) → Fault Placing (faultUnless b 24 (nextFault f c))
+    by true = named Placing (λ k h. inr h) (nextFault f c) (next-rule f c)
+    by false = inl refl
+
+judged-rule : (rules : ℕ → Type 0) (j : ℕ) (v : Verdict) (k : ℕ) → Fault rules j → asJudged j v ≡ Not k → rules k
+judged-rule rules zero v k h q = absurd (let z : _≡_ {A = ℕ} 0 1 = cc in omega arith)
+judged-rule rules (suc j) v k h q = let n : suc j ≡ k = cc in subst rules n h
+
+asked : (s : Sheet) (c : Constraint) (k : ℕ) → askAnswer s c ≡ Not k → Among k Asking
+unfolding askAnswer askRule
+asked s c k e =
+    judged-rule (λ k. Among k Asking) (or-else (by27 (sheetFault s)) (askFault (factsOf s) c)) _ k
+    (fault-else (λ k. Among k Asking) (by27 (sheetFault s)) (askFault (factsOf s) c) (fault-27 (λ k. Among k Asking) (λ k h. h) (sheetFault s))
+    (fault-ask (λ k. Among k Asking) (λ k h. h) (factsOf s) c)) e
+
+placed : (s : Sheet) (c : Constraint) (held k : ℕ) → placeAnswer s c held ≡ Not k → Placing k
+unfolding placeAnswer placeRule
+placed s c held k e =
+    judged-rule Placing (or-else (by27 (sheetFault s)) (placeFault (factsOf s) c held)) _ k
+    (fault-else Placing (by27 (sheetFault s)) (placeFault (factsOf s) c held) (fault-27 Placing (λ k h. inr h) (sheetFault s))
+    (fault-place (factsOf s) c held)) e
 
 fault-plan : (cs l : List ℕ) → Fault (But 14 (Rule 1 16)) (planFault cs l)
 fault-plan cs l = by (planFault cs l) refl
@@ -142,9 +167,17 @@ checked bytes plan what =
     by-next (by-wider (λ k h. (record { from = h .from; to = omega (arith, h .to) }, λ z. omega (arith, h .to))) (by-sketch bytes))
     (λ f rest. by-rule (planFault (graphOf f .clusters) plan) _ (fault-plan (graphOf f .clusters) plan) given)
 
-by-longer : (f : Facts) (bytes : List ℕ) → By (Rule 1 11) (longer f bytes)
-unfolding longer
-by-longer f bytes = by-next (by-wider ten (by-constraints (f .elements) 1 (f .constraints) bytes)) (λ cs end. given)
+-- whatever refuses the bytes of a record, 27 refuses it
+by-record : (lent : List ℕ) → By (Rule 27 27) (recordSheet lent)
+unfolding recordSheet
+by-record lent = by (next (field 2 lent) counted)
+  where
+    by : (x : Field Facts) → By (Rule 27 27) (as27 x)
+    by (value f rest) = given
+    by (refused k) = ruled {k = 27} (record { from = omega arith; to = omega arith })
+
+only-27 : (k : ℕ) → Rule 27 27 k → k ≡ 27
+only-27 k h = omega (arith, h .from, h .to)
 
 by-count : (n : ℕ) → By (Rule 3 3) (longestField n)
 unfolding longestField
@@ -154,6 +187,10 @@ by-count n = by-range (elementsInRange n) (value (sheetBytes (longestSheet n)) [
     by-range true x h = h
     by-range false x h = ruled {k = 3} (record { from = omega arith; to = omega arith })
 
+over-27 : (k : ℕ) → Fault (Rule 27 27) (by27 k)
+over-27 zero = tt
+over-27 (suc k) = record { from = omega arith; to = omega arith }
+
 pub refusals : Refusals
 refusals = record {
   lent = lent;
@@ -162,13 +199,19 @@ refusals = record {
   rewrite = λ bytes. by-next (by-sheet bytes) (λ f rest. given);
   items = λ what bytes. by-next (by-sheet bytes) (λ f rest. given);
   write = λ s. by-rule (sheetFault s) _ (fault-sheet s) given;
-  add = added;
   check = λ bytes plan. checked bytes plan (λ f. listReport (graphOf f) (savedSteps plan));
   steps = λ bytes. by-next (by-sketch bytes) (λ f rest. given);
   saved-steps = λ bytes plan. checked bytes plan (λ f. stepsOf (graphOf f) (savedSteps plan));
   records = lent-list;
   hold = by-sketch;
-  extend = λ bytes more. by-next (by-next (by-sketch bytes) (λ f rest. by-next (by-longer f more) by-held)) (λ f rest. given);
+  ask = asked;
+  place = placed;
+  hold-in = λ bytes. by-next (by-sketch bytes) (λ f rest. given);
+  ask-in = λ lent c. by-next (by-wider (λ k h. inl (only-27 k h)) (by-record lent))
+      (λ f rest. by-rule (askFault f c) _ (fault-ask (λ k. Among k Asking) (λ k h. h) f c) given);
+  place-in = λ lent c held. by-next (by-wider (λ k h. inr (inl (only-27 k h))) (by-record lent))
+      (λ f rest. by-rule (placeFault f c held) _ (fault-place f c held) given);
+  held-in = λ lent. by-next (by-record lent) (λ f rest. by-rule (by27 (overFault (graphOf f))) _ (over-27 (overFault (graphOf f))) given);
   longest = by-count;
   program = printed;
 }

@@ -1,11 +1,11 @@
--- Which rule refuses to hold a sketch, and what one constraint more changes. Assumes nothing.
+-- What one constraint more changes, and which rule refuses it. Assumes nothing.
 use Prim.Native.Nat.{ℕ, zero, suc, _+_, _≤_, _<_}
 use native.Mathlib.Numerals.{add-one}
 use native.Mathlib.Omega.{arith}
 use mathlib.Core.Path.{_≡_, refl, _∙_}
 use mathlib.Core.Bool.{true}
 use mathlib.Core.List.{List, [], _∷_, _++_, append-nil, append-assoc}
-use borrow.Author.Tests.{le-leb}
+use borrow.Author.Tests.{le-leb, eq-eqb}
 use lib.IntN.{ℤ}
 use lib.ListN.{length, length-append}
 use lib.Seq.{take-suc-set}
@@ -14,17 +14,18 @@ use Rattle.sheet.specs.declared.Constraint.{Constraint}
 use Rattle.sheet.specs.declared.Sheet.{Sheet}
 use Rattle.sheet.specs.Facts.{Facts, factsOf}
 use Rattle.sheet.specs.Rules.{or-else, constraintsInRange, constraintFault, constraintsFault, sheetFault}
-use Rattle.sheet.specs.Rules.Laws.{or-else-some, none-else}
 use Rattle.sheet.specs.Accepted.{Accepted}
 use Rattle.sheet.specs.Accepted.Laws.{sheetFault-none}
 use Rattle.sheet.specs.Graph.{graphOf, overFault}
 use Rattle.sheet.specs.Graph.Laws.{length-clusters, fault-none}
 use Rattle.theory.specs.Graph.{verdictOf}
+use Rattle.theory.specs.declared.Verdict.{Verdict}
 use Rattle.graph.specs.declared.Head.{Head}
 use Rattle.graph.specs.Lent.{InArrays, SheetIn}
 use Rattle.graph.specs.Lent.Sheets.{accepted-sound, found-fine, fine-few}
-use Rattle.sketch.specs.declared.Taken.the-variants.{Is, Refused}
-use Rattle.sketch.specs.Sketch.{holdFault, extended, nextFault, addFault, addAnswer, stored, addAfter}
+use Rattle.sketch.specs.declared.Judgement.the-variants.{Is, Refused}
+use Rattle.sketch.specs.Sketch.{extended, by27, askFault, placeFault, askRule, placeRule, asJudged}
+use Rattle.sketch.specs.Sketch.{askAnswer, placeAnswer, stored, placeAfter}
 
 -- ---- facts that are not over have few constraints
 
@@ -94,39 +95,79 @@ module _ (s : Sheet) (c : Constraint) (long : length (s .constraints) ≡ 200) (
 
 -- ---- the rules in their order
 
-pub hold-none : (s : Sheet) → holdFault s ≡ 0 → (sheetFault s ≡ 0) × (overFault (graphOf (factsOf s)) ≡ 0)
-unfolding holdFault
-hold-none s e = none-else (sheetFault s) (overFault (graphOf (factsOf s))) e
+module _ (s : Sheet) (c : Constraint) (held : ℕ) where
+  -- facts that the writer refuses
+  pub place-unsound : (sheetFault s ≡ 0 → ⊥) → placeRule s c held ≡ 27
+  unfolding placeRule
+  place-unsound n = go (sheetFault s) refl
+    where
+      go : (k : ℕ) → sheetFault s ≡ k → or-else (by27 k) (placeFault (factsOf s) c held) ≡ 27
+      go zero e = absurd (n e)
+      go (suc k) e = refl
 
-pub none-held : (s : Sheet) → sheetFault s ≡ 0 → overFault (graphOf (factsOf s)) ≡ 0 → holdFault s ≡ 0
-unfolding holdFault
-none-held s e o = rw (e, o)
+  pub place-sound : sheetFault s ≡ 0 → placeRule s c held ≡ placeFault (factsOf s) c held
+  unfolding placeRule
+  place-sound e = rw e
 
-module _ (s : Sheet) (c : Constraint) where
-  pub add-unsound : (sheetFault s ≡ 0 → ⊥) → addFault s c ≡ sheetFault s
-  unfolding addFault holdFault
-  add-unsound n = rw (or-else-some (sheetFault s) (overFault (graphOf (factsOf s))) n) (or-else-some (sheetFault s) (nextFault (factsOf s) c) n)
-
-  pub add-over : sheetFault s ≡ 0 → (overFault (graphOf (factsOf s)) ≡ 0 → ⊥) → addFault s c ≡ overFault (graphOf (factsOf s))
-  unfolding addFault holdFault
-  add-over e n = rw e (or-else-some _ _ n)
-
-  pub add-refused : holdFault s ≡ 0 → (constraintFault (factsOf s .elements) (factsOf s .constraints) c ≡ 0 → ⊥)
-      → addFault s c ≡ constraintFault (factsOf s .elements) (factsOf s .constraints) c
-  unfolding addFault nextFault
-  add-refused e n = rw e (or-else-some _ _ n)
-
-  pub add-last : holdFault s ≡ 0 → constraintFault (factsOf s .elements) (factsOf s .constraints) c ≡ 0
-      → addFault s c ≡ overFault (graphOf (extended (factsOf s) c))
-  unfolding addFault nextFault
-  add-last e k = rw (e, k)
+  pub answer-sound : sheetFault s ≡ 0
+      → placeAnswer s c held ≡ asJudged (placeFault (factsOf s) c held) (verdictOf (graphOf (extended (factsOf s) c)))
+  unfolding placeAnswer
+  answer-sound e = rw (place-sound e)
 
   -- a refusal leaves the sketch
-  pub refused-added : (k : ℕ) → (k ≡ 0 → ⊥) → addFault s c ≡ k → (Refused k ≡ addAnswer s c) × (s ≡ addAfter s c)
-  unfolding addAnswer addAfter
-  refused-added zero n e = absurd (n refl)
-  refused-added (suc k) n e = rw e (refl, refl)
+  pub refused-placed : (k : ℕ) → (k ≡ 0 → ⊥) → placeRule s c held ≡ k → (placeAnswer s c held ≡ Refused k) × (placeAfter s c held ≡ s)
+  unfolding placeAnswer placeAfter
+  refused-placed zero n e = absurd (n refl)
+  refused-placed (suc k) n e = rw e (refl, refl)
 
-  pub taken-added : addFault s c ≡ 0 → (Is (verdictOf (graphOf (extended (factsOf s) c))) ≡ addAnswer s c) × (stored s c ≡ addAfter s c)
-  unfolding addAnswer addAfter
-  taken-added e = rw e (refl, refl)
+  pub unsound-placed : (sheetFault s ≡ 0 → ⊥) → (placeAnswer s c held ≡ Refused 27) × (placeAfter s c held ≡ s)
+  unsound-placed n = refused-placed 27 (λ z. omega arith) (place-unsound n)
+
+  pub taken-placed : placeRule s c held ≡ 0
+      → (placeAnswer s c held ≡ Is (verdictOf (graphOf (extended (factsOf s) c)))) × (placeAfter s c held ≡ stored s c)
+  unfolding placeAnswer placeAfter
+  taken-placed e = rw e (refl, refl)
+
+-- asking is placing by the number held
+pub ask-place : (f : Facts) (c : Constraint) → placeFault f c (length (f .constraints)) ≡ askFault f c
+unfolding placeFault askFault
+ask-place f c = rw (eq-eqb (length (f .constraints)) (length (f .constraints)) refl)
+
+pub ask-unsound : (s : Sheet) (c : Constraint) → (sheetFault s ≡ 0 → ⊥) → askAnswer s c ≡ Refused 27
+unfolding askAnswer askRule
+ask-unsound s c n = go (sheetFault s) refl
+  where
+    go : (k : ℕ) → sheetFault s ≡ k
+        → asJudged (or-else (by27 k) (askFault (factsOf s) c)) (verdictOf (graphOf (extended (factsOf s) c))) ≡ Refused 27
+    go zero e = absurd (n e)
+    go (suc k) e = refl
+
+pub ask-sound : (s : Sheet) (c : Constraint) → sheetFault s ≡ 0
+    → askAnswer s c ≡ asJudged (askFault (factsOf s) c) (verdictOf (graphOf (extended (factsOf s) c)))
+unfolding askAnswer askRule
+ask-sound s c e = rw e
+
+-- a rule that refuses is answered
+pub judged-refused : (k : ℕ) (v : Verdict) → (k ≡ 0 → ⊥) → asJudged k v ≡ Refused k
+judged-refused zero v n = absurd (n refl)
+judged-refused (suc k) v n = refl
+
+pub judged-taken : (k : ℕ) (v : Verdict) {w : Verdict} → asJudged k v ≡ Is w → k ≡ 0
+judged-taken zero v e = refl
+judged-taken (suc k) v e = absurd (let z : _≡_ {A = ℕ} 0 1 = cc in omega arith)
+
+pub judged-not : (k : ℕ) (v : Verdict) {j : ℕ} → asJudged k v ≡ Refused j → (k ≡ j) × (k ≡ 0 → ⊥)
+judged-not zero v e = absurd (let z : _≡_ {A = ℕ} 0 1 = cc in omega arith)
+judged-not (suc k) v e = (cc, λ z. omega arith)
+
+-- what the answer says of the rules
+module _ (s : Sheet) (c : Constraint) (held : ℕ) where
+  pub is-placed : {v : Verdict} → placeAnswer s c held ≡ Is v → placeRule s c held ≡ 0
+  unfolding placeAnswer
+  is-placed e = judged-taken (placeRule s c held) _ e
+
+  pub not-placed : {k : ℕ} → placeAnswer s c held ≡ Refused k → placeAfter s c held ≡ s
+  unfolding placeAnswer
+  not-placed {k} e =
+      let n = judged-not (placeRule s c held) _ e in
+      refused-placed s c held (placeRule s c held) (n .1) refl .1

@@ -1,0 +1,57 @@
+-- `records::read` meets its contract: the count in the first two bytes, and the sheet of so many that follow. Assumes nothing.
+use borrow.Author.Needs.{needs}
+use Prim.Native.Nat.{ℕ, _+_, _*_, _-_, _≤_}
+use native.Mathlib.Omega.{arith}
+use mathlib.Core.Path.{_≡_, sym, ap, _∙_}
+use mathlib.Core.List.{List}
+use lib.ListN.{length, take, drop}
+use Rattle.sheet.specs.Decode.{readSheet}
+use Rattle.records.specs.Record.{as27, recordSheet}
+use Rattle.records.specs.Record.Laws.{told, record-short, record-cut, record-whole, none-read, unread, was-read}
+use Rattle.records.proofs.read.Statement.{statement}
+use Rattle.records.proofs.read.Tie as tie
+
+returns : tie.Need-returns
+returns c = none-read _ (record-short _ (c .if1 .taken))
+
+-- the count
+module _ (c : tie.After-wide2) where
+  abbrev lent : List ℕ
+  lent = c .before .before .before .before .before .before .args .lent .now
+
+  two : 2 ≤ length lent
+  two = c .before .before .before .before .if1 .left
+
+  count : c .before .before .wide .result + 256 * c .wide2 .result ≡ told lent
+  count = omega (arith, c .wide2 .ensures .0, c .before .before .wide .ensures .0)
+
+returns-2 : tie.Need-returns-2
+returns-2 c = none-read _ (record-cut _ (two (c .before)) (omega (arith, c .if2 .taken, count (c .before))))
+
+-- the bytes that follow
+module _ (c : tie.Else2) where
+  abbrev end : ℕ
+  end = 2 + (c .before .before .before .wide .result + 256 * c .before .wide2 .result)
+
+  whole : recordSheet (lent (c .before)) ≡ as27 (readSheet (take (end - 2) (drop 2 (lent (c .before)))))
+  whole =
+      let n : end - 2 ≡ told (lent (c .before)) = omega (arith, count (c .before)) in
+      record-whole (lent (c .before)) (two (c .before)) (omega (arith, c .if2 .left, count (c .before)))
+      ∙ ap (λ (k : ℕ). as27 (readSheet (take k (drop 2 (lent (c .before)))))) (sym n)
+
+returns-3 : tie.Need-returns-3
+returns-3 c =
+    unread _ _ (whole (c .before .before .before .before .before .before .before)) (c .before .before .read-graph .ensures) (c .enum-told .given .1)
+
+returns-4 : tie.Need-returns-4
+returns-4 c =
+    was-read _ _ (whole (c .before .before .before .before .before .before .before .before)) (c .before .before .before .read-graph .ensures)
+    (c .before .got .given .1)
+
+pub read-spec : {M : Type 1} → statement M
+read-spec =
+    tie.close
+    (tie.spec returns (λ c. search needs) (λ c κs. search needs) (λ c. search needs) (λ c κs. search needs)
+    (λ c. omega (arith, c .wide2 .ensures .1)) (λ c. omega (arith, c .wide2 .ensures .1, c .before .before .wide .ensures .1))
+    (λ c. omega (arith, c .wide2 .ensures .1, c .before .before .wide .ensures .1)) returns-2 (λ c. search needs) (λ c. search needs) (λ c. search needs)
+    (λ c κs. search needs) (λ c. search needs) (λ c. search needs) returns-3 returns-4)
