@@ -55,6 +55,7 @@ extern "C" {
 #define PATTERN_STEP            7    /* numbers of a step in a list of steps, in the order of struct pattern_step */
 #define PATTERN_MAX_CLUSTERS    125  /* clusters that are left: with this room no list of them is refused by 17 */
 #define PATTERN_MAX_RECORD      891  /* bytes of a record: with this room no sketch is refused by 17 */
+#define PATTERN_MAX_PART        3534 /* bytes of one cluster's steps: with this room no list of them is refused by 17 */
 #define PATTERN_MAX_STACK       36864 /* bytes of stack that a call takes */
 
 /* The rules that refuse, in checking order. */
@@ -77,6 +78,7 @@ enum pattern_rule {
     PATTERN_UNFINISHED  = 16, /* after the last step a merge is still open */
     PATTERN_ROOM        = 17, /* `out` is shorter than the answer, or a record than what it must hold */
     PATTERN_ANOTHER     = 24, /* another number of constraints is held than was told */
+    PATTERN_NO_NUMBER   = 26, /* no cluster of the plan has the number; tried before 17 */
     PATTERN_RECORD      = 27  /* the record stands for no sheet that may be held */
 };
 
@@ -246,6 +248,19 @@ int32_t pattern_place(
 
 /* The sheet in a record again. Tries rules 27 and 17. Answers the count of bytes. */
 int32_t pattern_held(const uint8_t *record, size_t record_room, uint8_t *out, size_t room);
+
+/*
+ * The steps of one cluster of the plan alone, as pattern_report's step lines: those from which the
+ * cluster is made, each part's steps before the step that uses it, lowest part first. A constraint is
+ * a cluster too and has none. The number is that of any cluster ever made, merged away or not: below e
+ * plus the steps, else 26. Tries rules 1 to 11, 26, then 17. Answers the count of bytes, at most
+ * PATTERN_MAX_PART.
+ */
+int32_t pattern_part(const uint8_t *sheet, size_t len, size_t number, uint8_t *out, size_t room);
+
+/* How many steps that cluster has, and how many bytes pattern_part writes of them. Rules 1 to 11 and 26. */
+int32_t pattern_part_steps(const uint8_t *sheet, size_t len, size_t number);
+int32_t pattern_part_bytes(const uint8_t *sheet, size_t len, size_t number);
 
 /*
  * The verdict of five points with some of the ten distances between them, from a card of all 1,024

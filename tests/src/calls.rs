@@ -70,6 +70,21 @@ pub fn report(run: &mut Run, bytes: &[u8], found: &Found) {
     run.lent("pattern_report", &Hex(bytes), &found.report(), |out| ffi::report(given.held(), out));
 }
 
+/// Compares `pattern_part_steps`, `pattern_part_bytes` and `pattern_part` on some bytes and a cluster's number.
+#[inline]
+pub fn part(run: &mut Run, bytes: &[u8], found: &Found, number: usize) {
+    let given = Space::holding(bytes, &mut run.random);
+    let answer = found.part(number);
+    let input = format!("{}, number {number}", Hex(bytes));
+    let count = |items: Result<usize, Rule>| items.map_or_else(|rule| -i32::from(rule), |count| count as i32);
+    let steps = answer.as_ref().map(|(steps, _)| *steps).map_err(|&rule| rule);
+    let lines = answer.map(|(_, lines)| lines);
+    let length = lines.as_ref().map(Vec::len).map_err(|&rule| rule);
+    run.same("pattern_part_steps", &input, ffi::part_steps(given.held(), number), count(steps));
+    run.same("pattern_part_bytes", &input, ffi::part_bytes(given.held(), number), count(length));
+    run.lent("pattern_part", &input, &lines, |out| ffi::part(given.held(), number, out));
+}
+
 /// Compares `pattern_check_plan` on some bytes and a plan; the rule that must come, where one must.
 #[inline]
 pub fn check_plan(run: &mut Run, bytes: &[u8], plan: &[u16]) -> Option<Rule> {

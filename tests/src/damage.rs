@@ -73,7 +73,7 @@ fn aim(sheet: &[u8], bytes: &mut Vec<u8>, random: &mut Random) {
 
 /// Puts one fault into the constraint whose bytes start at `at`.
 fn aim_constraint(bytes: &mut [u8], at: usize, fault: usize, starts: &[usize], random: &mut Random) {
-    let has_size = bytes[at + 2] & 1 == 1;
+    let has_size = bytes[at + 2] & 1 == 1 && at + 7 <= bytes.len(); // an earlier fault may have set the bit
     match fault {
         6 => bytes.swap(at, at + 1),
         7 => bytes[at] = bytes[at + 1],

@@ -89,6 +89,24 @@ pub fn report(sheet: &[u8], out: &mut [u8]) -> i32 {
     unsafe { c::pattern_report(sheet.as_ptr(), sheet.len(), out.as_mut_ptr(), out.len()) }
 }
 
+/// `pattern_part_steps`
+#[inline]
+pub fn part_steps(sheet: &[u8], number: usize) -> i32 {
+    unsafe { c::pattern_part_steps(sheet.as_ptr(), sheet.len(), number) }
+}
+
+/// `pattern_part_bytes`
+#[inline]
+pub fn part_bytes(sheet: &[u8], number: usize) -> i32 {
+    unsafe { c::pattern_part_bytes(sheet.as_ptr(), sheet.len(), number) }
+}
+
+/// `pattern_part`
+#[inline]
+pub fn part(sheet: &[u8], number: usize, out: &mut [u8]) -> i32 {
+    unsafe { c::pattern_part(sheet.as_ptr(), sheet.len(), number, out.as_mut_ptr(), out.len()) }
+}
+
 /// `pattern_check_plan`
 #[inline]
 pub fn check_plan(sheet: &[u8], plan: &[u16], out: &mut [u8]) -> i32 {

@@ -7,7 +7,7 @@ use crate::reader::read;
 use crate::rules::refuse;
 use crate::set::{Set, one};
 use crate::verdict::{Judged, judge};
-use crate::{plans, records, report, sketch, verdict, writer};
+use crate::{parts, plans, records, report, sketch, verdict, writer};
 
 /// `pattern_rewrite`: the sheet read and written again.
 pub fn rewrite(bytes: &[u8]) -> Result<Vec<u8>, Rule> {
@@ -91,6 +91,17 @@ impl Found {
             Judged::Over(_) => Vec::new(),
             Judged::Merged(merges) => merges.finals.iter().map(|&(_, set)| set).collect(),
         })
+    }
+
+    /// `pattern_part_steps` and `pattern_part`: how many steps one cluster has, and their lines.
+    pub fn part(&self, number: usize) -> Result<(usize, Vec<u8>), Rule> {
+        let (sheet, judged) = self.accepted()?;
+        let Judged::Merged(merges) = judged else {
+            return Err(11);
+        };
+        let steps = parts::steps(sheet.e(), merges, number).ok_or(26)?;
+        let lines: String = steps.iter().map(|step| format!("{}\n", report::step_line(sheet, step))).collect();
+        Ok((steps.len(), lines.into_bytes()))
     }
 
     /// `pattern_report`.

@@ -27,7 +27,7 @@ pub fn report(sheet: &Sheet, judged: &Judged) -> String {
 }
 
 /// The line of a step.
-fn step_line(sheet: &Sheet, step: &Step) -> String {
+pub fn step_line(sheet: &Sheet, step: &Step) -> String {
     let ways = ways(sheet, step).map_or("?".to_string(), |count| count.to_string());
     let (parts, joint) = (listed(step.parts.iter().copied()), listed(elements(step.joint)));
     format!("step {} from {parts} joint {joint} kind {} ways {ways}", step.made, kind(sheet, step.joint))

@@ -14,6 +14,7 @@
 #define MARK 0xa5
 
 static uint8_t sheet[PATTERN_MAX_SHEET + 1], bytes[PATTERN_MAX_REPORT];
+static size_t last; /* the number of the last cluster that is made */
 static size_t len;
 static uint16_t plan[PATTERN_MAX_PLAN];
 static uint64_t items[PATTERN_MAX_CONSTRAINTS], numbers[PATTERN_MAX_STEPS * PATTERN_STEP];
@@ -76,6 +77,18 @@ static void *place(void *u)
 }
 static void *held(void *u) { pattern_held(record_, sizeof record_, bytes, sizeof bytes); return u; }
 
+static void *part(void *u) { pattern_part(sheet, len, last, bytes, sizeof bytes); return u; }
+static void *part_steps(void *u) { pattern_part_steps(sheet, len, last); return u; }
+static void *part_bytes(void *u) { pattern_part_bytes(sheet, len, last); return u; }
+/* The number of the last cluster: the highest that is not refused by 26. */
+static size_t last_made(void)
+{
+    size_t number = 0;
+    while (pattern_part_steps(sheet, len, number + 1) >= 0)
+        number++;
+    return number;
+}
+
 static size_t used(void *(*call)(void *))
 {
     static _Alignas(4096) uint8_t stack[STACK];
@@ -100,6 +113,7 @@ int main(int argc, char **argv)
         {"pattern_initial", initial}, {"pattern_clusters", clusters}, {"pattern_report", report}, {"pattern_check_plan", check}, {"pattern_hold", hold},
         {"pattern_ask", ask}, {"pattern_place", place}, {"pattern_held", held},
         {"pattern_steps", steps}, {"pattern_saved_steps", saved_steps},
+        {"pattern_part", part}, {"pattern_part_steps", part_steps}, {"pattern_part_bytes", part_bytes},
     };
     size_t most[sizeof calls / sizeof *calls] = {0};
     facts();
@@ -112,6 +126,7 @@ int main(int argc, char **argv)
         }
         len = fread(sheet, 1, sizeof sheet, file);
         fclose(file);
+        last = last_made();
         for (size_t k = 0; k < sizeof calls / sizeof *calls; k++) {
             size_t now = used(calls[k].call) - none;
             if (now > most[k])

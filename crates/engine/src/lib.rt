@@ -205,7 +205,7 @@ fn wide(x: u16) -> usize
 }
 
 // Step t of a list of merges, from its parts and joints.
-fn step_at(
+pub fn step_at(
     parts: &[u16; PLACES],
     joints: &[u64; ELEMENTS],
     start: &[u64; 200],

@@ -13,10 +13,11 @@ use Rattle.account.specs.Account.{reportOf}
 use Rattle.steps.specs.Records.{numbersField}
 use Rattle.records.specs.Record.{placeField, writtenField, sheetField}
 use Rattle.pattern.specs.Entries.{itemsField, rewriteField, overNumbers, initialClusters, checkField, stepsField, savedStepsField, holdField}
+use Rattle.pattern.specs.Entries.{partOf, partField}
 pub mod Proof
 
-abbrev pub AtMost : ℕ → Field (List ℕ) → Type 0
-AtMost most x = (items rest : List ℕ) → x ≡ value items rest → length items ≤ most
+abbrev pub AtMost : {A : Type 0} → ℕ → Field (List A) → Type 0
+AtMost {A} most x = (items : List A) (rest : List ℕ) → x ≡ value items rest → length items ≤ most
 
 pub record Counts : Type 0 where
   pub report : (bytes : List ℕ) → Bytes bytes → AtMost 3786 (itemsField reportOf bytes)
@@ -33,3 +34,5 @@ pub record Counts : Type 0 where
   pub hold-in : (bytes : List ℕ) → Bytes bytes → AtMost 891 (holdField bytes)
   pub place-in : (lent : List ℕ) (c : Constraint) (held : ℕ) → Bytes lent → AtMost 891 (writtenField (placeField lent c held))
   pub held-in : (lent : List ℕ) → Bytes lent → AtMost 889 (sheetField lent)
+  pub part : (bytes : List ℕ) (c : ℕ) → Bytes bytes → AtMost 3534 (partField bytes c)
+  pub part-steps : (bytes : List ℕ) (c : ℕ) → Bytes bytes → AtMost 62 (partOf bytes c)

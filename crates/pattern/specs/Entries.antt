@@ -2,21 +2,26 @@
 -- over lent space.
 use Prim.Native.Nat.{ℕ}
 use mathlib.Core.List.{List, [], _∷_}
+use lib.ListN.{length}
 use Rattle.theory.specs.Graph.{Graph, findingOf, verdictOf}
 use Rattle.theory.specs.declared.Finding.{Finding}
 use Rattle.theory.specs.declared.Finding.the-variants.{Fine, First}
 use Rattle.theory.specs.declared.Verdict.{Verdict}
 use Rattle.theory.specs.declared.Step.{Step}
+use Rattle.space.specs.declared.Written.{Written}
+use Rattle.space.specs.declared.Written.the-variants.{Done, Refused as Not}
 use Rattle.sheet.specs.Facts.{Facts}
-use Rattle.sheet.specs.Field.{Field, value, next}
+use Rattle.sheet.specs.Field.{Field, value, refused, next}
 use Rattle.sheet.specs.Decode.{readSheet}
 use Rattle.sheet.specs.WithoutTags.{withoutTags}
 use Rattle.sheet.specs.Graph.{graphOf, overFault}
 use Rattle.sheet.specs.Answer.{byRule}
 use Rattle.account.specs.Account.{savedField}
+use Rattle.part.specs.Part.{clusterField, linesField}
 use Rattle.steps.specs.Records.{planSteps, savedRecords}
 use Rattle.records.specs.Record.{writtenField}
 pub mod Reading
+pub mod Parts
 pub mod Sketches
 pub mod Steps
 
@@ -53,6 +58,18 @@ held f rest = byRule (overFault (graphOf f)) (value f rest)
 
 unfoldable pub heldSheet : List ℕ → Field Facts
 heldSheet bytes = next (readSheet bytes) held
+
+-- the steps of one cluster of its plan, by number (document 02, 2026-14), and their lines: 26 of a number that no cluster has
+abbrev pub partOf : List ℕ → ℕ → Field (List Step)
+partOf bytes c = next (heldSheet bytes) (λ f rest. clusterField (graphOf f) c)
+
+abbrev pub partField : List ℕ → ℕ → Field (List ℕ)
+partField bytes c = linesField (partOf bytes c)
+
+-- how many steps, or bytes, had beforehand: no space is lent, so 17 is not met
+abbrev pub countOf : {A : Type 0} → Field (List A) → Written
+countOf (value items rest) = Done (length items)
+countOf (refused k) = Not k
 
 -- a saved plan checked against it: 12 to 16 of the plan
 abbrev pub checkField : List ℕ → List ℕ → Field (List ℕ)

@@ -3,4 +3,5 @@ pub mod Entries
 pub mod Refusals
 pub mod Promises
 pub mod Counts
+pub mod Parts
 pub mod Untagged

@@ -22,6 +22,7 @@ use Rattle.longest.specs.Longest.{longestField}
 use Rattle.theory.specs.declared.Step.{Step}
 use Rattle.steps.specs.Records.{filledTo}
 use Rattle.pattern.specs.Entries.{itemsField, rewriteField, verdictField, heldSheet, checkField, stepsField, savedStepsField, holdField}
+use Rattle.pattern.specs.Entries.{partOf, partField}
 pub mod Proof
 
 -- the items are more than the space takes
@@ -40,6 +41,10 @@ pub record ShortList (x : Field (List Step)) (list : List Step) : Type 0 where
 -- the rules that refuse an ask
 abbrev pub Asking : List ℕ
 Asking = 27 ∷ 6 ∷ 7 ∷ 8 ∷ 9 ∷ 11 ∷ []
+
+-- 1 to 11, and 26
+abbrev pub Numbered : ℕ → Type 0
+Numbered k = Rule 1 11 k ⊎ (k ≡ 26)
 
 pub record Refusals : Type 0 where
   -- over lent space a call is refused by the rule that refuses its items, or by 17 where the space is shorter than they are
@@ -65,6 +70,9 @@ pub record Refusals : Type 0 where
   pub ask-in : (lent : List ℕ) (c : Constraint) → By (λ k. Among k Asking) (askField lent c)
   pub place-in : (lent : List ℕ) (c : Constraint) (held : ℕ) → By (λ k. Among k (24 ∷ Asking)) (placeField lent c held)
   pub held-in : (lent : List ℕ) → By (Rule 27 27) (sheetField lent)
+  -- the steps of one cluster, counted beforehand or written; 26 where no cluster has the number
+  pub part : (bytes : List ℕ) (c : ℕ) → By Numbered (partField bytes c)
+  pub part-steps : (bytes : List ℕ) (c : ℕ) → By Numbered (partOf bytes c)
   -- the sheet with the longest plan
   pub longest : (n : ℕ) → By (Rule 3 3) (longestField n)
   -- the report program lends 3,786 bytes, so it never prints "refused 17"

@@ -19,6 +19,9 @@ ghost use Rattle.steps.specs.Records.{Fills, numbersField};
 ghost use Rattle.steps.specs.Listing.{Listed};
 ghost use Rattle.pattern.specs.Entries.{itemsField, rewriteField, verdictField, overNumbers, initialClusters};
 ghost use Rattle.pattern.specs.Entries.{heldSheet, checkField, stepsField, savedStepsField, holdField};
+ghost use Rattle.part.specs.Tallies.{measureOf};
+ghost use Rattle.pattern.specs.Entries.{partOf, partField, countOf};
+use part::Measured;
 use reader::GraphRead;
 use reader::Outcome;
 use reader::Reading;
@@ -266,6 +269,56 @@ pub fn saved_step_numbers(bytes: &[u8], plan: &[u16], out: &mut [u64]) -> Writte
     let list = steps::no_records();
     let filled = steps::fill_on(l, list);
     steps::put_numbers(filled, out)
+}
+
+// ---- the steps of one cluster
+
+// The steps of one cluster of the plan, by its number, measured; or the rule of 1 to 11 and 26 that refuses.
+fn part_size(bytes: &[u8], number: usize) -> Measured
+    ensures { λ r. ⌜ r ≡ measureOf (partOf (now (bytes .entry)) number) ⌝ }
+{
+    let mut near = [0u64; 64];
+    let mut start = [0u64; 200];
+    let mut sizes = [0i32; 200];
+    let got = reader::read_graph(bytes, &mut near, &mut start, &mut sizes);
+    let GraphRead::Value(head) = got else {
+        return Measured::Refused(got.refusal());
+    };
+    part::measure(head, &near, &start, &sizes, number)
+}
+
+// How many steps one cluster of the plan has, without writing any; or the rule of 1 to 11 and 26 that refuses.
+pub fn part_steps(bytes: &[u8], number: usize) -> Written
+    ensures { λ r. ⌜ r ≡ countOf (partOf (now (bytes .entry)) number) ⌝ }
+{
+    match part_size(bytes, number) {
+        Measured::Is(t) => Written::Done(t.steps),
+        Measured::Refused(k) => Written::Refused(k),
+    }
+}
+
+// How many bytes the lines of those steps have, without writing any; or the rule of 1 to 11 and 26 that refuses.
+pub fn part_bytes(bytes: &[u8], number: usize) -> Written
+    ensures { λ r. ⌜ r ≡ countOf (partField (now (bytes .entry)) number) ⌝ }
+{
+    match part_size(bytes, number) {
+        Measured::Is(t) => Written::Done(t.bytes),
+        Measured::Refused(k) => Written::Refused(k),
+    }
+}
+
+// The steps of one cluster of the plan as the report's lines, as bytes in lent space; or the rule of 1 to 11, 26 and 17 that refuses.
+pub fn part(bytes: &[u8], number: usize, out: &mut [u8]) -> Written
+    ensures { λ r. ⌜ Answers (partField (now (bytes .entry)) number) (now (out .entry)) r (now (out .exit)) ⌝ }
+{
+    let mut near = [0u64; 64];
+    let mut start = [0u64; 200];
+    let mut sizes = [0i32; 200];
+    let got = reader::read_graph(bytes, &mut near, &mut start, &mut sizes);
+    let GraphRead::Value(head) = got else {
+        return Written::Refused(got.refusal());
+    };
+    part::list(head, &near, &start, &sizes, number, out)
 }
 
 // ---- a held sketch

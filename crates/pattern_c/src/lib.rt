@@ -16,6 +16,7 @@ ghost use Rattle.longest.specs.Longest.{longestField};
 ghost use Rattle.sketch.specs.declared.Judgement.the-variants.{Is};
 ghost use Rattle.pattern_c.specs.Numbers.{asCount, asNumber, AnswersCount, PlacedCount};
 ghost use Rattle.pattern_c.specs.Columns.{constraintFrom, constraintIn, constraintsIn, sheetIn};
+ghost use Rattle.pattern.specs.Entries.{partOf, partField, countOf};
 use sheet::Constraint;
 use sheet::Sheet;
 use sheet::Size;
@@ -276,6 +277,30 @@ pub extern "C" fn pattern_held(lent: &[u8], out: &mut [u8]) -> i32
     ensures { λ r. ⌜ AnswersCount (sheetField (now (lent .entry))) (now (out .entry)) r (now (out .exit)) ⌝ }
 {
     count(pattern::held_in(lent, out))
+}
+
+// How many steps one cluster of the plan has, by its number; or minus the rule of 1 to 11 and 26 that refuses.
+#[no_mangle]
+pub extern "C" fn pattern_part_steps(sheet: &[u8], number: usize) -> i32
+    ensures { λ r. ⌜ r ≡ asCount (countOf (partOf (now (sheet .entry)) number)) ⌝ }
+{
+    count(pattern::part_steps(sheet, number))
+}
+
+// How many bytes the lines of those steps have; or minus the rule of 1 to 11 and 26 that refuses.
+#[no_mangle]
+pub extern "C" fn pattern_part_bytes(sheet: &[u8], number: usize) -> i32
+    ensures { λ r. ⌜ r ≡ asCount (countOf (partField (now (sheet .entry)) number)) ⌝ }
+{
+    count(pattern::part_bytes(sheet, number))
+}
+
+// The steps of one cluster of the plan as the report's lines, as bytes in lent space, or the rule of 1 to 11, 26 and 17 that refuses.
+#[no_mangle]
+pub extern "C" fn pattern_part(sheet: &[u8], number: usize, out: &mut [u8]) -> i32
+    ensures { λ r. ⌜ AnswersCount (partField (now (sheet .entry)) number) (now (out .entry)) r (now (out .exit)) ⌝ }
+{
+    count(pattern::part(sheet, number, out))
 }
 
 // The verdict of five points with the distances whose bit stands in a number, 0 over, 1 angle, 2 well, 3 stuck, 4 under.

@@ -126,7 +126,7 @@ fn put_ways(out: &mut [u8], at: usize, ways: Ways) -> usize
 }
 
 // A step's line.
-fn put_step_line(out: &mut [u8], at: usize, s: Step) -> usize
+pub fn put_step_line(out: &mut [u8], at: usize, s: Step) -> usize
     requires { ⌜ Small s × (at + 242 < 2 ^ 64) ⌝ }
     ensures { λ r. ⌜ Put (now (out .entry)) at (stepLine s) r (now (out .exit)) ⌝ }
 {
@@ -213,7 +213,7 @@ fn put_over_report(out: &mut [u8], n: usize, e: usize, first: usize, set: u64) -
 }
 
 // Lines into space that takes them whole or not at all.
-fn put_whole(out: &mut [u8], lines: &[u8]) -> Written
+pub fn put_whole(out: &mut [u8], lines: &[u8]) -> Written
     ensures answers { λ r. ⌜ r ≡ answer (now (lines .entry)) (now (out .entry)) ⌝ }
     ensures leaves { λ r. ⌜ now (out .exit) ≡ after (now (lines .entry)) (now (out .entry)) ⌝ }
 {

@@ -45,6 +45,9 @@ unsafe extern "C" {
     pub fn pattern_ask(record: *const u8, room: usize, first: u8, second: u8, map: u8, size: i32) -> i32;
     pub fn pattern_place(record: *mut u8, room: usize, first: u8, second: u8, map: u8, size: i32, held: usize) -> i32;
     pub fn pattern_held(record: *const u8, record_room: usize, out: *mut u8, room: usize) -> i32;
+    pub fn pattern_part_steps(sheet: *const u8, len: usize, number: usize) -> i32;
+    pub fn pattern_part_bytes(sheet: *const u8, len: usize, number: usize) -> i32;
+    pub fn pattern_part(sheet: *const u8, len: usize, number: usize, out: *mut u8, room: usize) -> i32;
     pub fn pattern_card(number: usize) -> i32;
     pub fn pattern_longest(n: usize, out: *mut u8, room: usize) -> i32;
 }

@@ -37,6 +37,8 @@ pub const MOST_BYTES: usize = 1414;
 pub const MOST_READ: usize = 1814;
 /// The most bytes of a report: with so much space no report is refused by rule 17.
 pub const MOST_REPORT: usize = 3786;
+/// The most bytes of one cluster's steps: with so much space none are refused by rule 17.
+pub const MOST_PART: usize = 3534;
 /// The most numbers of a plan, three a step.
 pub const MOST_PLAN: usize = 186;
 /// The most steps of a plan.
@@ -72,6 +74,7 @@ impl Rule {
             16 => "after the last step a merge is still open",
             17 => "the lent space is shorter than the answer",
             24 => "another number of constraints is held",
+            26 => "no cluster of the plan has the number",
             27 => "the record stands for no sheet that may be held",
             _ => "no rule of this library",
         }
@@ -441,6 +444,43 @@ pub fn report<'a>(sheet: &[u8], out: &'a mut [u8]) -> Result<&'a str, Rule> {
     written(answer, out).map(text)
 }
 
+/// The steps of one cluster of the plan, as the report's lines: each part's steps before the step that uses it, lowest part
+/// first; none of a constraint, which is a cluster too. The number is that of any cluster ever made.
+///
+/// ```
+/// use pattern::Rule;
+///
+/// # let mut space = [0; pattern::MOST_BYTES];
+/// # let pairs = [(0, 1), (0, 2), (1, 2), (1, 3), (2, 3)];
+/// # let constraints = pairs.map(|(a, b)| pattern::Constraint::sized(a, b, 300));
+/// # let facts = pattern::Facts { kinds: &[pattern::Kind::Point; 4], constraints: &constraints };
+/// # let sheet = pattern::write(&facts, &mut space)?;
+/// // four points and five distances: cluster 5 is a triangle, cluster 6 all four
+/// assert_eq!(pattern::part_steps(sheet, 5)?, 1);
+/// let mut space = vec![0; pattern::part_bytes(sheet, 5)?];
+/// assert_eq!(pattern::part(sheet, 5, &mut space)?, "step 5 from 0 1 2 joint 0 1 2 kind ppp ways 2\n");
+/// assert_eq!(pattern::part_steps(sheet, 6)?, 2);
+/// assert_eq!(pattern::part_steps(sheet, 7), Err(Rule(26)));
+/// # Ok::<(), Rule>(())
+/// ```
+pub fn part<'a>(sheet: &[u8], number: usize, out: &'a mut [u8]) -> Result<&'a str, Rule> {
+    // SAFETY: each list is a live slice of its length, and `out` is borrowed alone.
+    let answer = unsafe { c::pattern_part(sheet.as_ptr(), sheet.len(), number, out.as_mut_ptr(), out.len()) };
+    written(answer, out).map(text)
+}
+
+/// How many steps one cluster of the plan has.
+pub fn part_steps(sheet: &[u8], number: usize) -> Result<usize, Rule> {
+    // SAFETY: the list is a live slice of its length.
+    counted(unsafe { c::pattern_part_steps(sheet.as_ptr(), sheet.len(), number) })
+}
+
+/// How many bytes the lines of those steps have: what [`part`] writes.
+pub fn part_bytes(sheet: &[u8], number: usize) -> Result<usize, Rule> {
+    // SAFETY: the list is a live slice of its length.
+    counted(unsafe { c::pattern_part_bytes(sheet.as_ptr(), sheet.len(), number) })
+}
+
 /// The report for a plan that was saved: its steps in the saved order.
 ///
 /// ```
@@ -552,10 +592,12 @@ impl Default for Columns {
     }
 }
 
+/// The count that a call answered, or the rule that refused it.
+fn counted(answer: i32) -> Result<usize, Rule> {
+    usize::try_from(answer).map_err(|_| Rule(answer.unsigned_abs() as u8))
+}
+
 /// The items that a call wrote, or the rule that refused it.
 fn written<T>(answer: i32, out: &[T]) -> Result<&[T], Rule> {
-    match usize::try_from(answer) {
-        Ok(count) => Ok(&out[..count]),
-        Err(_) => Err(Rule(answer.unsigned_abs() as u8)),
-    }
+    counted(answer).map(|count| &out[..count])
 }

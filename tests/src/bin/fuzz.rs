@@ -21,6 +21,8 @@ fn main() -> ExitCode {
         calls::plan(&mut run, &bytes, &found);
         calls::report(&mut run, &bytes, &found);
         let saved = found.plan().unwrap_or_default();
+        let number = number(saved.len() / 3, &mut run.random);
+        calls::part(&mut run, &bytes, &found, number);
         let plan = plan(&saved, &mut run.random);
         calls::check_plan(&mut run, &bytes, &plan);
         calls::steps(&mut run, &bytes, &found);
@@ -64,6 +66,15 @@ fn spliced(mut bytes: Vec<u8>, other: &[u8], random: &mut Random) -> Vec<u8> {
     bytes.truncate(random.below(bytes.len() + 1));
     bytes.extend_from_slice(&other[random.below(other.len())..]);
     bytes
+}
+
+/// A cluster's number: one that may be a made cluster's, or any.
+fn number(steps: usize, random: &mut Random) -> usize {
+    match random.below(8) {
+        0 => random.bits() as usize >> random.below(64),
+        1 => random.below(300),
+        _ => random.below(3 * steps + 4),
+    }
 }
 
 /// A plan: the engine's, that with faults, or random numbers.

@@ -41,7 +41,7 @@ initial-put e cs s m h k n l z = go (place s m n z)
     go (old q f) = f ∙ k n l (λ y. z (f ∙ y))
 
 -- so the sizes of the constraints below e
-abbrev Sized : ℕ → List ℤ → List ℤ → Type 0
+abbrev pub Sized : ℕ → List ℤ → List ℤ → Type 0
 Sized e sizes of = (n : ℕ) → n < e → getD sizes n (pos 0) ≡ getD of n (pos 0)
 
 module _ (lines e : ℕ) (sizes of : List ℤ) (cs s : List ℕ) (k : Initial e cs s) (same : Sized e sizes of) where
@@ -120,7 +120,7 @@ later lines e sizes cs made x i j k parts knots t =
       ways = waysBy lines (jointKind lines (getD knots t 0)) e sizes cs (merge (getD l (p0 z) 0) (getD l (p1 z) 0) (getD l (p2 z) 0));
     }
 
-steps-from : (g : Graph) (start : List ℕ) (sizes : List ℤ) → Sized (length (g .clusters)) sizes (g .sizes)
+pub steps-from : (g : Graph) (start : List ℕ) (sizes : List ℤ) → Sized (length (g .clusters)) sizes (g .sizes)
     → (p : List Merge) (s : List ℕ) (base t : ℕ)
     → Valid s p → Initial (length (g .clusters)) start s → length (g .clusters) ≤ length s → base ≡ length s → t < length p
     → stepFrom (g .lines) (length (g .clusters)) sizes start base (flat (map ascending p)) (joints s p) t ≡ getD (stepsFrom g s p) t blankStep
@@ -136,7 +136,7 @@ steps-from g start sizes same (m ∷ p) s base (suc t) v k h b l =
     (omega (arith, length-put s m)) (omega (arith, length-put s m)) (omega arith)
 
 -- reading the arrays is reading the lists
-read-lists : (lines e : ℕ) (sizes : List ℤ) (cs parts knots : List ℕ) (t : ℕ)
+pub read-lists : (lines e : ℕ) (sizes : List ℤ) (cs parts knots : List ℕ) (t : ℕ)
     → stepFrom lines e sizes cs e (block 192 0 parts) (block 64 0 knots) t ≡ stepFrom lines e sizes cs e parts knots t
 unfolding stepFrom
 read-lists lines e sizes cs parts knots t =

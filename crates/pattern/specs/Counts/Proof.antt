@@ -45,6 +45,9 @@ use Rattle.account.specs.Account.Room.{report-room, saved-room}
 use Rattle.account.specs.Own.Proof.{paired, below}
 use Rattle.pattern.specs.Entries.{held, heldSheet, initialClusters, overItems, overNumbers, checkField, stepsField, savedStepsField}
 use Rattle.pattern.specs.Entries.{holdField}
+use Rattle.report.specs.Report.{stepLines}
+use Rattle.pattern.specs.Entries.{partOf}
+use Rattle.pattern.specs.Entries.Parts.{part-short}
 use Rattle.pattern.specs.Entries.Sketches.{held-accepted, check-saved}
 use Rattle.pattern.specs.Counts.{AtMost, Counts}
 
@@ -168,4 +171,6 @@ counts = record {
   hold-in = hold-short;
   place-in = λ lent c held all. after-value (placeField lent c held) recordBytes (placed-room lent c held all);
   held-in = λ lent all. held-short lent all;
+  part = λ bytes c all. after-value (partOf bytes c) stepLines (λ l t e. part-short bytes c all e .1);
+  part-steps = λ bytes c all l t e. part-short bytes c all e .0;
 }

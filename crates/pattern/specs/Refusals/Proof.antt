@@ -41,7 +41,9 @@ use Rattle.steps.specs.Records.{filledTo}
 use Rattle.account.specs.Account.Room.{report-room}
 use Rattle.longest.specs.Longest.{longestSheet, longestField}
 use Rattle.pattern.specs.Entries.{itemsField, held, heldSheet}
-use Rattle.pattern.specs.Refusals.{Short, ShortList, Asking, Refusals}
+use Rattle.part.specs.Part.{numberFault}
+use Rattle.pattern.specs.Entries.{partOf}
+use Rattle.pattern.specs.Refusals.{Short, ShortList, Asking, Numbered, Refusals}
 
 -- items into lent space: 17 alone, where it is shorter
 lent : (x : Field (List ℕ)) (space : List ℕ) (k : ℕ) → answerTo x space ≡ Refused k → (x ≡ refused k) ⊎ ((k ≡ 17) × Short x space)
@@ -179,6 +181,14 @@ by-record lent = by (next (field 2 lent) counted)
 only-27 : (k : ℕ) → Rule 27 27 k → k ≡ 27
 only-27 k h = omega (arith, h .from, h .to)
 
+by-part : (bytes : List ℕ) (c : ℕ) → By Numbered (partOf bytes c)
+by-part bytes c =
+    by-next (by-wider (λ k h. inl h) (by-sketch bytes)) (λ f rest. by-rule (numberFault (graphOf f) c) _ (by-number (ltb c _)) given)
+  where
+    by-number : (b : Bool) → Fault Numbered (cond b 0 26)
+    by-number true = tt
+    by-number false = inr refl
+
 by-count : (n : ℕ) → By (Rule 3 3) (longestField n)
 unfolding longestField
 by-count n = by-range (elementsInRange n) (value (sheetBytes (longestSheet n)) []) given
@@ -212,6 +222,8 @@ refusals = record {
   place-in = λ lent c held. by-next (by-wider (λ k h. inr (inl (only-27 k h))) (by-record lent))
       (λ f rest. by-rule (placeFault f c held) _ (fault-place f c held) given);
   held-in = λ lent. by-next (by-record lent) (λ f rest. by-rule (by27 (overFault (graphOf f))) _ (over-27 (overFault (graphOf f))) given);
+  part = λ bytes c. by-next (by-part bytes c) (λ l rest. given);
+  part-steps = by-part;
   longest = by-count;
   program = printed;
 }

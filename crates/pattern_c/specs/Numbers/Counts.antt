@@ -11,6 +11,7 @@ use Rattle.sheet.specs.Field.{Field, value}
 use Rattle.pattern.specs.Counts.{AtMost}
 use Rattle.pattern_c.specs.Numbers.{asCount}
 
-pub uncut : {most : ℕ} {x : Field (List ℕ)} → AtMost most x → most < 2147483648 → (items rest : List ℕ) → x ≡ value items rest
+pub uncut : {A : Type 0} {most : ℕ} {x : Field (List A)} → AtMost most x → most < 2147483648 → (items : List A) (rest : List ℕ)
+    → x ≡ value items rest
     → asCount (Done (length items)) ≡ pos (length items)
 uncut short few items rest e = rw (lt-ltb (length items) 2147483648 (omega (arith, short items rest e, few)))

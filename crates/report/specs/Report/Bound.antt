@@ -46,7 +46,7 @@ abbrev pub AllModest : List Step → Type 0
 AllModest [] = Unit {0}
 AllModest (s ∷ steps) = Modest s × AllModest steps
 
-steps-short : (steps : List Step) → AllModest steps → length (stepLines steps) ≤ 57 * length steps
+pub steps-short : (steps : List Step) → AllModest steps → length (stepLines steps) ≤ 57 * length steps
 unfolding stepLines
 steps-short [] h = omega arith
 steps-short (s ∷ steps) h =
@@ -151,7 +151,7 @@ modest-step g s m o = record {
   ways-one = ways-one-digit (g .lines) (length (g .clusters)) (g .sizes) s (ascending m);
 }
 
-modest-steps : (g : Graph) (s : List ℕ) (p : List Merge) → Valid s p → AllModest (stepsFrom g s p)
+pub modest-steps : (g : Graph) (s : List ℕ) (p : List Merge) → Valid s p → AllModest (stepsFrom g s p)
 unfolding stepsFrom
 modest-steps g s [] v = tt
 modest-steps g s (m ∷ p) v = (modest-step g s m (v .0), modest-steps g (put s m) p (v .1))

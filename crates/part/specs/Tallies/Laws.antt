@@ -1,0 +1,68 @@
+-- One list of steps after another. Assumes nothing.
+use Prim.Native.Nat.{ℕ, _+_, _<_, _^_}
+use native.Mathlib.Omega.{arith}
+use mathlib.Core.Path.{_≡_, refl, sym, ap, _∙_}
+use mathlib.Core.List.{List, [], _∷_, _++_, append-assoc, append-nil}
+use lib.ListN.{length, length-append}
+use Rattle.space.specs.Space.{Put}
+use Rattle.space.specs.Space.Laws.{put-none, put-as, _then_}
+use Rattle.theory.specs.declared.Step.{Step}
+use Rattle.report.specs.Report.{stepLine, stepLines}
+use Rattle.part.specs.declared.Tally.{Tally}
+use Rattle.part.specs.Tallies.{Listed, Room}
+
+pub lines-append : (xs ys : List Step) → stepLines (xs ++ ys) ≡ stepLines xs ++ stepLines ys
+unfolding stepLines
+lines-append [] ys = refl
+lines-append (x ∷ xs) ys = ap (stepLine x ++_) (lines-append xs ys) ∙ sym (append-assoc (stepLine x) (stepLines xs) (stepLines ys))
+
+pub lines-none : stepLines [] ≡ []
+unfolding stepLines
+lines-none = refl
+
+pub lines-one : (s : Step) → stepLines (s ∷ []) ≡ stepLine s
+unfolding stepLines
+lines-one s = append-nil (stepLine s)
+
+-- ---- lists of steps, one after another
+
+pub listed-as : {space after : List ℕ} {t r : Tally} {xs ys : List Step} → xs ≡ ys → Listed space t xs r after → Listed space t ys r after
+listed-as e p = rw e at p
+
+pub listed-none : (space : List ℕ) (t : Tally) → Listed space t [] t space
+unfolding stepLines
+listed-none space t = record { puts = put-none space (t .bytes); counts = omega arith }
+
+pub listed-one : {space after : List ℕ} {t : Tally} {next : ℕ} (s : Step) → Put space (t .bytes) (stepLine s) next after
+    → Listed space t (s ∷ []) (record { steps = t .steps + 1; bytes = next }) after
+listed-one s p = record { puts = put-as (sym (lines-one s)) p; counts = refl }
+
+infixl 5 _also_
+pub _also_ : {s0 s1 s2 : List ℕ} {t0 t1 t2 : Tally} {xs ys : List Step} → Listed s0 t0 xs t1 s1 → Listed s1 t1 ys t2 s2
+    → Listed s0 t0 (xs ++ ys) t2 s2
+_also_ {xs = xs} {ys = ys} p q = record {
+  puts = put-as (sym (lines-append xs ys)) (p .puts then q .puts);
+  counts = omega (arith, p .counts, q .counts, length-append xs ys);
+}
+
+-- ---- the room for them
+
+module _ (xs ys : List Step) {t : Tally} (h : Room t (xs ++ ys)) where
+  bytes-append : length (stepLines (xs ++ ys)) ≡ length (stepLines xs) + length (stepLines ys)
+  bytes-append = ap length (lines-append xs ys) ∙ length-append (stepLines xs) (stepLines ys)
+
+  pub room-first : Room t xs
+  room-first = record { steps-fit = omega (arith, h .steps-fit, length-append xs ys); bytes-fit = omega (arith, h .bytes-fit, bytes-append) }
+
+  pub room-rest : {space after : List ℕ} {r : Tally} → Listed space t xs r after → Room r ys
+  room-rest p = record {
+    steps-fit = omega (arith, h .steps-fit, length-append xs ys, p .counts);
+    bytes-fit = omega (arith, h .bytes-fit, bytes-append, p .puts .next-is);
+  }
+
+pub room-as : {t : Tally} {xs ys : List Step} → xs ≡ ys → Room t xs → Room t ys
+room-as e h = rw e at h
+
+-- the line of one step
+pub room-one : {t : Tally} (s : Step) → Room t (s ∷ []) → (t .bytes + 242 < 2 ^ 64) × (t .steps + 1 < 2 ^ 64)
+room-one s h = (omega (arith, h .bytes-fit), omega (arith, h .steps-fit))

@@ -1,0 +1,144 @@
+// The steps of one cluster of a graph's plan: each part's steps before the step that uses it. Document 02, 2026-14. Contracts cite specs/Part.antt,
+// specs/Tallies.antt.
+ghost use mathlib.Core.Path.{_≡_};
+ghost use Prim.Native.Nat.{_+_, _≤_, _<_};
+ghost use Rattle.sheet.specs.Answer.{Answers};
+ghost use Rattle.graph.specs.Lent.{graphIn, Drawn};
+ghost use Rattle.engine.specs.Steps.{stepAt};
+ghost use Rattle.part.specs.Part.{partSteps, heldField, linesField};
+ghost use Rattle.part.specs.Tallies.{Lower, Listed, Room, measureOf, Tallied};
+use graph::Head;
+use space::Written;
+
+// How many steps, and how many bytes their lines have.
+pub struct Tally {
+    pub steps: usize,
+    pub bytes: usize,
+}
+
+// The answer to a call that measures.
+pub enum Measured {
+    Is(Tally),
+    Refused(u8),
+}
+
+// The lines of the steps of cluster c, from the place `t.bytes` on; none where it is initial. A call over no space measures.
+fn put_part(
+    out: &mut [u8],
+    t: Tally,
+    parts: &[u16; 192],
+    joints: &[u64; 64],
+    start: &[u64; 200],
+    sizes: &[i32; 200],
+    lines: u64,
+    e: usize,
+    c: usize,
+) -> Tally
+    requires { ⌜ (e ≤ 125) × (c < e + 62) × Lower e (stepAt lines e (now sizes) (now start) (now parts) (now joints)) c ⌝ }
+    requires { ⌜ Room t (partSteps e (stepAt lines e (now sizes) (now start) (now parts) (now joints)) c) ⌝ }
+    ensures { λ r. ⌜ Listed (now (out .entry)) t
+        (partSteps e (stepAt lines e (now (sizes .entry)) (now (start .entry)) (now (parts .entry)) (now (joints .entry))) c) r (now (out .exit)) ⌝ }
+{
+    if c < e {
+        return t;
+    }
+    put_made(out, t, parts, joints, start, sizes, lines, e, c)
+}
+
+// The same of a cluster that a step makes: the lines of its parts, lowest first, then that of its own step.
+fn put_made(
+    out: &mut [u8],
+    t: Tally,
+    parts: &[u16; 192],
+    joints: &[u64; 64],
+    start: &[u64; 200],
+    sizes: &[i32; 200],
+    lines: u64,
+    e: usize,
+    c: usize,
+) -> Tally
+    requires { ⌜ (e ≤ 125) × (c < e + 62) × Lower e (stepAt lines e (now sizes) (now start) (now parts) (now joints)) c × (e ≤ c) ⌝ }
+    requires { ⌜ Room t (partSteps e (stepAt lines e (now sizes) (now start) (now parts) (now joints)) c) ⌝ }
+    ensures { λ r. ⌜ Listed (now (out .entry)) t
+        (partSteps e (stepAt lines e (now (sizes .entry)) (now (start .entry)) (now (parts .entry)) (now (joints .entry))) c) r (now (out .exit)) ⌝ }
+{
+    let s = engine::step_at(parts, joints, start, sizes, lines, e, c - e);
+    let a = put_part(out, t, parts, joints, start, sizes, lines, e, s.i);
+    let b = put_part(out, a, parts, joints, start, sizes, lines, e, s.j);
+    let d = put_part(out, b, parts, joints, start, sizes, lines, e, s.k);
+    let next = report::put_step_line(out, d.bytes, s);
+    Tally {
+        steps: d.steps + 1,
+        bytes: next,
+    }
+}
+
+// The lines of the steps of cluster c of a graph's plan, from the front of the space: 11, then 26. A call over no space measures.
+fn put_cluster(
+    h: Head,
+    near: &[u64; 64],
+    start: &[u64; 200],
+    sizes: &[i32; 200],
+    c: usize,
+    out: &mut [u8],
+) -> Measured
+    requires { ⌜ Drawn h (now near) (now start) ⌝ }
+    ensures { λ r. ⌜ Tallied (heldField (graphIn h (now (start .entry)) (now (sizes .entry))) c) (now (out .entry)) r (now (out .exit)) ⌝ }
+{
+    let judged = judge::judge(h, near, start);
+    let verdict = judged.verdict;
+    if verdict.number() == 0 {
+        return Measured::Refused(11);
+    }
+    let run = judged.run;
+    if h.e + run.steps <= c {
+        return Measured::Refused(26);
+    }
+    let parts = run.parts;
+    let joints = run.joints;
+    let none = Tally { steps: 0, bytes: 0 };
+    let all = put_part(out, none, &parts, &joints, start, sizes, h.lines, h.e, c);
+    Measured::Is(all)
+}
+
+// How many steps cluster c has and how many bytes their lines, without writing any: 11, then 26.
+pub fn measure(
+    h: Head,
+    near: &[u64; 64],
+    start: &[u64; 200],
+    sizes: &[i32; 200],
+    c: usize,
+) -> Measured
+    requires { ⌜ Drawn h (now near) (now start) ⌝ }
+    ensures { λ r. ⌜ r ≡ measureOf (heldField (graphIn h (now (start .entry)) (now (sizes .entry))) c) ⌝ }
+{
+    let mut none = [0u8; 1];
+    put_cluster(h, near, start, sizes, c, &mut none[0..0])
+}
+
+// The longest list of one cluster's steps: 62 lines.
+const LONGEST: usize = 3534;
+
+// The steps of cluster c as the report's lines, into space that takes them whole or not at all: 11, then 26, then 17.
+pub fn list(
+    h: Head,
+    near: &[u64; 64],
+    start: &[u64; 200],
+    sizes: &[i32; 200],
+    c: usize,
+    out: &mut [u8],
+) -> Written
+    requires { ⌜ Drawn h (now near) (now start) ⌝ }
+    ensures { λ r. ⌜ Answers (linesField (heldField (graphIn h (now (start .entry)) (now (sizes .entry))) c)) (now (out .entry)) r
+        (now (out .exit)) ⌝ }
+{
+    let mut whole: [u8; LONGEST] = [0; LONGEST];
+    let got = put_cluster(h, near, start, sizes, c, &mut whole);
+    match got {
+        Measured::Is(t) => {
+            let m = t.bytes;
+            report::put_whole(out, &whole[0..m])
+        }
+        Measured::Refused(k) => Written::Refused(k),
+    }
+}

@@ -1,0 +1,67 @@
+-- The promises of one cluster's steps hold. Assumes nothing.
+use Prim.Native.Nat.{ℕ, _≤_, _<_}
+use native.Mathlib.Omega.{arith}
+use borrow.Author.Tests.{lt-ltb, le-ltb}
+use mathlib.Core.Path.{_≡_, ap, _∙_}
+use mathlib.Core.Bool.{Bool, true, false, cond}
+use mathlib.Core.List.{List, []}
+use lib.Dec.{ltb}
+use lib.ListN.{length}
+use Rattle.space.specs.declared.Written.the-variants.{Done, Refused}
+use Rattle.space.specs.Space.{answer}
+use Rattle.space.specs.Space.Laws.{long-answer}
+use Rattle.sheet.specs.Facts.{Facts}
+use Rattle.sheet.specs.Field.{Field, value, refused, next, Bytes}
+use Rattle.sheet.specs.Graph.{graphOf}
+use Rattle.sheet.specs.Answer.{byRule, answerTo}
+use Rattle.graph.specs.Lent.Sheets.{accepted-sound}
+use Rattle.part.specs.Part.{clusterSteps, clusterField}
+use Rattle.part.specs.Shown.{Shown}
+use Rattle.part.specs.Shown.Proof as shown
+use Rattle.pattern.specs.Entries.{heldSheet, partOf, partField, countOf}
+use Rattle.pattern.specs.Entries.Sketches.{held-accepted}
+use Rattle.pattern.specs.Parts.{clustersMade, Parts}
+
+-- ---- items counted, then written
+
+enough : (x : Field (List ℕ)) (space : List ℕ) (n : ℕ) → countOf x ≡ Done n → n ≤ length space → answerTo x space ≡ Done n
+enough (value items rest) space n e h = let same : length items ≡ n = cc in long-answer items space (omega arith) ∙ ap Done same
+enough (refused k) space n e h = absurd (let z : _≡_ {A = ℕ} 0 1 = cc in omega arith)
+
+written : (x : Field (List ℕ)) (space : List ℕ) (n : ℕ) → answerTo x space ≡ Done n → countOf x ≡ Done n
+unfolding answer
+written (value items rest) space n e = by (ltb (length space) (length items)) e
+  where
+    by : (b : Bool) → cond b (Refused 17) (Done (length items)) ≡ Done n → Done (length items) ≡ Done n
+    by true h = absurd (let z : _≡_ {A = ℕ} 0 1 = cc in omega arith)
+    by false h = h
+written (refused k) space n e = e
+
+refused-then : (x : Field (List ℕ)) (space : List ℕ) (k : ℕ) → countOf x ≡ Refused k → answerTo x space ≡ Refused k
+refused-then (value items rest) space k e = absurd (let z : _≡_ {A = ℕ} 0 1 = cc in omega arith)
+refused-then (refused j) space k e = e
+
+-- ---- a sheet that is held
+
+module _ (bytes rest : List ℕ) (f : Facts) (c : ℕ) (e : heldSheet bytes ≡ value f rest) where
+  of-facts : partOf bytes c ≡ clusterField (graphOf f) c
+  of-facts = ap (λ (x : Field Facts). next x (λ y r. clusterField (graphOf y) c)) e
+
+  taken : c < clustersMade f → partOf bytes c ≡ value (clusterSteps (graphOf f) c) []
+  taken b = of-facts ∙ ap (λ (t : Bool). byRule (cond t 0 26) (value (clusterSteps (graphOf f) c) [])) (lt-ltb c (clustersMade f) b)
+
+  beyond : clustersMade f ≤ c → partOf bytes c ≡ refused 26
+  beyond b = of-facts ∙ ap (λ (t : Bool). byRule (cond t 0 26) (value (clusterSteps (graphOf f) c) [])) (le-ltb c (clustersMade f) b)
+
+  known : Bytes bytes → c < clustersMade f → Shown (graphOf f) c
+  known all b = shown.shown (graphOf f) (accepted-sound f (held-accepted bytes f rest all e .0) .simple .pairs) c b
+
+pub parts : Parts
+parts = record {
+  enough = λ bytes space c n. enough (partField bytes c) space n;
+  written = λ bytes space c n. written (partField bytes c) space n;
+  refused-then = λ bytes space c k. refused-then (partField bytes c) space k;
+  taken = taken;
+  beyond = beyond;
+  shown = λ bytes rest f c all e. known bytes rest f c e all;
+}
