@@ -374,9 +374,9 @@ pub fn hold_in(bytes: &[u8], lent: &mut [u8]) -> Written
     let GraphRead::Value(head) = got else {
         return Written::Refused(got.refusal());
     };
-    let over = judge::over_fault(head, &near, &start);
-    if over != 0 {
-        return Written::Refused(over);
+    let fault = judge::over_fault(head, &near, &start);
+    if fault != 0 {
+        return Written::Refused(fault);
     }
     let sheet = graph::sheet_of(head, &start, &sizes);
     records::write(sheet, lent)
