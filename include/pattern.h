@@ -54,6 +54,7 @@ extern "C" {
 #define PATTERN_MAX_STEPS       62   /* steps of a plan: with room for so many no list of them is refused by 17 */
 #define PATTERN_STEP            7    /* numbers of a step in a list of steps, in the order of struct pattern_step */
 #define PATTERN_MAX_CLUSTERS    125  /* clusters that are left: with this room no list of them is refused by 17 */
+#define PATTERN_MAX_CHAIN       63   /* clusters of a chain: with this room no chain is refused by 17 */
 #define PATTERN_MAX_RECORD      891  /* bytes of a record: with this room no sketch is refused by 17 */
 #define PATTERN_MAX_PART        3534 /* bytes of one cluster's steps: with this room no list of them is refused by 17 */
 #define PATTERN_MAX_STACK       36864 /* bytes of stack that a call takes */
@@ -78,6 +79,7 @@ enum pattern_rule {
     PATTERN_UNFINISHED  = 16, /* after the last step a merge is still open */
     PATTERN_ROOM        = 17, /* `out` is shorter than the answer, or a record than what it must hold */
     PATTERN_ANOTHER     = 24, /* another number of constraints is held than was told */
+    PATTERN_NO_ELEMENT  = 25, /* the start or the end of a chain is no element of the sheet */
     PATTERN_NO_NUMBER   = 26, /* no cluster of the plan has the number; tried before 17 */
     PATTERN_RECORD      = 27  /* the record stands for no sheet that may be held */
 };
@@ -268,6 +270,22 @@ int32_t pattern_part_bytes(const uint8_t *sheet, size_t len, size_t number);
  * Bits from 10 on stand for no pair and have no influence. Never refused.
  */
 int32_t pattern_card(size_t number);
+
+/* What pattern_chain answers where no run of clusters leads from the one element to the other; no rule has this number. */
+#define PATTERN_NO_RUN (-100)
+
+/*
+ * The chain from one element to another: the numbers of the fewest final clusters of which the first
+ * holds `from`, each shares an element with the next, and the last holds `to`; among such runs the one
+ * whose numbers come first place by place. From an element to itself it has no clusters. Answers the
+ * count of numbers, or PATTERN_NO_RUN where the two are not connected, which is no refusal and needs no
+ * room. Tries rules 1 to 11, then 25, then 17.
+ */
+int32_t pattern_chain(
+    const uint8_t *sheet, size_t len,
+    size_t from, size_t to,
+    uint16_t *out, size_t room
+);
 
 /*
  * The sheet of n points with the longest plan: pair (0,1) first and then, for each k from 2 on, the

@@ -123,6 +123,39 @@ pub fn for_plan() -> Vec<Case> {
     cases
 }
 
+/// Sheets for chains: those for plans, and such as have long ones.
+pub fn for_chain() -> Vec<Case> {
+    let mut cases = for_plan();
+    cases.extend(growing("path", false, |n, _| path(n)));
+    cases.extend(growing("path, mixed", true, |n, _| path(n)));
+    cases.extend(growing("ladder", false, |n, _| ladder(n)));
+    cases.extend(growing("triangles on a string, mixed", true, |n, _| triangles(n)));
+    cases.push(case("two paths apart", PLAIN, false, |_| less_middle(path(64))));
+    cases
+}
+
+/// One constraint after another.
+fn path(n: usize) -> Graph {
+    Graph::of(n, (1..n).map(|k| (k - 1, k)))
+}
+
+/// Two paths with rungs between them.
+fn ladder(n: usize) -> Graph {
+    let rails = (2..n).map(|k| (k - 2, k));
+    Graph::of(n, (0..n / 2).map(|k| (2 * k, 2 * k + 1)).chain(rails))
+}
+
+/// Triangles, each sharing one element with the next.
+fn triangles(n: usize) -> Graph {
+    Graph::of(n, (0..(n - 1) / 2).flat_map(|k| [(2 * k, 2 * k + 1), (2 * k, 2 * k + 2), (2 * k + 1, 2 * k + 2)]))
+}
+
+/// The graph without the pair in the middle of its list.
+fn less_middle(mut graph: Graph) -> Graph {
+    graph.pairs.remove(graph.pairs.len() / 2);
+    graph
+}
+
 /// The graph with its pairs listed backwards.
 fn reversed(mut graph: Graph) -> Graph {
     graph.pairs.reverse();

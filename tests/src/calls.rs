@@ -63,6 +63,16 @@ fn number(verdict: Result<u8, Rule>) -> i32 {
     verdict.map_or_else(|rule| -i32::from(rule), i32::from)
 }
 
+/// Compares `pattern_chain` on some bytes, from one element to another; the answer.
+#[inline]
+pub fn chain(run: &mut Run, bytes: &[u8], found: &Found, from: usize, to: usize) -> Result<Vec<u16>, Rule> {
+    let given = Space::holding(bytes, &mut run.random);
+    let answer = found.chain(from, to);
+    let input = format!("{} from {from} to {to}", Hex(bytes));
+    run.lent("pattern_chain", &input, &answer, |out| ffi::chain(given.held(), from, to, out));
+    answer
+}
+
 /// Compares `pattern_report` on some bytes.
 #[inline]
 pub fn report(run: &mut Run, bytes: &[u8], found: &Found) {

@@ -202,3 +202,9 @@ mod tests {
         }
     }
 }
+
+/// `pattern_chain`
+#[inline]
+pub fn chain(sheet: &[u8], from: usize, to: usize, out: &mut [u16]) -> i32 {
+    unsafe { c::pattern_chain(sheet.as_ptr(), sheet.len(), from, to, out.as_mut_ptr(), out.len()) }
+}

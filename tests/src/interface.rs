@@ -7,7 +7,7 @@ use crate::reader::read;
 use crate::rules::refuse;
 use crate::set::{Set, one};
 use crate::verdict::{Judged, judge};
-use crate::{parts, plans, records, report, sketch, verdict, writer};
+use crate::{chain, parts, plans, records, report, sketch, verdict, writer};
 
 /// `pattern_rewrite`: the sheet read and written again.
 pub fn rewrite(bytes: &[u8]) -> Result<Vec<u8>, Rule> {
@@ -45,6 +45,9 @@ pub fn saved_steps(bytes: &[u8], plan: &[u16]) -> Result<Vec<u64>, Rule> {
     let merges = plans::check(&sheet, plan)?;
     Ok(records::numbers(&sheet, &merges))
 }
+
+/// How "none" is told where a chain is asked for: as by a rule of this number, which there is not.
+pub const NO_RUN: Rule = 100;
 
 /// What the engine finds of a sheet's bytes.
 pub struct Found(Result<(Sheet, Judged), Rule>);
@@ -102,6 +105,18 @@ impl Found {
         let steps = parts::steps(sheet.e(), merges, number).ok_or(26)?;
         let lines: String = steps.iter().map(|step| format!("{}\n", report::step_line(sheet, step))).collect();
         Ok((steps.len(), lines.into_bytes()))
+    }
+
+    /// `pattern_chain`: the numbers of the chain's clusters.
+    pub fn chain(&self, from: usize, to: usize) -> Result<Vec<u16>, Rule> {
+        let (sheet, judged) = self.accepted()?;
+        let Judged::Merged(merges) = judged else {
+            return Err(11);
+        };
+        if from.max(to) >= sheet.n() {
+            return Err(25);
+        }
+        chain::chain(&merges.finals, from, to).ok_or(NO_RUN)
     }
 
     /// `pattern_report`.

@@ -6,6 +6,7 @@
 //! The runs: `random`, `graph`, `shapes`, `dress`, `tags`, `damage`, `space`, `run`, and `ffi`, the only unsafe code.
 
 pub mod calls;
+pub mod chain;
 pub mod damage;
 #[cfg(test)]
 mod document_01;

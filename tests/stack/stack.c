@@ -47,6 +47,12 @@ static void *verdict(void *u) { pattern_verdict(sheet, len); return u; }
 static void *plan_(void *u) { pattern_plan(sheet, len, plan, PATTERN_MAX_PLAN); return u; }
 static void *initial(void *u) { pattern_initial(sheet, len, items, PATTERN_MAX_CONSTRAINTS); return u; }
 static void *clusters(void *u) { pattern_clusters(sheet, len, items, PATTERN_MAX_CLUSTERS); return u; }
+static void *chain(void *u)
+{
+    for (size_t to = 1; to < PATTERN_MAX_ELEMENTS; to++)
+        pattern_chain(sheet, len, 0, to, plan, PATTERN_MAX_PLAN);
+    return u;
+}
 static void *report(void *u) { pattern_report(sheet, len, bytes, sizeof bytes); return u; }
 static void *check(void *u)
 {
@@ -114,6 +120,7 @@ int main(int argc, char **argv)
         {"pattern_ask", ask}, {"pattern_place", place}, {"pattern_held", held},
         {"pattern_steps", steps}, {"pattern_saved_steps", saved_steps},
         {"pattern_part", part}, {"pattern_part_steps", part_steps}, {"pattern_part_bytes", part_bytes},
+        {"pattern_chain", chain},
     };
     size_t most[sizeof calls / sizeof *calls] = {0};
     facts();

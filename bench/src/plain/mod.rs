@@ -1,5 +1,6 @@
 //! Plain Rust that is written to be fast: what a Rust programmer would put in the proved library's place.
 
+pub mod chain;
 pub mod over;
 pub mod plan;
 pub mod report;
@@ -34,12 +35,15 @@ mod tests {
 
     #[test]
     fn as_the_reference() {
+        let mut random = Random::new(3);
         for bytes in sheets() {
             let found = Found::of(&bytes);
             same(&bytes, &interface::rewrite(&bytes), super::sheet::rewrite);
             same(&bytes, &interface::over(&bytes), super::over::over);
             same(&bytes, &found.plan(), super::plan::plan);
             same(&bytes, &found.report(), super::report::report);
+            let (from, to) = (random.below(70), random.below(64));
+            same(&bytes, &found.chain(from, to), |bytes, out| super::chain::chain(bytes, from, to, out));
             let verdict = found.verdict().map_or_else(|rule| -i32::from(rule), i32::from);
             assert_eq!(super::plan::verdict(&bytes), verdict);
         }

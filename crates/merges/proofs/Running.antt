@@ -1,5 +1,5 @@
 -- The engine's plan in arrays: merges that came first, until none is open or enough are made. Assumes nothing.
-use mathlib.Core.Path.{_≡_, sym, ap, _∙_, subst}
+use mathlib.Core.Path.{_≡_, refl, sym, ap, _∙_, subst}
 use mathlib.Core.Logic.{_⊎_, inl, inr}
 use mathlib.Core.List.{List, [], _∷_, _++_}
 use mathlib.Core.Option.{none, some}
@@ -8,7 +8,7 @@ use native.Mathlib.Omega.{arith}
 use lib.ListN.{length, take, replicate, List·getD-eq-default}
 use Rattle.theory.specs.Block.{block}
 use Rattle.theory.specs.Block.Laws.{take-block}
-use Rattle.theory.specs.Constraints.{NotOver}
+use Rattle.theory.specs.Constraints.{Pairs, NotOver}
 use Rattle.theory.specs.Merge.{slot, Merge, merge, Three, three, OpenAt, put, final, Ended}
 use Rattle.theory.specs.Plan.{firstOf, First, IsPlan}
 use Rattle.theory.specs.Plan.Laws.{ascending-same, some-first, none-ended, plan-of-one}
@@ -16,10 +16,11 @@ use Rattle.search.specs.State.{waits, Kept, Ready, Begun, Renewed, Fine}
 use Rattle.search.specs.State.Choice.{kept-todo}
 use Rattle.search.specs.State.Sheet.{all-low, fine-of, fine-same, ready-start, ready-put, ready-same, open-same}
 use Rattle.merges.specs.Run.{places, mostSteps, Start, Planned}
+use Rattle.merges.specs.declared.Run.{Run}
 use Rattle.merges.specs.Run.Laws.{final-snoc, valid-snoc}
 use Rattle.merges.specs.Going.{Slots, Going, Made}
 use Rattle.merges.specs.Going.Laws.{slots-same, used-is, used-few, steps-are, steps-few, going-start, going-fewer, going-next, going-run}
-use Rattle.merges.specs.Search.{Firsts, Running, Stopped}
+use Rattle.merges.specs.Search.{Firsts, Running, Stopped, Begins, Ran}
 use Rattle.merges.proofs.Finding.{first-of-same}
 
 -- ---- merges that came first
@@ -61,6 +62,25 @@ running-start {start} {slots} {links} {hold} {todo} {e} b h g t l =
       ready = λ fine. ready-begun fine (w .clusters)
           (subst (λ (n : ℕ). Begun slots n links hold) (omega arith) g) (λ c k. t c (omega arith));
     })
+
+-- arrays that hold the constraints alone
+pub begins : {start slots : List ℕ} {e : ℕ} → Start start e → slots ≡ block places 0 (take e start)
+    → Begins slots (replicate places 0) (replicate 64 0) (replicate 64 0) (replicate places 0) e
+begins {start} {slots} {e} b h =
+    let same = begin-same b h in
+    record {
+      starts = record { few = b .few; count = ap length same ∙ b .count; pairs = subst Pairs (sym same) (b .pairs) };
+      slots-are = h ∙ ap (block places 0) (sym same);
+      parts-blank = refl;
+      joints-blank = refl;
+      links-blank = refl;
+      hold-blank = refl;
+    }
+
+pub blank-start : {slots parts joints links₀ hold₀ links hold todo : List ℕ} {e : ℕ} → Begins slots parts joints links₀ hold₀ e
+    → Begun slots e links hold → ((c : ℕ) → c < e → waits todo c ≡ 1) → length todo ≡ 3
+    → Running (take e slots) e slots links hold todo parts joints 0 18446744073709551615
+blank-start b g t l = rw (b .parts-blank, b .joints-blank) (running-start (b .starts) (b .slots-are) g t l)
 
 module _ {cs : List ℕ} {e : ℕ} {slots links hold todo parts joints : List ℕ} {steps rim : ℕ}
     (w : Running cs e slots links hold todo parts joints steps rim) where
@@ -147,15 +167,20 @@ module _ {cs : List ℕ} {e : ℕ} {slots links hold todo parts joints : List �
             (subst (λ (n : ℕ). Ready (put s x) n rim′ links′ hold′ todo′) (omega arith) q)
 
 -- without a limit it goes on until none is open
-pub stopped-plan : {cs ds : List ℕ} → cs ≡ ds → {e : ℕ} {slots links hold todo parts joints : List ℕ} {steps rim : ℕ}
-    → Stopped cs e 64 slots links hold todo parts joints steps rim
-    → Planned ds (record { steps = steps; parts = parts; joints = joints; slots = slots })
-stopped-plan {cs} {ds} same {e} {slots} {links} {hold} {todo} {parts} {joints} {steps} w =
+pub planned-same : {cs ds : List ℕ} → cs ≡ ds → {r : Run} → Planned cs r → Planned ds r
+planned-same same {r} h = subst (λ (l : List ℕ). Planned l r) same h
+
+pub stopped-ran : {cs : List ℕ} {e : ℕ} {slots links hold todo parts joints : List ℕ} {steps rim : ℕ}
+    → Stopped cs e 64 slots links hold todo parts joints steps rim → Ran cs e slots links hold parts joints steps rim
+stopped-ran {cs} {e} {slots} {links} {hold} {todo} {parts} {joints} {steps} w =
     let r = w .running in
-    subst (λ (l : List ℕ). Planned l (record { steps = steps; parts = parts; joints = joints; slots = slots })) same (record {
-      merged = record { p = r .p; valid = r .going .clusters .valid; is = going-run (r .going) };
-      plan = λ fine. sym (plan-of-one cs (r .going .clusters .pairs) (r .p) (firsts-plan (r .p) cs (r .firsts fine) (ended (w .stops) fine)));
-    })
+    record {
+      planned = record {
+        merged = record { p = r .p; valid = r .going .clusters .valid; is = going-run (r .going) };
+        plan = λ fine. sym (plan-of-one cs (r .going .clusters .pairs) (r .p) (firsts-plan (r .p) cs (r .firsts fine) (ended (w .stops) fine)));
+      };
+      ready = λ fine. (todo, r .ready fine);
+    }
   where
     ended : (steps ≡ 64) ⊎ (NotOver cs → Ended (final cs (w .running .p))) → NotOver cs → Ended (final cs (w .running .p))
     ended (inl e) fine = absurd (omega (arith, running-few (w .running)))

@@ -11,7 +11,7 @@ ghost use Rattle.theory.specs.Merge.{Merge, merge as numbers, Three, joint, fin
 ghost use Rattle.theory.specs.Plan.{openTest, firstOf, isSome};
 ghost use Rattle.merges.specs.Run.{mostConstraints, mostSteps, places, runOf, Start, Planned};
 ghost use Rattle.merges.specs.Going.{Slots, Made};
-ghost use Rattle.merges.specs.Search.{hitOf, Tested, Running, Stopped};
+ghost use Rattle.merges.specs.Search.{hitOf, Tested, Running, Stopped, Begins, Ran};
 ghost use Rattle.search.specs.State.{Ready, Kept};
 
 // Places for the clusters of 125 constraints and 62 steps, and for three parts a step.
@@ -198,9 +198,9 @@ pub fn some_open(slots: &[u64; PLACES], used: usize) -> bool
 // ---- merge after merge
 
 // How many merges were made, and the rim that they leave.
-struct Halt {
-    steps: usize,
-    rim: u64,
+pub struct Halt {
+    pub steps: usize,
+    pub rim: u64,
 }
 
 // Makes the first open merge over and over: until none is open, or until `limit` are made.
@@ -246,6 +246,25 @@ fn advance(
     Halt { steps, rim }
 }
 
+// The engine's plan on arrays that the caller lends: the first e slots are merged until none is open, and the links, the holders and the rim of the
+// clusters that are left stay with them. Of constraints that are over, a list of merges.
+pub fn merge_on(
+    slots: &mut [u64; PLACES],
+    parts: &mut [u16; PLACES],
+    joints: &mut [u64; ELEMENTS],
+    links: &mut [u64; ELEMENTS],
+    hold: &mut [u64; PLACES],
+    e: usize,
+) -> Halt
+    requires { ⌜ Begins (now slots) (now parts) (now joints) (now links) (now hold) e ⌝ }
+    ensures { λ r. ⌜ Ran (take e (now (slots .entry))) e (now (slots .exit)) (now (links .exit)) (now (hold .exit)) (now (parts .exit))
+        (now (joints .exit)) (r .steps) (r .rim) ⌝ }
+{
+    search::join_all(slots, e, links, hold);
+    let mut todo = search::todo_all(e);
+    advance(slots, parts, joints, links, hold, &mut todo, e, NO_LIMIT)
+}
+
 // The engine's plan for the constraints that are the first e of `start`. Of constraints that are over, a list of merges.
 pub fn merge_all(start: &[u64; 200], e: usize) -> Run
     requires { ⌜ Start (now start) e ⌝ }
@@ -256,17 +275,13 @@ pub fn merge_all(start: &[u64; 200], e: usize) -> Run
     let mut joints = [0u64; ELEMENTS];
     let mut links = [0u64; ELEMENTS];
     let mut hold = [0u64; PLACES];
-    search::join_all(&slots, e, &mut links, &mut hold);
-    let mut todo = search::todo_all(e);
-    let halt = advance(
+    let halt = merge_on(
         &mut slots,
         &mut parts,
         &mut joints,
         &mut links,
         &mut hold,
-        &mut todo,
         e,
-        NO_LIMIT,
     );
     Run {
         steps: halt.steps,

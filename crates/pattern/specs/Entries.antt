@@ -19,11 +19,13 @@ use Rattle.sheet.specs.Answer.{byRule}
 use Rattle.account.specs.Account.{savedField}
 use Rattle.part.specs.Part.{clusterField, linesField}
 use Rattle.steps.specs.Records.{planSteps, savedRecords}
+use Rattle.chain.specs.Answer.{asked}
 use Rattle.records.specs.Record.{writtenField}
 pub mod Reading
 pub mod Parts
 pub mod Sketches
 pub mod Steps
+pub mod Chains
 
 -- ---- an accepted sheet (document 01, "Refused": 1 to 10)
 
@@ -85,3 +87,7 @@ savedStepsField bytes plan = next (heldSheet bytes) (λ f rest. savedRecords (gr
 -- the sketch held from it, in the record that its owner lends (document 02, 2026-05); what is asked of the record and placed in it, `records` Record says
 abbrev pub holdField : List ℕ → Field (List ℕ)
 holdField bytes = writtenField (heldSheet bytes)
+
+-- its graph, of which the chain from one element to another is asked (document 02, 2026-08): 25 after 11
+abbrev pub chainField : List ℕ → ℕ → ℕ → Field Graph
+chainField bytes start end = next (heldSheet bytes) (λ f rest. asked (graphOf f) start end)

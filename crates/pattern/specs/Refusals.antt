@@ -19,10 +19,13 @@ use Rattle.sketch.specs.Sketch.{askAnswer, placeAnswer}
 use Rattle.records.specs.Record.{askField, placeField, sheetField}
 use Rattle.account.specs.Account.{reportOf}
 use Rattle.longest.specs.Longest.{longestField}
+use Rattle.chain.specs.declared.Answer.the-variants.{Refused as No}
+use Rattle.chain.specs.Answer.{ChainAnswers}
 use Rattle.theory.specs.declared.Step.{Step}
 use Rattle.steps.specs.Records.{filledTo}
 use Rattle.pattern.specs.Entries.{itemsField, rewriteField, verdictField, heldSheet, checkField, stepsField, savedStepsField, holdField}
 use Rattle.pattern.specs.Entries.{partOf, partField}
+use Rattle.pattern.specs.Entries.{chainField}
 pub mod Proof
 
 -- the items are more than the space takes
@@ -75,6 +78,9 @@ pub record Refusals : Type 0 where
   pub part-steps : (bytes : List ℕ) (c : ℕ) → By Numbered (partOf bytes c)
   -- the sheet with the longest plan
   pub longest : (n : ℕ) → By (Rule 3 3) (longestField n)
+  -- the chain from one element to another; over lent space it is refused by that rule too, or by 17
+  pub chain : (bytes : List ℕ) (start end : ℕ) → By (λ k. Rule 1 11 k ⊎ (k ≡ 25)) (chainField bytes start end)
+  pub run : (x : Field Graph) (start end : ℕ) (space left : List ℕ) (k : ℕ) → ChainAnswers x start end space (No k) left → (x ≡ refused k) ⊎ (k ≡ 17)
   -- the report program lends 3,786 bytes, so it never prints "refused 17"
   pub program : (bytes space : List ℕ) (k : ℕ) → Bytes bytes → 3786 ≤ length space → answerTo (itemsField reportOf bytes) space ≡ Refused k
       → Rule 1 10 k

@@ -14,6 +14,7 @@ ghost use Rattle.sketch.specs.Sketch.{askAnswer, placedOf};
 ghost use Rattle.records.specs.Record.{asJudgement, askField, placeField, writtenField, placedIn, sheetField};
 ghost use Rattle.account.specs.Account.{reportOf};
 ghost use Rattle.card.specs.Card.{setVerdict};
+ghost use Rattle.chain.specs.Answer.{ChainAnswers};
 ghost use Rattle.longest.specs.Longest.{longestField};
 ghost use Rattle.steps.specs.Records.{Fills, numbersField};
 ghost use Rattle.steps.specs.Listing.{Listed};
@@ -21,6 +22,8 @@ ghost use Rattle.pattern.specs.Entries.{itemsField, rewriteField, verdic
 ghost use Rattle.pattern.specs.Entries.{heldSheet, checkField, stepsField, savedStepsField, holdField};
 ghost use Rattle.part.specs.Tallies.{measureOf};
 ghost use Rattle.pattern.specs.Entries.{partOf, partField, countOf};
+ghost use Rattle.pattern.specs.Entries.{chainField};
+use chain::Answer;
 use part::Measured;
 use reader::GraphRead;
 use reader::Outcome;
@@ -402,6 +405,23 @@ pub fn held_in(lent: &[u8], out: &mut [u8]) -> Written
     ensures { λ r. ⌜ Answers (sheetField (now (lent .entry))) (now (out .entry)) r (now (out .exit)) ⌝ }
 {
     records::sheet(lent, out)
+}
+
+// ---- the chain from one element to another
+
+// The numbers of the shortest run of final clusters from one element to another, into lent space; "none" where the two are not connected; or the rule of
+// 1 to 11, 25 and 17 that refuses.
+pub fn chain(bytes: &[u8], from: usize, to: usize, out: &mut [u16]) -> Answer
+    ensures { λ r. ⌜ ChainAnswers (chainField (now (bytes .entry)) from to) from to (now (out .entry)) r (now (out .exit)) ⌝ }
+{
+    let mut near = [0u64; 64];
+    let mut start = [0u64; 200];
+    let mut sizes = [0i32; 200];
+    let got = reader::read_graph(bytes, &mut near, &mut start, &mut sizes);
+    let GraphRead::Value(head) = got else {
+        return Answer::Refused(got.refusal());
+    };
+    chain::chain_of(head, &near, &start, from, to, out)
 }
 
 // ---- the card of five points

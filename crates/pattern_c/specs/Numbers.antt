@@ -9,6 +9,10 @@ use Rattle.sheet.specs.Facts.{Facts}
 use Rattle.sheet.specs.Field.{Field}
 use Rattle.sheet.specs.Answer.{answerTo, afterTo}
 use Rattle.theory.specs.Verdict.{verdictNumber}
+use Rattle.chain.specs.declared.Answer.{Answer}
+use Rattle.chain.specs.declared.Answer.the-variants.{Run, None, Refused as Not}
+use Rattle.chain.specs.Answer.{ChainAnswers}
+use Rattle.theory.specs.Graph.{Graph}
 use Rattle.sketch.specs.declared.Judgement.{Judgement}
 use Rattle.sketch.specs.declared.Judgement.the-variants.{Is, Refused as No}
 use Rattle.records.specs.Record.{writtenField, placedIn}
@@ -39,3 +43,16 @@ pub record AnswersCount (x : Field (List ℕ)) (space : List ℕ) (r : ℤ) (lef
 pub record PlacedCount (x : Field Facts) (lent : List ℕ) (r : ℤ) (left : List ℕ) : Type 0 where
   pub answer-is : r ≡ asCount (asNumber (placedIn x lent))
   pub left-is : left ≡ afterTo (writtenField x) lent
+
+-- ---- the chain (document 02, 2026-08)
+
+-- its clusters are counted like items; "none" is told as minus 100, a number that no rule has
+abbrev pub asItems : Answer → Written
+asItems (Run n) = Done n
+asItems None = Refused 100
+asItems (Not k) = Refused k
+
+pub record ChainCount (x : Field Graph) (start end : ℕ) (space : List ℕ) (r : ℤ) (left : List ℕ) : Type 0 where
+  pub answer : Answer
+  pub is : ChainAnswers x start end space answer left
+  pub number-is : r ≡ asCount (asItems answer)

@@ -9,14 +9,16 @@ ghost use Rattle.pattern.specs.Entries.{itemsField, rewriteField, verdictField,
 ghost use Rattle.records.specs.Record.{asJudgement, askField, placeField, sheetField};
 ghost use Rattle.pattern.specs.Entries.{stepsField, savedStepsField};
 ghost use Rattle.steps.specs.Records.{numbersField};
+ghost use Rattle.pattern.specs.Entries.{chainField};
 ghost use Rattle.sheet.specs.Facts.{blankConstraint};
 ghost use Prim.Native.Nat.{_%_};
 ghost use Rattle.card.specs.Card.{setVerdict};
 ghost use Rattle.longest.specs.Longest.{longestField};
 ghost use Rattle.sketch.specs.declared.Judgement.the-variants.{Is};
-ghost use Rattle.pattern_c.specs.Numbers.{asCount, asNumber, AnswersCount, PlacedCount};
+ghost use Rattle.pattern_c.specs.Numbers.{asCount, asNumber, AnswersCount, PlacedCount, asItems, ChainCount};
 ghost use Rattle.pattern_c.specs.Columns.{constraintFrom, constraintIn, constraintsIn, sheetIn};
 ghost use Rattle.pattern.specs.Entries.{partOf, partField, countOf};
+use chain::Answer;
 use sheet::Constraint;
 use sheet::Sheet;
 use sheet::Size;
@@ -301,6 +303,26 @@ pub extern "C" fn pattern_part(sheet: &[u8], number: usize, out: &mut [u8]) -> i
     ensures { λ r. ⌜ AnswersCount (partField (now (sheet .entry)) number) (now (out .entry)) r (now (out .exit)) ⌝ }
 {
     count(pattern::part(sheet, number, out))
+}
+
+// The chain's answer, counted like items; "none" by a number that no rule has.
+fn chain_items(a: Answer) -> Written
+    ensures { λ r. ⌜ r ≡ asItems a ⌝ }
+{
+    match a {
+        Answer::Run(n) => Written::Done(n),
+        Answer::None => Written::Refused(100),
+        Answer::Refused(k) => Written::Refused(k),
+    }
+}
+
+// The numbers of the shortest run of final clusters from one element to another; minus 100 where there is none, or minus the rule of 1 to 11, 25 and
+// 17 that refuses.
+#[no_mangle]
+pub extern "C" fn pattern_chain(sheet: &[u8], from: usize, to: usize, out: &mut [u16]) -> i32
+    ensures { λ r. ⌜ ChainCount (chainField (now (sheet .entry)) from to) from to (now (out .entry)) r (now (out .exit)) ⌝ }
+{
+    count(chain_items(pattern::chain(sheet, from, to, out)))
 }
 
 // The verdict of five points with the distances whose bit stands in a number, 0 over, 1 angle, 2 well, 3 stuck, 4 under.

@@ -45,6 +45,11 @@ pub const MOST_PLAN: usize = 186;
 pub const MOST_STEPS: usize = 62;
 /// The most clusters that are left.
 pub const MOST_CLUSTERS: usize = 125;
+/// The most clusters of a chain.
+pub const MOST_CHAIN: usize = 63;
+
+/// What `pattern_chain` answers where no run leads from the one element to the other.
+const NO_RUN: i32 = -100;
 
 /// The most bytes of a held sketch's record.
 pub const MOST_RECORD: usize = 891;
@@ -74,6 +79,7 @@ impl Rule {
             16 => "after the last step a merge is still open",
             17 => "the lent space is shorter than the answer",
             24 => "another number of constraints is held",
+            25 => "the start or the end of a chain is no element of the sheet",
             26 => "no cluster of the plan has the number",
             27 => "the record stands for no sheet that may be held",
             _ => "no rule of this library",
@@ -306,6 +312,28 @@ pub fn longest(n: usize, out: &mut [u8]) -> Result<&[u8], Rule> {
     written(answer, out)
 }
 
+/// The chain from one element to another: the numbers of the fewest final clusters of which the first holds the start,
+/// each shares an element with the next, and the last holds the end; first among such runs place by place. `None` where
+/// the two are not connected.
+///
+/// ```
+/// # let mut space = [0; pattern::MOST_BYTES];
+/// # let constraints = [(0, 1), (1, 2), (3, 4)].map(|(a, b)| pattern::Constraint::sized(a, b, 300));
+/// # let facts = pattern::Facts { kinds: &[pattern::Kind::Point; 5], constraints: &constraints };
+/// # let sheet = pattern::write(&facts, &mut space)?;
+/// // distances between 0 and 1, 1 and 2, 3 and 4
+/// let mut space = [0; pattern::MOST_CHAIN];
+/// assert_eq!(pattern::chain(sheet, 0, 2, &mut space)?, Some(&[0, 1][..]));
+/// assert_eq!(pattern::chain(sheet, 0, 4, &mut space)?, None);
+/// assert_eq!(pattern::chain(sheet, 0, 5, &mut space), Err(pattern::Rule(25)));
+/// # Ok::<(), pattern::Rule>(())
+/// ```
+pub fn chain<'a>(sheet: &[u8], from: usize, to: usize, out: &'a mut [u16]) -> Result<Option<&'a [u16]>, Rule> {
+    // SAFETY: each list is a live slice of its length, and `out` is borrowed alone.
+    let answer = unsafe { c::pattern_chain(sheet.as_ptr(), sheet.len(), from, to, out.as_mut_ptr(), out.len()) };
+    if answer == NO_RUN { Ok(None) } else { written(answer, out).map(Some) }
+}
+
 /// The plan of a sheet: three cluster numbers a step, ascending. Constraint i is cluster i; step k makes cluster e + k.
 ///
 /// ```
@@ -388,7 +416,13 @@ impl Step {
     fn of(numbers: &[u64]) -> Step {
         let &[made, i, j, k, joint, lines, ways] = numbers else { panic!("a step has seven numbers") };
         let kind = [JointKind::Ppp, JointKind::Ppl, JointKind::Pll, JointKind::Lll][lines as usize];
-        Step { made: made as usize, parts: [i, j, k].map(|part| part as usize), joint, kind, ways: u8::try_from(ways).ok() }
+        Step {
+            made: made as usize,
+            parts: [i, j, k].map(|part| part as usize),
+            joint,
+            kind,
+            ways: u8::try_from(ways).ok(),
+        }
     }
 }
 

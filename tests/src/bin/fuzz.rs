@@ -20,6 +20,8 @@ fn main() -> ExitCode {
         calls::initial(&mut run, &bytes);
         calls::plan(&mut run, &bytes, &found);
         calls::report(&mut run, &bytes, &found);
+        let (from, to) = (end(&mut run.random), end(&mut run.random));
+        let _ = calls::chain(&mut run, &bytes, &found, from, to);
         let saved = found.plan().unwrap_or_default();
         let number = number(saved.len() / 3, &mut run.random);
         calls::part(&mut run, &bytes, &found, number);
@@ -74,6 +76,16 @@ fn number(steps: usize, random: &mut Random) -> usize {
         0 => random.bits() as usize >> random.below(64),
         1 => random.below(300),
         _ => random.below(3 * steps + 4),
+    }
+}
+
+/// An element, or a number that is none.
+fn end(random: &mut Random) -> usize {
+    let most = random.pick(&[4, 8, 16, MOST_ELEMENTS]);
+    match random.below(16) {
+        0 => random.bits() as usize,
+        1 => 256 + random.below(64),
+        _ => random.below(most),
     }
 }
 

@@ -4,9 +4,10 @@ use native.Mathlib.Omega.{arith}
 use borrow.Author.Tests.{ltb-true}
 use mathlib.Core.Path.{_≡_, refl, sym, _∙_, subst}
 use mathlib.Core.Logic.{_⊎_, inl, inr}
-use mathlib.Core.Bool.{Bool, true, false, cond}
+use mathlib.Core.Bool.{Bool, true, false, cond, _&&_}
 use mathlib.Core.List.{List, [], _∷_}
 use lib.Dec.{eqb, ltb}
+use mathlib.Core.Option.{Option, none, some}
 use lib.ListN.{length}
 use Rattle.theory.specs.declared.Finding.{Finding}
 use Rattle.theory.specs.declared.Finding.the-variants.{Fine, First}
@@ -40,6 +41,8 @@ use Rattle.account.specs.Account.{listReport, reportOf}
 use Rattle.steps.specs.Records.{filledTo}
 use Rattle.account.specs.Account.Room.{report-room}
 use Rattle.longest.specs.Longest.{longestSheet, longestField}
+use Rattle.chain.specs.declared.Answer.the-variants.{Refused as No}
+use Rattle.chain.specs.Answer.{asRun, chainAnswer, endsFault, asked as chained, ChainAnswers}
 use Rattle.pattern.specs.Entries.{itemsField, held, heldSheet}
 use Rattle.part.specs.Part.{numberFault}
 use Rattle.pattern.specs.Entries.{partOf}
@@ -201,6 +204,31 @@ over-27 : (k : ℕ) → Fault (Rule 27 27) (by27 k)
 over-27 zero = tt
 over-27 (suc k) = record { from = omega arith; to = omega arith }
 
+-- the chain: 25 where the start or the end is no element
+abbrev Chaining : ℕ → Type 0
+Chaining k = Rule 1 11 k ⊎ (k ≡ 25)
+
+by-ends : (g : Graph) (u v : ℕ) → By Chaining (chained g u v)
+by-ends g u v = by-rule (endsFault (g .n) u v) (value g []) (fault-ends (ltb u (g .n) && ltb v (g .n))) given
+  where
+    fault-ends : (b : Bool) → Fault Chaining (cond b 0 25)
+    fault-ends true = tt
+    fault-ends false = inr refl
+
+-- and 17 where the run is longer than the space
+ran : (x : Field Graph) (u v : ℕ) (space left : List ℕ) (k : ℕ) → ChainAnswers x u v space (No k) left → (x ≡ refused k) ⊎ (k ≡ 17)
+unfolding answer
+ran (refused j) u v space left k h = let e = h .0 in let n : j ≡ k = cc in inl (rw n)
+ran (value g rest) u v space left k h = by (h .chain) (h .answer-is)
+  where
+    long : (r : List ℕ) (b : Bool) → No k ≡ asRun (cond b (Refused 17) (Done (length r))) → (value g rest ≡ refused k) ⊎ (k ≡ 17)
+    long r true e = let n : k ≡ 17 = cc in inr n
+    long r false e = absurd (let z : _≡_ {A = ℕ} 0 1 = cc in omega arith)
+
+    by : (o : Option (List ℕ)) → No k ≡ chainAnswer o space → (value g rest ≡ refused k) ⊎ (k ≡ 17)
+    by none e = absurd (let z : _≡_ {A = ℕ} 0 1 = cc in omega arith)
+    by (some r) e = long r (ltb (length space) (length r)) e
+
 pub refusals : Refusals
 refusals = record {
   lent = lent;
@@ -225,5 +253,7 @@ refusals = record {
   part = λ bytes c. by-next (by-part bytes c) (λ l rest. given);
   part-steps = by-part;
   longest = by-count;
+  chain = λ bytes start end. by-next (by-wider (λ k h. inl h) (by-sketch bytes)) (λ f rest. by-ends (graphOf f) start end);
+  run = ran;
   program = printed;
 }

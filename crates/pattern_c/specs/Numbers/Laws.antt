@@ -11,7 +11,10 @@ use mir.Facts.{toZ-ofZ}
 use Rattle.space.specs.declared.Written.{Written}
 use Rattle.sheet.specs.Field.{Field}
 use Rattle.sheet.specs.Answer.{Answers}
-use Rattle.pattern_c.specs.Numbers.{minus, asCount, AnswersCount}
+use Rattle.theory.specs.Graph.{Graph}
+use Rattle.chain.specs.declared.Answer.{Answer}
+use Rattle.chain.specs.Answer.{ChainAnswers}
+use Rattle.pattern_c.specs.Numbers.{minus, asCount, AnswersCount, asItems, ChainCount}
 
 pub zero-minus : (k : ℕ) → pos 0 -ℤ pos k ≡ minus k
 zero-minus zero = refl
@@ -28,3 +31,7 @@ counted z w v fits e f = toZ-ofZ fits ∙ e ∙ ap asCount f
 pub counts : {x : Field (List ℕ)} {space left : List ℕ} (z : ℤ) (w : Written) → SFits w32 z → z ≡ asCount w → Answers x space w left
     → AnswersCount x space (toZ w32 (ofZ w32 z)) left
 counts z w fits e a = record { answer-is = counted z w _ fits e (a .answer-is); left-is = a .left-is }
+
+pub chain-counts : (x : Field Graph) (u v : ℕ) (space left : List ℕ) (a : Answer) (z : ℤ) (w : Written) → SFits w32 z → z ≡ asCount w → w ≡ asItems a
+    → ChainAnswers x u v space a left → ChainCount x u v space (toZ w32 (ofZ w32 z)) left
+chain-counts x u v space left a z w fits e f h = record { answer = a; is = h; number-is = counted z w (asItems a) fits e f }

@@ -1,0 +1,4 @@
+-- The chain from one element to another.
+pub mod Chain
+pub mod Layers
+pub mod Answer
