@@ -156,6 +156,15 @@ fn less_middle(mut graph: Graph) -> Graph {
     graph
 }
 
+/// Every set of distances among five points.
+pub fn five_points() -> Vec<Case> {
+    let pairs: Vec<(usize, usize)> = shapes::complete(5, 5).pairs;
+    let set = |number: usize| Graph::of(5, (0..pairs.len()).filter(|bit| number >> bit & 1 == 1).map(|bit| pairs[bit]));
+    let random = &mut Random::new(5);
+    let pool = (0..1 << pairs.len()).map(|number| writer::bytes(&dressed(&set(number), PLAIN, random))).collect();
+    vec![Case { name: "five points, every set".to_string(), n: 5, e: 5, pool }]
+}
+
 /// The graph with its pairs listed backwards.
 fn reversed(mut graph: Graph) -> Graph {
     graph.pairs.reverse();

@@ -15,6 +15,7 @@ fn main() {
     #[cfg(feature = "yardstick")]
     contenders.push(Contender::new("yardstick", pattern_bench::yardstick::verdict));
     table::print("verdict", &cases, &mut contenders);
+    table::print("verdict of five points", &cases::five_points(), &mut contenders);
     table::print("step records, beside the plan alone", &cases, &mut [steps(), plan_alone()]);
 }
 

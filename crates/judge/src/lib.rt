@@ -157,8 +157,8 @@ fn full_verdict(h: Head, near: &[u64; 64], start: &[u64; 200]) -> Verdict
     }
 }
 
-// The verdict of a sheet. No plan is made where counts, peeling or the search for an over set decide.
-pub fn verdict_of(h: Head, near: &[u64; 64], start: &[u64; 200]) -> Verdict
+// The verdict of any sheet. No plan is made where counts, peeling or the search for an over set decide.
+fn any_verdict(h: Head, near: &[u64; 64], start: &[u64; 200]) -> Verdict
     requires { ⌜ Drawn h (now near) (now start) ⌝ }
     ensures { λ r. ⌜ ((z : List ℤ) → r ≡ verdictOf (graphIn h (now (start .entry)) z)) ⌝ }
 {
@@ -173,4 +173,18 @@ pub fn verdict_of(h: Head, near: &[u64; 64], start: &[u64; 200]) -> Verdict
         return merged_verdict(h, near, start);
     }
     sparse_verdict(h, near, start)
+}
+
+// The verdict of a sheet. One of five points stands on the card.
+pub fn verdict_of(h: Head, near: &[u64; 64], start: &[u64; 200]) -> Verdict
+    requires { ⌜ Drawn h (now near) (now start) ⌝ }
+    ensures { λ r. ⌜ ((z : List ℤ) → r ≡ verdictOf (graphIn h (now (start .entry)) z)) ⌝ }
+{
+    if h.n != 5 {
+        return any_verdict(h, near, start);
+    }
+    if h.lines != 0 {
+        return any_verdict(h, near, start);
+    }
+    five::verdict(near)
 }

@@ -1,15 +1,19 @@
-//! Each entry of the card of five points beside the engine, and the reference, on the real sheet of that number.
+//! Each entry of the card of five points beside the engine, and the reference, on the real sheet of that number in several orders; the same with one
+//! point a line, which is not on the card.
 
 use std::process::ExitCode;
 
 use pattern_tests::facts::{Constraint, Kind, Sheet};
+use pattern_tests::interface::Found;
 use pattern_tests::run::Run;
 use pattern_tests::verdict::{judge, verdict};
-use pattern_tests::{ffi, writer};
+use pattern_tests::{calls, ffi, writer};
 
 const POINTS: u8 = 5;
 const SETS: usize = 1 << 10;
 const MOST_SIZE: usize = 40_000;
+/// In how many orders each set is judged beside the dictionary's.
+const ORDERS: usize = 8;
 
 fn main() -> ExitCode {
     let mut run = Run::start("card", 50_463_036);
@@ -20,14 +24,43 @@ fn main() -> ExitCode {
         for beyond in [0, SETS, !0 << 10] {
             run.same("pattern_card", &(number | beyond), ffi::card(number | beyond), is as i32);
         }
-        run.same("pattern_verdict", &number, ffi::verdict(&writer::bytes(&sheet)), is as i32);
-        run.random.shuffle(&mut sheet.constraints);
-        run.same("pattern_verdict", &number, ffi::verdict(&writer::bytes(&sheet)), is as i32);
+        judged(&mut run, &sheet);
+        for _ in 0..ORDERS {
+            run.random.shuffle(&mut sheet.constraints);
+            judged(&mut run, &sheet);
+        }
+        for line in 0..POINTS {
+            let sheet = with_line(&sheet, line);
+            let is = verdict(&sheet, &judge(&sheet));
+            run.count("sets, one a line", is.name());
+            judged(&mut run, &sheet);
+        }
     }
     for (name, least) in [("over", 81), ("well", 100), ("under", 843)] {
         run.must("sets", name, least);
+        run.must("sets, one a line", name, 5 * least);
     }
     run.finish()
+}
+
+/// Compares the verdict, the plan, the final clusters and the report of a sheet.
+fn judged(run: &mut Run, sheet: &Sheet) {
+    let bytes = writer::bytes(sheet);
+    let found = Found::of(&bytes);
+    calls::plan(run, &bytes, &found);
+    calls::report(run, &bytes, &found);
+}
+
+/// The sheet with a line in place of a point, its distances to the others missing.
+fn with_line(sheet: &Sheet, line: u8) -> Sheet {
+    let mut sheet = sheet.clone();
+    sheet.kinds[usize::from(line)] = Kind::Line;
+    for constraint in &mut sheet.constraints {
+        if constraint.first == line || constraint.second == line {
+            constraint.size = None;
+        }
+    }
+    sheet
 }
 
 /// Five points with those of the ten pairs, in dictionary order, whose bit stands, of any sizes.

@@ -74,7 +74,7 @@ each-two n a (suc k) l x i =
     ⊎-elim (with-each n a (suc a) k (omega arith) (omega arith) x) (each-two n (suc a) k (omega arith) x)
     (among-either x (withEach a (suc a) k) (eachTwo (suc a) k) i)
 
-standing-among : (i : ℕ) (cs : List Constraint) (x : ℕ) → Among x (map clusterOf (standing i cs)) → Among x (map clusterOf cs)
+pub standing-among : (i : ℕ) (cs : List Constraint) (x : ℕ) → Among x (map clusterOf (standing i cs)) → Among x (map clusterOf cs)
 unfolding standing
 standing-among i [] x j = j
 standing-among i (c ∷ cs) x j = by-bit (eqb (i % 2) 1) (standing-among (i / 2) cs x) j

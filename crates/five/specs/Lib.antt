@@ -1,0 +1,2 @@
+-- Sheets of five points: the number of a set of pairs.
+pub mod Number
