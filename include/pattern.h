@@ -57,6 +57,8 @@ extern "C" {
 #define PATTERN_MAX_CHAIN       63   /* clusters of a chain: with this room no chain is refused by 17 */
 #define PATTERN_MAX_RECORD      891  /* bytes of a record: with this room no sketch is refused by 17 */
 #define PATTERN_MAX_PART        3534 /* bytes of one cluster's steps: with this room no list of them is refused by 17 */
+#define PATTERN_MAX_MISSING     125  /* missing dimensions: with this room no list of them is refused by 17 */
+#define PATTERN_UNMEASURED      65535 /* the price of a pair that can't be measured */
 #define PATTERN_MAX_STACK       36864 /* bytes of stack that a call takes */
 
 /* The rules that refuse, in checking order. */
@@ -263,6 +265,16 @@ int32_t pattern_part(const uint8_t *sheet, size_t len, size_t number, uint8_t *o
 /* How many steps that cluster has, and how many bytes pattern_part writes of them. Rules 1 to 11 and 26. */
 int32_t pattern_part_steps(const uint8_t *sheet, size_t len, size_t number);
 int32_t pattern_part_bytes(const uint8_t *sheet, size_t len, size_t number);
+
+/*
+ * What to measure next: the pairs that bring a sheet to 2n-3 constraints without making it over, at
+ * the least total price. `prices` has one for each pair, (0,1), (0,2) .. (1,2) .., n(n-1)/2 of them:
+ * 0 to 1,000, or PATTERN_UNMEASURED. Pairs of two lines and pairs already constrained are passed
+ * over. Each answered number is 256 times a pair's first end plus its second, by price, then pair;
+ * among lists of equal price the one that comes first. A sheet with 2n-3 constraints answers 0.
+ * Tries rules 1 to 10, 11, 21, 22, 23, then 17. There are at most PATTERN_MAX_MISSING.
+ */
+int32_t pattern_missing(const uint8_t *sheet, size_t len, const uint16_t *prices, size_t prices_len, uint16_t *out, size_t room);
 
 /*
  * The verdict of five points with some of the ten distances between them, from a card of all 1,024

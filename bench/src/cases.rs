@@ -92,6 +92,19 @@ pub fn for_over() -> Vec<Case> {
     cases
 }
 
+/// Sheets that lack dimensions.
+pub fn for_missing() -> Vec<Case> {
+    let mut cases = Vec::new();
+    cases.extend(growing("no constraint", false, |n, _| Graph::new(n)));
+    cases.extend(growing("merge tree less a quarter", true, |n, random| {
+        let mut graph = shapes::merge_tree(n, random);
+        graph.part_random(n / 2, random);
+        graph
+    }));
+    cases.extend(growing("strip", false, |n, _| shapes::strip(n)));
+    cases
+}
+
 /// Sheets for plans, verdicts and reports.
 pub fn for_plan() -> Vec<Case> {
     let lines = Dress { lines: 30, tags: 50 };

@@ -95,6 +95,15 @@ pub fn part(run: &mut Run, bytes: &[u8], found: &Found, number: usize) {
     run.lent("pattern_part", &input, &lines, |out| ffi::part(given.held(), number, out));
 }
 
+/// Compares `pattern_missing` on some bytes and a price list.
+#[inline]
+pub fn missing(run: &mut Run, bytes: &[u8], prices: &[u16]) {
+    let (given, listed) = (Space::holding(bytes, &mut run.random), Space::holding(prices, &mut run.random));
+    let answer = interface::missing(bytes, prices);
+    let input = format!("{}, prices {prices:?}", Hex(bytes));
+    run.lent("pattern_missing", &input, &answer, |out| ffi::missing(given.held(), listed.held(), out));
+}
+
 /// Compares `pattern_check_plan` on some bytes and a plan; the rule that must come, where one must.
 #[inline]
 pub fn check_plan(run: &mut Run, bytes: &[u8], plan: &[u16]) -> Option<Rule> {

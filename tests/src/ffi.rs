@@ -107,6 +107,13 @@ pub fn part(sheet: &[u8], number: usize, out: &mut [u8]) -> i32 {
     unsafe { c::pattern_part(sheet.as_ptr(), sheet.len(), number, out.as_mut_ptr(), out.len()) }
 }
 
+/// `pattern_missing`
+#[inline]
+pub fn missing(sheet: &[u8], prices: &[u16], out: &mut [u16]) -> i32 {
+    let (list, count) = (prices.as_ptr(), prices.len());
+    unsafe { c::pattern_missing(sheet.as_ptr(), sheet.len(), list, count, out.as_mut_ptr(), out.len()) }
+}
+
 /// `pattern_check_plan`
 #[inline]
 pub fn check_plan(sheet: &[u8], plan: &[u16], out: &mut [u8]) -> i32 {
@@ -182,6 +189,8 @@ mod tests {
             assert_eq!(c::pattern_clusters(sheet, len, null_mut(), 0), 0);
             assert_eq!(c::pattern_report(null(), 0, out, room), -1);
             assert_eq!(c::pattern_report(sheet, len, null_mut(), 0), -17);
+            assert_eq!(c::pattern_missing(null(), 0, null(), 0, null_mut(), 0), -1);
+            assert_eq!(c::pattern_missing(sheet, len, null(), 0, null_mut(), 0), -21);
             assert_eq!(c::pattern_check_plan(null(), 0, null(), 0, null_mut(), 0), -1);
             assert_eq!(c::pattern_check_plan(sheet, len, null(), 0, null_mut(), 0), -17);
             assert_eq!(c::pattern_check_plan(sheet, len, null(), 0, out, room), 39);

@@ -3,6 +3,7 @@
 
 use crate::facts::{Rule, Sheet};
 use crate::matching::by_matching;
+use crate::missing::{by_greed, number};
 use crate::reader::read;
 use crate::rules::refuse;
 use crate::set::{Set, one};
@@ -48,6 +49,11 @@ pub fn saved_steps(bytes: &[u8], plan: &[u16]) -> Result<Vec<u64>, Rule> {
 
 /// How "none" is told where a chain is asked for: as by a rule of this number, which there is not.
 pub const NO_RUN: Rule = 100;
+
+/// `pattern_missing`: the cheapest missing dimensions, one number a pair.
+pub fn missing(bytes: &[u8], prices: &[u16]) -> Result<Vec<u16>, Rule> {
+    Ok(by_greed(&read(bytes)?, prices)?.iter().map(number).collect())
+}
 
 /// What the engine finds of a sheet's bytes.
 pub struct Found(Result<(Sheet, Judged), Rule>);

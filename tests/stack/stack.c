@@ -54,6 +54,12 @@ static void *chain(void *u)
     return u;
 }
 static void *report(void *u) { pattern_report(sheet, len, bytes, sizeof bytes); return u; }
+static void *missing(void *u)
+{
+    static uint16_t prices[2016], list[PATTERN_MAX_MISSING];
+    pattern_missing(sheet, len, prices, sheet[4] * (sheet[4] - 1) / 2, list, PATTERN_MAX_MISSING);
+    return u;
+}
 static void *check(void *u)
 {
     int32_t count = pattern_plan(sheet, len, plan, PATTERN_MAX_PLAN);
@@ -116,7 +122,7 @@ int main(int argc, char **argv)
 {
     static const struct { const char *name; void *(*call)(void *); } calls[] = {
         {"pattern_rewrite", rewrite}, {"pattern_write", write_}, {"pattern_over", over}, {"pattern_verdict", verdict}, {"pattern_plan", plan_},
-        {"pattern_initial", initial}, {"pattern_clusters", clusters}, {"pattern_report", report}, {"pattern_check_plan", check}, {"pattern_hold", hold},
+        {"pattern_initial", initial}, {"pattern_clusters", clusters}, {"pattern_report", report}, {"pattern_check_plan", check}, {"pattern_missing", missing}, {"pattern_hold", hold},
         {"pattern_ask", ask}, {"pattern_place", place}, {"pattern_held", held},
         {"pattern_steps", steps}, {"pattern_saved_steps", saved_steps},
         {"pattern_part", part}, {"pattern_part_steps", part_steps}, {"pattern_part_bytes", part_bytes},

@@ -1,6 +1,7 @@
 //! Plain Rust that is written to be fast: what a Rust programmer would put in the proved library's place.
 
 pub mod chain;
+pub mod missing;
 pub mod over;
 pub mod plan;
 pub mod report;

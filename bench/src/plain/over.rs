@@ -4,7 +4,7 @@
 use super::sheet::{Sheet, read};
 
 /// For each element, two entries: the element itself while the freedom is free, else the other end of the constraint that uses it.
-type Freedoms = [[u8; 2]; 64];
+pub type Freedoms = [[u8; 2]; 64];
 
 /// The first constraint that makes those up to it over, and the smallest set.
 pub struct Over {
@@ -86,12 +86,12 @@ fn light(mask: u64) -> bool {
 }
 
 /// How many entries of an element are free.
-fn free(own: &Freedoms, x: u8) -> usize {
+pub fn free(own: &Freedoms, x: u8) -> usize {
     own[usize::from(x & 63)].iter().filter(|&&entry| entry == x).count()
 }
 
 /// The place in the queue of an element with a free entry that is reached from the ends, or the set that was searched.
-fn seek(own: &Freedoms, queue: &mut [u8; 64], from: &mut [u8; 64], ends: (u8, u8)) -> Result<usize, u64> {
+pub fn seek(own: &Freedoms, queue: &mut [u8; 64], from: &mut [u8; 64], ends: (u8, u8)) -> Result<usize, u64> {
     let mut seen: u64 = 1 << ends.0 | 1 << ends.1;
     (queue[0], queue[1]) = ends;
     let (mut next, mut count) = (0, 2);
@@ -115,7 +115,7 @@ fn seek(own: &Freedoms, queue: &mut [u8; 64], from: &mut [u8; 64], ends: (u8, u8
 }
 
 /// Turns freedoms along the way from a place in the queue back to one of the ends.
-fn release(own: &mut Freedoms, queue: &[u8; 64], from: &[u8; 64], mut place: usize) {
+pub fn release(own: &mut Freedoms, queue: &[u8; 64], from: &[u8; 64], mut place: usize) {
     while place >= 2 {
         let back = usize::from(from[place & 63]);
         let (x, y) = (queue[back & 63], queue[place & 63]);
@@ -126,7 +126,7 @@ fn release(own: &mut Freedoms, queue: &[u8; 64], from: &[u8; 64], mut place: usi
 }
 
 /// Uses a free entry of an end for the constraint between the two.
-fn place(own: &mut Freedoms, ends: (u8, u8)) {
+pub fn place(own: &mut Freedoms, ends: (u8, u8)) {
     if own[usize::from(ends.0)].contains(&ends.0) {
         change(own, ends.0, ends.0, ends.1);
     } else {

@@ -13,7 +13,7 @@ use Rattle.account.specs.Account.{reportOf}
 use Rattle.steps.specs.Records.{numbersField}
 use Rattle.records.specs.Record.{placeField, writtenField, sheetField}
 use Rattle.pattern.specs.Entries.{itemsField, rewriteField, overNumbers, initialClusters, checkField, stepsField, savedStepsField, holdField}
-use Rattle.pattern.specs.Entries.{partOf, partField}
+use Rattle.pattern.specs.Entries.{partOf, partField, missingField}
 pub mod Proof
 
 abbrev pub AtMost : {A : Type 0} → ℕ → Field (List A) → Type 0
@@ -21,6 +21,7 @@ AtMost {A} most x = (items : List A) (rest : List ℕ) → x ≡ value items res
 
 pub record Counts : Type 0 where
   pub report : (bytes : List ℕ) → Bytes bytes → AtMost 3786 (itemsField reportOf bytes)
+  pub missing : (bytes prices : List ℕ) → Bytes bytes → AtMost 125 (missingField bytes prices)
   pub check : (bytes plan : List ℕ) → Bytes bytes → AtMost 3786 (checkField bytes plan)
   pub plan : (bytes : List ℕ) → Bytes bytes → AtMost 186 (itemsField planNumbers bytes)
   pub initial : (bytes : List ℕ) → Bytes bytes → AtMost 200 (itemsField initialClusters bytes)

@@ -16,6 +16,7 @@ use Rattle.sheet.specs.Decode.{readSheet}
 use Rattle.sheet.specs.WithoutTags.{withoutTags}
 use Rattle.sheet.specs.Graph.{graphOf, overFault}
 use Rattle.sheet.specs.Answer.{byRule}
+use Rattle.missing.specs.Missing.{cheapestField}
 use Rattle.account.specs.Account.{savedField}
 use Rattle.part.specs.Part.{clusterField, linesField}
 use Rattle.steps.specs.Records.{planSteps, savedRecords}
@@ -91,3 +92,7 @@ holdField bytes = writtenField (heldSheet bytes)
 -- its graph, of which the chain from one element to another is asked (document 02, 2026-08): 25 after 11
 abbrev pub chainField : List ℕ → ℕ → ℕ → Field Graph
 chainField bytes start end = next (heldSheet bytes) (λ f rest. asked (graphOf f) start end)
+
+-- its cheapest missing dimensions (document 02, 2026-02): 21 to 23
+abbrev pub missingField : List ℕ → List ℕ → Field (List ℕ)
+missingField bytes prices = next (heldSheet bytes) (λ f rest. cheapestField (graphOf f) prices)

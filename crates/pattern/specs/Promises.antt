@@ -4,6 +4,7 @@
 use Prim.Native.Nat.{ℕ, _+_, _*_, _%_, _≤_, _<_}
 use mathlib.Core.Path.{_≡_}
 use mathlib.Core.Logic.{_≢_, _↔_}
+use mathlib.Core.Bool.{true}
 use mathlib.Core.List.{List, [], _∷_, map}
 use lib.Count.{ones}
 use lib.ListN.{length}
@@ -27,7 +28,9 @@ use Rattle.report.specs.Report.{overReport}
 use Rattle.sketch.specs.Runs.{Event, answersTo, afterAll, Run}
 use Rattle.records.specs.Runs.{answersIn, allIn, SameFacts}
 use Rattle.account.specs.Account.{listReport, reportOf}
-use Rattle.pattern.specs.Entries.{itemsField, verdictField, overNumbers, heldSheet, checkField, holdField}
+use Rattle.greedy.specs.Choice.{pricesAllowed}
+use Rattle.missing.specs.Missing.{pairsOf, Told}
+use Rattle.pattern.specs.Entries.{itemsField, verdictField, overNumbers, heldSheet, checkField, holdField, missingField}
 pub mod Proof
 
 -- ---- over (demand 2): some set of m ≥ 2 elements carries more than 2m-3 constraints if and only if
@@ -107,4 +110,7 @@ pub record Promises (bytes : List ℕ) (f : Facts) : Type 0 where
   pub saved : (plan told : List ℕ) → checkField bytes plan ≡ value told [] → OwnList bytes (graphOf f) (savedSteps plan) plan told
   pub accepts : verdictOf (graphOf f) ≢ Over → (plan : List ℕ)
       → ((told : List ℕ) × (checkField bytes plan ≡ value told [])) ↔ ((length plan % 3 ≡ 0) × Maximal (graphOf f .clusters) (savedSteps plan))
+  -- the cheapest missing dimensions, for a price list that neither 21 nor 22 refuses (document 02, 2026-02)
+  pub missing : verdictOf (graphOf f) ≢ Over → (prices : List ℕ) → length prices ≡ pairsOf (graphOf f .n) → pricesAllowed prices ≡ true
+      → Told (graphOf f) prices (missingField bytes prices)
   pub runs : verdictOf (graphOf f) ≢ Over → HeldRuns bytes f

@@ -24,7 +24,7 @@ use Rattle.chain.specs.Answer.{ChainAnswers}
 use Rattle.theory.specs.declared.Step.{Step}
 use Rattle.steps.specs.Records.{filledTo}
 use Rattle.pattern.specs.Entries.{itemsField, rewriteField, verdictField, heldSheet, checkField, stepsField, savedStepsField, holdField}
-use Rattle.pattern.specs.Entries.{partOf, partField}
+use Rattle.pattern.specs.Entries.{partOf, partField, missingField}
 use Rattle.pattern.specs.Entries.{chainField}
 pub mod Proof
 
@@ -66,6 +66,8 @@ pub record Refusals : Type 0 where
   pub saved-steps : (bytes plan : List ℕ) → By (But 14 (Rule 1 16)) (savedStepsField bytes plan)
   pub records : (x : Field (List Step)) (list : List Step) (k : ℕ) → filledTo x list ≡ Refused k → (x ≡ refused k) ⊎ ((k ≡ 17) × ShortList x list)
   pub hold : (bytes : List ℕ) → By (Rule 1 11) (heldSheet bytes)
+  -- the cheapest missing dimensions
+  pub missing : (bytes prices : List ℕ) → By (λ k. Rule 1 11 k ⊎ Rule 21 23 k) (missingField bytes prices)
   -- a held sketch, by value and in lent bytes; placing in those by 17 too
   pub ask : (s : Sheet) (c : Constraint) (k : ℕ) → askAnswer s c ≡ Not k → Among k Asking
   pub place : (s : Sheet) (c : Constraint) (held k : ℕ) → placeAnswer s c held ≡ Not k → Among k (24 ∷ Asking)

@@ -7,7 +7,7 @@ use Rattle.sheet.specs.Facts.{Facts}
 use Rattle.sheet.specs.Field.{value, Bytes}
 use Rattle.sheet.specs.Decode.{readSheet}
 use Rattle.sheet.specs.WithoutTags.{withoutTags}
-use Rattle.pattern.specs.Entries.{itemsField, rewriteField, verdictField, heldSheet, checkField, stepsField, savedStepsField, holdField}
+use Rattle.pattern.specs.Entries.{itemsField, rewriteField, verdictField, heldSheet, checkField, stepsField, savedStepsField, holdField, missingField}
 pub mod Proof
 
 -- two sheets that no entry point tells apart, whatever else it is given: a call's answer, and what it leaves in lent space, go by its field alone
@@ -21,6 +21,7 @@ pub record SameAnswers (a b : List ℕ) : Type 0 where
   pub steps : stepsField a ≡ stepsField b
   pub saved-steps : (plan : List ℕ) → savedStepsField a plan ≡ savedStepsField b plan
   pub hold : heldSheet a ≡ heldSheet b
+  pub missing : (prices : List ℕ) → missingField a prices ≡ missingField b prices
   pub hold-in : holdField a ≡ holdField b
 
 pub record Untagged : Type 0 where

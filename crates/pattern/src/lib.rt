@@ -19,7 +19,7 @@ ghost use Rattle.longest.specs.Longest.{longestField};
 ghost use Rattle.steps.specs.Records.{Fills, numbersField};
 ghost use Rattle.steps.specs.Listing.{Listed};
 ghost use Rattle.pattern.specs.Entries.{itemsField, rewriteField, verdictField, overNumbers, initialClusters};
-ghost use Rattle.pattern.specs.Entries.{heldSheet, checkField, stepsField, savedStepsField, holdField};
+ghost use Rattle.pattern.specs.Entries.{heldSheet, checkField, stepsField, savedStepsField, holdField, missingField};
 ghost use Rattle.part.specs.Tallies.{measureOf};
 ghost use Rattle.pattern.specs.Entries.{partOf, partField, countOf};
 ghost use Rattle.pattern.specs.Entries.{chainField};
@@ -322,6 +322,21 @@ pub fn part(bytes: &[u8], number: usize, out: &mut [u8]) -> Written
         return Written::Refused(got.refusal());
     };
     part::list(head, &near, &start, &sizes, number, out)
+}
+
+// The cheapest missing dimensions of a sheet, for a price for each pair: one number a pair, its first end times 256 plus its second, by price, then
+// pair; or the rule of 1 to 11, 17 and 21 to 23 that refuses.
+pub fn missing(bytes: &[u8], prices: &[u16], out: &mut [u16]) -> Written
+    ensures { λ r. ⌜ Answers (missingField (now (bytes .entry)) (now (prices .entry))) (now (out .entry)) r (now (out .exit)) ⌝ }
+{
+    let mut near = [0u64; 64];
+    let mut start = [0u64; 200];
+    let mut sizes = [0i32; 200];
+    let got = reader::read_graph(bytes, &mut near, &mut start, &mut sizes);
+    let GraphRead::Value(head) = got else {
+        return Written::Refused(got.refusal());
+    };
+    missing::missing(head, &near, &start, prices, out)
 }
 
 // ---- a held sketch

@@ -17,7 +17,7 @@ ghost use Rattle.longest.specs.Longest.{longestField};
 ghost use Rattle.sketch.specs.declared.Judgement.the-variants.{Is};
 ghost use Rattle.pattern_c.specs.Numbers.{asCount, asNumber, AnswersCount, PlacedCount, asItems, ChainCount};
 ghost use Rattle.pattern_c.specs.Columns.{constraintFrom, constraintIn, constraintsIn, sheetIn};
-ghost use Rattle.pattern.specs.Entries.{partOf, partField, countOf};
+ghost use Rattle.pattern.specs.Entries.{partOf, partField, countOf, missingField};
 use chain::Answer;
 use sheet::Constraint;
 use sheet::Sheet;
@@ -323,6 +323,15 @@ pub extern "C" fn pattern_chain(sheet: &[u8], from: usize, to: usize, out: &mut 
     ensures { λ r. ⌜ ChainCount (chainField (now (sheet .entry)) from to) from to (now (out .entry)) r (now (out .exit)) ⌝ }
 {
     count(chain_items(pattern::chain(sheet, from, to, out)))
+}
+
+// The cheapest missing dimensions, for a price for each pair in dictionary order: one number a pair, its first end times 256 plus its second; or the
+// rule of 1 to 11, 17 and 21 to 23 that refuses.
+#[no_mangle]
+pub extern "C" fn pattern_missing(sheet: &[u8], prices: &[u16], out: &mut [u16]) -> i32
+    ensures { λ r. ⌜ AnswersCount (missingField (now (sheet .entry)) (now (prices .entry))) (now (out .entry)) r (now (out .exit)) ⌝ }
+{
+    count(pattern::missing(sheet, prices, out))
 }
 
 // The verdict of five points with the distances whose bit stands in a number, 0 over, 1 angle, 2 well, 3 stuck, 4 under.

@@ -1,12 +1,14 @@
--- What the search keeps between two constraints. Assumes nothing.
+-- What the search keeps between two constraints, and what one more gives. Assumes nothing.
 use mathlib.Core.Path.{_≡_}
 use mathlib.Core.Logic.{_≢_}
 use mathlib.Core.List.{List}
-use Prim.Native.Nat.{ℕ, suc, _+_, _≤_, _<_}
+use Prim.Native.Nat.{ℕ, _+_, _*_, _^_, _≤_, _<_}
+use lib.Count.{ones}
 use lib.ListN.{length, take, getD}
-use Rattle.theory.specs.Set.{at}
-use Rattle.theory.specs.Constraints.{pair, NotOver}
-use Rattle.sparsity.specs.Freedoms.{free, Table, Balanced, Closed}
+use Rattle.theory.specs.Set.{_∩_, _⊑_, at}
+use Rattle.theory.specs.Constraints.{pair, has, carried, NotOver}
+use Rattle.theory.specs.Over.{IsOver, Smallest}
+use Rattle.sparsity.specs.Freedoms.{Table, Balanced, Closed}
 use Rattle.peeling.specs.Core.{Few}
 pub mod Laws
 
@@ -17,21 +19,31 @@ pub record EndsAt (cs : List ℕ) (c a b : ℕ) : Type 0 where
   pub apart : a ≢ b
   pub is : getD cs c 0 ≡ pair a b
 
+-- the constraints that lie in u use the freedoms of the table, and the list is not over
+pub record Using (cs : List ℕ) (u : ℕ) (own : List (List ℕ)) : Type 0 where
+  pub table : Table own
+  pub closed : Closed own u
+  pub balanced : Balanced cs u own
+  pub fine : NotOver cs
+
+-- a list and one constraint m more, which lies in u, where the sets within u tell whether it is over and which set is tight
+pub record More (old new : List ℕ) (m u : ℕ) : Type 0 where
+  pub small : u < 2 ^ 64
+  pub inside : m ⊑ u
+  pub carries : (x : ℕ) → carried new x ≡ carried old x + has m x
+  pub fine : ((x : ℕ) → x ⊑ u → 2 ≤ ones x → carried new x + 3 ≤ 2 * ones x) → NotOver new
+  pub cut : (x : ℕ) → carried old x + 2 * ones (x ∩ u) ≤ carried old (x ∩ u) + 2 * ones x
+
+-- what taking m gives: the table with m among the constraints, where no set is over; or the constraints without m, and the smallest set that m makes
+-- over
+pub record Took (old new : List ℕ) (m u : ℕ) (own : List (List ℕ)) (over : ℕ) : Type 0 where
+  pub taken : over ≡ 0 → Using new u own
+  pub refused : over ≢ 0 → Using old u own × IsOver new × Smallest old m over
+
 -- the constraints before c that lie in u use freedoms, and those before c are not over; once and twice hold every element of u that has one and two
 -- of them
 pub record Kept (cs : List ℕ) (u c : ℕ) (own : List (List ℕ)) (once twice : ℕ) : Type 0 where
   pub below : c ≤ length cs
-  pub table : Table own
-  pub closed : Closed own u
-  pub balanced : Balanced (take c cs) u own
-  pub fine : NotOver (take c cs)
+  pub uses : Using (take c cs) u own
   pub never : (x : ℕ) → at x once ≡ 0 → Few (take c cs) u x 0
   pub lone : (x : ℕ) → at x twice ≡ 0 → Few (take c cs) u x 1
-
--- constraint c between a and b may use a freedom: it leaves the list not over, and one of its ends has a free entry
-pub record Ready (cs : List ℕ) (u c a b : ℕ) (own : List (List ℕ)) : Type 0 where
-  pub table : Table own
-  pub closed : Closed own u
-  pub balanced : Balanced (take c cs) u own
-  pub right : NotOver (take (suc c) cs)
-  pub open-end : 0 < free own a + free own b

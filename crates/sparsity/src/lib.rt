@@ -3,15 +3,17 @@
 // other end of the constraint that uses it. The contracts cite theory's `Over` and this crate's specs.
 ghost use mathlib.Core.Path.{_≡_};
 ghost use mathlib.Core.Logic.{_≢_};
+ghost use mathlib.Core.List.{List};
 ghost use Prim.Native.Nat.{ℕ, _+_, _≤_, _<_};
 ghost use lib.Count.{ones};
 ghost use lib.ListN.{take};
 ghost use Rattle.theory.specs.Set.{_∈_};
-ghost use Rattle.theory.specs.Constraints.{Below};
+ghost use Rattle.theory.specs.Constraints.{pair, Below};
 ghost use Rattle.theory.specs.Near.{Standing, Near};
 ghost use Rattle.theory.specs.Over.{overOf};
 ghost use Rattle.sparsity.specs.Freedoms.{same, free, Table, FreeBelow};
 ghost use Rattle.sparsity.specs.Reach.{item, Visit, Lent, Found, Way, Gained, Gathered, Placed};
+ghost use Rattle.sparsity.specs.Answer.{Using, More, Took};
 ghost use Rattle.peeling.specs.Core.{Core};
 use theory::Finding;
 
@@ -23,7 +25,7 @@ fn one_if_same(y: u8, x: u8) -> usize
 }
 
 // The table with every freedom free.
-fn all_free() -> [[u8; 2]; 64]
+pub fn all_free() -> [[u8; 2]; 64]
     ensures { λ r. ⌜ FreeBelow 64 r ⌝ }
 {
     let mut own = [[0u8; 2]; 64];
@@ -192,8 +194,31 @@ fn place(own: [[u8; 2]; 64], a: u8, b: u8) -> [[u8; 2]; 64]
     t
 }
 
+// One more constraint, between a and b: the table with it, and over is 0; or the table without it, and over is the smallest set that it makes over.
+pub fn take_pair(
+    own: [[u8; 2]; 64],
+    queue: &mut [u8; 64],
+    from: &mut [u8; 64],
+    a: u8,
+    b: u8,
+    over: &mut u64,
+) -> [[u8; 2]; 64]
+    requires { ⌜ Table own × (a < 64) × (b < 64) × (a ≢ b) × Lent (now queue) (now from) ⌝ }
+    ensures { λ r. ⌜ ((old new : List ℕ) (u : ℕ) → Using old u own → More old new (pair a b) u → Took old new (pair a b) u r (now (over .exit)))
+        × Lent (now (queue .exit)) (now (from .exit)) ⌝ }
+{
+    let t = gather(own, queue, from, a, b);
+    if free_ends(t, a, b) < 4 {
+        let s = seek(t, queue, from, a, b);
+        *over = s.seen;
+        return t;
+    }
+    *over = 0;
+    place(t, a, b)
+}
+
 // The other element of a set of two.
-fn other_end(pair: u64, a: u8) -> u8
+pub fn other_end(pair: u64, a: u8) -> u8
     requires { ⌜ (ones pair ≡ 2) × (a < 64) × (a ∈ pair) ⌝ }
     ensures { λ r. ⌜ (r < 64) × (r ∈ pair) × (a ≢ r) ⌝ }
 {
@@ -218,18 +243,19 @@ fn search(start: &[u64; 200], e: usize, core: u64) -> Finding
             let a = sets::lowest(pair);
             let b = other_end(pair, a);
             if pair & twice == pair {
-                let t = gather(own, &mut queue, &mut from, a, b);
-                if free_ends(t, a, b) < 4 {
-                    let s = seek(t, &mut queue, &mut from, a, b);
+                let mut over: u64 = 0;
+                let t = take_pair(own, &mut queue, &mut from, a, b, &mut over);
+                if over != 0 {
                     return Finding::First {
                         constraint: c,
-                        set: s.seen,
+                        set: over,
                     };
                 }
                 own = t;
+            } else {
+                let next = place(own, a, b);
+                own = next;
             }
-            let next = place(own, a, b);
-            own = next;
             twice = twice | (once & pair);
             once = once | pair;
         }

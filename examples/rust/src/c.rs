@@ -48,6 +48,14 @@ unsafe extern "C" {
     pub fn pattern_part_steps(sheet: *const u8, len: usize, number: usize) -> i32;
     pub fn pattern_part_bytes(sheet: *const u8, len: usize, number: usize) -> i32;
     pub fn pattern_part(sheet: *const u8, len: usize, number: usize, out: *mut u8, room: usize) -> i32;
+    pub fn pattern_missing(
+        sheet: *const u8,
+        len: usize,
+        prices: *const u16,
+        prices_len: usize,
+        out: *mut u16,
+        room: usize,
+    ) -> i32;
     pub fn pattern_card(number: usize) -> i32;
     pub fn pattern_chain(sheet: *const u8, len: usize, from: usize, to: usize, out: *mut u16, room: usize) -> i32;
     pub fn pattern_longest(n: usize, out: *mut u8, room: usize) -> i32;

@@ -50,6 +50,10 @@ pub const MOST_CHAIN: usize = 63;
 
 /// What `pattern_chain` answers where no run leads from the one element to the other.
 const NO_RUN: i32 = -100;
+/// The most dimensions that a sheet lacks.
+pub const MOST_MISSING: usize = 125;
+/// The price of a pair that can't be measured.
+pub const UNMEASURED: u16 = 65_535;
 
 /// The most bytes of a held sketch's record.
 pub const MOST_RECORD: usize = 891;
@@ -78,6 +82,9 @@ impl Rule {
             15 => "the clusters of a step do not make an open merge",
             16 => "after the last step a merge is still open",
             17 => "the lent space is shorter than the answer",
+            21 => "the price list does not have one price for each pair",
+            22 => "a price is between 1,001 and 65,534",
+            23 => "no set of pairs that may be measured will do",
             24 => "another number of constraints is held",
             25 => "the start or the end of a chain is no element of the sheet",
             26 => "no cluster of the plan has the number",
@@ -276,6 +283,31 @@ fn numbered(number: i32) -> Option<Verdict> {
         4 => Verdict::Under,
         _ => return None,
     })
+}
+
+/// What to measure next: the pairs that bring a sheet to 2n-3 constraints without making it over, at the least total price, by price, then pair. There
+/// is one price for each pair, (0,1), (0,2) .., (1,2) ..: 0 to 1,000, or [`UNMEASURED`].
+///
+/// ```
+/// use pattern::{Constraint, Facts, Kind, MOST_BYTES, MOST_MISSING, Rule, UNMEASURED};
+///
+/// // four points with a triangle on 0, 1 and 2: the draughtsman reaches 3 from 2 easily, from 0 and 1 with a ladder
+/// let constraints = [Constraint::sized(0, 1, 300), Constraint::sized(0, 2, 300), Constraint::sized(1, 2, 300)];
+/// let mut space = [0; MOST_BYTES];
+/// let sheet = pattern::write(&Facts { kinds: &[Kind::Point; 4], constraints: &constraints }, &mut space)?;
+/// let mut space = [0; MOST_MISSING];
+/// let measure: Vec<_> = pattern::missing(sheet, &[0, 0, 5, 0, 5, 1], &mut space)?.collect();
+/// assert_eq!(measure, [(2, 3), (0, 3)]);
+/// let blocked = [0, 0, 5, 0, UNMEASURED, UNMEASURED];
+/// assert_eq!(pattern::missing(sheet, &blocked, &mut space).err(), Some(Rule(23)));
+/// # Ok::<(), Rule>(())
+/// ```
+pub fn missing<'a>(sheet: &[u8], prices: &[u16], out: &'a mut [u16]) -> Result<impl Iterator<Item = (u8, u8)> + use<'a>, Rule> {
+    // SAFETY: each list is a live slice of its length, and `out` is borrowed alone.
+    let answer = unsafe {
+        c::pattern_missing(sheet.as_ptr(), sheet.len(), prices.as_ptr(), prices.len(), out.as_mut_ptr(), out.len())
+    };
+    written(answer, out).map(|pairs| pairs.iter().map(|pair| ((pair >> 8) as u8, *pair as u8)))
 }
 
 /// The verdict of five points with some of the ten distances between them: bit 0 of the number is the pair (0,1), then

@@ -27,6 +27,8 @@ fn main() -> ExitCode {
         calls::part(&mut run, &bytes, &found, number);
         let plan = plan(&saved, &mut run.random);
         calls::check_plan(&mut run, &bytes, &plan);
+        let prices = prices(&bytes, &mut run.random);
+        calls::missing(&mut run, &bytes, &prices);
         calls::steps(&mut run, &bytes, &found);
         calls::saved_steps(&mut run, &bytes, &plan);
         calls::hold(&mut run, &bytes);
@@ -87,6 +89,17 @@ fn end(random: &mut Random) -> usize {
         1 => 256 + random.below(64),
         _ => random.below(most),
     }
+}
+
+/// A price list for a sheet of at most 16 elements, and now and then one of another length or with a price that is not allowed.
+fn prices(sheet: &[u8], random: &mut Random) -> Vec<u16> {
+    let n = reader::read(sheet).map_or(3, |sheet| sheet.n()).min(16);
+    let length = n * (n - 1) / 2 + usize::from(random.chance(5));
+    let most = random.pick(&[1, 4, 1_001]);
+    let unmeasured = random.pick(&[0, 20, 80]);
+    let dear = if random.chance(5) { 1 } else { 0 };
+    let price = |random: &mut Random| if random.chance(unmeasured) { 65_535 - dear } else { random.below(most) as u16 };
+    (0..length).map(|_| price(random)).collect()
 }
 
 /// A plan: the engine's, that with faults, or random numbers.

@@ -46,9 +46,10 @@ use Rattle.account.specs.Own.Proof.{paired, below}
 use Rattle.pattern.specs.Entries.{held, heldSheet, initialClusters, overItems, overNumbers, checkField, stepsField, savedStepsField}
 use Rattle.pattern.specs.Entries.{holdField}
 use Rattle.report.specs.Report.{stepLines}
-use Rattle.pattern.specs.Entries.{partOf}
+use Rattle.pattern.specs.Entries.{partOf, missingField}
 use Rattle.pattern.specs.Entries.Parts.{part-short}
 use Rattle.pattern.specs.Entries.Sketches.{held-accepted, check-saved}
+use Rattle.missing.specs.Missing.Laws.{listed-most}
 use Rattle.pattern.specs.Counts.{AtMost, Counts}
 
 -- items after a value, or a rule and then items
@@ -129,6 +130,11 @@ module _ (bytes : List ℕ) (all : Bytes bytes) where
       after-rule (savedFault (graphOf f) plan) (listReport (graphOf f) (savedSteps plan)) (λ z. saved-room f (accepted f t read) plan z) items rest
       (sym (check-saved bytes plan f t read) ∙ e)))
 
+  missing-short : (prices : List ℕ) → AtMost 125 (missingField bytes prices)
+  missing-short prices items rest e =
+      next-value (heldSheet bytes) _ e (λ f t was e1.
+      listed-most (graphOf f) prices (accepted-most f (held-accepted bytes f t all was .0)) items rest e1)
+
   -- the steps of a list of merges of a held sheet
   few-numbers : (x : Field (List Step)) → ((steps : List Step) (u : List ℕ) → x ≡ value steps u → length (stepNumbers steps) ≤ 434) → AtMost 434 (numbersField x)
   few-numbers x h items rest e =
@@ -159,6 +165,7 @@ pub counts : Counts
 counts = record {
   report = λ bytes all. after-value (readSheet bytes) (λ f. reportOf (graphOf f)) (λ f t e. report-room f (accepted bytes all f t e));
   check = λ bytes plan all. check-short bytes all plan;
+  missing = λ bytes prices all. missing-short bytes all prices;
   plan = λ bytes all. after-value (readSheet bytes) (λ f. planNumbers (graphOf f)) (λ f t e. plan-short f (accepted bytes all f t e));
   initial = λ bytes all. after-value (readSheet bytes) (λ f. initialClusters (graphOf f)) (λ f t e. initial-short f (accepted bytes all f t e));
   steps = steps-few;

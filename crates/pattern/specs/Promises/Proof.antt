@@ -28,7 +28,7 @@ use Rattle.sheet.specs.declared.Constraint.{Constraint}
 use Rattle.sheet.specs.Answer.{byRule}
 use Rattle.space.specs.Space.{after}
 use Rattle.sheet.specs.Facts.{Facts, sheetOf}
-use Rattle.sheet.specs.Field.{Field, value, refused, Bytes}
+use Rattle.sheet.specs.Field.{Field, value, refused, Bytes, next}
 use Rattle.sheet.specs.Decode.{readSheet}
 use Rattle.sheet.specs.Accepted.{Accepted}
 use Rattle.sheet.specs.Rules.{or-else}
@@ -50,6 +50,8 @@ use Rattle.records.specs.Runs.Proof.{after-stands, after-long, record-runs}
 use Rattle.account.specs.Account.{listReport, reportBy, reportOf, savedFault}
 use Rattle.account.specs.Own.{ReportsOwn, EngineList}
 use Rattle.account.specs.Own.Proof.{own-lists}
+use Rattle.missing.specs.Missing.{cheapestField, Told}
+use Rattle.missing.specs.Missing.Laws.{told}
 use Rattle.pattern.specs.Entries.{itemsField, verdictField, overItems, overNumbers, heldSheet, checkField}
 use Rattle.pattern.specs.Entries.Sketches.{check-saved}
 use Rattle.pattern.specs.Promises.{OverTold, SameInOrders, NameSays, OwnList, HeldRuns, Promises}
@@ -333,5 +335,9 @@ module _ (bytes : List ℕ) (f : Facts) (rest : List ℕ) (all : Bytes bytes) (r
         );
     saved = saved-own;
     accepts = accepts;
+    missing = λ not-over prices long ok.
+        subst (Told g prices) (sym (ap (λ (x : Field Facts). next x (λ h t. cheapestField (graphOf h) prices)) (held-is ∙ ap (λ (k : ℕ). byRule k (value f rest))
+        (fine-fault g (not-over-fine g not-over)))))
+        (told g prices (accepted-two f accepted) pairs below (fine not-over) long ok);
     runs = held-runs;
   }

@@ -43,6 +43,7 @@ use Rattle.account.specs.Account.Room.{report-room}
 use Rattle.longest.specs.Longest.{longestSheet, longestField}
 use Rattle.chain.specs.declared.Answer.the-variants.{Refused as No}
 use Rattle.chain.specs.Answer.{asRun, chainAnswer, endsFault, asked as chained, ChainAnswers}
+use Rattle.missing.specs.Missing.Laws.{by-rules}
 use Rattle.pattern.specs.Entries.{itemsField, held, heldSheet}
 use Rattle.part.specs.Part.{numberFault}
 use Rattle.pattern.specs.Entries.{partOf}
@@ -242,6 +243,7 @@ refusals = record {
   saved-steps = λ bytes plan. checked bytes plan (λ f. stepsOf (graphOf f) (savedSteps plan));
   records = lent-list;
   hold = by-sketch;
+  missing = λ bytes prices. by-next (by-wider (λ k h. inl h) (by-sketch bytes)) (λ f rest. by-wider (λ k h. inr h) (by-rules (graphOf f) prices));
   ask = asked;
   place = placed;
   hold-in = λ bytes. by-next (by-sketch bytes) (λ f rest. given);

@@ -20,6 +20,7 @@ same-answers a b reads same = record {
   steps = rw reads;
   saved-steps = λ plan. rw reads;
   hold = rw reads;
+  missing = λ prices. rw reads;
   hold-in = rw reads;
 }
 

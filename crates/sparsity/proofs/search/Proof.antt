@@ -1,7 +1,7 @@
 -- `search` meets its contract. The loop's invariant: the constraints before c use freedoms and are not over. Assumes nothing.
 use mathlib.Core.Path.{refl, sym, _∙_, subst}
 use mathlib.Core.Logic.{⊎-elim}
-use Prim.Native.Nat.{_-_}
+use Prim.Native.Nat.{suc, _-_}
 use borrow.Author.Needs.{needs}
 use native.Mathlib.Omega.{arith}
 use lib.ListN.{take, getD}
@@ -10,9 +10,9 @@ use Rattle.theory.specs.Near.Laws.{standing-count, standing-item}
 use Rattle.theory.specs.Constraints.{NotOver}
 use Rattle.sparsity.specs.Reach.{Lent}
 use Rattle.sparsity.specs.Reach.Visits.{lent-by}
-use Rattle.sparsity.specs.Answer.{Kept, Ready}
-use Rattle.sparsity.specs.Answer.Laws.{kept-start, told-in, told-out, ready-lone, ready-four, over-here, kept-by, kept-marks, kept-skip}
-use Rattle.sparsity.specs.Answer.Laws.{kept-placed, in-list, two-ends, two-pos, ends-at, answer-not, answer-first}
+use Rattle.sparsity.specs.Answer.{Kept, Using}
+use Rattle.sparsity.specs.Answer.Laws.{kept-start, told-in, told-out, more-at, lone-open, using-lone, first-at, kept-by, kept-marks, kept-skip}
+use Rattle.sparsity.specs.Answer.Laws.{in-list, two-ends, two-pos, ends-at, answer-not, answer-first}
 use Rattle.sparsity.proofs.search.Statement.{statement}
 use Rattle.sparsity.proofs.search.Tie as tie
 
@@ -44,37 +44,29 @@ other-end-requires c κs =
     let h = c .before .before .before .loop-test .taken in
     (two-ends (c .before .before .before .before .before .before .pre .0) h refl, c .lowest .ensures .0, c .lowest .ensures .1)
 
-gather-requires : tie.Need-gather-requires Inv-loop μ-loop
-gather-requires c κs =
-    let l = c .before .before .before .before .before .before .before .before .loop in
-    let b = c .before .before .before .other-end .ensures in
-    (l .inv .0 .table, c .before .before .before .before .lowest .ensures .0, b .0, b .2, l .inv .1)
-
-free-ends-requires : tie.Need-free-ends-requires Inv-loop μ-loop
-free-ends-requires c κs = (c .before .before .before .before .before .lowest .ensures .0, c .before .before .before .before .other-end .ensures .0)
-
-seek-requires : tie.Need-seek-requires Inv-loop μ-loop
-seek-requires c κs =
-    let g = c .before .before .before .before .gather .ensures in
-    let b = c .before .before .before .before .before .before .before .before .other-end .ensures in
-    (g .0 .again .table, c .before .before .before .before .before .before .before .before .before .lowest .ensures .0, b .0, b .2, g .1)
+take-pair-requires : tie.Need-take-pair-requires Inv-loop μ-loop
+take-pair-requires c κs =
+    let l = c .before .before .before .before .before .before .before .before .before .loop in
+    let b = c .before .before .before .before .other-end .ensures in
+    (l .inv .0 .uses .table, c .before .before .before .before .before .lowest .ensures .0, b .0, b .2, l .inv .1)
 
 returns : tie.Need-returns Inv-loop μ-loop
 returns c =
-    let s = c .before .before .before .before .before .before .before .before .before .before .before .before .before .before .before .before in
-    let l = c .before .before .before .before .before .before .before .before .before .before .before .before .before .before .loop in
-    let h = c .before .before .before .before .before .before .before .before .before .before .before .before .before .loop-test .taken in
+    let s = c .before .before .before .before .before .before .before .before .before .before .before .before .before in
+    let l = c .before .before .before .before .before .before .before .before .before .before .before .loop in
+    let h = c .before .before .before .before .before .before .before .before .before .before .loop-test .taken in
     let lc = in-list (s .pre .0) h in
-    let a = c .before .before .before .before .before .before .before .before .before .before .lowest in
-    let b = c .before .before .before .before .before .before .before .before .before .other-end in
+    let a = c .before .before .before .before .before .before .before .lowest in
+    let b = c .before .before .before .before .before .before .other-end in
     let ends = ends-at (s .pre .0) h refl (a .ensures .0, a .ensures .1) (b .ensures) in
-    let g = c .before .before .before .before .before .gather in
-    let within = c .before .before .before .before .before .before .before .before .before .before .before .if1 .taken in
-    let i = told-in (s .pre .1) (l .c) lc (standing-item (s .pre .0) (l .c) h) within in
+    let i =
+    told-in (s .pre .1) (l .c) lc (standing-item (s .pre .0) (l .c) h) (c .before .before .before .before .before .before .before .before .if1 .taken) in
+    let more = more-at (s .pre .0 .simple) (s .pre .1) (l .c) lc ends i in
+    let cs = take (s .args .e) (s .args .start .now) in
     λ n below.
     answer-first (s .pre .0 .simple) n below
-    (over-here (s .pre .0 .simple) (s .pre .1) (l .c) lc ends (l .inv .0) i (g .ensures .0)
-    (omega (arith, c .before .before .before .before .free-ends .ensures, c .before .before .before .if3 .taken)) (c .seek .ensures))
+    (first-at (s .pre .0 .simple) (s .pre .1) (l .c) lc ends i (l .inv .0)
+    (c .before .take-pair .ensures .0 (take (l .c) cs) (take (suc (l .c)) cs) (s .args .core) (l .inv .0 .uses) more) (c .if3 .taken))
 
 place-requires : tie.Need-place-requires Inv-loop μ-loop
 place-requires c κs =
@@ -86,18 +78,13 @@ place-requires c κs =
     let b = c .before .other-end in
     let ends = ends-at (s .pre .0) h refl (a .ensures .0, a .ensures .1) (b .ensures) in
     let q = standing-item (s .pre .0) (l .c) h in
-    let i = told-in (s .pre .1) (l .c) lc q (c .before .before .before .if1 .taken) in
-    let cs = take (s .args .e) (s .args .start .now) in
-    let r : Ready cs (s .args .core) (l .c) (a .result) (b .result) (c .if2 .own) =
-    ⊎-elim
-    (λ w.
-    subst (Ready cs (s .args .core) (l .c) (a .result) (b .result)) (sym (w .6))
-    (ready-four (s .pre .0 .simple) (s .pre .1) (l .c) lc ends (l .inv .0) i (w .3 .ensures .0) (omega (arith, w .4 .ensures, w .5 .left))))
-    (λ w.
-    subst (Ready cs (s .args .core) (l .c) (a .result) (b .result)) (sym (w .1))
-    (ready-lone (s .pre .0 .simple) (s .pre .1) (l .c) lc ends (l .inv .0) i (told-out (s .pre .1) (l .c) lc q (w .0 .left))))
-    (c .if2 .came) in
-    (r .table, a .ensures .0, b .ensures .0, r .open-end)
+    let i = told-in (s .pre .1) (l .c) lc q (c .before .before .before .if1 .taken) in (
+      l .inv .0 .uses .table,
+      a .ensures .0,
+      b .ensures .0,
+      lone-open (s .pre .0 .simple) (s .pre .1) (l .c) lc ends i (l .inv .0)
+          (told-out (s .pre .1) (l .c) lc q (c .if2 .left)),
+    )
 
 add-c : tie.Need-add-c Inv-loop μ-loop
 add-c c = omega (arith, c .before .before .loop-test .taken)
@@ -115,22 +102,21 @@ loop-again c =
     let cs = take (s .args .e) (s .args .start .now) in
     ⊎-elim
     (λ v.
-    let a = v .1 in
-    let b = v .2 in
-    let ends = ends-at (s .pre .0) h refl (a .ensures .0, a .ensures .1) (b .ensures) in
+    let ends = ends-at (s .pre .0) h refl (v .1 .ensures .0, v .1 .ensures .1) (v .2 .ensures) in
     let i = told-in (s .pre .1) (l .c) lc q (v .0 .taken) in
-    let r : Ready cs (s .args .core) (l .c) (a .result) (b .result) (v .3 .own) =
+    let more = more-at (s .pre .0 .simple) (s .pre .1) (l .c) lc ends i in
+    let r : Using (take (suc (l .c)) cs) (s .args .core) (v .3 .own) =
     ⊎-elim
     (λ w.
-    subst (Ready cs (s .args .core) (l .c) (a .result) (b .result)) (sym (w .6))
-    (ready-four (s .pre .0 .simple) (s .pre .1) (l .c) lc ends (l .inv .0) i (w .3 .ensures .0) (omega (arith, w .4 .ensures, w .5 .left))))
+    subst (Using (take (suc (l .c)) cs) (s .args .core)) (sym (w .6))
+    (w .4 .ensures .0 (take (l .c) cs) (take (suc (l .c)) cs) (s .args .core) (l .inv .0 .uses) more .taken (w .5 .left)))
     (λ w.
-    subst (Ready cs (s .args .core) (l .c) (a .result) (b .result)) (sym (w .1))
-    (ready-lone (s .pre .0 .simple) (s .pre .1) (l .c) lc ends (l .inv .0) i (told-out (s .pre .1) (l .c) lc q (w .0 .left))))
+    subst (Using (take (suc (l .c)) cs) (s .args .core)) (sym (w .2))
+    (using-lone (s .pre .0 .simple) (s .pre .1) (l .c) lc ends i (l .inv .0) (told-out (s .pre .1) (l .c) lc q (w .0 .left)) (w .1 .ensures)))
     (v .3 .came) in (
-      kept-marks (s .pre .0 .simple) (s .pre .1) (l .c) lc ends (l .once) (l .twice) q (v .5) (v .8) (v .9)
-          (kept-placed (s .pre .0 .simple) (s .pre .1) (l .c) lc ends (l .inv .0) i r (v .4 .ensures)),
-      ⊎-elim (λ w. lent-by (v .6 ∙ w .7) (v .7 ∙ w .8) (w .3 .ensures .1)) (λ w. lent-by (v .6 ∙ w .2) (v .7 ∙ w .3) (l .inv .1)) (v .3 .came),
+      kept-marks (s .pre .0 .simple) (s .pre .1) (l .c) lc ends i (l .inv .0) (subst (Using (take (suc (l .c)) cs) (s .args .core)) (sym (v .4)) r) q
+          (v .7) (v .8),
+      ⊎-elim (λ w. lent-by (v .5 ∙ w .7) (v .6 ∙ w .8) (w .4 .ensures .1)) (λ w. lent-by (v .5 ∙ w .3) (v .6 ∙ w .4) (l .inv .1)) (v .3 .came),
     ))
     (λ v. (
       kept-by (s .pre .1) (l .c) lc (v .1) (v .4) (v .5)
@@ -146,11 +132,11 @@ returns-2 c =
     let cs = take (s .args .e) (s .args .start .now) in
     λ n below.
     answer-not (s .pre .0 .simple) n below
-    (subst NotOver (take-all (l .c) cs (omega (arith, standing-count (s .pre .0), c .loop-test .left))) (l .inv .0 .fine))
+    (subst NotOver (take-all (l .c) cs (omega (arith, standing-count (s .pre .0), c .loop-test .left))) (l .inv .0 .uses .fine))
 
 pub search-spec : {M : Type 1} → statement M
 search-spec =
     tie.close
     (tie.spec Inv-loop μ-loop (λ c κs. search needs) loop-holds mul-pair element-copy-out-pair lowest-requires
-    other-end-requires gather-requires free-ends-requires seek-requires returns place-requires add-c loop-less
+    other-end-requires take-pair-requires returns place-requires add-c loop-less
     loop-again returns-2)

@@ -1,0 +1,57 @@
+-- `pattern::missing` meets its contract: 11 and the rules of the price list, of the graph that is read. Assumes nothing.
+use borrow.Author.Needs.{needs}
+use Prim.Native.Nat.{ℕ}
+use mathlib.Core.Path.{_≡_, refl, subst}
+use mathlib.Core.List.{List}
+use Rattle.theory.specs.Graph.{Graph}
+use Rattle.sheet.specs.Answer.{byRule, Answers}
+use Rattle.space.specs.declared.Written.{Written}
+use Rattle.sheet.specs.Graph.{graphOf, overFault}
+use Rattle.sheet.specs.Field.{value, Bytes}
+use Rattle.sheet.specs.Answer.Laws.{next-rule, answers-refused}
+use Rattle.missing.specs.Missing.{cheapestField}
+use Rattle.pattern.specs.Entries.{heldSheet}
+use Rattle.pattern.specs.Entries.Reading.{FactsRead, refused-read, facts-read}
+use Rattle.pattern.proofs.missing.Statement.{statement}
+use Rattle.pattern.proofs.missing.Tie as tie
+
+returns : tie.Need-returns
+unfolding heldSheet
+returns c =
+    answers-refused (rw (refused-read _ (c .before .before .before .read-graph .ensures) (c .before .enum-told .given .1) (c .refusal .ensures)))
+
+-- the facts of the sheet
+read : (c : tie.After-missing-arg)
+    → FactsRead (c .before .before .before .before .before .before .before .before .before .before .before .before .before .args .bytes .now)
+    (c .before .before .before .before .got .given .0 .0)
+    (c .before .before .before .before .before .before .read-graph .last .1 .0)
+    (c .before .before .before .before .before .before .read-graph .last .1 .1 .0)
+    (c .before .before .before .before .before .before .read-graph .last .1 .1 .1 .0)
+read c =
+    let all : Bytes _ =
+    record { each = λ i. c .before .before .before .before .before .before .before .before .before .before .before .before .shared-slice-known .given i .fits } in
+    facts-read _ (c .before .before .before .before .before .before .read-graph .ensures) all
+    (c .before .before .before .before .got .given .1)
+
+-- the answer goes by the graph alone
+by-graph : (prices : List ℕ) {g g′ : Graph} {space left : List ℕ} {r : Written} → g ≡ g′
+    → Answers (byRule (overFault g) (cheapestField g prices)) space r left
+    → Answers (byRule (overFault g′) (cheapestField g′ prices)) space r left
+by-graph prices {space = space} {left} {r} e h = subst (λ (x : Graph). Answers (byRule (overFault x) (cheapestField x prices)) space r left) e h
+
+returns-2 : tie.Need-returns-2
+unfolding heldSheet
+returns-2 c =
+    let a = c .before .before .before .before .before .before .before .before .before .before .before .before .before .before .before .before .args in
+    let f = read (c .before .before .before) in
+    rw (
+      f .reads,
+      next-rule (overFault (graphOf (f .facts))) (value (f .facts) (f .rest)) (λ x rest. cheapestField (graphOf x) (a .prices .now)),
+    )
+    (by-graph (a .prices .now) (f .graph-read) (c .before .before .missing .ensures _))
+
+pub missing-spec : {M : Type 1} → statement M
+missing-spec =
+    tie.close
+    (tie.spec (λ c κs. (refl, refl, refl)) (λ c. search needs) (λ c. search needs) (λ c κs. search needs) returns
+    (λ c κs. read c .drawn-is) (λ c. search needs) returns-2)
