@@ -202,7 +202,8 @@ pub extern "C" fn pattern_check_plan(sheet: &[u8], plan: &[u16], out: &mut [u8])
     count(pattern::check_plan(sheet, plan, out))
 }
 
-// The steps of the engine's plan, seven numbers each: the cluster made, its three parts, the joint as a set, how many of its elements are lines, and how
+// The steps of the engine's plan, seven numbers each: the cluster made, its three parts, the joint as a set, how many of its elements are lines, and
+// how
 // many placements there are, 256 where that is not known; or the rule of 1 to 11 and 17 that refuses.
 #[no_mangle]
 pub extern "C" fn pattern_steps(sheet: &[u8], out: &mut [u64]) -> i32

@@ -1,4 +1,5 @@
--- The plan as a list of step records that a caller lends. Document 02, 2026-04: "A caller may also take the plan as a list of step records, lent by the
+-- The plan as a list of step records that a caller lends. Document 02, 2026-04: "A caller may also take the plan as a list of step records, lent by
+-- the
 -- caller, one record for each step. A record holds what the step's report line gives; an over sheet meets 11."
 use Prim.Native.Nat.{ℕ}
 use mathlib.Core.Path.{_≡_}

@@ -1,4 +1,5 @@
-// The plan as a list of step records that a caller lends (document 02, 2026-04): the steps by value from a graph in lent arrays, and one thin walk that
+// The plan as a list of step records that a caller lends (document 02, 2026-04): the steps by value from a graph in lent arrays, and one thin walk
+// that
 // fills the list. Contracts cite specs/Records.antt.
 ghost use mathlib.Core.Path.{_≡_};
 ghost use mathlib.Core.List.{[]};

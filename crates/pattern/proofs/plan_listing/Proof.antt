@@ -17,10 +17,16 @@ returns c =
 
 -- the facts of the sheet
 read : (c : tie.After-sizes2)
-    → FactsRead (c .before .before .before .before .before .before .before .before .before .before .before .args .bytes .now) (c .before .before .before .before .got .given .0 .0)
-    (c .before .before .before .before .before .before .read-graph .last .1 .0) (c .before .before .before .before .before .before .read-graph .last .1 .1 .0) (c .before .before .before .before .before .before .read-graph .last .1 .1 .1 .0)
+    → FactsRead (c .before .before .before .before .before .before .before .before .before .before .before .args .bytes .now)
+    (c .before .before .before .before .got .given .0 .0)
+    (c .before .before .before .before .before .before .read-graph .last .1 .0)
+    (c .before .before .before .before .before .before .read-graph .last .1 .1 .0)
+    (c .before .before .before .before .before .before .read-graph .last .1 .1 .1 .0)
 read c =
-    let all : Bytes _ = record { each = λ i. c .before .before .before .before .before .before .before .before .before .before .shared-slice-known .given i .fits } in
+    let all : Bytes _ = record {
+      each = λ i. c .before .before .before .before .before .before .before .before .before
+          .before .shared-slice-known .given i .fits;
+    } in
     facts-read _ (c .before .before .before .before .before .before .read-graph .ensures) all (c .before .before .before .before .got .given .1)
 
 returns-2 : tie.Need-returns-2

@@ -7,7 +7,8 @@ use Rattle.pattern.proofs.saved_step_numbers.Tie as tie
 returns : tie.Need-returns
 returns c =
     let f = c .before .before .before .before in
-    listed-numbers (f .before .before .saved-listing .ensures) (f .before .no-records .ensures) (f .fill-on .ensures) (c .before .before .put-numbers .ensures)
+    listed-numbers (f .before .before .saved-listing .ensures) (f .before .no-records .ensures) (f .fill-on .ensures)
+    (c .before .before .put-numbers .ensures)
 
 pub saved-step-numbers-spec : {M : Type 1} → statement M
 saved-step-numbers-spec =

@@ -1,5 +1,7 @@
--- `pattern::steps` meets its contract: a walk of its MIR, by hand. The steps are made by value, and the list is passed on to `fill` for good, at its own
--- lifetime, share and name: what `fill` says of the last list is what `steps` says. All that the proof knows of the two is that they meet their contracts.
+-- `pattern::steps` meets its contract: a walk of its MIR, by hand. The steps are made by value, and the list is passed on to `fill` for good, at its
+-- own
+-- lifetime, share and name: what `fill` says of the last list is what `steps` says. All that the proof knows of the two is that they meet their
+-- contracts.
 -- Assumes nothing.
 use mathlib.Core.Path.{_≡_, refl, ap, subst}
 use Prim.Native.Nat.{ℕ, _<_, _^_}
@@ -17,7 +19,8 @@ use prog.Wp.{Heap, Calls, Loops, WpFn, Tables}
 use ghost.Atoms.{Atoms, sem}
 use contract.Monad.{Fun, fact}
 use contract.Running.{givenOf, tables, tablesOf}
-use types.Kit.{Given, ‵, raw, _⊛_, ⋆, some, later, _$_, _∵_, !, qed, by, move, keep, drop, use1, use2, split, join, pick, rewrite, fsplit, fjoin, feqL}
+use types.Kit.{Given, ‵, raw, _⊛_, ⋆, some, later, _$_, _∵_, !, qed, by, move, keep, drop, use1, use2, split, join, pick, rewrite, fsplit, fjoin}
+use types.Kit.{feqL}
 use types.Kit.{suffices, frame, await, done}
 use types.Run.{look, init, forget, stop, hop, fld, from, load, addr, and-then, no-more, assigns, land, returns, enter, alloc1, alloc0, params1, pass1}
 use types.Run.{pass0, free1, free0}
@@ -37,7 +40,8 @@ use denote.Triple.Call.{calls-at}
 use denote.Triple.Entry.{onEntry}
 use denote.Triple.Spec.{Meets, tripleOf}
 use denote.Triple.Table.{entered, cited}
-use denote.Triple.Walked.{says, Stays, stay-none-slice, gave-slice, walkOf, AllGo, goes-none-slice, goes-gave-slice, Walks, ends-at, walked, walk-meets}
+use denote.Triple.Walked.{says, Stays, stay-none-slice, gave-slice, walkOf, AllGo, goes-none-slice, goes-gave-slice, Walks, ends-at, walked}
+use denote.Triple.Walked.{walk-meets}
 use denote.Exit.{yes}
 use denote.Triple.Clauses.{ensured, lasts}
 use Rattle.theory.specs.declared.Step.{Step}
@@ -75,7 +79,8 @@ module _ {M : Type 1} (𝓤 : URA M) (H : Heap 𝓤) (A : Atoms 𝓤) (at-mem : 
   abbrev Fill : Contract 𝓤
   Fill = tripleOf 𝓤 H A fill.signature (fill.spec 𝓤 H A at-mem run)
 
-module _ {M : Type 1} (𝓤 : URA M) (H : Heap 𝓤) (A : Atoms 𝓤) (W : Given 𝓤 H A) (at-mem : Memory → SProp 𝓤) (run : Routine → Fun 𝓤) (κ κ′ : Lft) (q q′ : Share)
+module _ {M : Type 1} (𝓤 : URA M) (H : Heap 𝓤) (A : Atoms 𝓤) (W : Given 𝓤 H A) (at-mem : Memory → SProp 𝓤) (run : Routine → Fun 𝓤) (κ κ′ : Lft)
+    (q q′ : Share)
     (sheet : RefT (List ℕ)) (b o : ℕ) (γ : GName) (xs : List Step) where
   abbrev out : RefT (List Step)
   out = record { ptr = (b, o); name = γ; now = xs }
@@ -112,10 +117,12 @@ module _ {M : Type 1} (𝓤 : URA M) (H : Heap 𝓤) (A : Atoms 𝓤) (W : Given
 
   goes-listing : ent 𝓤 (sep 𝓤 (A .lft κ q) (sem 𝓤 H A Own)) (PlanListing 𝓤 H A at-mem run .pre to-listing)
   goes-listing =
-      qed W (‵ (flft κ q) ∷ ‵ Own ∷ []) ∵ nothing ! $ move ! (2 ∷ 0 ∷ []) $ fjoin ! $ nothing ! $ move ! (2 ∷ 0 ∷ []) $ join ! $ join ! $ frame ! $ done !
+      qed W (‵ (flft κ q) ∷ ‵ Own ∷ []) ∵ nothing ! $ move ! (2 ∷ 0 ∷ []) $ fjoin ! $ nothing ! $ move ! (2 ∷ 0 ∷ []) $ join ! $ join ! $ frame ! $
+      done !
 
   said-listing : (p : Listing)
-      → ent 𝓤 (ensured 𝓤 H A plan-listing.ended (plan-listing.clauses 𝓤 H A at-mem run) (κ, tt) (sheet, tt) tt p) (fact 𝓤 (Listed (stepsField (sheet .now)) p))
+      → ent 𝓤 (ensured 𝓤 H A plan-listing.ended (plan-listing.clauses 𝓤 H A at-mem run) (κ, tt) (sheet, tt) tt p)
+      (fact 𝓤 (Listed (stepsField (sheet .now)) p))
   said-listing p = exE 𝓤 _ (λ ws. snd∗ 𝓤 (sem 𝓤 H A (lasts plan-listing.ended (κ, tt) (sheet, tt) ws)) (fact 𝓤 (Listed (stepsField (sheet .now)) p)))
 
   abbrev to-fill : Listing → Fill 𝓤 H A at-mem run .Ghost
@@ -133,7 +140,8 @@ module _ {M : Type 1} (𝓤 : URA M) (H : Heap 𝓤) (A : Atoms 𝓤) (W : Given
   Says p r zs = (r ≡ takenOf (length xs) (p .rule) (p .count) .answer) × (zs ≡ filled xs p)
 
   exits : (p : Listing) → Listed (stepsField (sheet .now)) p → (r : Written) (w : Val) (zs : List Step) → Says p r zs → length zs ≡ length xs
-      → ent 𝓤 (⋆ 𝓤 H A ((‵ (flft κ q) ⊛ ‵ ftrue) ∷ (‵ (flft κ′ q′) ⊛ ‵ ftrue) ∷ ‵ Own ∷ ‵ (finally T.the-row γ zs) ∷ ‵ (N.the-row .own r (w ∷ [])) ∷ [])) (Post w)
+      → ent 𝓤 (⋆ 𝓤 H A ((‵ (flft κ q) ⊛ ‵ ftrue) ∷ (‵ (flft κ′ q′) ⊛ ‵ ftrue) ∷ ‵ Own ∷ ‵ (finally T.the-row γ zs) ∷ ‵ (N.the-row .own r (w ∷ []))
+      ∷ [])) (Post w)
   exits p is r w zs e l =
       qed W ((‵ (flft κ q) ⊛ ‵ ftrue) ∷ (‵ (flft κ′ q′) ⊛ ‵ ftrue) ∷ ‵ Own ∷ ‵ (finally T.the-row γ zs) ∷ ‵ (N.the-row .own r (w ∷ [])) ∷ []) ∵
       suffices ! _ (ends-at 𝓤 H A steps.ended stayed (steps.clauses 𝓤 H A at-mem run) W (((κ, (κ′, tt)), (q, (q′, tt)), tt, x, at), tt) w r
@@ -143,7 +151,8 @@ module _ {M : Type 1} (𝓤 : URA M) (H : Heap 𝓤) (A : Atoms 𝓤) (W : Given
   spelled : (p : Listing) (v : Val) → Is P.the-row p (v ∷ []) → Is P.the-row p (pv p ∷ [])
   spelled p v gv = subst (Is P.the-row p) (LL.tells P.the-type P′.the-laws p (v ∷ []) gv) gv
 
-  module _ (C : Calls 𝓤 H) (Λ : Loops 𝓤 H) (fm : FmC 𝓤 H (W .laws) C) (known-listing : Triple 𝓤 (C #pattern·plan-listing) (PlanListing 𝓤 H A at-mem run))
+  module _ (C : Calls 𝓤 H) (Λ : Loops 𝓤 H) (fm : FmC 𝓤 H (W .laws) C)
+      (known-listing : Triple 𝓤 (C #pattern·plan-listing) (PlanListing 𝓤 H A at-mem run))
       (known-fill : Triple 𝓤 (C #steps·fill) (Fill 𝓤 H A at-mem run)) where
     walk : length (sheet .now) < 2 ^ 64 → Room T.the-row (length xs)
         → ent 𝓤 (onEntry 𝓤 H A steps.signature (κ, (κ′, tt)) (q, (q′, tt)) x at) (WpFn 𝓤 H C Λ code.function (bv ∷ sv ∷ []) Post)
@@ -151,15 +160,19 @@ module _ {M : Type 1} (𝓤 : URA M) (H : Heap 𝓤) (A : Atoms 𝓤) (W : Given
         qed W ((‵ (flft κ q) ⊛ ‵ (flft κ′ q′) ⊛ ‵ ftrue) ∷ ‵ (owns (ShrSlice (named 0) κ u8 ∷ MutSlice (named 1) κ′ T.the-row ∷ []) x at) ∷ []) ∵
         enter ! C Λ code.function (bv ∷ sv ∷ []) _ $
         alloc1 ! (λ l₀. alloc1 ! (λ l₁. alloc1 ! (λ l₂. alloc1 ! (λ l₃. alloc1 ! (λ l₄. alloc1 ! (λ l₅. alloc0 ! $ params1 ! $
-        pass1 ! (init ! 8 refl (tt, (tt, (record { fits = gb }, tt)))) $ pass1 ! (init ! 6 refl (tt, (tt, (record { fits = room .0 }, tt)))) $ pass0 ! $
+        pass1 ! (init ! 8 refl (tt, (tt, (record { fits = gb }, tt)))) $ pass1 ! (init ! 6 refl (tt, (tt, (record { fits = room .0 }, tt)))) $
+        pass0 ! $
         -- [_5; …; _4; …; _3; …; _2; …; _1; …; room for _0; …; the tokens; what sheet and out own]
         move ! (13 ∷ []) $ fsplit ! $ use1 W (‵ Own ⊛ ‵ Own) (shr-slice-copy 𝓤 H A W (named 0) κ u8 .twice sheet (bv ∷ [])) $ split ! $
         move ! (15 ∷ []) $ split ! $ move ! (0 ∷ 2 ∷ []) $ use2 W (raw (PlanListing 𝓤 H A at-mem run .pre to-listing)) goes-listing $
-        calls-at ! fm (PlanListing 𝓤 H A at-mem run) known-listing to-listing (and-then ! (load ! (from ! (stop !)) (look ! 12 refl)) (no-more !)) (λ v.
+        calls-at ! fm (PlanListing 𝓤 H A at-mem run) known-listing to-listing (and-then ! (load ! (from ! (stop !)) (look ! 12 refl)) (no-more !))
+        (λ v.
         use1 W (later (some (λ (p : Listing). ((‵ (flft κ q) ⊛ ‵ ftrue) ⊛ ‵ (P.the-row .own p (v ∷ [])))
-        ⊛ raw (ensured 𝓤 H A plan-listing.ended (plan-listing.clauses 𝓤 H A at-mem run) (κ, tt) (sheet, tt) tt p)))) (id⊢ 𝓤 _) $ await ! tt $ pick ! (λ p.
+        ⊛ raw (ensured 𝓤 H A plan-listing.ended (plan-listing.clauses 𝓤 H A at-mem run) (κ, tt) (sheet, tt) tt p)))) (id⊢ 𝓤 _) $ await ! tt $
+        pick ! (λ p.
         split ! $ move ! (1 ∷ []) $ use1 W (raw (fact 𝓤 (Listed (stepsField (sheet .now)) p))) (said-listing p) $
-        heard ! (Listed (stepsField (sheet .now)) p) (λ is. split ! $ move ! (1 ∷ []) $ peeks ! P.the-row (Is P.the-row) (shows 𝓤 H A P.the-row) p (v ∷ []) (λ gv.
+        heard ! (Listed (stepsField (sheet .now)) p) (λ is. split ! $ move ! (1 ∷ []) $ peeks ! P.the-row (Is P.the-row) (shows 𝓤 H A P.the-row) p
+        (v ∷ []) (λ gv.
         land ! (from ! (stop !)) (init ! 9 refl (LL.lawful P.the-type P′.the-laws 𝓤 H A W .typed p _ gv .0)) $
         rewrite ! 9 (λ (w : Val). ‵ (fat fullShare P′.mir l₃ 0 w)) (ap only (LL.tells P.the-type P′.the-laws p (v ∷ []) gv)) refl $ drop ! $
         -- [the sheet's token; the list's; what sheet's borrow owns; what out's owns; _5; …; _4; …; _3; …; _2; …; _1; …; room for _0; …]
@@ -178,7 +191,8 @@ module _ {M : Type 1} (𝓤 : URA M) (H : Heap 𝓤) (A : Atoms 𝓤) (W : Given
         ‵ (lasts fill.ended (κ′, tt) (out, (p, tt)) zs) ⊛ raw (fact 𝓤 (Says p r (zs .0))))) (id⊢ 𝓤 _) $ pick ! (λ zs.
         split ! $ move ! (1 ∷ []) $ heard ! (Says p r (zs .0)) (λ e. fsplit ! $ fsplit ! $ move ! (1 ∷ []) $ feqL ! (λ l.
         move ! (2 ∷ []) $ split ! $ move ! (1 ∷ []) $ peeks ! N.the-row (Is N.the-row) (shows 𝓤 H A N.the-row) r (w ∷ []) (λ gr.
-        -- [the result; the list's token; the last list; …; the sheet's token; what sheet's borrow owns; _5; …; _4; …; _3; …; _2; …; _1; …; room for _0; …]
+        -- [the result; the list's token; the last list; …; the sheet's token; what sheet's borrow owns; _5; …; _4; …; _3; …; _2; …; _1; …; room for
+        -- _0; …]
         land ! (from ! (stop !)) (init ! 17 refl (EL.lawful N.the-type N′.the-laws 𝓤 H A W tt .typed r _ gr .0)) $
         returns ! (look ! 17 refl) $ forget ! 7 refl $ forget ! 9 refl $ forget ! 11 refl $ forget ! 13 refl $ forget ! 15 refl $ forget ! 17 refl $
         move ! (17 ∷ 18 ∷ []) $ free1 ! $ move ! (15 ∷ 16 ∷ []) $ free1 ! $ move ! (13 ∷ 14 ∷ []) $ free1 ! $ move ! (11 ∷ 12 ∷ []) $ free1 ! $
@@ -187,7 +201,8 @@ module _ {M : Type 1} (𝓤 : URA M) (H : Heap 𝓤) (A : Atoms 𝓤) (W : Given
 
 module _ {M : Type 1} (𝓤 : URA M) (H : Heap 𝓤) (A : Atoms 𝓤) (W : Given 𝓤 H A) (at-mem : Memory → SProp 𝓤) (run : Routine → Fun 𝓤) where
   steps-walks : (C : Calls 𝓤 H) (Λ : Loops 𝓤 H) → FmC 𝓤 H (W .laws) C → Triple 𝓤 (C #pattern·plan-listing) (PlanListing 𝓤 H A at-mem run)
-      → Triple 𝓤 (C #steps·fill) (Fill 𝓤 H A at-mem run) → Walks 𝓤 H A steps.ended stayed (WpFn 𝓤 H C Λ code.function) (steps.clauses 𝓤 H A at-mem run)
+      → Triple 𝓤 (C #steps·fill) (Fill 𝓤 H A at-mem run) → Walks 𝓤 H A steps.ended stayed (WpFn 𝓤 H C Λ code.function)
+      (steps.clauses 𝓤 H A at-mem run)
   steps-walks C Λ fm known-listing known-fill =
       walked 𝓤 H A steps.ended stayed (steps.clauses 𝓤 H A at-mem run) (WpFn 𝓤 H C Λ code.function) (λ κs. (slice-vals, (slice-vals, tt)))
       (λ κs. (shr-slice-tells (named 0) (κs .0) u8, (mut-slice-tells (named 1) (κs .1 .0) T.the-row, tt)))
@@ -198,7 +213,8 @@ module _ {M : Type 1} (𝓤 : URA M) (H : Heap 𝓤) (A : Atoms 𝓤) (W : Given
   goes : AllGo 𝓤 H A W 2 (steps.signature .params) (steps.ended .kept) stayed
   goes = (goes-none-slice 𝓤 H A W 2 (0 ∷ []) tt (plain (λ _. u8)) yes, (goes-gave-slice 𝓤 H A W 2 1 tt (plain (λ _. T.the-row)), tt))
 
-steps-meets : {M : Type 1} (𝓤 : URA M) (H : Heap 𝓤) (A : Atoms 𝓤) (W : Given 𝓤 H A) (at-mem : Memory → SProp 𝓤) (run : Routine → Fun 𝓤) (𝓣 : Tables 𝓤 H)
+steps-meets : {M : Type 1} (𝓤 : URA M) (H : Heap 𝓤) (A : Atoms 𝓤) (W : Given 𝓤 H A) (at-mem : Memory → SProp 𝓤) (run : Routine → Fun 𝓤)
+    (𝓣 : Tables 𝓤 H)
     → Triple 𝓤 (𝓣 .C #pattern·plan-listing) (PlanListing 𝓤 H A at-mem run) → Triple 𝓤 (𝓣 .C #steps·fill) (Fill 𝓤 H A at-mem run)
     → Meets 𝓤 H A steps.signature (WpFn 𝓤 H (𝓣 .C) (𝓣 .Λ) code.function) (steps.spec 𝓤 H A at-mem run)
 steps-meets 𝓤 H A W at-mem run 𝓣 known-listing known-fill =

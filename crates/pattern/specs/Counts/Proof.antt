@@ -136,7 +136,8 @@ module _ (bytes : List ℕ) (all : Bytes bytes) where
       listed-most (graphOf f) prices (accepted-most f (held-accepted bytes f t all was .0)) items rest e1)
 
   -- the steps of a list of merges of a held sheet
-  few-numbers : (x : Field (List Step)) → ((steps : List Step) (u : List ℕ) → x ≡ value steps u → length (stepNumbers steps) ≤ 434) → AtMost 434 (numbersField x)
+  few-numbers : (x : Field (List Step)) → ((steps : List Step) (u : List ℕ) → x ≡ value steps u → length (stepNumbers steps) ≤ 434) → AtMost 434
+      (numbersField x)
   few-numbers x h items rest e =
       next-value x _ e (λ steps u was e1. let same : stepNumbers steps ≡ items = cc in omega (arith, h steps u was, ap length same))
 

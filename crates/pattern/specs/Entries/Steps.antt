@@ -50,7 +50,8 @@ module _ (what : Graph → Field (List Step)) (bytes : List ℕ) where
 
 -- the numbers of a list of 62 that is filled
 pub listed-numbers : {x : Field (List Step)} {l : Listing} {old : List Step} {f : Filled} {space left : List ℕ} {r : Written} → Listed x l
-    → old ≡ replicate 62 blankStep → f ≡ filledOf old l → Answers (numbersFrom (f .list) (f .answer)) space r left → Answers (numbersField x) space r left
+    → old ≡ replicate 62 blankStep → f ≡ filledOf old l → Answers (numbersFrom (f .list) (f .answer)) space r left
+    → Answers (numbersField x) space r left
 unfolding filledOf
 listed-numbers {x} {l} {old} {f} {space} {left} {r} is blank e h =
     let w = fills old is (refl, refl) in

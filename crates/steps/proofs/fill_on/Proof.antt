@@ -1,4 +1,5 @@
--- `steps::fill_on` meets its contract: a walk of its MIR, by hand. The array is copied into a local, which is lent to `fill` as a slice, for a lifetime that
+-- `steps::fill_on` meets its contract: a walk of its MIR, by hand. The array is copied into a local, which is lent to `fill` as a slice, for a
+-- lifetime that
 -- is made for the call, and is back at the last list that `fill` ensures. All that the proof knows of `fill` is that it meets its contract.
 -- Assumes nothing.
 use mathlib.Core.Path.{_≡_, refl, sym, _∙_, ap, subst}
@@ -18,8 +19,10 @@ use prog.Wp.{Heap, Calls, Loops, WpFn, Tables}
 use ghost.Atoms.{Atoms, sem}
 use contract.Monad.{Fun, fact}
 use contract.Running.{givenOf, tables, tablesOf}
-use types.Kit.{Given, ‵, raw, _⊛_, ⋆, some, later, _$_, _∵_, !, qed, by, move, keep, drop, use1, use2, use3, split, join, pick, rewrite, fsplit, fjoin, fpick, fpack, feqI, feqL, suffices, frame, await, done}
-use types.Run.{look, init, forget, stop, from, load, lit, addr, of-opd, and-then, no-more, assigns, land, returns, enter, alloc1, alloc0, params1, pass1, pass0, free1, free0}
+use types.Kit.{Given, ‵, raw, _⊛_, ⋆, some, later, _$_, _∵_, !, qed, by, move, keep, drop, use1, use2, use3, split, join, pick, rewrite, fsplit}
+use types.Kit.{fjoin, fpick, fpack, feqI, feqL, suffices, frame, await, done}
+use types.Run.{look, init, forget, stop, from, load, lit, addr, of-opd, and-then, no-more, assigns, land, returns, enter, alloc1, alloc0, params1}
+use types.Run.{pass1, pass0, free1, free0}
 use types.Part.{agg}
 use types.SemTy.{cells, Arr}
 use types.Share.{arr-parts}
@@ -86,7 +89,8 @@ tells : Tells A62 (Is A62) vals
 tells = array-tells T.the-row (LL.vals T.the-type T′.the-laws) (LL.tells T.the-type T′.the-laws) 62
 
 -- the same array as a field of `Filled`: a field's records are tuples there
-each-tuple : (xs : List Step) (us : List Val) → shadow (each Step (T.the-row .own) xs us) → shadow (each (T.the-field .row .Denot) (T.the-field .row .own) (map (T.the-type .to) xs) us)
+each-tuple : (xs : List Step) (us : List Val) → shadow (each Step (T.the-row .own) xs us)
+    → shadow (each (T.the-field .row .Denot) (T.the-field .row .own) (map (T.the-type .to) xs) us)
 each-tuple [] [] s = s
 each-tuple [] (u ∷ us) s = s
 each-tuple (x ∷ xs) [] s = s
@@ -110,14 +114,17 @@ module _ {M : Type 1} (𝓤 : URA M) (H : Heap 𝓤) (A : Atoms 𝓤) (W : Given
   cells-in : (xs : List Step) → Is A62 xs (av xs ∷ []) → (l : ℕ) → ent 𝓤 (H .at fullShare amir l 0 (av xs)) (sem 𝓤 H A (cells (mem T.the-row) xs l 0))
   unfolding partOf
   cells-in xs g l =
-      qed W (‵ (fat fullShare amir l 0 (av xs)) ∷ []) ∵ use1 W (‵ (cellAt fullShare (A62 .mir) (av xs ∷ []) l 0)) (W .laws .at-raw fullShare amir l 0 (av xs)) $
-      owned ! A62 (Is A62) makes xs _ g $ move ! (1 ∷ 0 ∷ []) $ fjoin ! $ fpack ! (List Val) (λ vs. fsep (cellAt fullShare (A62 .mir) vs l 0) (A62 .own xs vs)) (av xs ∷ []) $
+      qed W (‵ (fat fullShare amir l 0 (av xs)) ∷ []) ∵ use1 W (‵ (cellAt fullShare (A62 .mir) (av xs ∷ []) l 0))
+      (W .laws .at-raw fullShare amir l 0 (av xs)) $
+      owned ! A62 (Is A62) makes xs _ g $ move ! (1 ∷ 0 ∷ []) $ fjoin ! $ fpack ! (List Val)
+      (λ vs. fsep (cellAt fullShare (A62 .mir) vs l 0) (A62 .own xs vs)) (av xs ∷ []) $
       use1 W (‵ (arr-parts (shares T.the-row) 62 .part fullShare xs l 0)) (array-apart 𝓤 H A W T.the-row fullShare tt 62 xs l 0) $ fsplit ! $ drop ! $
       use1 W (‵ (cells (mem T.the-row) xs l 0)) (whole-in 𝓤 H A W T.the-row xs l 0) $ done !
 
   cells-out : (xs : List Step) → length xs ≡ 62 → (l : ℕ) → ent 𝓤 (sem 𝓤 H A (cells (mem T.the-row) xs l 0)) (sem 𝓤 H A (partAt A62 fullShare xs l 0))
   cells-out xs e l =
-      qed W (‵ (cells (mem T.the-row) xs l 0) ∷ []) ∵ use1 W (‵ (row T.the-row fullShare xs l 0)) (whole-out 𝓤 H A W T.the-row xs l 0) $ feqI ! ℕ (length xs) 62 e $ fjoin ! $
+      qed W (‵ (cells (mem T.the-row) xs l 0) ∷ []) ∵ use1 W (‵ (row T.the-row fullShare xs l 0)) (whole-out 𝓤 H A W T.the-row xs l 0) $
+      feqI ! ℕ (length xs) 62 e $ fjoin ! $
       use1 W (‵ (partAt A62 fullShare xs l 0)) (array-whole 𝓤 H A W T.the-row fullShare 62 xs l 0) $ done !
 
 module _ {M : Type 1} (𝓤 : URA M) (H : Heap 𝓤) (A : Atoms 𝓤) (W : Given 𝓤 H A) (at-mem : Memory → SProp 𝓤) (run : Routine → Fun 𝓤) (p : Listing)
@@ -165,7 +172,8 @@ module _ {M : Type 1} (𝓤 : URA M) (H : Heap 𝓤) (A : Atoms 𝓤) (W : Given
       → ent 𝓤 (⋆ 𝓤 H A (‵ ftrue ∷ [])) (Post v)
   exits gp go r v e gr =
       qed W (‵ ftrue ∷ []) ∵
-      suffices ! _ (ends-at 𝓤 H A fill-on.ended stayed (fill-on.clauses 𝓤 H A at-mem run) W ((tt, tt, tt, x, at), tt) v r (tt, (tt, tt)) (tt, (tt, tt))) $
+      suffices ! _ (ends-at 𝓤 H A fill-on.ended stayed (fill-on.clauses 𝓤 H A at-mem run) W ((tt, tt, tt, x, at), tt) v r (tt, (tt, tt))
+      (tt, (tt, tt))) $
       says ! e $ frame ! $ nothing ! $ owned ! A62 (Is A62) (makes 𝓤 H A W) old _ go $ fjoin ! $
       owned ! P.the-row (Is P.the-row) (LL.makes P.the-type P′.the-plain 𝓤 H A) p _ gp $ fjoin ! $
       owned ! L.the-row (Is L.the-row) (LL.makes L.the-type L′.the-plain 𝓤 H A) r _ gr $ move ! (1 ∷ 0 ∷ []) $ done !
@@ -187,7 +195,8 @@ module _ {M : Type 1} (𝓤 : URA M) (H : Heap 𝓤) (A : Atoms 𝓤) (W : Given
     unfolding partOf
     walk gp go e62 room =
         qed W (‵ ftrue ∷ ‵ (owns (P.the-row ∷ A62 ∷ []) x at) ∷ []) ∵ enter ! Cs Λ code.function (pv ∷ av old ∷ []) _ $
-        alloc1 ! (λ l₀. alloc1 ! (λ l₁. alloc1 ! (λ l₂. alloc1 ! (λ l₃. alloc1 ! (λ l₄. alloc1 ! (λ l₅. alloc1 ! (λ l₆. alloc1 ! (λ l₇. alloc0 ! $ params1 ! $
+        alloc1 ! (λ l₀. alloc1 ! (λ l₁. alloc1 ! (λ l₂. alloc1 !
+        (λ l₃. alloc1 ! (λ l₄. alloc1 ! (λ l₅. alloc1 ! (λ l₆. alloc1 ! (λ l₇. alloc0 ! $ params1 ! $
         pass1 ! (init ! 12 refl (LL.lawful P.the-type P′.the-laws 𝓤 H A W .typed p _ gp .0)) $
         pass1 ! (init ! 10 refl (lawful 𝓤 H A W .typed old _ go .0)) $ pass0 ! $
         -- [_7; …; _6; …; _5; …; _4; …; _3; …; _2; …; _1; …; room for _0; …; true; what l and old own]
@@ -195,7 +204,8 @@ module _ {M : Type 1} (𝓤 : URA M) (H : Heap 𝓤) (A : Atoms 𝓤) (W : Given
         assigns ! (addr ! (from ! (stop !))) (from ! (stop !)) (init ! 4 refl (tt, tt)) $
         assigns ! (agg ! (and-then ! (load ! (from ! (stop !)) (look ! 4 refl)) (and-then ! (lit ! tt) (no-more !)))) (from ! (stop !))
         (init ! 2 refl (tt, (tt, (record { fits = lit< tt }, tt)))) $
-        rewrite ! 2 (λ (m : ℕ). ‵ (fat fullShare (sliceTy (tyRef erased mut (pointee (T.the-row .written)))) l₆ 0 (sliceVal (l₃, 0) m))) (sym e62) refl $
+        rewrite ! 2 (λ (m : ℕ). ‵ (fat fullShare (sliceTy (tyRef erased mut (pointee (T.the-row .written)))) l₆ 0 (sliceVal (l₃, 0) m)))
+        (sym e62) refl $
         -- the local is lent for a lifetime α, as a slice
         move ! (8 ∷ []) $ use1 W (‵ (cells (mem T.the-row) old l₃ 0)) (cells-in 𝓤 H A W old go l₃) $ lft-new ! tt (λ α. move ! (1 ∷ []) $
         use1 W (later (some (λ (γ : GName). ‵ (MutSlice (named 0) (α ∷ []) T.the-row .own (ref l₃ γ) (sv l₃ ∷ []))
@@ -205,7 +215,8 @@ module _ {M : Type 1} (𝓤 : URA M) (H : Heap 𝓤) (A : Atoms 𝓤) (W : Given
         calls-at ! fm (Fill 𝓤 H A at-mem run) known (to α l₃ γ)
         (and-then ! (load ! (from ! (stop !)) (look ! 4 refl)) (and-then ! (load ! (from ! (stop !)) (look ! 13 refl)) (no-more !))) (λ u.
         use1 W (later (some (λ (r : Written). ((‵ (flft (α ∷ []) fullShare) ⊛ ‵ ftrue) ⊛ ‵ (N.the-row .own r (u ∷ [])))
-        ⊛ raw (ensured 𝓤 H A fill.ended (fill.clauses 𝓤 H A at-mem run) (α ∷ [], tt) (ref l₃ γ, (p, tt)) tt r)))) (id⊢ 𝓤 _) $ await ! tt $ pick ! (λ r.
+        ⊛ raw (ensured 𝓤 H A fill.ended (fill.clauses 𝓤 H A at-mem run) (α ∷ [], tt) (ref l₃ γ, (p, tt)) tt r)))) (id⊢ 𝓤 _) $ await ! tt $
+        pick ! (λ r.
         -- what `fill` ensures, at some last list
         split ! $ move ! (1 ∷ []) $ use1 W (some (λ (zs : List Step × (Unit {0} × Unit {0})).
         ‵ (lasts fill.ended (α ∷ [], tt) (ref l₃ γ, (p, tt)) zs) ⊛ raw (fact 𝓤 (Says r (zs .0))))) (id⊢ 𝓤 _) $ pick ! (λ zs.
@@ -222,8 +233,10 @@ module _ {M : Type 1} (𝓤 : URA M) (H : Heap 𝓤) (A : Atoms 𝓤) (W : Given
         peeks ! A62 (Is A62) (shows 𝓤 H A A62) (zs .0) (av (zs .0) ∷ []) (λ gz. drop ! $
         -- [_3; true; true; _7; …; _6; …; _5; …; _4; …; what frees _3; _2; …; _1; …; room for _0; …; true; what l and old own]
         assigns ! (of-opd ! (load ! (from ! (stop !)) (look ! 0 refl))) (from ! (stop !)) (init ! 3 refl (lawful 𝓤 H A W .typed (zs .0) _ gz .0)) $
-        assigns ! (agg ! (and-then ! (load ! (from ! (stop !)) (look ! 9 refl)) (and-then ! (load ! (from ! (stop !)) (look ! 3 refl)) (no-more !)))) (from ! (stop !))
-        (init ! 16 refl (LL.lawful L.the-type L′.the-laws 𝓤 H A W .typed (record { answer = r; list = zs .0 }) _ (made r (zs .0) (spelled r u gr) gz) .0)) $
+        assigns ! (agg ! (and-then ! (load ! (from ! (stop !)) (look ! 9 refl)) (and-then ! (load ! (from ! (stop !)) (look ! 3 refl)) (no-more !))))
+        (from ! (stop !))
+        (init ! 16 refl (LL.lawful L.the-type L′.the-laws 𝓤 H A W .typed (record { answer = r; list = zs .0 }) _
+        (made r (zs .0) (spelled r u gr) gz) .0)) $
         returns ! (look ! 16 refl) $ forget ! 0 refl $ forget ! 3 refl $ forget ! 5 refl $ forget ! 7 refl $ forget ! 9 refl $ forget ! 12 refl $
         forget ! 14 refl $ forget ! 16 refl $
         move ! (16 ∷ 17 ∷ []) $ free1 ! $ move ! (14 ∷ 15 ∷ []) $ free1 ! $ move ! (12 ∷ 13 ∷ []) $ free1 ! $ move ! (0 ∷ 11 ∷ []) $ free1 ! $
@@ -243,7 +256,8 @@ module _ {M : Type 1} (𝓤 : URA M) (H : Heap 𝓤) (A : Atoms 𝓤) (W : Given
   goes : AllGo 𝓤 H A W 0 (fill-on.signature .params) (fill-on.ended .kept) stayed
   goes = (goes-none 𝓤 H A W 0 (λ _. P.the-row) yes (λ κs x f. refl), (goes-none 𝓤 H A W 0 (λ _. A62) yes (λ κs x f. refl), tt))
 
-fill-on-meets : {M : Type 1} (𝓤 : URA M) (H : Heap 𝓤) (A : Atoms 𝓤) (W : Given 𝓤 H A) (at-mem : Memory → SProp 𝓤) (run : Routine → Fun 𝓤) (𝓣 : Tables 𝓤 H)
+fill-on-meets : {M : Type 1} (𝓤 : URA M) (H : Heap 𝓤) (A : Atoms 𝓤) (W : Given 𝓤 H A) (at-mem : Memory → SProp 𝓤) (run : Routine → Fun 𝓤)
+    (𝓣 : Tables 𝓤 H)
     → Triple 𝓤 (𝓣 .C #steps·fill) (Fill 𝓤 H A at-mem run)
     → Meets 𝓤 H A fill-on.signature (WpFn 𝓤 H (𝓣 .C) (𝓣 .Λ) code.function) (fill-on.spec 𝓤 H A at-mem run)
 fill-on-meets 𝓤 H A W at-mem run 𝓣 known =

@@ -17,12 +17,14 @@ returns c = search needs
 
 returns-2 : tie.Need-returns-2
 returns-2 c =
-    numbers-short _ (long (c .before .before .before .before .before .before)) _ (c .before .before .before .answer .given .1) (c .before .at-most-62 .ensures) (c .if1 .taken)
+    numbers-short _ (long (c .before .before .before .before .before .before)) _ (c .before .before .before .answer .given .1)
+    (c .before .at-most-62 .ensures) (c .if1 .taken)
 
 returns-3 : tie.Need-returns-3
 returns-3 c =
     let k = c .before .before .before .before in
-    numbers-put _ (long (k .before .before .before .before .before .before)) _ (k .before .before .before .answer .given .1) (k .before .at-most-62 .ensures) (k .if1 .left)
+    numbers-put _ (long (k .before .before .before .before .before .before)) _ (k .before .before .before .answer .given .1)
+    (k .before .at-most-62 .ensures) (k .if1 .left)
     (c .before .before .put-records .ensures)
 
 pub put-numbers-spec : {M : Type 1} → statement M

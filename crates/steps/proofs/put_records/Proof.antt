@@ -32,7 +32,8 @@ loop-again c =
     let s = c .before .before .before .before .before .before .before .before in
     let l = c .before .before .before .before .before .before .loop in (
       omega arith,
-      put-next (numbers-next (s .args .t2 .list) (s .args .count) (l .i) _ (long s) (c .before .before .before .before .before .loop-test .taken)) (l .inv .1)
+      put-next (numbers-next (s .args .t2 .list) (s .args .count) (l .i) _ (long s) (c .before .before .before .before .before .loop-test .taken))
+          (l .inv .1)
           (c .before .before .put-record .ensures),
     )
 

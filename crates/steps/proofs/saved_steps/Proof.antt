@@ -15,7 +15,8 @@ use Rattle.steps.proofs.saved_steps.Statement.{statement}
 use Rattle.steps.proofs.saved_steps.Tie as tie
 
 returns : tie.Need-returns
-returns c = as-refused (c .refused .ensures) (rule-some _ _ (c .before .before .over-fault .ensures _) (c .before .if1 .taken)) (c .before .if1 .taken)
+returns c = as-refused (c .refused .ensures) (rule-some _ _ (c .before .before .over-fault .ensures _) (c .before .if1 .taken))
+    (c .before .if1 .taken)
 
 -- it is not over
 module _ (c : tie.Else1) where

@@ -1,4 +1,5 @@
--- The steps that the arrays of a run give are those of its list of merges; what a judgement says of them; and what is filled from a listing is what its
+-- The steps that the arrays of a run give are those of its list of merges; what a judgement says of them; and what is filled from a listing is what
+-- its
 -- field gives. Assumes nothing.
 use Prim.Native.Nat.{ℕ, zero, suc, _+_, _*_, _≤_, _<_, min}
 use native.Mathlib.Omega.{arith}
@@ -216,7 +217,8 @@ module _ (list : List Step) where
   answer-of (refused (suc k)) fit = refl
   answer-of (value steps rest) fit = rw (le-ltb 62 (length steps) fit) (by (ltb (length list) (length steps)))
     where
-      by : (b : Bool) → cond b (none 17) (record { n = length steps; answer = Done (length steps) }) .answer ≡ cond b (Refused 17) (Done (length steps))
+      by : (b : Bool) → cond b (none 17) (record { n = length steps; answer = Done (length steps) }) .answer ≡ cond b (Refused 17)
+          (Done (length steps))
       by true = refl
       by false = refl
 
