@@ -1,0 +1,2 @@
+-- What clusters rest on. Read Rests.
+pub mod Rests
