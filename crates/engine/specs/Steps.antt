@@ -1,8 +1,8 @@
 -- The steps of a list of merges, from what the arrays hold. Assumes nothing.
 use mathlib.Core.Path.{_≡_}
 use mathlib.Core.Bool.{true, false, _&&_}
-use mathlib.Core.List.{List}
-use Prim.Native.Nat.{ℕ, _+_, _*_, _≤_, _<_}
+use mathlib.Core.List.{List, [], _∷_}
+use Prim.Native.Nat.{ℕ, zero, suc, _+_, _*_, _≤_, _<_}
 use lib.Dec.{ltb}
 use lib.IntN.{ℤ, pos}
 use lib.ListN.{length, getD}
@@ -40,6 +40,15 @@ stepFrom lines e sizes cs made parts joints t = record {
 
 abbrev pub stepAt : ℕ → ℕ → List ℤ → List ℕ → List ℕ → List ℕ → ℕ → Step
 stepAt lines e sizes cs parts joints t = stepFrom lines e sizes cs e parts joints t
+
+-- those of k steps, from t on
+unfoldable pub stepsFor : (ℕ → Step) → ℕ → ℕ → List Step
+stepsFor at t zero = []
+stepsFor at t (suc k) = at t ∷ stepsFor at (suc t) k
+
+-- the steps in the arrays
+abbrev pub stepsIn : ℕ → ℕ → List ℤ → List ℕ → List ℕ → List ℕ → ℕ → List Step
+stepsIn lines e sizes cs parts joints count = stepsFor (stepAt lines e sizes cs parts joints) 0 count
 
 abbrev pub blankStep : Step
 blankStep = record { made = 0; i = 0; j = 0; k = 0; joint = 0; kind = Ppp; ways = Unknown }

@@ -1,2 +1,3 @@
--- What clusters rest on. Read Rests.
+-- What clusters rest on. Read Rests, then Words.
 pub mod Rests
+pub mod Words

@@ -1,5 +1,5 @@
 -- The steps that the arrays give are those of the list of merges they hold. Assumes nothing.
-use mathlib.Core.Path.{_≡_, refl, sym, ap, _∙_}
+use mathlib.Core.Path.{_≡_, refl, sym, ap, ap₂, _∙_}
 use mathlib.Core.Logic.{_≢_}
 use mathlib.Core.Bool.{Bool, true, false, _&&_}
 use mathlib.Core.List.{List, [], _∷_, map}
@@ -25,7 +25,7 @@ use Rattle.theory.specs.declared.Ways.the-variants.{Unknown}
 use Rattle.theory.specs.declared.Step.{Step}
 use Rattle.merges.specs.Run.{flat, runOf}
 use Rattle.merges.specs.declared.Run.{Run}
-use Rattle.engine.specs.Steps.{waysBy, stepFrom, blankStep, Stepped}
+use Rattle.engine.specs.Steps.{waysBy, stepFrom, stepAt, stepsFor, stepsIn, blankStep, Stepped}
 
 -- ---- placements go by initial clusters only
 
@@ -154,30 +154,47 @@ read-lists lines e sizes cs parts knots t =
       ways = waysBy lines (jointKind lines (x z)) e sizes cs (merge (i z) (j z) (k z));
     }
 
--- the steps that the arrays of a run give are those of its list of merges
-pub stepped-are : (g : Graph) (p : List Merge) (run : Run) (start : List ℕ) (sizes : List ℤ) (steps : List Step) → Valid (g .clusters) p
-    → run ≡ runOf (g .clusters) p → take (length (g .clusters)) start ≡ g .clusters → take (length (g .clusters)) sizes ≡ g .sizes → length p ≤ 62
-    → Stepped (g .lines) (length (g .clusters)) sizes start run steps → take (run .steps) steps ≡ stepsOf g p
-unfolding runOf
-stepped-are g p run start sizes steps v h b d f w =
-    ext-getD blankStep (take (run .steps) steps) (stepsOf g p)
-    (length-take (run .steps) steps ∙ omega (arith, w .long, ap count h, f) ∙ sym (length-steps g (g .clusters) p))
-    (λ t l. each t (omega (arith, length-take (run .steps) steps, ap count h)))
-  where
-    count : Run → ℕ
-    count r = r .steps
+-- steps listed one by one
+steps-for : (at : ℕ → Step) (l : List Step) (b : ℕ) → ((t : ℕ) → t < length l → at (b + t) ≡ getD l t blankStep) → stepsFor at b (length l) ≡ l
+unfolding stepsFor
+steps-for at [] b h = refl
+steps-for at (s ∷ l) b h =
+    ap₂ (λ (x : Step) (r : List Step). x ∷ r) (ap at {x = b} {y = b + 0} (omega arith) ∙ h 0 (omega arith))
+    (steps-for at l (suc b) (λ t k. ap at {x = suc b + t} {y = b + suc t} (omega arith) ∙ h (suc t) (omega arith)))
 
-    initial : Initial (length (g .clusters)) start (g .clusters)
-    initial n m z = sym (ap (λ (l : List ℕ). slot l n) b) ∙ getD-take (length (g .clusters)) start n 0 m
+module _ (g : Graph) (p : List Merge) (run : Run) (start : List ℕ) (sizes : List ℤ) (v : Valid (g .clusters) p) (h : run ≡ runOf (g .clusters) p)
+    (b : take (length (g .clusters)) start ≡ g .clusters) (d : take (length (g .clusters)) sizes ≡ g .sizes) where
+  -- each step that the arrays of a run give is that of its list of merges
+  step-is : (t : ℕ) → t < length p
+      → stepAt (g .lines) (length (g .clusters)) sizes start (run .parts) (run .joints) t ≡ getD (stepsOf g p) t blankStep
+  unfolding runOf
+  step-is t l =
+      let e = length (g .clusters) in
+      (λ z. stepFrom (g .lines) e sizes start e (h z .parts) (h z .joints) t)
+      ∙ read-lists (g .lines) e sizes start (flat (map ascending p)) (joints (g .clusters) p) t
+      ∙ steps-from g start sizes same p (g .clusters) e t v initial (omega arith) refl l
+    where
+      initial : Initial (length (g .clusters)) start (g .clusters)
+      initial n m z = sym (ap (λ (l : List ℕ). slot l n) b) ∙ getD-take (length (g .clusters)) start n 0 m
 
-    same : Sized (length (g .clusters)) sizes (g .sizes)
-    same n m = sym (getD-take (length (g .clusters)) sizes n (pos 0) m) ∙ ap (λ (l : List ℤ). getD l n (pos 0)) d
+      same : Sized (length (g .clusters)) sizes (g .sizes)
+      same n m = sym (getD-take (length (g .clusters)) sizes n (pos 0) m) ∙ ap (λ (l : List ℤ). getD l n (pos 0)) d
 
-    each : (t : ℕ) → t < length p → getD (take (run .steps) steps) t blankStep ≡ getD (stepsOf g p) t blankStep
-    each t l =
-        let e = length (g .clusters) in
-        let q : t < run .steps = omega (arith, ap count h) in
-        getD-take (run .steps) steps t blankStep q ∙ w .each t q
-        ∙ (λ z. stepFrom (g .lines) e sizes start e (h z .parts) (h z .joints) t)
-        ∙ read-lists (g .lines) e sizes start (flat (map ascending p)) (joints (g .clusters) p) t
-        ∙ steps-from g start sizes same p (g .clusters) e t v initial (omega arith) refl l
+  steps-counted : run .steps ≡ length p
+  unfolding runOf
+  steps-counted = ap (λ (r : Run). r .steps) h
+
+  -- so the steps are those of the list
+  pub stepped-are : (steps : List Step) → length p ≤ 62 → Stepped (g .lines) (length (g .clusters)) sizes start run steps
+      → take (run .steps) steps ≡ stepsOf g p
+  stepped-are steps f w =
+      ext-getD blankStep (take (run .steps) steps) (stepsOf g p)
+      (length-take (run .steps) steps ∙ omega (arith, w .long, steps-counted, f) ∙ sym (length-steps g (g .clusters) p))
+      (λ t l. let q : t < run .steps = omega (arith, length-take (run .steps) steps) in
+      getD-take (run .steps) steps t blankStep q ∙ w .each t q ∙ step-is t (omega (arith, steps-counted)))
+
+  pub steps-in-are : stepsIn (g .lines) (length (g .clusters)) sizes start (run .parts) (run .joints) (run .steps) ≡ stepsOf g p
+  steps-in-are =
+      ap (stepsIn (g .lines) (length (g .clusters)) sizes start (run .parts) (run .joints)) (steps-counted ∙ sym (length-steps g (g .clusters) p))
+      ∙ steps-for (stepAt (g .lines) (length (g .clusters)) sizes start (run .parts) (run .joints)) (stepsOf g p) 0
+      (λ t l. step-is t (omega (arith, length-steps g (g .clusters) p)))

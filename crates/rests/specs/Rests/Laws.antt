@@ -93,25 +93,24 @@ module _ (cs : List ℕ) (pairs : Pairs cs) where
 -- ---- one merge
 
 -- where a cluster and what it rests on stand after a merge
-data Stands (r s : List ℕ) (m : Merge) (n : ℕ) : Type 0 where
+pub data Stands (r s : List ℕ) (m : Merge) (n : ℕ) : Type 0 where
   new : n ≡ length s → slot (put s m) n ≡ union (three s m) → slot (put r m) n ≡ union (three r m) → Stands r s m n
   gone : slot (put s m) n ≡ 0 → slot (put r m) n ≡ 0 → Stands r s m n
   kept : (Part n m → ⊥) → slot (put s m) n ≡ slot s n → slot (put r m) n ≡ slot r n → Stands r s m n
 
-module _ {cs r s : List ℕ} (w : Carrying cs r s) (m : Merge) (o : OpenAt s m) where
-  stands : (n : ℕ) → Stands r s m n
-  stands n = by (ℕ-discrete n (length s)) (decLt n (length s)) (part-dec n m)
-    where
-      by : Dec (n ≡ length s) → Dec (n < length s) → Dec (Part n m) → Stands r s m n
-      by (yes e) d q = new e (ap (slot (put s m)) e ∙ put-new s m) (ap (slot (put r m)) (e ∙ sym (w .places)) ∙ put-new r m)
-      by (no k) (no h) q =
-          gone (List·getD-eq-default (put s m) 0 (omega (arith, length-put s m)))
-          (List·getD-eq-default (put r m) 0 (omega (arith, length-put r m, w .places)))
-      by (no k) (yes h) (yes q) =
-          gone (put-old s m n h ∙ cleared-part s m n q) (put-old r m n (omega (arith, w .places)) ∙ cleared-part r m n q)
-      by (no k) (yes h) (no q) =
-          kept q (put-old s m n h ∙ cleared-other s m n q) (put-old r m n (omega (arith, w .places)) ∙ cleared-other r m n q)
+pub stands : (r s : List ℕ) → length r ≡ length s → (m : Merge) (n : ℕ) → Stands r s m n
+stands r s places m n = by (ℕ-discrete n (length s)) (decLt n (length s)) (part-dec n m)
+  where
+    by : Dec (n ≡ length s) → Dec (n < length s) → Dec (Part n m) → Stands r s m n
+    by (yes e) d q = new e (ap (slot (put s m)) e ∙ put-new s m) (ap (slot (put r m)) (e ∙ sym places) ∙ put-new r m)
+    by (no k) (no h) q =
+        gone (List·getD-eq-default (put s m) 0 (omega (arith, length-put s m)))
+        (List·getD-eq-default (put r m) 0 (omega (arith, length-put r m, places)))
+    by (no k) (yes h) (yes q) = gone (put-old s m n h ∙ cleared-part s m n q) (put-old r m n (omega (arith, places)) ∙ cleared-part r m n q)
+    by (no k) (yes h) (no q) =
+        kept q (put-old s m n h ∙ cleared-other s m n q) (put-old r m n (omega (arith, places)) ∙ cleared-other r m n q)
 
+module _ {cs r s : List ℕ} (w : Carrying cs r s) (m : Merge) (o : OpenAt s m) where
   -- what the union rests on, one of the three rests on
   of-part : (i : ℕ) → i ∈ union (three r m) → (n : ℕ) × Part n m × (i ∈ slot r n)
   unfolding union
@@ -151,11 +150,11 @@ module _ {cs r s : List ℕ} (w : Carrying cs r s) (m : Merge) (o : OpenAt s m) 
   pub put-carrying : Carrying cs (put r m) (put s m)
   put-carrying = record {
     places = length-put r m ∙ ap suc (w .places) ∙ sym (length-put s m);
-    within = λ n i h. within n i h (stands n);
-    once = λ i p q h k. once i p q h k (stands p) (stands q);
+    within = λ n i h. within n i h (stands r s (w .places) m n);
+    once = λ i p q h k. once i p q h k (stands r s (w .places) m p) (stands r s (w .places) m q);
     every = λ i h. let e = w .every i h in every i (e .0) (e .1) (part-dec (e .0) m);
-    count = λ n h. count n h (stands n);
-    dead = λ n e. dead n e (stands n);
+    count = λ n h. count n h (stands r s (w .places) m n);
+    dead = λ n e. dead n e (stands r s (w .places) m n);
   }
     where
       within : (n i : ℕ) → i ∈ slot (put r m) n → Stands r s m n → (i < length cs) × (slot cs i ⊑ slot (put s m) n)

@@ -1,0 +1,16 @@
+-- `rests::join` meets its contract: what it stores is the union. Assumes nothing.
+use mathlib.Core.Path.{refl}
+use borrow.Author.Needs.{needs}
+use Rattle.theory.specs.Set.{_∪_}
+use Rattle.rests.proofs.join.Statement.{statement}
+use Rattle.rests.proofs.join.Tie as tie
+
+returns : tie.Need-returns
+unfolding _∪_
+returns c = refl
+
+pub join-spec : {M : Type 1} → statement M
+join-spec =
+    tie.close
+    (tie.spec (λ c. search needs) (λ c. search needs) (λ c. search needs) (λ c. search needs) (λ c. search needs) (λ c. search needs)
+    (λ c. search needs) (λ c. search needs) returns)

@@ -1,0 +1,15 @@
+-- `rests::single` meets its contract. Assumes nothing.
+use mathlib.Core.Path.{_∙_}
+use Prim.Native.Nat.{_^_}
+use native.Mathlib.Nat.{one-mul, lt-suc-self}
+use native.Mathlib.Omega.{arith}
+use lib.Pow.{shl-exact}
+use borrow.Author.Needs.{needs}
+use Rattle.rests.proofs.single.Statement.{statement}
+use Rattle.rests.proofs.single.Tie as tie
+
+returns : tie.Need-returns
+returns c = shl-exact 1 (c .args .n) 64 (lt-suc-self 1) (omega arith) ∙ one-mul (2 ^ (c .args .n))
+
+pub single-spec : {M : Type 1} → statement M
+single-spec = tie.close (tie.spec (λ c. search needs) (λ c. search needs) (λ c. search needs) returns)
