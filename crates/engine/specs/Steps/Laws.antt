@@ -184,17 +184,21 @@ module _ (g : Graph) (p : List Merge) (run : Run) (start : List ℕ) (sizes : Li
   unfolding runOf
   steps-counted = ap (λ (r : Run). r .steps) h
 
-  -- so the steps are those of the list
-  pub stepped-are : (steps : List Step) → length p ≤ 62 → Stepped (g .lines) (length (g .clusters)) sizes start run steps
-      → take (run .steps) steps ≡ stepsOf g p
-  stepped-are steps f w =
-      ext-getD blankStep (take (run .steps) steps) (stepsOf g p)
-      (length-take (run .steps) steps ∙ omega (arith, w .long, steps-counted, f) ∙ sym (length-steps g (g .clusters) p))
-      (λ t l. let q : t < run .steps = omega (arith, length-take (run .steps) steps) in
-      getD-take (run .steps) steps t blankStep q ∙ w .each t q ∙ step-is t (omega (arith, steps-counted)))
-
+  -- so the steps in the arrays are those of the list
   pub steps-in-are : stepsIn (g .lines) (length (g .clusters)) sizes start (run .parts) (run .joints) (run .steps) ≡ stepsOf g p
   steps-in-are =
       ap (stepsIn (g .lines) (length (g .clusters)) sizes start (run .parts) (run .joints)) (steps-counted ∙ sym (length-steps g (g .clusters) p))
       ∙ steps-for (stepAt (g .lines) (length (g .clusters)) sizes start (run .parts) (run .joints)) (stepsOf g p) 0
-      (λ t l. step-is t (omega (arith, length-steps g (g .clusters) p)))
+      (λ t l. ap (stepAt (g .lines) (length (g .clusters)) sizes start (run .parts) (run .joints)) {x = 0 + t} {y = t} (omega arith)
+      ∙ step-is t (omega (arith, length-steps g (g .clusters) p)))
+
+-- the steps that are made of the arrays of a run are those of its list of merges
+pub stepped-are : (g : Graph) (p : List Merge) (run : Run) (start : List ℕ) (sizes : List ℤ) (steps : List Step) → Valid (g .clusters) p
+    → run ≡ runOf (g .clusters) p → take (length (g .clusters)) start ≡ g .clusters → take (length (g .clusters)) sizes ≡ g .sizes → length p ≤ 62
+    → Stepped (g .lines) (length (g .clusters)) sizes start run steps → take (run .steps) steps ≡ stepsOf g p
+stepped-are g p run start sizes steps v h b d f w =
+    let count = steps-counted g p run start sizes v h b d in
+    ext-getD blankStep (take (run .steps) steps) (stepsOf g p)
+    (length-take (run .steps) steps ∙ omega (arith, w .long, count, f) ∙ sym (length-steps g (g .clusters) p))
+    (λ t l. let q : t < run .steps = omega (arith, length-take (run .steps) steps) in
+    getD-take (run .steps) steps t blankStep q ∙ w .each t q ∙ step-is g p run start sizes v h b d t (omega (arith, count)))
