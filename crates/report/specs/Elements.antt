@@ -1,4 +1,4 @@
--- The elements of a set, listed. Assumes nothing.
+-- The elements of a set, and the constraint numbers of a set of those, listed. Assumes nothing.
 use Prim.Native.Nat.{ℕ, zero, suc}
 use mathlib.Core.List.{List, [], _∷_}
 use Rattle.theory.specs.Set.{at}
@@ -17,3 +17,7 @@ among (suc k) x a = member (at x a) x (among k (suc x) a)
 -- the elements of a, ascending; a sheet's are below 64
 unfoldable pub elements : ℕ → List ℕ
 elements a = among 64 0 a
+
+-- the constraint numbers of a set, ascending; a sheet's are below 200
+unfoldable pub constraintsOf : ℕ → List ℕ
+constraintsOf r = among 200 0 r

@@ -1,16 +1,27 @@
 -- Pieces of the report's lines, as the code puts them one after another, and the bound it asks of a step's numbers. Assumes nothing.
-use Prim.Native.Nat.{ℕ, _<_}
-use mathlib.Core.List.{List, [], _∷_, _++_}
+use Prim.Native.Nat.{ℕ, _+_, _*_, _^_, _<_}
+use mathlib.Core.List.{List, [], _∷_, _++_, map}
 use Rattle.space.specs.Text.{ascii, decimal}
 use Rattle.theory.specs.declared.JointKind.{JointKind}
 use Rattle.theory.specs.declared.Ways.{Ways}
 use Rattle.theory.specs.declared.Step.{Step}
+use Rattle.report.specs.Elements.{elements}
 use Rattle.report.specs.Report.{others, kindName, waysName}
 
 -- numbers, a space before each
 unfoldable pub numbers : List ℕ → List ℕ
 numbers [] = []
 numbers (x ∷ xs) = 32 ∷ decimal x ++ numbers xs
+
+-- numbers from a first one on
+abbrev pub above : ℕ → List ℕ → List ℕ
+above first xs = map (λ (x : ℕ). first + x) xs
+
+-- sets in two words each, the numbers to 63 in the low ones, those from 64 on in the high ones
+unfoldable pub wide : List ℕ → List ℕ → List ℕ
+wide [] high = []
+wide (l ∷ low) [] = []
+wide (l ∷ low) (h ∷ high) = (h * 2 ^ 64 + l) ∷ wide low high
 
 -- the number of the cluster made, and of its parts
 abbrev pub partsWords : ℕ → ℕ → ℕ → ℕ → List ℕ
@@ -25,9 +36,13 @@ kindWords k = ascii " kind " ++ (kindName k ++ ascii " ways")
 abbrev pub waysWords : Ways → List ℕ
 waysWords w = others (waysName w ∷ [])
 
+-- what a cluster rests on, in two words, at the end of the line
+abbrev pub restWords : ℕ → ℕ → List ℕ
+restWords low high = ascii " rests on" ++ (numbers (elements low) ++ (numbers (above 64 (elements high)) ++ 10 ∷ []))
+
 -- the longest report of a sheet that is not over, in bytes
 abbrev pub longest : ℕ
-longest = 3786
+longest = 4667
 
 -- the numbers of a step, and of each of several, are below 1,000
 pub record Small (s : Step) : Type 0 where

@@ -1,5 +1,6 @@
 -- The report, in ASCII. Document 01, "The report": the first line gives the verdict, the second n and e; then the steps in plan order, then the
--- final clusters by number; for "over" two lines follow the second, and none after them. Assumes nothing.
+-- final clusters by number; for "over" two lines follow the second, and none after them. Document 02, 2026-04: each cluster line ends with "rests on"
+-- and the constraints that the cluster came from. Assumes nothing.
 use Prim.Native.Nat.{ℕ, suc}
 use mathlib.Core.Bool.{cond}
 use mathlib.Core.List.{List, [], _∷_, _++_, map}
@@ -12,7 +13,7 @@ use Rattle.theory.specs.declared.JointKind.the-variants.{Ppp, Ppl, Pll, Lll}
 use Rattle.theory.specs.declared.Ways.{Ways}
 use Rattle.theory.specs.declared.Ways.the-variants.{Known, Unknown}
 use Rattle.theory.specs.declared.Step.{Step}
-use Rattle.report.specs.Elements.{elements}
+use Rattle.report.specs.Elements.{elements, constraintsOf}
 pub mod Laws
 pub mod Length
 pub mod Bound
@@ -68,27 +69,28 @@ stepLine s =
     ∷ ascii "joint" ∷ listed (s .joint) ++ (ascii "kind" ∷ kindName (s .kind) ∷ ascii "ways" ∷ waysName (s .ways) ∷ [])
     )
 
--- a final cluster's number and its elements
-unfoldable pub clusterLine : ℕ → ℕ → List ℕ
-clusterLine c a = line (ascii "cluster" ∷ decimal c ∷ ascii "holds" ∷ listed a)
+-- a final cluster's number, its elements, and the constraints it rests on
+unfoldable pub clusterLine : ℕ → ℕ → ℕ → List ℕ
+clusterLine c a r = line (ascii "cluster" ∷ decimal c ∷ ascii "holds" ∷ listed a ++ (ascii "rests" ∷ ascii "on" ∷ map decimal (constraintsOf r)))
 
 unfoldable pub stepLines : List Step → List ℕ
 stepLines [] = []
 stepLines (s ∷ steps) = stepLine s ++ stepLines steps
 
 -- cluster c stands at place c; a dead one is the empty set and has no line
-unfoldable pub slotLine : ℕ → ℕ → List ℕ
-slotLine c a = cond (eqb a 0) [] (clusterLine c a)
+unfoldable pub slotLine : ℕ → ℕ → ℕ → List ℕ
+slotLine c a r = cond (eqb a 0) [] (clusterLine c a r)
 
--- the living clusters from c on
-unfoldable pub clusterLines : ℕ → List ℕ → List ℕ
-clusterLines c [] = []
-clusterLines c (a ∷ slots) = slotLine c a ++ clusterLines (suc c) slots
+-- the living clusters from c on, and what they rest on
+unfoldable pub clusterLines : ℕ → List ℕ → List ℕ → List ℕ
+clusterLines c [] rests = []
+clusterLines c (a ∷ slots) [] = []
+clusterLines c (a ∷ slots) (r ∷ rests) = slotLine c a r ++ clusterLines (suc c) slots rests
 
 -- ---- the report
 
-unfoldable pub report : ℕ → ℕ → Verdict → List Step → List ℕ → List ℕ
-report n e v steps slots = verdictLine v ++ (elementsLine n e ++ (stepLines steps ++ clusterLines 0 slots))
+unfoldable pub report : ℕ → ℕ → Verdict → List Step → List ℕ → List ℕ → List ℕ
+report n e v steps slots rests = verdictLine v ++ (elementsLine n e ++ (stepLines steps ++ clusterLines 0 slots rests))
 
 -- the first constraint that makes the listed ones up to it over, and the smallest set
 unfoldable pub overReport : ℕ → ℕ → ℕ → ℕ → List ℕ

@@ -2,13 +2,16 @@
 // space measures. Contracts cite specs/Report.antt.
 ghost use mathlib.Core.Path.{_≡_};
 ghost use mathlib.Core.List.{[], _∷_, _++_};
-ghost use Prim.Native.Nat.{_+_, _<_, _≤_, _^_};
+ghost use Prim.Native.Nat.{_+_, _*_, _<_, _≤_, _^_};
 ghost use lib.ListN.{length, take};
 ghost use Rattle.space.specs.Space.{Put, answer, after};
 ghost use Rattle.space.specs.Text.{decimal};
 ghost use Rattle.report.specs.Elements.{elements};
+ghost use Rattle.engine.specs.Steps.{stepsIn};
 ghost use Rattle.report.specs.Report.{verdictLine, elementsLine, stepLine, stepLines, slotLine, clusterLines, report, overReport};
-ghost use Rattle.report.specs.Pieces.{numbers, partsWords, kindWords, waysWords, longest, Small, AllSmall};
+ghost use Rattle.report.specs.Pieces.{numbers, above, wide, partsWords, kindWords, waysWords, restWords, longest, Small, AllSmall};
+use merges::ELEMENTS;
+use merges::PLACES;
 use space::Written;
 use space::put_byte;
 use space::put_decimal;
@@ -27,19 +30,27 @@ fn put_number(out: &mut [u8], at: usize, n: usize) -> usize
     put_decimal(out, a1, n)
 }
 
-// A set's elements, a space before each.
-fn put_set(out: &mut [u8], at: usize, set: u64) -> usize
-    requires { ⌜ at + 196 < 2 ^ 64 ⌝ }
-    ensures { λ r. ⌜ Put (now (out .entry)) at (numbers (elements set)) r (now (out .exit)) × (r ≤ at + 192) ⌝ }
+// A set's numbers from `first` on, a space before each.
+fn put_set_from(out: &mut [u8], at: usize, first: usize, set: u64) -> usize
+    requires { ⌜ (first < 900) × (at + 260 < 2 ^ 64) ⌝ }
+    ensures { λ r. ⌜ Put (now (out .entry)) at (numbers (above first (elements set))) r (now (out .exit)) × (r ≤ at + 256) ⌝ }
 {
     let mut next = at;
     let mut rest = set;
     while rest != 0 {
         let x = u64::trailing_zeros(rest) as usize;
-        next = put_number(out, next, x);
+        next = put_number(out, next, first + x);
         rest = rest & (rest - 1);
     }
     next
+}
+
+// A set's elements, a space before each.
+fn put_set(out: &mut [u8], at: usize, set: u64) -> usize
+    requires { ⌜ at + 260 < 2 ^ 64 ⌝ }
+    ensures { λ r. ⌜ Put (now (out .entry)) at (numbers (elements set)) r (now (out .exit)) × (r ≤ at + 192) ⌝ }
+{
+    put_set_from(out, at, 0, set)
 }
 
 // A word and a number.
@@ -54,7 +65,7 @@ fn put_entry(out: &mut [u8], at: usize, word: &[u8], n: usize) -> usize
 
 // A word and a set's elements, at the end of a line.
 fn put_elements(out: &mut [u8], at: usize, word: &[u8], set: u64) -> usize
-    requires { ⌜ at + length (now word) + 196 < 2 ^ 64 ⌝ }
+    requires { ⌜ at + length (now word) + 260 < 2 ^ 64 ⌝ }
     ensures { λ r. ⌜ Put (now (out .entry)) at (now (word .entry) ++ (numbers (elements set) ++ 10 ∷ [])) r (now (out .exit))
         × (r ≤ at + length (now (word .entry)) + 193) ⌝ }
 {
@@ -127,7 +138,7 @@ fn put_ways(out: &mut [u8], at: usize, ways: Ways) -> usize
 
 // A step's line.
 pub fn put_step_line(out: &mut [u8], at: usize, s: Step) -> usize
-    requires { ⌜ Small s × (at + 242 < 2 ^ 64) ⌝ }
+    requires { ⌜ Small s × (at + 310 < 2 ^ 64) ⌝ }
     ensures { λ r. ⌜ Put (now (out .entry)) at (stepLine s) r (now (out .exit)) ⌝ }
 {
     let kind = s.kind;
@@ -139,66 +150,110 @@ pub fn put_step_line(out: &mut [u8], at: usize, s: Step) -> usize
     put_ways(out, a4, ways)
 }
 
-// The line of cluster c, which holds the elements of a; none for the empty set, since that cluster is dead.
-fn put_slot_line(out: &mut [u8], at: usize, c: usize, a: u64) -> usize
-    requires { ⌜ (c < 1000) × (at + 213 < 2 ^ 64) ⌝ }
-    ensures { λ r. ⌜ Put (now (out .entry)) at (slotLine c a) r (now (out .exit)) ⌝ }
+// What a cluster rests on, at the end of its line: the numbers to 63 in one word, those from 64 on in another.
+fn put_rests(out: &mut [u8], at: usize, low: u64, high: u64) -> usize
+    requires { ⌜ at + 500 < 2 ^ 64 ⌝ }
+    ensures { λ r. ⌜ Put (now (out .entry)) at (restWords low high) r (now (out .exit)) ⌝ }
+{
+    let a1 = put_text(out, at, b" rests on");
+    let a2 = put_set(out, a1, low);
+    let a3 = put_set_from(out, a2, 64, high);
+    put_byte(out, a3, b'\n')
+}
+
+// The line of cluster c, which holds the elements of a and rests on the constraints of two words; none for the empty set, since that cluster
+// is dead.
+fn put_slot_line(out: &mut [u8], at: usize, c: usize, a: u64, low: u64, high: u64) -> usize
+    requires { ⌜ (c < 1000) × (at + 800 < 2 ^ 64) ⌝ }
+    ensures { λ r. ⌜ Put (now (out .entry)) at (slotLine c a (high * 2 ^ 64 + low)) r (now (out .exit)) ⌝ }
 {
     if a == 0 {
         return at;
     }
     let a1 = put_entry(out, at, b"cluster", c);
-    put_elements(out, a1, b" holds", a)
+    let a2 = put_text(out, a1, b" holds");
+    let a3 = put_set(out, a2, a);
+    put_rests(out, a3, low, high)
 }
 
-// The lines of the first `count` steps.
-fn put_steps(out: &mut [u8], at: usize, steps: [Step; 62], count: usize) -> usize
-    requires { ⌜ (count ≤ 62) × AllSmall (take count steps) × (at + length (stepLines (take count steps)) ≤ longest) ⌝ }
-    ensures { λ r. ⌜ Put (now (out .entry)) at (stepLines (take count steps)) r (now (out .exit)) ⌝ }
+// The lines of the first `count` steps of a list of merges, from its parts and joints.
+fn put_steps(
+    out: &mut [u8],
+    at: usize,
+    parts: &[u16; PLACES],
+    joints: &[u64; ELEMENTS],
+    start: &[u64; 200],
+    sizes: &[i32; 200],
+    lines: u64,
+    e: usize,
+    count: usize,
+) -> usize
+    requires { ⌜ (e ≤ 125) × (count ≤ 62) × AllSmall (stepsIn lines e (now sizes) (now start) (now parts) (now joints) count)
+        × (at + length (stepLines (stepsIn lines e (now sizes) (now start) (now parts) (now joints) count)) ≤ longest) ⌝ }
+    ensures { λ r. ⌜ Put (now (out .entry)) at
+        (stepLines (stepsIn lines e (now (sizes .entry)) (now (start .entry)) (now (parts .entry)) (now (joints .entry)) count)) r (now (out .exit)) ⌝ }
 {
     let mut next = at;
-    let mut i: usize = 0;
-    while i < count {
-        let s = steps[i];
+    let mut t: usize = 0;
+    while t < count {
+        let s = engine::step_at(parts, joints, start, sizes, lines, e, t);
         next = put_step_line(out, next, s);
-        i += 1;
+        t += 1;
     }
     next
 }
 
-// The lines of the living clusters among the first `used` slots.
-fn put_clusters(out: &mut [u8], at: usize, slots: &[u64; 192], used: usize) -> usize
-    requires { ⌜ (used ≤ 192) × (length (now slots) ≡ 192) × (at + length (clusterLines 0 (take used (now slots))) ≤ longest) ⌝ }
-    ensures { λ r. ⌜ Put (now (out .entry)) at (clusterLines 0 (take used (now (slots .entry)))) r (now (out .exit)) ⌝ }
+// The lines of the living clusters among the first `used` slots, with what they rest on in two words each.
+fn put_clusters(
+    out: &mut [u8],
+    at: usize,
+    slots: &[u64; PLACES],
+    low: &[u64; PLACES],
+    high: &[u64; PLACES],
+    used: usize,
+) -> usize
+    requires { ⌜ (used ≤ 192) × (length (now slots) ≡ 192) × (length (now low) ≡ 192) × (length (now high) ≡ 192)
+        × (at + length (clusterLines 0 (take used (now slots)) (take used (wide (now low) (now high)))) ≤ longest) ⌝ }
+    ensures { λ r. ⌜ Put (now (out .entry)) at
+        (clusterLines 0 (take used (now (slots .entry))) (take used (wide (now (low .entry)) (now (high .entry))))) r (now (out .exit)) ⌝ }
 {
     let mut next = at;
     let mut c: usize = 0;
     while c < used {
-        next = put_slot_line(out, next, c, slots[c]);
+        next = put_slot_line(out, next, c, slots[c], low[c], high[c]);
         c += 1;
     }
     next
 }
 
-// The report of a sheet that is not over: its verdict, the first `count` of the steps, and the living clusters among the first `used` slots.
+// The report of a sheet that is not over: its verdict, the first `count` steps of a list of merges, the clusters that it leaves, and what they rest on.
 fn put_report(
     out: &mut [u8],
     n: usize,
     e: usize,
+    lines: u64,
     verdict: Verdict,
-    steps: [Step; 62],
+    start: &[u64; 200],
+    sizes: &[i32; 200],
     count: usize,
-    slots: &[u64; 192],
-    used: usize,
+    parts: &[u16; PLACES],
+    joints: &[u64; ELEMENTS],
+    slots: &[u64; PLACES],
+    low: &[u64; PLACES],
+    high: &[u64; PLACES],
 ) -> usize
-    requires { ⌜ (n < 1000) × (e < 1000) × (count ≤ 62) × (used ≤ 192) × (length (now slots) ≡ 192) × AllSmall (take count steps) ⌝ }
-    requires { ⌜ length (report n e verdict (take count steps) (take used (now slots))) ≤ longest ⌝ }
-    ensures { λ r. ⌜ Put (now (out .entry)) 0 (report n e verdict (take count steps) (take used (now (slots .entry)))) r (now (out .exit)) ⌝ }
+    requires { ⌜ (n < 1000) × (e ≤ 125) × (count ≤ 62) × (length (now slots) ≡ 192) × (length (now low) ≡ 192) × (length (now high) ≡ 192)
+        × AllSmall (stepsIn lines e (now sizes) (now start) (now parts) (now joints) count) ⌝ }
+    requires { ⌜ length (report n e verdict (stepsIn lines e (now sizes) (now start) (now parts) (now joints) count) (take (e + count) (now slots))
+        (take (e + count) (wide (now low) (now high)))) ≤ longest ⌝ }
+    ensures { λ r. ⌜ Put (now (out .entry)) 0
+        (report n e verdict (stepsIn lines e (now (sizes .entry)) (now (start .entry)) (now (parts .entry)) (now (joints .entry)) count)
+        (take (e + count) (now (slots .entry))) (take (e + count) (wide (now (low .entry)) (now (high .entry))))) r (now (out .exit)) ⌝ }
 {
     let a1 = put_verdict_line(out, 0, verdict);
     let a2 = put_elements_line(out, a1, n, e);
-    let a3 = put_steps(out, a2, steps, count);
-    put_clusters(out, a3, slots, used)
+    let a3 = put_steps(out, a2, parts, joints, start, sizes, lines, e, count);
+    put_clusters(out, a3, slots, low, high, e + count)
 }
 
 // The report of an over sheet: the first constraint that makes those up to it over, and the smallest set.
@@ -225,26 +280,51 @@ pub fn put_whole(out: &mut [u8], lines: &[u8]) -> Written
 }
 
 // The longest report of a sheet that is not over.
-const LONGEST: usize = 3786;
+const LONGEST: usize = 4667;
 
 // The report of a sheet that is not over, into space that takes it whole or not at all.
 pub fn write_report(
     out: &mut [u8],
     n: usize,
     e: usize,
+    lines: u64,
     verdict: Verdict,
-    steps: [Step; 62],
+    start: &[u64; 200],
+    sizes: &[i32; 200],
     count: usize,
-    slots: &[u64; 192],
-    used: usize,
+    parts: &[u16; PLACES],
+    joints: &[u64; ELEMENTS],
+    slots: &[u64; PLACES],
+    low: &[u64; PLACES],
+    high: &[u64; PLACES],
 ) -> Written
-    requires { ⌜ (n < 1000) × (e < 1000) × (count ≤ 62) × (used ≤ 192) × (length (now slots) ≡ 192) × AllSmall (take count steps) ⌝ }
-    requires { ⌜ length (report n e verdict (take count steps) (take used (now slots))) ≤ longest ⌝ }
-    ensures answers { λ r. ⌜ r ≡ answer (report n e verdict (take count steps) (take used (now (slots .entry)))) (now (out .entry)) ⌝ }
-    ensures leaves { λ r. ⌜ now (out .exit) ≡ after (report n e verdict (take count steps) (take used (now (slots .entry)))) (now (out .entry)) ⌝ }
+    requires { ⌜ (n < 1000) × (e ≤ 125) × (count ≤ 62) × (length (now slots) ≡ 192) × (length (now low) ≡ 192) × (length (now high) ≡ 192)
+        × AllSmall (stepsIn lines e (now sizes) (now start) (now parts) (now joints) count) ⌝ }
+    requires { ⌜ length (report n e verdict (stepsIn lines e (now sizes) (now start) (now parts) (now joints) count) (take (e + count) (now slots))
+        (take (e + count) (wide (now low) (now high)))) ≤ longest ⌝ }
+    ensures answers { λ r. ⌜ r ≡ answer
+        (report n e verdict (stepsIn lines e (now (sizes .entry)) (now (start .entry)) (now (parts .entry)) (now (joints .entry)) count)
+        (take (e + count) (now (slots .entry))) (take (e + count) (wide (now (low .entry)) (now (high .entry))))) (now (out .entry)) ⌝ }
+    ensures leaves { λ r. ⌜ now (out .exit) ≡ after
+        (report n e verdict (stepsIn lines e (now (sizes .entry)) (now (start .entry)) (now (parts .entry)) (now (joints .entry)) count)
+        (take (e + count) (now (slots .entry))) (take (e + count) (wide (now (low .entry)) (now (high .entry))))) (now (out .entry)) ⌝ }
 {
     let mut whole: [u8; LONGEST] = [0; LONGEST];
-    let length = put_report(&mut whole, n, e, verdict, steps, count, slots, used);
+    let length = put_report(
+        &mut whole,
+        n,
+        e,
+        lines,
+        verdict,
+        start,
+        sizes,
+        count,
+        parts,
+        joints,
+        slots,
+        low,
+        high,
+    );
     put_whole(out, &whole[0..length])
 }
 

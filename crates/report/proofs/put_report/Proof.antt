@@ -1,23 +1,43 @@
 -- `report::put_report` meets its contract: its lines make the report. Assumes nothing.
 use borrow.Author.Needs.{needs}
 use native.Mathlib.Omega.{arith}
-use lib.ListN.{take}
+use Prim.Native.Nat.{ℕ, _+_}
+use mathlib.Core.Path.{_≡_}
+use mathlib.Core.List.{List}
+use lib.ListN.{length, take}
+use Rattle.theory.specs.declared.Step.{Step}
+use Rattle.engine.specs.Steps.{stepsIn}
 use Rattle.space.specs.Space.Laws.{_then_}
-use Rattle.report.specs.Report.{report}
+use Rattle.report.specs.Report.{verdictLine, elementsLine, stepLines, clusterLines, report}
+use Rattle.report.specs.Pieces.{wide}
 use Rattle.report.specs.Report.Length.{report-length}
 use Rattle.report.proofs.put_report.Statement.{statement}
 use Rattle.report.proofs.put_report.Tie as tie
 
+-- how long the parts are
+abbrev steps : tie.Start → List Step
+steps s = let a = s .args in stepsIn (a .lines) (a .e) (a .sizes .now) (a .start .now) (a .parts .now) (a .joints .now) (a .count)
+
+abbrev finals : tie.Start → List ℕ
+finals s = take (s .args .e + s .args .count) (s .args .slots .now)
+
+abbrev rests : tie.Start → List ℕ
+rests s = take (s .args .e + s .args .count) (wide (s .args .low .now) (s .args .high .now))
+
+lengths : (s : tie.Start) → length (report (s .args .n) (s .args .e) (s .args .verdict) (steps s) (finals s) (rests s))
+    ≡ length (verdictLine (s .args .verdict)) + (length (elementsLine (s .args .n) (s .args .e)) + (length (stepLines (steps s)) + length (clusterLines 0 (finals s) (rests s))))
+lengths s = report-length (s .args .n) (s .args .e) (s .args .verdict) (steps s) (finals s) (rests s)
+
 put-steps-requires : tie.Need-put-steps-requires
 put-steps-requires c κs =
     let elements = c .before .before .before in
-    let s = elements .before .before .before .before .before .before .before in
-    let a = s .args in (
-      search needs,
-      s .pre .0 .5,
+    let s = elements .before .before .before .before .before .before .before in (
+      s .pre .0 .1,
+      s .pre .0 .2,
+      s .pre .0 .6,
       omega (
         arith,
-        report-length (a .n) (a .e) (a .verdict) (take (a .count) (a .steps)) (take (a .used) (a .slots .now)),
+        lengths s,
         s .pre .1,
         elements .before .before .before .before .put-verdict-line .ensures .0 .next-is,
         elements .put-elements-line .ensures .0 .next-is,
@@ -28,13 +48,14 @@ put-clusters-requires : tie.Need-put-clusters-requires
 put-clusters-requires c κs =
     let steps = c .before .before .before in
     let elements = steps .before .before .before .before in
-    let s = elements .before .before .before .before .before .before .before in
-    let a = s .args in (
-      search needs,
-      search needs,
+    let s = elements .before .before .before .before .before .before .before in (
+      omega (arith, s .pre .0 .1, s .pre .0 .2),
+      s .pre .0 .3,
+      s .pre .0 .4,
+      s .pre .0 .5,
       omega (
         arith,
-        report-length (a .n) (a .e) (a .verdict) (take (a .count) (a .steps)) (take (a .used) (a .slots .now)),
+        lengths s,
         s .pre .1,
         elements .before .before .before .before .put-verdict-line .ensures .0 .next-is,
         elements .put-elements-line .ensures .0 .next-is,
@@ -55,4 +76,4 @@ returns c =
 pub put-report-spec : {M : Type 1} → statement M
 put-report-spec =
     tie.close
-    (tie.spec (λ c κs. search needs) (λ c κs. search needs) put-steps-requires put-clusters-requires (λ c. search needs) returns)
+    (tie.spec (λ c κs. search needs) (λ c κs. search needs) put-steps-requires (λ c. search needs) put-clusters-requires (λ c. search needs) returns)

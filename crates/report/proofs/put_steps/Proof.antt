@@ -1,48 +1,64 @@
--- `report::put_steps` meets its contract: the lines of the steps from `i` on are still to be put. Assumes nothing.
-use Prim.Native.Nat.{_-_, _≤_}
+-- `report::put_steps` meets its contract: the lines of the steps from `t` on are still to be put. Assumes nothing.
+use Prim.Native.Nat.{ℕ, _-_, _≤_}
 use native.Mathlib.Omega.{arith}
-use lib.ListN.{length, take, drop}
-use Rattle.report.specs.Report.{stepLines}
+use mathlib.Core.Path.{sym, ap, subst}
+use mathlib.Core.List.{List}
+use Rattle.theory.specs.declared.Step.{Step}
+use Rattle.space.specs.Space.Laws.{put-as}
+use Rattle.engine.specs.Steps.{stepAt, stepsFor, stepsIn}
+use Rattle.report.specs.Report.{stepLine, stepLines}
+use Rattle.report.specs.Pieces.{Small}
 use Rattle.report.specs.Report.Laws.{steps-next, steps-none, small-at}
 use Rattle.report.proofs.Going.{Going, start, put-next, put-last, place}
 use Rattle.report.proofs.put_steps.Statement.{statement}
 use Rattle.report.proofs.put_steps.Tie as tie
 
 abbrev Inv-loop : tie.InvT-loop
-Inv-loop out₀ at count steps next₀ i₀ out next i =
-    (i ≤ count) × Going out₀ at (stepLines (take count steps)) out next (stepLines (drop i (take count steps)))
+Inv-loop out₀ at parts joints start sizes lines e count next₀ t₀ out next t =
+    (t ≤ count) × Going out₀ at (stepLines (stepsIn lines e sizes start parts joints count)) out next
+    (stepLines (stepsFor (stepAt lines e sizes start parts joints) t (count - t)))
 
 abbrev μ-loop : tie.MeasureT-loop
-μ-loop out₀ at count steps next₀ i₀ out next i = count - i
+μ-loop out₀ at parts joints start sizes lines e count next₀ t₀ out next t = count - t
 
--- the array has 62 places
-long : (c : tie.Start Inv-loop μ-loop) → c .args .count ≤ length (c .args .t3)
-long c = omega (arith, c .good .1 .1 .0 .1 .0 .1, c .pre)
+-- the steps in the arrays
+abbrev steps : tie.Start Inv-loop μ-loop → ℕ → Step
+steps s = stepAt (s .args .lines) (s .args .e) (s .args .sizes .now) (s .args .start .now) (s .args .parts .now) (s .args .joints .now)
+
+none-put : (f : ℕ → Step) (count : ℕ) (space : List ℕ) (a : ℕ)
+    → Going space a (stepLines (stepsFor f 0 count)) space a (stepLines (stepsFor f 0 (count - 0)))
+none-put f count space a =
+    subst (λ (k : ℕ). Going space a (stepLines (stepsFor f 0 count)) space a (stepLines (stepsFor f 0 k))) {x = count} {y = count - 0} (omega arith)
+    (start (stepLines (stepsFor f 0 count)))
+
+loop-holds : tie.Need-loop-holds Inv-loop μ-loop
+loop-holds c = let s = c .before in (omega arith, none-put (steps s) (s .args .count) (s .args .out .now) (s .args .at))
 
 put-step-line-requires : tie.Need-put-step-line-requires Inv-loop μ-loop
 put-step-line-requires c κs =
     let s = c .before .before .before .before .before in
     let l = c .before .before .before .loop in (
-      small-at (s .args .t3) (s .args .count) (l .i) _ (long s) (s .pre .1) (c .before .before .loop-test .taken),
-      omega (arith, place (l .inv .1), s .pre .2),
+      subst Small (sym (c .before .step-at .ensures)) (small-at (steps s) (s .args .count) (l .t) (s .pre .2) (c .before .before .loop-test .taken)),
+      omega (arith, place (l .inv .1), s .pre .3),
     )
 
 loop-again : tie.Need-loop-again Inv-loop μ-loop
 loop-again c =
     let s = c .before .before .before .before .before .before .before .before in
-    let l = c .before .before .before .before .before .before .loop in (
-      omega arith,
-      put-next (steps-next (s .args .t3) (s .args .count) (l .i) _ (long s) (c .before .before .before .before .before .loop-test .taken)) (l .inv .1)
-          (c .before .before .put-step-line .ensures),
+    let l = c .before .before .before .before .before .before .loop in
+    let h = c .before .before .before .before .before .loop-test .taken in (
+      omega (arith, h),
+      put-next (steps-next (steps s) (s .args .count) (l .t) h) (l .inv .1)
+          (put-as (ap stepLine (c .before .before .before .before .step-at .ensures)) (c .before .before .put-step-line .ensures)),
     )
 
 returns : tie.Need-returns Inv-loop μ-loop
 returns c =
-    let a = c .before .before .before .args in
-    put-last (steps-none (a .t3) (a .count) (c .before .loop .i) (c .loop-test .left)) (c .before .loop .inv .1)
+    let s = c .before .before .before in
+    put-last (steps-none (steps s) (s .args .count) (c .before .loop .t) (c .loop-test .left)) (c .before .loop .inv .1)
 
 pub put-steps-spec : {M : Type 1} → statement M
 put-steps-spec =
     tie.close
-    (tie.spec Inv-loop μ-loop (λ c. (omega arith, start _)) (λ c. omega arith) (λ c. omega arith) put-step-line-requires (λ c. omega arith)
-    (λ c. omega arith) loop-again (λ c. returns c .length-is) returns)
+    (tie.spec Inv-loop μ-loop loop-holds (λ c κs. omega arith) put-step-line-requires (λ c. omega arith) (λ c. omega arith) loop-again
+    (λ c. returns c .length-is) returns)

@@ -1,8 +1,10 @@
--- A bound on the report's length: 42 + 12 * steps + 24 * e bytes for every list of merges, at most 3,786 on a sheet that is not over. A step line
--- has at most 57 bytes; the line of a cluster of m elements has 18 + 3m at most; e is the clusters left and twice the steps, and the sum of 2m - 3.
--- Assumes nothing.
+-- A bound on the report's length: 42 + 37 * e - 6 * steps bytes for every list of merges, at most 4,667 on a sheet that is not over. A step line
+-- has at most 57 bytes; the line of a cluster of m elements has 27 + 3m at most, and 4 for each of the 2m - 3 constraints it rests on; e is the
+-- clusters left and twice the steps, and the sum of 2m - 3. Assumes nothing.
 use Prim.Native.Nat.{ℕ, zero, suc, _+_, _*_, _≤_, _<_}
 use native.Mathlib.Omega.{arith}
+use mathlib.Core.Path.{_≡_}
+use mathlib.Core.Logic.{_≢_}
 use mathlib.Core.Bool.{Bool, true, false}
 use mathlib.Core.List.{List, [], _∷_, _++_}
 use lib.Dec.{ltb, eqb}
@@ -14,12 +16,14 @@ use Rattle.theory.specs.Set.Laws.{size-full}
 use Rattle.theory.specs.Constraints.{NotOver, Below, Pairs}
 use Rattle.theory.specs.Constraints.Laws.{carried-full}
 use Rattle.theory.specs.Merge.{Merge, slot, three, joint, OpenAt, put, Valid, final, total, living, left, weight, weights}
-use Rattle.theory.specs.Merge.Count.{steps-left, weights-kept, steps-most}
+use Rattle.theory.specs.Merge.Count.{steps-left, weights-kept}
 use Rattle.theory.specs.Merge.Numbered.{alive-lt, length-put}
 use Rattle.theory.specs.Merge.Threes.{size-joint}
 use Rattle.theory.specs.Plan.{ascending}
 use Rattle.theory.specs.Plan.Order.{open-ascending}
 use Rattle.theory.specs.Placement.{byOrder, against, triangle, strip, stripOf, placed, sizeAt, initial, jointKind, ways}
+use Rattle.rests.specs.Rests.{restsOn}
+use Rattle.rests.specs.Rests.Laws.{carrying}
 use Rattle.space.specs.Text.{decimal}
 use Rattle.space.specs.Text.Laws.{decimal-1}
 use Rattle.theory.specs.Graph.{Graph, stepOf, stepsFrom, stepsOf}
@@ -29,11 +33,11 @@ use Rattle.theory.specs.declared.JointKind.{JointKind}
 use Rattle.theory.specs.declared.JointKind.the-variants.{Ppp, Ppl, Pll, Lll}
 use Rattle.theory.specs.declared.Ways.the-variants.{Unknown}
 use Rattle.theory.specs.declared.Step.{Step}
-use Rattle.report.specs.Elements.Laws.{elements-size}
-use Rattle.report.specs.Report.{waysName, verdictLine, elementsLine, stepLine, slotLine, stepLines, clusterLines, report}
+use Rattle.report.specs.Elements.Laws.{elements-size, constraints-size}
+use Rattle.report.specs.Report.{waysName, stepLine, slotLine, stepLines, clusterLines, report}
 use Rattle.report.specs.Pieces.{Small, AllSmall}
 use Rattle.space.specs.Text.Laws.{decimal-length}
-use Rattle.report.specs.Report.Length.{decimal-two, verdict-length, elements-length, step-length, slot-length}
+use Rattle.report.specs.Report.Length.{decimal-two, verdict-length, elements-length, step-length, slot-length, report-length}
 
 -- ---- step lines
 
@@ -62,34 +66,43 @@ steps-short (s ∷ steps) h =
 
 -- ---- cluster lines
 
-slot-short : (c a : ℕ) → 2 * length (slotLine c a) ≤ 45 * living a + 3 * weight a
-slot-short c zero = omega (arith, slot-length c zero)
-slot-short c (suc a) = omega (arith, slot-length c (suc a), elements-size (suc a))
+-- a living cluster of m elements rests on 2m-3 constraints
+abbrev Resting : ℕ → ℕ → Type 0
+Resting a r = a ≢ 0 → ones r + 3 ≡ 2 * ones a
 
-clusters-short : (c : ℕ) (slots : List ℕ) → 2 * length (clusterLines c slots) ≤ 45 * left slots + 3 * weights slots
+slot-short : (c a r : ℕ) → Resting a r → 2 * length (slotLine c a r) ≤ 63 * living a + 11 * weight a
+slot-short c zero r h = omega (arith, slot-length c zero r)
+slot-short c (suc a) r h =
+    omega (arith, slot-length c (suc a) r, elements-size (suc a), constraints-size r, h (λ z. omega arith))
+
+clusters-short : (c : ℕ) (slots rests : List ℕ) → ((n : ℕ) → Resting (slot slots n) (slot rests n))
+    → 2 * length (clusterLines c slots rests) ≤ 63 * left slots + 11 * weights slots
 unfolding clusterLines left weights total
-clusters-short c [] = omega arith
-clusters-short c (a ∷ slots) =
-    omega (arith, length-append (slotLine c a) (clusterLines (suc c) slots), slot-short c a, clusters-short (suc c) slots)
+clusters-short c [] rests h = omega arith
+clusters-short c (a ∷ slots) [] h = omega arith
+clusters-short c (a ∷ slots) (r ∷ rests) h =
+    omega (
+      arith,
+      length-append (slotLine c a r) (clusterLines (suc c) slots rests),
+      slot-short c a r (h 0),
+      clusters-short (suc c) slots rests (λ n. h (suc n)),
+    )
 
 -- ---- the report
 
-report-short : (n e : ℕ) (v : Verdict) (steps : List Step) (slots : List ℕ) → n < 100 → AllModest steps
-    → 2 * length (report n e v steps slots) ≤ 84 + 114 * length steps + 45 * left slots + 3 * weights slots
-unfolding report
-report-short n e v steps slots small modest =
-    let rest = stepLines steps ++ clusterLines 0 slots in
+report-short : (n e : ℕ) (v : Verdict) (steps : List Step) (slots rests : List ℕ) → n < 100 → AllModest steps
+    → ((k : ℕ) → Resting (slot slots k) (slot rests k))
+    → 2 * length (report n e v steps slots rests) ≤ 84 + 114 * length steps + 63 * left slots + 11 * weights slots
+report-short n e v steps slots rests small modest resting =
     omega (
       arith,
-      length-append (verdictLine v) (elementsLine n e ++ rest),
-      length-append (elementsLine n e) rest,
-      length-append (stepLines steps) (clusterLines 0 slots),
+      report-length n e v steps slots rests,
       verdict-length v,
       elements-length n e,
       decimal-two n small,
       decimal-length e,
       steps-short steps modest,
-      clusters-short 0 slots,
+      clusters-short 0 slots rests resting,
     )
 
 -- ---- the steps of a list of merges are modest
@@ -177,26 +190,27 @@ small-steps g s (m ∷ p) v h = (small-step g s m (v .0) (omega arith), small-st
 -- ---- every list of merges
 
 module _ (g : Graph) (pairs : Pairs (g .clusters)) (p : List Merge) (valid : Valid (g .clusters) p) (v : Verdict) where
-  pub report-bound : g .n < 100
-      → length (report (g .n) (length (g .clusters)) v (stepsOf g p) (final (g .clusters) p)) ≤ 42 + 12 * length p + 24 * length (g .clusters)
+  abbrev bytes : List ℕ
+  bytes = report (g .n) (length (g .clusters)) v (stepsOf g p) (final (g .clusters) p) (restsOn (length (g .clusters)) p)
+
+  pub report-bound : g .n < 100 → length bytes + 6 * length p ≤ 42 + 37 * length (g .clusters)
   report-bound small =
       omega (
         arith,
-        report-short (g .n) (length (g .clusters)) v (stepsOf g p) (final (g .clusters) p) small (modest-steps g (g .clusters) p valid),
+        report-short (g .n) (length (g .clusters)) v (stepsOf g p) (final (g .clusters) p) (restsOn (length (g .clusters)) p) small
+        (modest-steps g (g .clusters) p valid) (carrying (g .clusters) pairs p valid .count),
         length-steps g (g .clusters) p,
         steps-left (g .clusters) pairs p valid,
         weights-kept (g .clusters) pairs p valid,
       )
 
   -- a sheet that is not over
-  pub report-most : 2 ≤ g .n → g .n ≤ 64 → Below (g .n) (g .clusters) → NotOver (g .clusters)
-      → length (report (g .n) (length (g .clusters)) v (stepsOf g p) (final (g .clusters) p)) ≤ 3786
+  pub report-most : 2 ≤ g .n → g .n ≤ 64 → Below (g .n) (g .clusters) → NotOver (g .clusters) → length bytes ≤ 4667
   unfolding NotOver
   report-most two most below fine =
       omega (
         arith,
         report-bound (omega arith),
-        steps-most (g .n) (g .clusters) two pairs below fine p valid,
         fine (full (g .n)) (omega (arith, size-full (g .n))),
         size-full (g .n),
         carried-full (g .n) (g .clusters) below,

@@ -1,8 +1,8 @@
 -- Laws of the report's bytes: pieces of its lines. Assumes nothing.
-use Prim.Native.Nat.{ℕ, zero, suc, _+_, _-_, _^_, _≤_, _<_}
+use Prim.Native.Nat.{ℕ, zero, suc, _+_, _-_, _*_, _^_, _≤_, _<_}
 use native.Mathlib.Numerals.{add-one}
 use native.Mathlib.Omega.{arith}
-use mathlib.Core.Path.{_≡_, refl, ap}
+use mathlib.Core.Path.{_≡_, refl, sym, ap, ap₂, _∙_, subst}
 use mathlib.Core.Logic.{_≢_}
 use mathlib.Core.List.{List, [], _∷_, _++_, map, append-assoc, append-nil}
 use borrow.Author.Tests.{eq-eqb, ne-eqb}
@@ -16,22 +16,27 @@ use Rattle.theory.specs.declared.JointKind.{JointKind}
 use Rattle.theory.specs.declared.JointKind.the-variants.{Ppp, Ppl, Pll, Lll}
 use Rattle.theory.specs.declared.Ways.{Ways}
 use Rattle.theory.specs.declared.Step.{Step}
-use Rattle.report.specs.Elements.{elements}
-use Rattle.report.specs.Elements.Laws.{elements-lowest, elements-none}
+use Rattle.engine.specs.Steps.{stepsFor}
+use Rattle.report.specs.Elements.{elements, constraintsOf}
+use Rattle.report.specs.Elements.Laws.{elements-lowest, elements-none, constraints-words}
 use Rattle.report.specs.Report.{others, line, kindName, waysName, listed, verdictLine, elementsLine, stepLine, stepLines, clusterLine, slotLine}
 use Rattle.report.specs.Report.{clusterLines, overReport}
-use Rattle.report.specs.Pieces.{numbers, partsWords, kindWords, waysWords, Small, AllSmall}
+use Rattle.report.specs.Pieces.{numbers, above, wide, partsWords, kindWords, waysWords, restWords, Small, AllSmall}
 
 -- ---- a set's elements in a line
 
-pub numbers-lowest : (a : ℕ) → a < 2 ^ 64 → a ≢ 0
-    → numbers (elements a) ≡ (32 ∷ decimal (trailingZeros 64 a)) ++ numbers (elements (bitAnd a (a - 1)))
+pub above-lowest : (first a : ℕ) → a < 2 ^ 64 → a ≢ 0
+    → numbers (above first (elements a)) ≡ (32 ∷ decimal (first + trailingZeros 64 a)) ++ numbers (above first (elements (bitAnd a (a - 1))))
 unfolding numbers
-numbers-lowest a l n = ap numbers (elements-lowest a l n)
+above-lowest first a l n = ap (λ (xs : List ℕ). numbers (above first xs)) (elements-lowest a l n)
 
-pub numbers-none : numbers (elements 0) ≡ []
+pub above-none : (first : ℕ) → numbers (above first (elements 0)) ≡ []
 unfolding numbers
-numbers-none = ap numbers elements-none
+above-none first = ap (λ (xs : List ℕ). numbers (above first xs)) elements-none
+
+pub above-zero : (xs : List ℕ) → above 0 xs ≡ xs
+above-zero [] = refl
+above-zero (x ∷ xs) = let e : 0 + x ≡ x = omega arith in ap₂ (λ (y : ℕ) (ys : List ℕ). y ∷ ys) e (above-zero xs)
 
 -- words that begin with numbers
 pub others-numbers : (xs : List ℕ) (ws : List (List ℕ)) → others (map decimal xs ++ ws) ≡ numbers xs ++ others ws
@@ -61,14 +66,33 @@ pub step-pieces : (s : Step)
 unfolding stepLine
 step-pieces s = rw (others-numbers, kind-ways) (parts-then (s .made) (s .i) (s .j) (s .k) _)
 
-pub slot-dead : (c a : ℕ) → a ≡ 0 → slotLine c a ≡ []
+pub slot-dead : (c a r : ℕ) → a ≡ 0 → slotLine c a r ≡ []
 unfolding slotLine
-slot-dead c a e = rw (eq-eqb a 0 e)
+slot-dead c a r e = rw (eq-eqb a 0 e)
 
-pub slot-living : (c a : ℕ) → a ≢ 0
-    → slotLine c a ≡ ascii "cluster" ++ ((32 ∷ decimal c) ++ (ascii " holds" ++ (numbers (elements a) ++ (10 ∷ []))))
+pub slot-any : (c a r : ℕ) → a ≢ 0
+    → slotLine c a r
+    ≡ ascii "cluster" ++ ((32 ∷ decimal c) ++ (ascii " holds" ++ (numbers (elements a) ++ (ascii " rests on" ++ (numbers (constraintsOf r) ++ (10 ∷ []))))))
 unfolding slotLine clusterLine
-slot-living c a n = rw (ne-eqb a 0 n, others-listed)
+slot-any c a r n = rw (ne-eqb a 0 n, others-numbers, others-listed)
+
+numbers-append : (xs ys : List ℕ) → numbers (xs ++ ys) ≡ numbers xs ++ numbers ys
+unfolding numbers
+numbers-append [] ys = refl
+numbers-append (x ∷ xs) ys = rw (numbers-append xs ys, append-assoc)
+
+-- what it rests on in two words
+words-listed : (l h : ℕ) → l < 2 ^ 64 → h < 2 ^ 64
+    → numbers (constraintsOf (h * 2 ^ 64 + l)) ++ (10 ∷ []) ≡ numbers (elements l) ++ (numbers (above 64 (elements h)) ++ (10 ∷ []))
+words-listed l h a b = rw (constraints-words l h a b, numbers-append, append-assoc)
+
+pub slot-living : (c a l h : ℕ) → a ≢ 0 → l < 2 ^ 64 → h < 2 ^ 64
+    → slotLine c a (h * 2 ^ 64 + l)
+    ≡ ascii "cluster" ++ ((32 ∷ decimal c) ++ (ascii " holds" ++ (numbers (elements a) ++ restWords l h)))
+slot-living c a l h n x y =
+    slot-any c a (h * 2 ^ 64 + l) n
+    ∙ ap (λ (t : List ℕ). ascii "cluster" ++ ((32 ∷ decimal c) ++ (ascii " holds" ++ (numbers (elements a) ++ (ascii " rests on" ++ t)))))
+    (words-listed l h x y)
 
 last-lines : (first set : ℕ)
     → line (ascii "first" ∷ decimal first ∷ []) ++ line (ascii "set" ∷ listed set)
@@ -94,28 +118,65 @@ past l m i h =
     let k : length (take m l) ≤ i = rw length-take (omega arith) in
     drop-of-length-le (take m l) k
 
-pub steps-next : (steps : List Step) (m i : ℕ) (d : Step) → m ≤ length steps → i < m
-    → stepLines (drop i (take m steps)) ≡ stepLine (getD steps i d) ++ stepLines (drop (i + 1) (take m steps))
-unfolding stepLines
-steps-next steps m i d long h = ap stepLines (front steps m i d long h)
+-- steps that are still to be put, from t on
+pub steps-next : (at : ℕ → Step) (count t : ℕ) → t < count
+    → stepLines (stepsFor at t (count - t)) ≡ stepLine (at t) ++ stepLines (stepsFor at (t + 1) (count - (t + 1)))
+unfolding stepLines stepsFor
+steps-next at count t h =
+    ap (λ (k : ℕ). stepLines (stepsFor at t k)) {x = count - t} {y = suc (count - (t + 1))} (omega arith)
+    ∙ ap (λ (k : ℕ). stepLine (at t) ++ stepLines (stepsFor at k (count - (t + 1)))) {x = suc t} {y = t + 1} (omega arith)
 
-pub steps-none : (steps : List Step) (m i : ℕ) → m ≤ i → stepLines (drop i (take m steps)) ≡ []
-unfolding stepLines
-steps-none steps m i h = ap stepLines (past steps m i h)
+pub steps-none : (at : ℕ → Step) (count t : ℕ) → count ≤ t → stepLines (stepsFor at t (count - t)) ≡ []
+unfolding stepLines stepsFor
+steps-none at count t h = ap (λ (k : ℕ). stepLines (stepsFor at t k)) {x = count - t} {y = 0} (omega arith)
 
-small-in : (steps : List Step) (i : ℕ) (d : Step) → AllSmall steps → i < length steps → Small (getD steps i d)
-small-in [] i d a h = absurd (omega arith)
-small-in (s ∷ steps) zero d a h = a .0
-small-in (s ∷ steps) (suc i) d a h = small-in steps i d (a .1) (omega arith)
+small-from : (at : ℕ → Step) (k b t : ℕ) → AllSmall (stepsFor at b k) → t < k → Small (at (b + t))
+unfolding stepsFor
+small-from at zero b t a h = absurd (omega arith)
+small-from at (suc k) b zero a h = subst (λ (n : ℕ). Small (at n)) {x = b} {y = b + 0} (omega arith) (a .0)
+small-from at (suc k) b (suc t) a h =
+    subst (λ (n : ℕ). Small (at n)) {x = suc b + t} {y = b + suc t} (omega arith) (small-from at k (suc b) t (a .1) (omega arith))
 
-pub small-at : (steps : List Step) (m i : ℕ) (d : Step) → m ≤ length steps → AllSmall (take m steps) → i < m → Small (getD steps i d)
-small-at steps m i d long a h = rw (getD-take m steps i d h) at (small-in (take m steps) i d a (rw length-take (omega arith)))
+pub small-at : (at : ℕ → Step) (count t : ℕ) → AllSmall (stepsFor at 0 count) → t < count → Small (at t)
+small-at at count t a h = subst (λ (n : ℕ). Small (at n)) {x = 0 + t} {y = t} (omega arith) (small-from at count 0 t a h)
 
-pub clusters-next : (slots : List ℕ) (m c : ℕ) → m ≤ length slots → c < m
-    → clusterLines c (drop c (take m slots)) ≡ slotLine c (getD slots c 0) ++ clusterLines (c + 1) (drop (c + 1) (take m slots))
+-- one cluster after another, of the first m of two arrays
+pub clusters-next : (slots rests : List ℕ) (m c : ℕ) → m ≤ length slots → m ≤ length rests → c < m
+    → clusterLines c (drop c (take m slots)) (drop c (take m rests))
+    ≡ slotLine c (getD slots c 0) (getD rests c 0) ++ clusterLines (c + 1) (drop (c + 1) (take m slots)) (drop (c + 1) (take m rests))
 unfolding clusterLines
-clusters-next slots m c long h = rw (front slots m c 0 long h, add-one)
+clusters-next slots rests m c long wide h = rw (front slots m c 0 long h, front rests m c 0 wide h, add-one)
 
-pub clusters-none : (slots : List ℕ) (m c : ℕ) → m ≤ c → clusterLines c (drop c (take m slots)) ≡ []
+pub clusters-none : (slots rests : List ℕ) (m c : ℕ) → m ≤ c → clusterLines c (drop c (take m slots)) (drop c (take m rests)) ≡ []
 unfolding clusterLines
-clusters-none slots m c h = rw (past slots m c h)
+clusters-none slots rests m c h = rw (past slots m c h)
+
+-- only what stands at a living cluster's number counts
+pub clusters-same : (c : ℕ) (slots xs ys : List ℕ) → length slots ≤ length xs → length slots ≤ length ys
+    → ((n : ℕ) → getD slots n 0 ≢ 0 → getD xs n 0 ≡ getD ys n 0) → clusterLines c slots xs ≡ clusterLines c slots ys
+unfolding clusterLines
+clusters-same c [] xs ys l m h = refl
+clusters-same c (a ∷ slots) [] ys l m h = absurd (omega arith)
+clusters-same c (a ∷ slots) (x ∷ xs) [] l m h = absurd (omega arith)
+clusters-same c (a ∷ slots) (x ∷ xs) (y ∷ ys) l m h =
+    ap₂ (λ (s t : List ℕ). s ++ t) (first a (h 0)) (clusters-same (suc c) slots xs ys (omega arith) (omega arith) (λ n. h (suc n)))
+  where
+    first : (a : ℕ) → (a ≢ 0 → x ≡ y) → slotLine c a x ≡ slotLine c a y
+    first zero e = slot-dead c 0 x refl ∙ sym (slot-dead c 0 y refl)
+    first (suc a) e = ap (slotLine c (suc a)) (e (λ z. omega arith))
+
+-- ---- sets in two words
+
+pub length-wide : (low high : List ℕ) → length low ≡ length high → length (wide low high) ≡ length low
+unfolding wide
+length-wide [] high e = refl
+length-wide (l ∷ low) [] e = absurd (omega arith)
+length-wide (l ∷ low) (h ∷ high) e = ap suc (length-wide low high (omega arith))
+
+pub wide-at : (low high : List ℕ) (n : ℕ) → length low ≡ length high → getD (wide low high) n 0 ≡ getD high n 0 * 2 ^ 64 + getD low n 0
+unfolding wide
+wide-at [] [] n e = refl
+wide-at [] (h ∷ high) n e = absurd (omega arith)
+wide-at (l ∷ low) [] n e = absurd (omega arith)
+wide-at (l ∷ low) (h ∷ high) zero e = refl
+wide-at (l ∷ low) (h ∷ high) (suc n) e = wide-at low high n (omega arith)

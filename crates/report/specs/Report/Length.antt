@@ -6,7 +6,7 @@ use mathlib.Core.Path.{_≡_, refl, ap, _∙_}
 use mathlib.Core.Bool.{Bool, true, false, cond}
 use mathlib.Core.List.{List, [], _∷_, _++_}
 use lib.Dec.{ltb}
-use lib.ListN.{length, length-append}
+use lib.ListN.{length, length-append, length-map}
 use Rattle.theory.specs.Set.{at}
 use Rattle.theory.specs.Merge.{living}
 use Rattle.theory.specs.declared.Verdict.{Verdict}
@@ -18,11 +18,11 @@ use Rattle.theory.specs.declared.Ways.the-variants.{Known, Unknown}
 use Rattle.theory.specs.declared.Step.{Step}
 use Rattle.space.specs.Text.{digit, decimal}
 use Rattle.space.specs.Text.Laws.{decimal-length}
-use Rattle.report.specs.Elements.{member, among, elements}
+use Rattle.report.specs.Elements.{member, among, elements, constraintsOf}
 use Rattle.report.specs.Elements.Laws.{elements-most}
 use Rattle.report.specs.Report.{kindName, waysName, verdictLine, elementsLine, stepLine, slotLine, stepLines, clusterLines, report, overReport}
-use Rattle.report.specs.Pieces.{numbers}
-use Rattle.report.specs.Report.Laws.{step-pieces, slot-dead, slot-living, over-pieces}
+use Rattle.report.specs.Pieces.{numbers, above}
+use Rattle.report.specs.Report.Laws.{step-pieces, slot-dead, slot-any, over-pieces}
 
 -- ---- numbers and sets
 
@@ -51,6 +51,16 @@ set-length a = among-length 64 0 a (omega arith)
 
 pub set-most : (a : ℕ) → length (numbers (elements a)) ≤ 192
 set-most a = omega (arith, set-length a, elements-most a)
+
+-- a number has at most three digits
+pub numbers-most : (xs : List ℕ) → length (numbers xs) ≤ 4 * length xs
+unfolding numbers
+numbers-most [] = omega arith
+numbers-most (x ∷ xs) = omega (arith, length-append (decimal x) (numbers xs), decimal-length x, numbers-most xs)
+
+pub above-most : (first a : ℕ) → length (numbers (above first (elements a))) ≤ 256
+above-most first a =
+    omega (arith, numbers-most (above first (elements a)), length-map (elements a) (λ (x : ℕ). first + x), elements-most a)
 
 -- ---- lines
 
@@ -88,20 +98,21 @@ step-length s =
       kind-length (s .kind),
     )))
 
-pub slot-length : (c a : ℕ) → length (slotLine c a) ≤ living a * (18 + 3 * length (elements a))
-slot-length c zero = rw (slot-dead c zero refl) (omega arith)
-slot-length c (suc a) =
-    rw (slot-living c (suc a) (λ e. omega arith)) (simp length-append (omega (arith, decimal-length c, set-length (suc a))))
+pub slot-length : (c a r : ℕ) → length (slotLine c a r) ≤ living a * (27 + (3 * length (elements a) + 4 * length (constraintsOf r)))
+slot-length c zero r = rw (slot-dead c zero r refl) (omega arith)
+slot-length c (suc a) r =
+    rw (slot-any c (suc a) r (λ e. omega arith))
+    (simp length-append (omega (arith, decimal-length c, set-length (suc a), numbers-most (constraintsOf r))))
 
 -- ---- the report
 
-pub report-length : (n e : ℕ) (v : Verdict) (steps : List Step) (slots : List ℕ) → length (report n e v steps slots)
-    ≡ length (verdictLine v) + (length (elementsLine n e) + (length (stepLines steps) + length (clusterLines 0 slots)))
+pub report-length : (n e : ℕ) (v : Verdict) (steps : List Step) (slots rests : List ℕ) → length (report n e v steps slots rests)
+    ≡ length (verdictLine v) + (length (elementsLine n e) + (length (stepLines steps) + length (clusterLines 0 slots rests)))
 unfolding report
-report-length n e v steps slots =
-    length-append (verdictLine v) (elementsLine n e ++ (stepLines steps ++ clusterLines 0 slots))
-    ∙ ap (λ (k : ℕ). length (verdictLine v) + k) (length-append (elementsLine n e) (stepLines steps ++ clusterLines 0 slots)
-    ∙ ap (λ (k : ℕ). length (elementsLine n e) + k) (length-append (stepLines steps) (clusterLines 0 slots)))
+report-length n e v steps slots rests =
+    length-append (verdictLine v) (elementsLine n e ++ (stepLines steps ++ clusterLines 0 slots rests))
+    ∙ ap (λ (k : ℕ). length (verdictLine v) + k) (length-append (elementsLine n e) (stepLines steps ++ clusterLines 0 slots rests)
+    ∙ ap (λ (k : ℕ). length (elementsLine n e) + k) (length-append (stepLines steps) (clusterLines 0 slots rests)))
 
 pub over-long : (n e first set : ℕ) → length (overReport n e first set) ≤ 249
 over-long n e first set =

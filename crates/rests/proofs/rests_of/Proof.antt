@@ -1,10 +1,10 @@
 -- `rests::rests_of` meets its contract: after each step the words are those of the clusters that live then. Assumes nothing.
-use mathlib.Core.Path.{_≡_, sym, ap, _∙_, subst}
+use mathlib.Core.Path.{_≡_, sym, _∙_, subst}
 use mathlib.Core.List.{List}
 use Prim.Native.Nat.{ℕ, _+_, _-_, _*_, _≤_, _<_}
 use native.Mathlib.Omega.{arith}
 use borrow.Author.Needs.{needs}
-use lib.ListN.{length, getD, set, take, length-set}
+use lib.ListN.{getD, set, take}
 use Rattle.theory.specs.Set.{_∪_}
 use Rattle.rests.specs.Words.{Listed, Told}
 use Rattle.rests.specs.Words.Laws.{alone-low, alone-high, below, told-start, told-next, told-end}
@@ -13,8 +13,7 @@ use Rattle.rests.proofs.rests_of.Tie as tie
 
 abbrev Inv-loop : tie.InvT-loop
 Inv-loop parts e steps low₀ high₀ t₀ low high t =
-    (t ≤ steps) × (length low ≡ 192) × (length high ≡ 192)
-    × ((l : Listed e parts steps) → Told 0 (l .cs) (take t (l .p)) low × Told 1 (l .cs) (take t (l .p)) high)
+    (t ≤ steps) × ((l : Listed e parts steps) → Told 0 (l .cs) (take t (l .p)) low × Told 1 (l .cs) (take t (l .p)) high)
 
 abbrev μ-loop : tie.MeasureT-loop
 μ-loop parts e steps low₀ high₀ t₀ low high t = steps - t
@@ -24,18 +23,12 @@ loop-holds c =
     let low = c .before .alone .ensures in
     let high = c .alone2 .ensures in (
       omega arith,
-      low .long,
-      high .long,
       λ l. (
         told-start l 0 (c .before .alone .result) (low .long) (λ n h. alone-low (c .before .alone .result) low n),
         told-start l 1 (c .alone2 .result) (high .long)
             (alone-high (c .alone2 .result) (c .before .before .args .e) (omega (arith, c .before .before .pre .0)) high),
       ),
     )
-
--- a store keeps the length
-kept : {words next : List ℕ} {n v : ℕ} → next ≡ set words n v → length words ≡ 192 → length next ≡ 192
-kept {words} {next} {n} {v} e l = ap length e ∙ length-set words n v ∙ l
 
 -- one step more
 module _ {e steps t i j k : ℕ} {parts : List ℕ} (h : t < steps) (ei : i ≡ getD parts (3 * t) 0) (ej : j ≡ getD parts (3 * t + 1) 0)
@@ -79,15 +72,13 @@ loop-again c =
     let low = c .before .before .join .ensures in
     let high = c .join2 .ensures in (
       omega (arith, going w),
-      kept low (n .1),
-      kept high (n .2),
-      λ l. let t = n .3 l in (one-more w 0 low l (t .0), one-more w 1 high l (t .1)),
+      λ l. let t = n .1 l in (one-more w 0 low l (t .0), one-more w 1 high l (t .1)),
     )
 
 returns : tie.Need-returns Inv-loop μ-loop
 returns c l =
     let n = c .before .loop in
-    let t = n .inv .3 l in
+    let t = n .inv .1 l in
     let h = c .loop-test .left in
     let e : n .t ≡ c .before .before .before .before .args .steps = omega (arith, n .inv .0) in
     (told-end l 0 (n .t) (n .low) e (t .0), told-end l 1 (n .t) (n .high) e (t .1))
