@@ -14,14 +14,16 @@ use Rattle.sheet.specs.Rules.{or-else}
 use Rattle.sheet.specs.Answer.{byRule}
 use Rattle.sheet.specs.Graph.{overFault}
 use Rattle.plans.specs.Check.{savedSteps, planFault}
+use Rattle.rests.specs.Rests.{restsOn}
 use Rattle.report.specs.Report.{report, overReport}
 pub mod Laws
 pub mod Answers
 pub mod Room
 
--- the report of a list of merges of the constraints under a verdict, with the list's own steps and final clusters
+-- the report of a list of merges of the constraints under a verdict, with the list's own steps and final clusters, and what these rest on (document
+-- 02, 2026-04)
 abbrev pub reportWith : Graph → Verdict → List Merge → List ℕ
-reportWith g v p = report (g .n) (length (g .clusters)) v (stepsOf g p) (final (g .clusters) p)
+reportWith g v p = report (g .n) (length (g .clusters)) v (stepsOf g p) (final (g .clusters) p) (restsOn (length (g .clusters)) p)
 
 -- with its own verdict
 unfoldable pub listReport : Graph → List Merge → List ℕ

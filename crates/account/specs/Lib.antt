@@ -1,4 +1,5 @@
 -- The report of a sheet's facts, and the sheets to try.
 pub mod Account
+pub mod Resting
 pub mod Table
 pub mod Own

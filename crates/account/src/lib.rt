@@ -1,17 +1,24 @@
-// The report of a constraint graph in lent arrays: for the engine's plan, and for a saved plan that is accepted. Contracts cite specs/Account.antt.
+// The report of a constraint graph in lent arrays: for the engine's plan, and for a saved plan that is accepted; and what its final clusters rest on.
+// Contracts cite specs/Account.antt and specs/Resting.antt.
 ghost use mathlib.Core.Path.{_≡_};
+ghost use mathlib.Core.List.{List, [], _∷_};
+ghost use Prim.Native.Nat.{_+_, _≤_, _<_, _^_};
+ghost use lib.IntN.{ℤ};
 ghost use lib.ListN.{length, take};
 ghost use Rattle.theory.specs.Constraints.{NotOver};
 ghost use Rattle.graph.specs.Lent.{graphIn, Sound, Drawn};
 ghost use Rattle.merges.specs.Run.{Merged};
-ghost use Rattle.space.specs.Space.{answer, after};
+ghost use Rattle.space.specs.Space.{Put, answer, after};
 ghost use Rattle.sheet.specs.Answer.{byRule, Answers};
 ghost use Rattle.sheet.specs.Graph.{overFault};
+ghost use Rattle.account.specs.Resting.{restNumbers};
+ghost use Rattle.account.specs.Resting.Pairs.{pairsIn};
 ghost use Rattle.account.specs.Account.{reportWith, listReport, reportOf, savedField};
 use graph::Head;
 use merges::Run;
 use plans::Outcome;
 use space::Written;
+use space::put_number64;
 use theory::Verdict;
 
 // The report of a list of merges of the constraints, with the given verdict.
@@ -30,9 +37,27 @@ fn put_list(
         × (now (out .exit) ≡ after (reportWith (graphIn h (now (start .entry)) (now (sizes .entry))) (verdict) (m .p)) (now (out .entry)))) ⌝ }
 {
     let count = run.steps;
+    let parts = run.parts;
+    let joints = run.joints;
     let slots = run.slots;
-    let steps = engine::steps_of(run, start, sizes, h.lines, h.e);
-    report::write_report(out, h.n, h.e, verdict, steps, count, &slots, h.e + count)
+    let carried = rests::rests_of(&parts, h.e, count);
+    let low = carried.low;
+    let high = carried.high;
+    report::write_report(
+        out,
+        h.n,
+        h.e,
+        h.lines,
+        verdict,
+        start,
+        sizes,
+        count,
+        &parts,
+        &joints,
+        &slots,
+        &low,
+        &high,
+    )
 }
 
 // The same with the list's own verdict.
@@ -94,4 +119,83 @@ pub fn check_plan(
         Outcome::Refused(rule) => Written::Refused(rule),
         Outcome::Accepted => put_settled(h, start, sizes, run, out),
     }
+}
+
+// ---- what the final clusters rest on
+
+// The two words of a cluster, unless it is dead.
+fn put_pair(out: &mut [u64], at: usize, x: u64, low: u64, high: u64) -> usize
+    requires { ⌜ at + 2 < 2 ^ 64 ⌝ }
+    ensures { λ r. ⌜ Put (now (out .entry)) at (pairsIn (x ∷ []) (low ∷ []) (high ∷ [])) r (now (out .exit)) × (r ≤ at + 2) ⌝ }
+{
+    if x == 0 {
+        return at;
+    }
+    let a1 = put_number64(out, at, low);
+    put_number64(out, a1, high)
+}
+
+// Those of the clusters that live among the first `used` slots, by number.
+fn put_pairs(
+    out: &mut [u64],
+    slots: &[u64; 192],
+    low: &[u64; 192],
+    high: &[u64; 192],
+    used: usize,
+) -> usize
+    requires { ⌜ (used ≤ 192) × (length (now slots) ≡ 192) × (length (now low) ≡ 192) × (length (now high) ≡ 192) ⌝ }
+    ensures { λ r. ⌜ Put (now (out .entry)) 0 (pairsIn (take used (now (slots .entry))) (take used (now (low .entry))) (take used (now (high .entry)))) r
+        (now (out .exit)) ⌝ }
+{
+    let mut next: usize = 0;
+    let mut c: usize = 0;
+    while c < used {
+        next = put_pair(out, next, slots[c], low[c], high[c]);
+        c += 1;
+    }
+    next
+}
+
+// The same into lent space, or 17.
+fn put_rests(
+    slots: &[u64; 192],
+    low: &[u64; 192],
+    high: &[u64; 192],
+    used: usize,
+    out: &mut [u64],
+) -> Written
+    requires { ⌜ (used ≤ 192) × (length (now slots) ≡ 192) × (length (now low) ≡ 192) × (length (now high) ≡ 192) ⌝ }
+    ensures { λ r. ⌜ (r ≡ answer (pairsIn (take used (now (slots .entry))) (take used (now (low .entry))) (take used (now (high .entry))))
+        (now (out .entry)))
+        × (now (out .exit) ≡ after (pairsIn (take used (now (slots .entry))) (take used (now (low .entry))) (take used (now (high .entry))))
+        (now (out .entry))) ⌝ }
+{
+    let count = put_pairs(&mut out[..0], slots, low, high, used);
+    if out.len() < count {
+        Written::Refused(17)
+    } else {
+        let written = put_pairs(out, slots, low, high, used);
+        Written::Done(written)
+    }
+}
+
+// What the final clusters of a sheet rest on, two words each, by number; none of an over sheet.
+pub fn rests(h: Head, near: &[u64; 64], start: &[u64; 200], out: &mut [u64]) -> Written
+    requires { ⌜ Drawn h (now near) (now start) ⌝ }
+    ensures { λ r. ⌜ ((z : List ℤ) → (r ≡ answer (restNumbers (graphIn h (now (start .entry)) z)) (now (out .entry)))
+        × (now (out .exit) ≡ after (restNumbers (graphIn h (now (start .entry)) z)) (now (out .entry)))) ⌝ }
+{
+    let judged = judge::judge(h, near, start);
+    let verdict = judged.verdict;
+    if verdict.number() == 0 {
+        return Written::Done(0);
+    }
+    let run = judged.run;
+    let count = run.steps;
+    let parts = run.parts;
+    let slots = run.slots;
+    let carried = rests::rests_of(&parts, h.e, count);
+    let low = carried.low;
+    let high = carried.high;
+    put_rests(&slots, &low, &high, h.e + count, out)
 }

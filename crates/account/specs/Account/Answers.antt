@@ -29,6 +29,9 @@ use Rattle.plans.specs.declared.Checked.{Checked}
 use Rattle.plans.specs.Check.{savedSteps, planFault, answerOf, checkOf}
 use Rattle.plans.specs.Check.Laws.{accepted-maximal}
 use Rattle.report.specs.Report.{overReport}
+use Rattle.theory.specs.Merge.{final}
+use Rattle.rests.specs.Rests.{restsOn}
+use Rattle.account.specs.Resting.{wordsOf, restsBy, restNumbers}
 use Rattle.account.specs.Account.{reportWith, listReport, reportBy, reportOf, savedFault, savedField}
 
 -- ---- the judgement
@@ -38,9 +41,10 @@ module _ (g : Graph) (sound : Sound (g .n) (g .clusters)) (j : Judged) (e : j �
   pub record OverFound : Type 0 where
     pub first-below : j .first < length (g .clusters)
     pub report-is : overReport (g .n) (length (g .clusters)) (j .first) (j .set) ≡ reportOf g
+    pub rests-none : [] ≡ restNumbers g
 
   pub over-found : verdictNumber (j .verdict) ≡ 0 → OverFound
-  unfolding judgedOf reportOf listed
+  unfolding judgedOf reportOf restNumbers listed
   over-found v = by-finding (findingOf g) refl
     where
       by-finding : (o : Finding) → findingOf g ≡ o → OverFound
@@ -52,6 +56,7 @@ module _ (g : Graph) (sound : Sound (g .n) (g .clusters)) (j : Judged) (e : j �
           record {
             first-below = rw i (omega (arith, overOf-first (g .n) (g .clusters) (sound .simple .pairs) (sound .below) c x q .listed));
             report-is = ap (λ (y : Judged). overReport (g .n) (length (g .clusters)) (y .first) (y .set)) i ∙ sym (ap (reportBy g) q);
+            rests-none = sym (ap (restsBy g) q);
           }
 
   -- one that is not
@@ -59,9 +64,10 @@ module _ (g : Graph) (sound : Sound (g .n) (g .clusters)) (j : Judged) (e : j �
     pub notOver : NotOver (g .clusters)
     pub merged : Merged (g .clusters) (j .run)
     pub report-is : reportWith g (j .verdict) (merged .p) ≡ reportOf g
+    pub rests-are : wordsOf (final (g .clusters) (merged .p)) (restsOn (length (g .clusters)) (merged .p)) ≡ restNumbers g
 
   pub plan-found : verdictNumber (j .verdict) ≢ 0 → PlanFound
-  unfolding judgedOf reportOf listed listReport
+  unfolding judgedOf reportOf restNumbers listed listReport
   plan-found v = by-finding (findingOf g) refl
     where
       by-finding : (o : Finding) → findingOf g ≡ o → PlanFound
@@ -73,6 +79,7 @@ module _ (g : Graph) (sound : Sound (g .n) (g .clusters)) (j : Judged) (e : j �
           is = ap (λ (x : Judged). x .run) (e ∙ ap (judgedBy g) q);
         };
         report-is = ap (λ (x : Judged). reportWith g (x .verdict) (planOf (g .clusters))) (e ∙ ap (judgedBy g) q) ∙ sym (ap (reportBy g) q);
+        rests-are = sym (ap (restsBy g) q);
       }
       by-finding (First c x) q = absurd (v (ap (λ (x : Judged). verdictNumber (x .verdict)) (e ∙ ap (judgedBy g) q)))
 

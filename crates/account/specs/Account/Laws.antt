@@ -1,10 +1,14 @@
 -- The report of a list of merges, from the arrays that hold the graph and the list. Assumes nothing.
-use Prim.Native.Nat.{ℕ, _+_, _*_, _≤_}
+use Prim.Native.Nat.{ℕ, _+_, _*_, _^_, _≤_}
 use native.Mathlib.Omega.{arith}
-use mathlib.Core.Path.{_≡_, refl, sym, ap, subst}
+use mathlib.Core.Path.{_≡_, refl, sym, ap, ap₂, _∙_, subst}
+use mathlib.Core.Logic.{_≢_}
 use mathlib.Core.List.{List}
 use lib.IntN.{ℤ}
-use lib.ListN.{length, take}
+use lib.ListN.{length, getD, take, length-take}
+use lib.Seq.{getD-take}
+use Rattle.theory.specs.Merge.{slot, final}
+use Rattle.theory.specs.Merge.Numbered.{alive-lt}
 use Rattle.theory.specs.Constraints.{NotOver}
 use Rattle.theory.specs.declared.Verdict.{Verdict}
 use Rattle.theory.specs.declared.Step.{Step}
@@ -14,11 +18,17 @@ use Rattle.graph.specs.Lent.{graphIn, Sound}
 use Rattle.graph.specs.Lent.Sheets.{fine-few}
 use Rattle.merges.specs.Run.{runOf, Merged}
 use Rattle.merges.specs.declared.Run.{Run}
-use Rattle.engine.specs.Steps.{Stepped}
-use Rattle.engine.specs.Steps.Laws.{stepped-are}
+use Rattle.merges.specs.Run.Laws.{length-final}
+use Rattle.engine.specs.Steps.{stepsIn}
+use Rattle.engine.specs.Steps.Laws.{steps-in-are}
+use Rattle.rests.specs.Rests.{aloneFrom, restsOn}
+use Rattle.rests.specs.Rests.Laws.{length-alone, rests-below}
+use Rattle.rests.specs.Words.{Told}
+use Rattle.rests.specs.Words.Laws.{words-are}
 use Rattle.judge.specs.Judged.Laws.{steps-few, listed-verdict, finals-are, Settled}
-use Rattle.report.specs.Report.{report}
-use Rattle.report.specs.Pieces.{AllSmall}
+use Rattle.report.specs.Report.{clusterLines, report}
+use Rattle.report.specs.Report.Laws.{clusters-same, length-wide, wide-at}
+use Rattle.report.specs.Pieces.{wide, AllSmall}
 use Rattle.report.specs.Report.Bound.{report-most, small-steps}
 use Rattle.account.specs.Account.{reportWith, listReport}
 
@@ -38,20 +48,54 @@ module _ (h : Head) (start : List ℕ) (sizes : List ℤ) (sound : Sound (h .n) 
   steps-are = ap (λ (r : Run). r .steps) (m .is)
 
   -- what they give is the list's own
-  module _ {steps : List Step} (stepped : Stepped (h .lines) (h .e) sizes start run steps) where
-    steps-list : take (run .steps) steps ≡ stepsOf g (m .p)
+  module _ {low high : List ℕ} (lows : Told 0 (g .clusters) (m .p) low) (highs : Told 1 (g .clusters) (m .p) high) where
+    abbrev steps : List Step
+    steps = stepsIn (h .lines) (h .e) sizes start (run .parts) (run .joints) (run .steps)
+
+    abbrev finals : List ℕ
+    finals = take (h .e + run .steps) (run .slots)
+
+    abbrev rests : List ℕ
+    rests = take (h .e + run .steps) (wide low high)
+
+    steps-list : steps ≡ stepsOf g (m .p)
     steps-list =
-        stepped-are g (m .p) run start sizes steps (m .valid) (m .is) (ap (λ (e : ℕ). take e start) count) (ap (λ (e : ℕ). take e sizes) count)
-        (omega (arith, room, steps-are)) (rw count stepped)
+        subst (λ (e : ℕ). stepsIn (h .lines) e sizes start (run .parts) (run .joints) (run .steps) ≡ stepsOf g (m .p)) count
+        (steps-in-are g (m .p) run start sizes (m .valid) (m .is) (ap (λ (e : ℕ). take e start) count) (ap (λ (e : ℕ). take e sizes) count))
 
-    pub reported : (v : Verdict) → report (h .n) (h .e) v (take (run .steps) steps) (take (h .e + run .steps) (run .slots)) ≡ reportWith g v (m .p)
-    reported v = rw (steps-list, finals-are (g .clusters) (sound .simple .pairs) m count, count)
+    same-long : length low ≡ length high
+    same-long = lows .long ∙ sym (highs .long)
 
-    pub all-small : AllSmall (take (run .steps) steps)
-    all-small =
-        subst AllSmall (sym steps-list) (small-steps g (g .clusters) (m .p) (m .valid) (omega (arith, count, room, steps-are)))
+    used : length (final (g .clusters) (m .p)) ≡ h .e + run .steps
+    used = omega (arith, length-final (m .p) (g .clusters), count, steps-are)
 
-    pub not-long : (v : Verdict) → length (report (h .n) (h .e) v (take (run .steps) steps) (take (h .e + run .steps) (run .slots))) ≤ 3786
+    -- the words at a living cluster's number are the set that it rests on
+    rest-at : (n : ℕ) → getD (final (g .clusters) (m .p)) n 0 ≢ 0 → getD rests n 0 ≡ getD (restsOn (length (g .clusters)) (m .p)) n 0
+    rest-at n live =
+        let r = slot (restsOn (length (g .clusters)) (m .p)) n in
+        let l = alive-lt (final (g .clusters) (m .p)) n live in
+        let few = rests-below 128 (g .clusters) (sound .simple .pairs) (omega (arith, room, count)) (m .p) (m .valid) n in
+        getD-take (h .e + run .steps) (wide low high) n 0 (omega (arith, used))
+        ∙ wide-at low high n same-long
+        ∙ ap₂ (λ (x y : ℕ). x * 2 ^ 64 + y) (highs .is n live) (lows .is n live)
+        ∙ words-are r few
+
+    lines-same : clusterLines 0 (final (g .clusters) (m .p)) rests ≡ clusterLines 0 (final (g .clusters) (m .p)) (restsOn (length (g .clusters)) (m .p))
+    unfolding restsOn
+    lines-same =
+        clusters-same 0 (final (g .clusters) (m .p)) rests (restsOn (length (g .clusters)) (m .p))
+        (omega (arith, used, room, length-take (h .e + run .steps) (wide low high), length-wide low high same-long, lows .long))
+        (omega (arith, length-final (m .p) (g .clusters), length-final (m .p) (aloneFrom 0 (length (g .clusters))), length-alone (length (g .clusters)) 0))
+        rest-at
+
+    pub reported : (v : Verdict) → report (h .n) (h .e) v steps finals rests ≡ reportWith g v (m .p)
+    unfolding report
+    reported v = rw (steps-list, finals-are (g .clusters) (sound .simple .pairs) m count, lines-same, count)
+
+    pub all-small : AllSmall steps
+    all-small = subst AllSmall (sym steps-list) (small-steps g (g .clusters) (m .p) (m .valid) (omega (arith, count, room, steps-are)))
+
+    pub not-long : (v : Verdict) → length (report (h .n) (h .e) v steps finals rests) ≤ 4667
     not-long v = rw (reported v) (report-most g (sound .simple .pairs) (m .p) (m .valid) _ (sound .two) (sound .most) (sound .below) fine)
 
   -- with the verdict of the arrays

@@ -16,13 +16,14 @@ use Rattle.space.specs.Text.{decimal}
 use Rattle.sheet.specs.Facts.{sheetOf, elementsOf, linesOf}
 use Rattle.sheet.specs.Rules.{sheetFault, constraintFault, constraintsFault, stands}
 use Rattle.sheet.specs.Graph.{graphOf}
-use Rattle.report.specs.Elements.{among, elements}
+use Rattle.rests.specs.Rests.{aloneFrom, restsOn}
+use Rattle.report.specs.Elements.{among, elements, constraintsOf}
 use Rattle.report.specs.Report.{stepLine, clusterLine, stepLines, slotLine, clusterLines, report, overReport}
 use Rattle.account.specs.Account.{listReport, reportOf}
 use Rattle.account.specs.Table.{Row, table, Printed}
 
 printed : map (λ (r : Row). reportOf (graphOf (r .facts))) table ≡ map (λ (r : Row). r .prints) table
-unfolding reportOf listReport report overReport stepLines stepLine clusterLines slotLine clusterLine decimal elements among at stepsFrom
+unfolding reportOf listReport report overReport stepLines stepLine clusterLines slotLine clusterLine decimal elements constraintsOf among restsOn aloneFrom at stepsFrom
     stepOf ascending ways placed triangle strip stripOf against jointKind listVerdict judged angled ringed stripped ring.strip once linked planOf plan firstOf secondOf thirdOf
     openTest put cleared union joint joints left total has carried ones _∩_ _∪_ elementsOf linesOf pair isOver anyBelow heavy isTight smaller
     fewestBelow smallestSet next overUpTo overOf

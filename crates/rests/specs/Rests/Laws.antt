@@ -1,15 +1,17 @@
 -- What clusters rest on is kept by every merge: each constraint stands in one living cluster, which holds both its ends, and a cluster of m elements has
 -- 2m-3 of them. Assumes nothing.
 use mathlib.Core.Path.{_≡_, refl, sym, ap, _∙_, subst}
-use mathlib.Core.Logic.{_≢_, inl, inr}
+use mathlib.Core.Logic.{_≢_, _⊎_, inl, inr}
 use mathlib.Core.List.{List, [], _∷_}
 use Prim.Native.Nat.{ℕ, zero, suc, _+_, _*_, _^_, _≤_, _<_}
 use native.Mathlib.Omega.{arith}
 use native.Mathlib.Decide.{ℕ-discrete, decLt}
 use lib.Count.{ones}
 use lib.ListN.{length, List·getD-eq-default}
-use Rattle.theory.specs.Set.{_∩_, _∪_, _∈_, _⊑_, at}
-use Rattle.theory.specs.Set.Laws.{at-zero, at-same, at-other, size-pow, size-zero, size-∪, size-none, some, filled, ∈-∪⁻, ∈-∪ˡ, ∈-∪ʳ, ∈-∩⁻, ⊑-refl, ⊑-trans, ⊑⇒size≤, ∩-greatest}
+use lib.Pow.{pow-lt, ones-lt}
+use Rattle.theory.specs.Set.{_∩_, _∪_, _∈_, _⊑_, at, full}
+use Rattle.theory.specs.Set.Laws.{at-zero, at-le, bit, below-full, at-same, at-other, size-pow, size-zero, size-∪, size-none, some, filled, ∈-∪⁻, ∈-∪ˡ, ∈-∪ʳ, ∈-∩⁻, ⊑-refl, ⊑-trans, ⊑⇒size≤, ∩-greatest}
+use Rattle.theory.specs.Set.Less.{sub-below}
 use Rattle.theory.specs.Constraints.{Pairs, NotOver}
 use Rattle.theory.specs.Merge.{Merge, slot, three, union, OpenAt, Part, put, Valid, final, live}
 use Rattle.theory.specs.Merge.Threes.{part-a, part-b, part-c, size-union}
@@ -220,6 +222,20 @@ carrying-run cs (m ∷ p) w v = carrying-run cs p (put-carrying w m (v .0)) (v .
 pub carrying : (cs : List ℕ) → Pairs cs → (p : List Merge) → Valid cs p → Carrying cs (restsOn (length cs) p) (final cs p)
 unfolding restsOn
 carrying cs pairs p v = carrying-run cs p (starting cs pairs) v
+
+-- only constraints that there are
+pub rests-below : (k : ℕ) (cs : List ℕ) → Pairs cs → length cs ≤ k → (p : List Merge) → Valid cs p → (n : ℕ) → slot (restsOn (length cs) p) n < 2 ^ k
+unfolding full
+rests-below k cs pairs few p v n =
+    sub-below k r (full k) (record { le = λ i. le i (bit (at i r) (at-le i r)) }) (ones-lt k)
+  where
+    r : ℕ
+    r = slot (restsOn (length cs) p) n
+
+    le : (i : ℕ) → (at i r ≡ 0) ⊎ (at i r ≡ 1) → at i r ≤ at i (full k)
+    le i (inl e) = omega (arith, e)
+    le i (inr e) =
+        let l : i < k = omega (arith, carrying cs pairs p v .within n i e .0) in omega (arith, e, at-same i, below-full k (2 ^ i) (pow-lt l) .le i)
 
 -- ---- the promise
 

@@ -7,7 +7,7 @@ use native.Mathlib.Omega.{arith}
 use native.Mathlib.Numerals.{add-one}
 use native.Mathlib.Decide.{decLt}
 use lib.Bits.{or-shr, or-mod}
-use lib.Pow.{pow-lt, pow-add, shl-shr}
+use lib.Pow.{pow-lt, pow-add, shl-shr, recompose}
 use lib.ListN.{length, getD, set, take, length-set, length-take, length-map, List·getD-map}
 use lib.Seq.{getD-set-same, getD-set-other, take-suc, take-all}
 use Rattle.theory.specs.Block.{block}
@@ -28,6 +28,12 @@ use Rattle.rests.specs.Words.{word, Listed, Alone, Told}
 pub word-∪ : (w x y : ℕ) → word w (x ∪ y) ≡ word w x ∪ word w y
 unfolding word _∪_
 word-∪ w x y = ap (λ (z : ℕ). z % 2 ^ 64) (or-shr x y (64 * w)) ∙ or-mod (x / 2 ^ (64 * w)) (y / 2 ^ (64 * w)) 64
+
+-- two words are the set
+pub words-are : (r : ℕ) → r < 2 ^ 128 → word 1 r * 2 ^ 64 + word 0 r ≡ r
+unfolding word
+words-are r h =
+    ap (λ (x : ℕ). r / 2 ^ 64 % 2 ^ 64 * 2 ^ 64 + x % 2 ^ 64) {x = r / 1} {y = r} (omega arith) ∙ recompose 64 64 h
 
 -- ---- the words of one number
 
