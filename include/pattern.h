@@ -49,11 +49,12 @@ extern "C" {
 #define PATTERN_MAX_CONSTRAINTS 200  /* constraints of a sheet, numbered from 0 */
 #define PATTERN_MAX_SHEET       1814 /* bytes of a sheet that is read: it may carry tags */
 #define PATTERN_MAX_WRITTEN     1414 /* bytes of a written sheet: with this room no sheet is refused by 17 */
-#define PATTERN_MAX_REPORT      3786 /* bytes of a report: with this room no report is refused by 17 */
+#define PATTERN_MAX_REPORT      4667 /* bytes of a report: with this room no report is refused by 17 */
 #define PATTERN_MAX_PLAN        186  /* numbers of a plan, three a step: with this room no plan is refused by 17 */
 #define PATTERN_MAX_STEPS       62   /* steps of a plan: with room for so many no list of them is refused by 17 */
 #define PATTERN_STEP            7    /* numbers of a step in a list of steps, in the order of struct pattern_step */
 #define PATTERN_MAX_CLUSTERS    125  /* clusters that are left: with this room no list of them is refused by 17 */
+#define PATTERN_MAX_RESTS       250  /* words of what they rest on, two a cluster: with this room no list of them is refused by 17 */
 #define PATTERN_MAX_CHAIN       63   /* clusters of a chain: with this room no chain is refused by 17 */
 #define PATTERN_MAX_RECORD      891  /* bytes of a record: with this room no sketch is refused by 17 */
 #define PATTERN_MAX_PART        3534 /* bytes of one cluster's steps: with this room no list of them is refused by 17 */
@@ -159,6 +160,15 @@ int32_t pattern_initial(const uint8_t *sheet, size_t len, uint64_t *out, size_t 
 int32_t pattern_clusters(const uint8_t *sheet, size_t len, uint64_t *out, size_t room);
 
 /*
+ * What the clusters that are left rest on, in the order of pattern_clusters: the constraints that each
+ * came from, two words a cluster. Bit i of the first stands for constraint i, bit i of the second for
+ * constraint 64 + i. Every constraint is in exactly one of them: the one that holds both its ends; a
+ * cluster of m elements has 2m - 3. Answers the count of words. An over sheet answers 0. Tries rules 1
+ * to 10, then 17. There are at most PATTERN_MAX_RESTS.
+ */
+int32_t pattern_rests(const uint8_t *sheet, size_t len, uint64_t *out, size_t room);
+
+/*
  * The report of a sheet in ASCII lines, each ended by a newline; of an over sheet the first two and
  * what pattern_over gives. Tries rules 1 to 10, then 17. Answers the count of bytes; no zero byte is
  * put at the end. The lines, where numbers and names stand for those of the sheet:
@@ -167,7 +177,8 @@ int32_t pattern_clusters(const uint8_t *sheet, size_t len, uint64_t *out, size_t
  *   elements 4 constraints 5
  *   step 5 from 0 1 2 joint 0 1 2 kind ppp ways 2   the cluster made, its parts, the shared elements,
  *                                                   ppp, ppl, pll or lll, and 0, 1, 2 or ?
- *   cluster 6 holds 0 1 2 3                         a cluster that is left, and its elements
+ *   cluster 6 holds 0 1 2 3 rests on 0 1 2 3 4      a cluster that is left, its elements, and the
+ *                                                   constraints that it came from
  *   first 5                                         of an over sheet: the constraint too many
  *   set 0 1 2 3                                     and the part that cannot take it
  */

@@ -47,7 +47,7 @@ pub fn shared(run: &mut Run, a: Set, b: Set) {
     run.same("pattern_shared", &format_args!("{a:x} {b:x}"), ffi::shared(a, b), both);
 }
 
-/// Compares `pattern_verdict`, `pattern_plan` and `pattern_clusters` on some bytes.
+/// Compares `pattern_verdict`, `pattern_plan`, `pattern_clusters` and `pattern_rests` on some bytes.
 #[inline]
 pub fn plan(run: &mut Run, bytes: &[u8], found: &Found) {
     let given = Space::holding(bytes, &mut run.random);
@@ -56,6 +56,7 @@ pub fn plan(run: &mut Run, bytes: &[u8], found: &Found) {
     run.same("pattern_verdict", &Hex(bytes), ffi::verdict(given.held()), number(verdict));
     run.lent("pattern_plan", &Hex(bytes), &found.plan(), |out| ffi::plan(given.held(), out));
     run.lent("pattern_clusters", &Hex(bytes), &found.clusters(), |out| ffi::clusters(given.held(), out));
+    run.lent("pattern_rests", &Hex(bytes), &found.rests(), |out| ffi::rests(given.held(), out));
 }
 
 /// A verdict, or minus the rule.

@@ -42,17 +42,17 @@ fn the_report() {
                   elements 4 constraints 5\n\
                   step 5 from 0 1 2 joint 0 1 2 kind ppp ways 2\n\
                   step 6 from 3 4 5 joint 1 2 3 kind ppp ways ?\n\
-                  cluster 6 holds 0 1 2 3\n";
+                  cluster 6 holds 0 1 2 3 rests on 0 1 2 3 4\n";
     assert_eq!(report(&example(4, &[])), wanted);
 }
 
 #[test]
 fn few_constraints() {
     assert_eq!(report(&points(2, &[])), "verdict under\nelements 2 constraints 0\n");
-    let one = "verdict well\nelements 2 constraints 1\ncluster 0 holds 0 1\n";
+    let one = "verdict well\nelements 2 constraints 1\ncluster 0 holds 0 1 rests on 0\n";
     assert_eq!(report(&points(2, &[(0, 1, 300)])), one);
     let star = "verdict under\nelements 4 constraints 3\n\
-                cluster 0 holds 0 1\ncluster 1 holds 0 2\ncluster 2 holds 0 3\n";
+                cluster 0 holds 0 1 rests on 0\ncluster 1 holds 0 2\ncluster 2 holds 0 3\n";
     assert_eq!(report(&pairs(&shapes::bipartite(1, 4))), star);
 }
 
@@ -104,7 +104,7 @@ fn a_saved_plan() {
                  elements 4 constraints 5\n\
                  step 5 from 2 3 4 joint 1 2 3 kind ppp ways 2\n\
                  step 6 from 0 1 5 joint 0 1 2 kind ppp ways ?\n\
-                 cluster 6 holds 0 1 2 3\n";
+                 cluster 6 holds 0 1 2 3 rests on 0 1 2 3 4\n";
     assert_eq!(interface::check_plan(&bytes, &[4, 2, 3, 5, 0, 1]), Ok(other.as_bytes().to_vec()));
     for (plan, rule) in [
         (&[0, 1][..], 12),

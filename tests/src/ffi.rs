@@ -83,6 +83,12 @@ pub fn clusters(sheet: &[u8], out: &mut [u64]) -> i32 {
     unsafe { c::pattern_clusters(sheet.as_ptr(), sheet.len(), out.as_mut_ptr(), out.len()) }
 }
 
+/// `pattern_rests`
+#[inline]
+pub fn rests(sheet: &[u8], out: &mut [u64]) -> i32 {
+    unsafe { c::pattern_rests(sheet.as_ptr(), sheet.len(), out.as_mut_ptr(), out.len()) }
+}
+
 /// `pattern_report`
 #[inline]
 pub fn report(sheet: &[u8], out: &mut [u8]) -> i32 {
@@ -187,6 +193,8 @@ mod tests {
             assert_eq!(c::pattern_initial(sheet, len, null_mut(), 0), 0);
             assert_eq!(c::pattern_clusters(null(), 0, null_mut(), 0), -1);
             assert_eq!(c::pattern_clusters(sheet, len, null_mut(), 0), 0);
+            assert_eq!(c::pattern_rests(null(), 0, null_mut(), 0), -1);
+            assert_eq!(c::pattern_rests(sheet, len, null_mut(), 0), 0);
             assert_eq!(c::pattern_report(null(), 0, out, room), -1);
             assert_eq!(c::pattern_report(sheet, len, null_mut(), 0), -17);
             assert_eq!(c::pattern_missing(null(), 0, null(), 0, null_mut(), 0), -1);

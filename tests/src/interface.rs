@@ -125,9 +125,26 @@ impl Found {
         chain::chain(&merges.finals, from, to).ok_or(NO_RUN)
     }
 
+    /// `pattern_rests`: what the final clusters rest on, two words each.
+    pub fn rests(&self) -> Result<Vec<u64>, Rule> {
+        Ok(match &self.accepted()?.1 {
+            Judged::Over(_) => Vec::new(),
+            Judged::Merged(merges) => merges.rests.iter().flat_map(|rests| words(rests)).collect(),
+        })
+    }
+
     /// `pattern_report`.
     pub fn report(&self) -> Result<Vec<u8>, Rule> {
         let (sheet, judged) = self.accepted()?;
         Ok(report::report(sheet, judged).into_bytes())
     }
+}
+
+/// A set of constraint numbers below 128 in two words.
+fn words(numbers: &[usize]) -> [u64; 2] {
+    let mut words = [0; 2];
+    for &number in numbers {
+        words[number / 64] |= 1 << (number % 64);
+    }
+    words
 }

@@ -15,16 +15,21 @@ pub struct Step {
     pub joint: Set,
 }
 
-/// The clusters by number; one that a merge removed is `None`.
+/// The clusters by number; one that a merge removed is `None`. Beside each the constraints that it came from, ascending
+/// (document 02, 2026-04).
 #[derive(Clone)]
 pub struct Clusters {
     by_number: Vec<Option<Set>>,
+    rests: Vec<Vec<usize>>,
 }
 
 impl Clusters {
     /// Each constraint as the cluster of its two ends.
     pub fn initial(sheet: &Sheet) -> Clusters {
-        Clusters { by_number: sheet.constraints.iter().map(|c| Some(c.ends())).collect() }
+        Clusters {
+            by_number: sheet.constraints.iter().map(|c| Some(c.ends())).collect(),
+            rests: (0..sheet.e()).map(|number| vec![number]).collect(),
+        }
     }
 
     /// The elements of a living cluster.
@@ -36,6 +41,11 @@ impl Clusters {
     pub fn all_living(&self) -> Vec<(usize, Set)> {
         let numbered = self.by_number.iter().enumerate();
         numbered.filter_map(|(number, &set)| Some((number, set?))).collect()
+    }
+
+    /// What the living clusters rest on, in that order.
+    pub fn all_rests(&self) -> Vec<Vec<usize>> {
+        self.all_living().iter().map(|&(number, _)| self.rests[number].clone()).collect()
     }
 
     /// Calls `visit` with each open merge, by the comparison of document 01, until it says stop.
@@ -81,6 +91,9 @@ impl Clusters {
         let joint = joint(a, b, c).expect("an open merge");
         let made = self.by_number.len();
         self.by_number.push(Some(a | b | c));
+        let mut rests = three.map(|number| self.rests[number].clone()).concat();
+        rests.sort_unstable();
+        self.rests.push(rests);
         let mut parts = three;
         parts.sort_unstable();
         Step { made, parts, joint }
@@ -99,6 +112,8 @@ pub fn joint(a: Set, b: Set, c: Set) -> Option<Set> {
 pub struct Merges {
     pub steps: Vec<Step>,
     pub finals: Vec<(usize, Set)>,
+    /// What the final clusters rest on, in their order.
+    pub rests: Vec<Vec<usize>>,
 }
 
 impl Merges {
@@ -109,7 +124,7 @@ impl Merges {
         while let Some(three) = next(&clusters) {
             steps.push(clusters.merge(three));
         }
-        Merges { steps, finals: clusters.all_living() }
+        Merges { steps, finals: clusters.all_living(), rests: clusters.all_rests() }
     }
 
     /// The engine's own plan.

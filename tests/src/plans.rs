@@ -18,7 +18,7 @@ pub fn check(sheet: &Sheet, plan: &[u16]) -> Result<Merges, Rule> {
         steps.push(clusters.merge(three));
     }
     refuse(clusters.first_open().is_some(), 16)?;
-    Ok(Merges { steps, finals: clusters.all_living() })
+    Ok(Merges { steps, finals: clusters.all_living(), rests: clusters.all_rests() })
 }
 
 /// Rules 13 and 15 of one step. Of a sheet that is not over, two living clusters share at most one element (request 2026-06).

@@ -3,7 +3,7 @@
 use crate::facts::Sheet;
 use crate::merging::Step;
 use crate::placements::{kind, ways};
-use crate::set::elements;
+use crate::set::{Set, elements};
 use crate::verdict::{Judged, verdict};
 
 /// The report's lines on what was found of a sheet.
@@ -19,11 +19,16 @@ pub fn report(sheet: &Sheet, judged: &Judged) -> String {
         }
         Judged::Merged(merges) => {
             lines.extend(merges.steps.iter().map(|step| step_line(sheet, step)));
-            let cluster = |&(number, set)| format!("cluster {number} holds {}", listed(elements(set)));
-            lines.extend(merges.finals.iter().map(cluster));
+            let numbered = merges.finals.iter().zip(&merges.rests);
+            lines.extend(numbered.map(|(&(number, set), rests)| cluster_line(number, set, rests)));
         }
     }
     lines.iter().map(|line| format!("{line}\n")).collect()
+}
+
+/// The line of a final cluster, which ends with what it rests on (document 02, 2026-04).
+fn cluster_line(number: usize, set: Set, rests: &[usize]) -> String {
+    format!("cluster {number} holds {} rests on {}", listed(elements(set)), listed(rests.iter().copied()))
 }
 
 /// The line of a step.

@@ -17,7 +17,7 @@ static uint8_t sheet[PATTERN_MAX_SHEET + 1], bytes[PATTERN_MAX_REPORT];
 static size_t last; /* the number of the last cluster that is made */
 static size_t len;
 static uint16_t plan[PATTERN_MAX_PLAN];
-static uint64_t items[PATTERN_MAX_CONSTRAINTS], numbers[PATTERN_MAX_STEPS * PATTERN_STEP];
+static uint64_t items[PATTERN_MAX_RESTS], numbers[PATTERN_MAX_STEPS * PATTERN_STEP];
 static uint8_t firsts[PATTERN_MAX_CONSTRAINTS], seconds[PATTERN_MAX_CONSTRAINTS], maps[PATTERN_MAX_CONSTRAINTS];
 static int32_t sizes[PATTERN_MAX_CONSTRAINTS];
 static size_t n, e;
@@ -47,6 +47,7 @@ static void *verdict(void *u) { pattern_verdict(sheet, len); return u; }
 static void *plan_(void *u) { pattern_plan(sheet, len, plan, PATTERN_MAX_PLAN); return u; }
 static void *initial(void *u) { pattern_initial(sheet, len, items, PATTERN_MAX_CONSTRAINTS); return u; }
 static void *clusters(void *u) { pattern_clusters(sheet, len, items, PATTERN_MAX_CLUSTERS); return u; }
+static void *rests(void *u) { pattern_rests(sheet, len, items, PATTERN_MAX_RESTS); return u; }
 static void *chain(void *u)
 {
     for (size_t to = 1; to < PATTERN_MAX_ELEMENTS; to++)
@@ -122,6 +123,7 @@ int main(int argc, char **argv)
 {
     static const struct { const char *name; void *(*call)(void *); } calls[] = {
         {"pattern_rewrite", rewrite}, {"pattern_write", write_}, {"pattern_over", over}, {"pattern_verdict", verdict}, {"pattern_plan", plan_},
+        {"pattern_initial", initial}, {"pattern_clusters", clusters}, {"pattern_rests", rests}, {"pattern_report", report}, {"pattern_check_plan", check}, {"pattern_hold", hold},
         {"pattern_initial", initial}, {"pattern_clusters", clusters}, {"pattern_report", report}, {"pattern_check_plan", check}, {"pattern_missing", missing}, {"pattern_hold", hold},
         {"pattern_ask", ask}, {"pattern_place", place}, {"pattern_held", held},
         {"pattern_steps", steps}, {"pattern_saved_steps", saved_steps},

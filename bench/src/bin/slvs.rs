@@ -8,7 +8,7 @@ use pattern_tests::ffi;
 fn main() {
     println!("slvs: ns a call; of the report the lowest of {TURNS} medians of {SAMPLES} samples");
     heading();
-    let mut out = [0; 4096];
+    let mut out = [0; 5000];
     let mut proved = [Contender::new("proved", move |bytes| ffi::report(bytes, &mut out))];
     for case in cases::for_plan() {
         if case.n == MOST_ELEMENTS && case.pool.iter().all(|bytes| only_points(bytes)) {

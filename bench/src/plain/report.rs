@@ -4,7 +4,7 @@ use super::plan::{Merging, Step, merges_of, verdict_of};
 use super::sheet::{Sheet, read};
 
 /// More bytes than any report has.
-const MOST_BYTES: usize = 4096;
+const MOST_BYTES: usize = 5000;
 
 /// The verdicts' names by number.
 const NAMES: [&[u8]; 5] = [b"over", b"angle", b"well", b"stuck", b"under"];
@@ -49,6 +49,15 @@ impl Text {
         self.list(word, std::iter::from_fn(next));
     }
 
+    /// Adds the numbers of a set from `first` on.
+    fn set_from(&mut self, first: usize, mut set: u64) {
+        while set != 0 {
+            self.put(b" ");
+            self.number(first + set.trailing_zeros() as usize);
+            set &= set - 1;
+        }
+    }
+
     /// Adds the line of a step.
     fn step(&mut self, sheet: &Sheet, made: usize, step: &Step) {
         let kind = (step.joint & sheet.lines).count_ones() as usize;
@@ -67,14 +76,31 @@ impl Text {
         for (k, step) in merging.steps().iter().enumerate() {
             self.step(sheet, sheet.e + k, step);
         }
+        let rests = rests_of(sheet, merging);
         for (number, &set) in merging.sets().iter().enumerate() {
             if set != 0 {
                 self.list(b"cluster", [number].into_iter());
                 self.set(b" holds", set);
+                self.put(b" rests on");
+                self.set(b"", rests[number] as u64);
+                self.set_from(64, (rests[number] >> 64) as u64);
                 self.put(b"\n");
             }
         }
     }
+}
+
+/// The constraints that each cluster came from, as bits.
+fn rests_of(sheet: &Sheet, merging: &Merging) -> [u128; 192] {
+    let mut rests = [0; 192];
+    for (number, rests) in rests.iter_mut().enumerate().take(sheet.e) {
+        *rests = 1 << number;
+    }
+    for (k, step) in merging.steps().iter().enumerate() {
+        let [a, b, c] = step.parts;
+        rests[sheet.e + k] = rests[a] | rests[b] | rests[c];
+    }
+    rests
 }
 
 /// The placements of a step whose joint has `kind` lines.

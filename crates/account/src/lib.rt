@@ -186,16 +186,16 @@ pub fn rests(h: Head, near: &[u64; 64], start: &[u64; 200], out: &mut [u64]) -> 
         × (now (out .exit) ≡ after (restNumbers (graphIn h (now (start .entry)) z)) (now (out .entry)))) ⌝ }
 {
     let judged = judge::judge(h, near, start);
-    let verdict = judged.verdict;
-    if verdict.number() == 0 {
+    let name = judged.verdict;
+    if name.number() == 0 {
         return Written::Done(0);
     }
     let run = judged.run;
-    let count = run.steps;
+    let steps = run.steps;
     let parts = run.parts;
     let slots = run.slots;
-    let carried = rests::rests_of(&parts, h.e, count);
+    let carried = rests::rests_of(&parts, h.e, steps);
     let low = carried.low;
     let high = carried.high;
-    put_rests(&slots, &low, &high, h.e + count, out)
+    put_rests(&slots, &low, &high, h.e + steps, out)
 }

@@ -80,7 +80,7 @@ module _ {e : ℕ} {step : ℕ → Step} {c : ℕ} {s : Step} (h : Made e step c
         k-room = room-first (of (s .k)) _ after-j
 
         module _ {s3 : List ℕ} {d : Tally} (listed-k : Listed s2 b (of (s .k)) d s3) where
-          pub own-room : (d .bytes + 242 < 2 ^ 64) × (d .steps + 1 < 2 ^ 64)
+          pub own-room : (d .bytes + 310 < 2 ^ 64) × (d .steps + 1 < 2 ^ 64)
           own-room = room-one s (room-rest (of (s .k)) _ after-j listed-k)
 
           pub all-listed : {s4 : List ℕ} {next : ℕ} → Put s3 (d .bytes) (stepLine s) next s4

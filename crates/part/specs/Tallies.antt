@@ -29,7 +29,7 @@ pub record Listed (space : List ℕ) (t : Tally) (l : List Step) (r : Tally) (af
 -- the counts stay in their range, with a line's length to spare
 pub record Room (t : Tally) (l : List Step) : Type 0 where
   pub steps-fit : t .steps + length l < 2 ^ 64
-  pub bytes-fit : t .bytes + length (stepLines l) + 242 < 2 ^ 64
+  pub bytes-fit : t .bytes + length (stepLines l) + 310 < 2 ^ 64
 
 -- ---- steps, or the rule that refuses
 

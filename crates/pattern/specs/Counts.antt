@@ -10,6 +10,7 @@ use Rattle.sheet.specs.Field.{Field, value, Bytes}
 use Rattle.judge.specs.Judged.{planNumbers, finalClusters}
 use Rattle.writer.specs.Write.{writeField}
 use Rattle.account.specs.Account.{reportOf}
+use Rattle.account.specs.Resting.{restNumbers}
 use Rattle.steps.specs.Records.{numbersField}
 use Rattle.records.specs.Record.{placeField, writtenField, sheetField}
 use Rattle.pattern.specs.Entries.{itemsField, rewriteField, overNumbers, initialClusters, checkField, stepsField, savedStepsField, holdField}
@@ -20,12 +21,13 @@ abbrev pub AtMost : {A : Type 0} → ℕ → Field (List A) → Type 0
 AtMost {A} most x = (items : List A) (rest : List ℕ) → x ≡ value items rest → length items ≤ most
 
 pub record Counts : Type 0 where
-  pub report : (bytes : List ℕ) → Bytes bytes → AtMost 3786 (itemsField reportOf bytes)
+  pub report : (bytes : List ℕ) → Bytes bytes → AtMost 4667 (itemsField reportOf bytes)
   pub missing : (bytes prices : List ℕ) → Bytes bytes → AtMost 125 (missingField bytes prices)
-  pub check : (bytes plan : List ℕ) → Bytes bytes → AtMost 3786 (checkField bytes plan)
+  pub check : (bytes plan : List ℕ) → Bytes bytes → AtMost 4667 (checkField bytes plan)
   pub plan : (bytes : List ℕ) → Bytes bytes → AtMost 186 (itemsField planNumbers bytes)
   pub initial : (bytes : List ℕ) → Bytes bytes → AtMost 200 (itemsField initialClusters bytes)
   pub clusters : (bytes : List ℕ) → Bytes bytes → AtMost 125 (itemsField finalClusters bytes)
+  pub rests : (bytes : List ℕ) → Bytes bytes → AtMost 250 (itemsField restNumbers bytes)
   pub steps : (bytes : List ℕ) → Bytes bytes → AtMost 434 (numbersField (stepsField bytes))
   pub saved-steps : (bytes plan : List ℕ) → Bytes bytes → AtMost 434 (numbersField (savedStepsField bytes plan))
   pub over : (bytes : List ℕ) → AtMost 2 (itemsField overNumbers bytes)

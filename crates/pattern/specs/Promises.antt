@@ -1,5 +1,5 @@
 -- The page a buyer reads: what is promised of every list of bytes that `readSheet` accepts, with its facts f. Document 01, "Verdict names", "Every
--- order of merging", "Clusters and merges" and "The report". Shown by `promises` of Promises/Proof.antt; the contracts of the entry points cite the
+-- order of merging", "Clusters and merges" and "The report"; document 02, 2026-04. Shown by `promises` of Promises/Proof.antt; the contracts of the entry points cite the
 -- same fields (Entries).
 use Prim.Native.Nat.{ℕ, _+_, _*_, _%_, _≤_, _<_}
 use mathlib.Core.Path.{_≡_}
@@ -11,6 +11,7 @@ use lib.ListN.{length}
 use Rattle.theory.specs.Constraints.{Among, Perm}
 use Rattle.theory.specs.Over.{IsOver, FirstOver}
 use Rattle.theory.specs.Merge.{Merge, Valid, Maximal, final, joints, live, left}
+use Rattle.theory.specs.Plan.{planOf}
 use Rattle.theory.specs.Verdict.{Meets}
 use Rattle.theory.specs.Graph.{Graph, listVerdict, verdictOf, stepsOf}
 use Rattle.theory.specs.Demand.{Agree, Demand3}
@@ -24,10 +25,12 @@ use Rattle.sheet.specs.Answer.{afterTo}
 use Rattle.sheet.specs.Graph.{graphOf, reordered}
 use Rattle.judge.specs.Judged.{planNumbers, finalClusters}
 use Rattle.plans.specs.Check.{savedSteps}
+use Rattle.rests.specs.Rests.{restsOn, Rests}
 use Rattle.report.specs.Report.{overReport}
 use Rattle.sketch.specs.Runs.{Event, answersTo, afterAll, Run}
 use Rattle.records.specs.Runs.{answersIn, allIn, SameFacts}
 use Rattle.account.specs.Account.{listReport, reportOf}
+use Rattle.account.specs.Resting.{wordsOf, restNumbers}
 use Rattle.greedy.specs.Choice.{pricesAllowed}
 use Rattle.missing.specs.Missing.{pairsOf, Told}
 use Rattle.pattern.specs.Entries.{itemsField, verdictField, overNumbers, heldSheet, checkField, holdField, missingField}
@@ -114,3 +117,8 @@ pub record Promises (bytes : List ℕ) (f : Facts) : Type 0 where
   pub missing : verdictOf (graphOf f) ≢ Over → (prices : List ℕ) → length prices ≡ pairsOf (graphOf f .n) → pricesAllowed prices ≡ true
       → Told (graphOf f) prices (missingField bytes prices)
   pub runs : verdictOf (graphOf f) ≢ Over → HeldRuns bytes f
+  -- what clusters rest on, after any list of merges of a sheet that isn't over (document 02, 2026-04); `rests` answers it of the engine's plan, in words
+  pub rests : verdictOf (graphOf f) ≢ Over → (p : List Merge) → Valid (graphOf f .clusters) p → Rests (graphOf f .clusters) p
+  pub words : verdictOf (graphOf f) ≢ Over → itemsField restNumbers bytes
+      ≡ value (wordsOf (final (graphOf f .clusters) (planOf (graphOf f .clusters)))
+      (restsOn (length (graphOf f .clusters)) (planOf (graphOf f .clusters)))) []

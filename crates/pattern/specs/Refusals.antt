@@ -55,7 +55,7 @@ pub record Refusals : Type 0 where
   pub read : (bytes : List ℕ) → By (Rule 1 10) (readSheet bytes)
   pub verdict : (bytes : List ℕ) → By (Rule 1 10) (verdictField bytes)
   pub rewrite : (bytes : List ℕ) → By (Rule 1 10) (rewriteField bytes)
-  -- over, plan, initial and final clusters, report
+  -- over, plan, initial and final clusters, what these rest on, report
   pub items : (what : Graph → List ℕ) (bytes : List ℕ) → By (Rule 1 10) (itemsField what bytes)
   -- the writer: no bytes, so not 4
   pub write : (s : Sheet) → By (But 4 (Rule 3 9)) (writeField s)
@@ -83,6 +83,6 @@ pub record Refusals : Type 0 where
   -- the chain from one element to another; over lent space it is refused by that rule too, or by 17
   pub chain : (bytes : List ℕ) (start end : ℕ) → By (λ k. Rule 1 11 k ⊎ (k ≡ 25)) (chainField bytes start end)
   pub run : (x : Field Graph) (start end : ℕ) (space left : List ℕ) (k : ℕ) → ChainAnswers x start end space (No k) left → (x ≡ refused k) ⊎ (k ≡ 17)
-  -- the report program lends 3,786 bytes, so it never prints "refused 17"
-  pub program : (bytes space : List ℕ) (k : ℕ) → Bytes bytes → 3786 ≤ length space → answerTo (itemsField reportOf bytes) space ≡ Refused k
+  -- the report program lends 4,667 bytes, so it never prints "refused 17"
+  pub program : (bytes space : List ℕ) (k : ℕ) → Bytes bytes → 4667 ≤ length space → answerTo (itemsField reportOf bytes) space ≡ Refused k
       → Rule 1 10 k

@@ -13,6 +13,7 @@ ghost use Rattle.judge.specs.Judged.{planNumbers, finalClusters};
 ghost use Rattle.sketch.specs.Sketch.{askAnswer, placedOf};
 ghost use Rattle.records.specs.Record.{asJudgement, askField, placeField, writtenField, placedIn, sheetField};
 ghost use Rattle.account.specs.Account.{reportOf};
+ghost use Rattle.account.specs.Resting.{restNumbers};
 ghost use Rattle.card.specs.Card.{setVerdict};
 ghost use Rattle.chain.specs.Answer.{ChainAnswers};
 ghost use Rattle.longest.specs.Longest.{longestField};
@@ -178,6 +179,20 @@ pub fn clusters(bytes: &[u8], out: &mut [u64]) -> Written
     let run = judged.run;
     let slots = run.slots;
     engine::put_clusters(&slots, 192, out)
+}
+
+// What the final clusters rest on, by number: two words each, the constraint numbers to 63 and those from 64 on; none of an over sheet.
+pub fn rests(bytes: &[u8], out: &mut [u64]) -> Written
+    ensures { λ r. ⌜ Answers (itemsField restNumbers (now (bytes .entry))) (now (out .entry)) r (now (out .exit)) ⌝ }
+{
+    let mut near = [0u64; 64];
+    let mut start = [0u64; 200];
+    let mut sizes = [0i32; 200];
+    let got = reader::read_graph(bytes, &mut near, &mut start, &mut sizes);
+    let GraphRead::Value(head) = got else {
+        return Written::Refused(got.refusal());
+    };
+    account::rests(head, &near, &start, out)
 }
 
 // The report of a sheet, as bytes in lent space.

@@ -5,6 +5,7 @@ ghost use Rattle.theory.specs.Set.{_∩_};
 ghost use Rattle.writer.specs.Write.{writeField};
 ghost use Rattle.judge.specs.Judged.{planNumbers, finalClusters};
 ghost use Rattle.account.specs.Account.{reportOf};
+ghost use Rattle.account.specs.Resting.{restNumbers};
 ghost use Rattle.pattern.specs.Entries.{itemsField, rewriteField, verdictField, overNumbers, initialClusters, checkField, holdField};
 ghost use Rattle.records.specs.Record.{asJudgement, askField, placeField, sheetField};
 ghost use Rattle.pattern.specs.Entries.{stepsField, savedStepsField};
@@ -184,6 +185,15 @@ pub extern "C" fn pattern_clusters(sheet: &[u8], out: &mut [u64]) -> i32
     ensures { λ r. ⌜ AnswersCount (itemsField finalClusters (now (sheet .entry))) (now (out .entry)) r (now (out .exit)) ⌝ }
 {
     count(pattern::clusters(sheet, out))
+}
+
+// What the final clusters rest on, in the order of `pattern_clusters`: two words each, constraint i as bit i of the first, 64 + i of the second; none of
+// an over sheet.
+#[no_mangle]
+pub extern "C" fn pattern_rests(sheet: &[u8], out: &mut [u64]) -> i32
+    ensures { λ r. ⌜ AnswersCount (itemsField restNumbers (now (sheet .entry))) (now (out .entry)) r (now (out .exit)) ⌝ }
+{
+    count(pattern::rests(sheet, out))
 }
 
 // The report of a sheet, as bytes; or the rule of 1 to 10 and 17 that refuses it.

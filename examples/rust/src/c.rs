@@ -23,6 +23,7 @@ unsafe extern "C" {
     pub fn pattern_shared(a: u64, b: u64) -> u64;
     pub fn pattern_initial(sheet: *const u8, len: usize, out: *mut u64, room: usize) -> i32;
     pub fn pattern_clusters(sheet: *const u8, len: usize, out: *mut u64, room: usize) -> i32;
+    pub fn pattern_rests(sheet: *const u8, len: usize, out: *mut u64, room: usize) -> i32;
     pub fn pattern_report(sheet: *const u8, len: usize, out: *mut u8, room: usize) -> i32;
     pub fn pattern_check_plan(
         sheet: *const u8,

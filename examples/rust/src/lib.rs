@@ -36,7 +36,7 @@ pub const MOST_BYTES: usize = 1414;
 /// The most bytes of a sheet that is read: it may carry tags.
 pub const MOST_READ: usize = 1814;
 /// The most bytes of a report: with so much space no report is refused by rule 17.
-pub const MOST_REPORT: usize = 3786;
+pub const MOST_REPORT: usize = 4667;
 /// The most bytes of one cluster's steps: with so much space none are refused by rule 17.
 pub const MOST_PART: usize = 3534;
 /// The most numbers of a plan, three a step.
@@ -45,6 +45,8 @@ pub const MOST_PLAN: usize = 186;
 pub const MOST_STEPS: usize = 62;
 /// The most clusters that are left.
 pub const MOST_CLUSTERS: usize = 125;
+/// The most words of what they rest on, two a cluster.
+pub const MOST_RESTS: usize = 250;
 /// The most clusters of a chain.
 pub const MOST_CHAIN: usize = 63;
 
@@ -378,6 +380,9 @@ pub fn chain<'a>(sheet: &[u8], from: usize, to: usize, out: &'a mut [u16]) -> Re
 ///
 /// let mut space = [0; pattern::MOST_CLUSTERS];
 /// assert_eq!(pattern::clusters(sheet, &mut space)?, [0b111]);
+///
+/// let mut space = [0; pattern::MOST_RESTS];
+/// assert_eq!(pattern::rests(sheet, &mut space)?, [0b111, 0]);
 /// # Ok::<(), pattern::Rule>(())
 /// ```
 pub fn plan<'a>(sheet: &[u8], out: &'a mut [u16]) -> Result<&'a [u16], Rule> {
@@ -494,6 +499,14 @@ pub fn saved_steps(sheet: &[u8], plan: &[u16]) -> Result<Vec<Step>, Rule> {
 pub fn clusters<'a>(sheet: &[u8], out: &'a mut [u64]) -> Result<&'a [u64], Rule> {
     // SAFETY: each list is a live slice of its length, and `out` is borrowed alone.
     let answer = unsafe { c::pattern_clusters(sheet.as_ptr(), sheet.len(), out.as_mut_ptr(), out.len()) };
+    written(answer, out)
+}
+
+/// What the clusters that are left rest on, in the same order, two words a cluster: constraint i as bit i of the first, constraint 64 + i as
+/// bit i of the second.
+pub fn rests<'a>(sheet: &[u8], out: &'a mut [u64]) -> Result<&'a [u64], Rule> {
+    // SAFETY: each list is a live slice of its length, and `out` is borrowed alone.
+    let answer = unsafe { c::pattern_rests(sheet.as_ptr(), sheet.len(), out.as_mut_ptr(), out.len()) };
     written(answer, out)
 }
 

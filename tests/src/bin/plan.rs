@@ -1,4 +1,4 @@
-//! The engine beside the reference: `pattern_verdict`, `pattern_plan` and `pattern_clusters`.
+//! The engine beside the reference: `pattern_verdict`, `pattern_plan`, `pattern_clusters` and `pattern_rests`.
 
 use std::process::ExitCode;
 
@@ -25,6 +25,7 @@ fn main() -> ExitCode {
             run.count("sheets", verdict(sheet, judged).name());
             orders(&mut run, sheet, judged);
             angles(&mut run, sheet, judged);
+            rests(&mut run, sheet, judged);
         }
         let damaged = damage::aimed(&bytes, &mut run.random);
         calls::plan(&mut run, &damaged, &Found::of(&damaged));
@@ -36,10 +37,13 @@ fn main() -> ExitCode {
         run.must("angle", angle, 50);
     }
     run.must("rings", "searched", 1000);
-    for function in ["pattern_verdict", "pattern_plan", "pattern_clusters"] {
+    for function in ["pattern_verdict", "pattern_plan", "pattern_clusters", "pattern_rests"] {
         rules(1..=10).for_each(|rule| run.must(function, &rule, 100));
     }
-    rules([17]).for_each(|rule| run.must("pattern_plan", &rule, 100));
+    for function in ["pattern_plan", "pattern_rests"] {
+        rules([17]).for_each(|rule| run.must(function, &rule, 100));
+    }
+    run.must("rests", "exactly what lies in it", 1000);
     run.finish()
 }
 
@@ -51,6 +55,21 @@ fn orders(run: &mut Run, sheet: &Sheet, judged: &Judged) {
         let input = Hex(&writer::bytes(sheet)).to_string();
         run.same("reference", &input, sorted(&other), sorted(engine));
         run.same("reference", &input, verdict(sheet, &Judged::Merged(other)), verdict(sheet, judged));
+    }
+}
+
+/// Compares, in the reference, what the final clusters rest on with the constraints whose two ends lie in each: 2m-3 of
+/// them, and every constraint in one cluster (request 2026-04).
+fn rests(run: &mut Run, sheet: &Sheet, judged: &Judged) {
+    if let Judged::Merged(merges) = judged {
+        let input = Hex(&writer::bytes(sheet)).to_string();
+        for (&(_, set), rests) in merges.finals.iter().zip(&merges.rests) {
+            let inside: Vec<usize> = (0..sheet.e()).filter(|&i| sheet.constraints[i].ends() & !set == 0).collect();
+            run.same("reference", &input, rests.len() + 3, 2 * set.count_ones() as usize);
+            run.same("reference", &input, rests.clone(), inside);
+        }
+        run.same("reference", &input, merges.rests.iter().map(Vec::len).sum::<usize>(), sheet.e());
+        run.count("rests", "exactly what lies in it");
     }
 }
 

@@ -10,7 +10,7 @@ use pattern_tests::{calls, dress, ffi, tags, writer};
 
 const ROUNDS: usize = 5_000;
 /// The most items of an answer: no room is too short.
-const ROOM: usize = 4096;
+const ROOM: usize = 5000;
 
 fn main() -> ExitCode {
     let mut run = Run::start("tags", 50_463_037);

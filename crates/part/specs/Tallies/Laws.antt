@@ -64,5 +64,5 @@ pub room-as : {t : Tally} {xs ys : List Step} → xs ≡ ys → Room t xs → Ro
 room-as e h = rw e at h
 
 -- the line of one step
-pub room-one : {t : Tally} (s : Step) → Room t (s ∷ []) → (t .bytes + 242 < 2 ^ 64) × (t .steps + 1 < 2 ^ 64)
+pub room-one : {t : Tally} (s : Step) → Room t (s ∷ []) → (t .bytes + 310 < 2 ^ 64) × (t .steps + 1 < 2 ^ 64)
 room-one s h = (omega (arith, h .bytes-fit), omega (arith, h .steps-fit))

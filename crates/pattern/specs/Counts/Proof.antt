@@ -41,6 +41,9 @@ use Rattle.records.specs.Record.{recordBytes, recordSheet, placeField, sheetFie
 use Rattle.records.specs.Record.Laws.{record-accepted, sheet-short}
 use Rattle.records.specs.Record.Room.{held-length, record-room, by27-none, placed-room}
 use Rattle.account.specs.Account.{listReport, reportOf, savedFault}
+use Rattle.rests.specs.Rests.{restsOn}
+use Rattle.account.specs.Resting.{restsBy, restNumbers}
+use Rattle.account.specs.Resting.Laws.{words-most}
 use Rattle.account.specs.Account.Room.{report-room, saved-room}
 use Rattle.account.specs.Own.Proof.{paired, below}
 use Rattle.pattern.specs.Entries.{held, heldSheet, initialClusters, overItems, overNumbers, checkField, stepsField, savedStepsField}
@@ -104,6 +107,16 @@ module _ (f : Facts) (a : Accepted f) where
       by Fine q = omega (arith, living-count (final (g .clusters) (planOf (g .clusters))), merged, few q)
       by (First c x) q = omega arith
 
+  rests-short : length (restNumbers g) ≤ 250
+  unfolding restNumbers
+  rests-short = by (findingOf g) refl
+    where
+      by : (o : Finding) → findingOf g ≡ o → length (restsBy g o) ≤ 250
+      by Fine q =
+          let p = planOf (g .clusters) in
+          omega (arith, words-most (final (g .clusters) p) (restsOn (length (g .clusters)) p), merged, few q)
+      by (First c x) q = omega arith
+
 over-short : (o : Finding) → length (overItems o) ≤ 2
 over-short Fine = omega arith
 over-short (First c x) = omega arith
@@ -123,7 +136,7 @@ module _ (bytes : List ℕ) (all : Bytes bytes) where
   accepted : (f : Facts) (t : List ℕ) → readSheet bytes ≡ value f t → Accepted f
   accepted f t e = written-read bytes f t all e .2
 
-  check-short : (plan : List ℕ) → AtMost 3786 (checkField bytes plan)
+  check-short : (plan : List ℕ) → AtMost 4667 (checkField bytes plan)
   unfolding heldSheet
   check-short plan items rest e =
       next-value (heldSheet bytes) _ e (λ h u was e1. next-value (readSheet bytes) held was (λ f t read e2.
@@ -172,6 +185,7 @@ counts = record {
   steps = steps-few;
   saved-steps = λ bytes plan all. saved-few bytes all plan;
   clusters = λ bytes all. after-value (readSheet bytes) (λ f. finalClusters (graphOf f)) (λ f t e. clusters-short f (accepted bytes all f t e));
+  rests = λ bytes all. after-value (readSheet bytes) (λ f. restNumbers (graphOf f)) (λ f t e. rests-short f (accepted bytes all f t e));
   over = λ bytes. after-value (readSheet bytes) (λ f. overNumbers (graphOf f)) (λ f t e. over-short (findingOf (graphOf f)));
   rewrite = λ bytes all. after-value (readSheet bytes) _ (λ f t e.
       let r = written-read bytes f t all e in omega (arith, written-most f (r .2), ap length (r .1)));

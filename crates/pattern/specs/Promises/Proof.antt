@@ -48,6 +48,9 @@ use Rattle.records.specs.Record.{recordBytes}
 use Rattle.records.specs.Record.Room.{record-room}
 use Rattle.records.specs.Runs.Proof.{after-stands, after-long, record-runs}
 use Rattle.account.specs.Account.{listReport, reportBy, reportOf, savedFault}
+use Rattle.rests.specs.Rests.{restsOn}
+use Rattle.rests.specs.Rests.Laws.{rests as rests-hold}
+use Rattle.account.specs.Resting.{wordsOf, restsBy, restNumbers}
 use Rattle.account.specs.Own.{ReportsOwn, EngineList}
 use Rattle.account.specs.Own.Proof.{own-lists}
 use Rattle.missing.specs.Missing.{cheapestField, Told}
@@ -320,6 +323,11 @@ module _ (bytes : List ℕ) (f : Facts) (rest : List ℕ) (all : Bytes bytes) (r
             (after-stands f accepted lent fits ∙ ap (λ (x : Facts). value x []) (sym (factsOf-sheetOf f))) events);
       }
 
+  words-are : verdictOf g ≢ Over → itemsField restNumbers bytes
+      ≡ value (wordsOf (final (g .clusters) (planOf (g .clusters))) (restsOn (length (g .clusters)) (planOf (g .clusters)))) []
+  unfolding restNumbers
+  words-are v = items-are restNumbers ∙ ap (λ (o : Finding). value (restsBy g o) []) (not-over-fine g v)
+
   pub promises : Promises bytes f
   promises = record {
     over = over-told;
@@ -340,4 +348,6 @@ module _ (bytes : List ℕ) (f : Facts) (rest : List ℕ) (all : Bytes bytes) (r
         (fine-fault g (not-over-fine g not-over)))))
         (told g prices (accepted-two f accepted) pairs below (fine not-over) long ok);
     runs = held-runs;
+    rests = λ v p w. rests-hold (g .clusters) pairs (fine v) p w;
+    words = words-are;
   }

@@ -74,8 +74,8 @@ lent-list (value steps rest) list k e = by (ltb (length list) (length steps)) re
         inr (n, record { steps = steps; rest = rest; gives = refl; longer = ltb-true (length list) (length steps) p })
     by false p h = absurd (let z : _≡_ {A = ℕ} 0 1 = cc in omega arith)
 
--- 3,786 bytes take every report
-printed : (bytes space : List ℕ) (k : ℕ) → Bytes bytes → 3786 ≤ length space → answerTo (itemsField reportOf bytes) space ≡ Refused k → Rule 1 10 k
+-- 4,667 bytes take every report
+printed : (bytes space : List ℕ) (k : ℕ) → Bytes bytes → 4667 ≤ length space → answerTo (itemsField reportOf bytes) space ≡ Refused k → Rule 1 10 k
 printed bytes space k all room e = by (readSheet bytes) (by-sheet bytes) refl e
   where
     by : (x : Field Facts) → By (Rule 1 10) x → readSheet bytes ≡ x → answerTo (next x (λ f rest. value (reportOf (graphOf f)) [])) space ≡ Refused k
