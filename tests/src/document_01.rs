@@ -52,7 +52,7 @@ fn few_constraints() {
     let one = "verdict well\nelements 2 constraints 1\ncluster 0 holds 0 1 rests on 0\n";
     assert_eq!(report(&points(2, &[(0, 1, 300)])), one);
     let star = "verdict under\nelements 4 constraints 3\n\
-                cluster 0 holds 0 1 rests on 0\ncluster 1 holds 0 2\ncluster 2 holds 0 3\n";
+                cluster 0 holds 0 1 rests on 0\ncluster 1 holds 0 2 rests on 1\ncluster 2 holds 0 3 rests on 2\n";
     assert_eq!(report(&pairs(&shapes::bipartite(1, 4))), star);
 }
 

@@ -2,10 +2,10 @@
 use borrow.Author.Needs.{needs}
 use Prim.Native.Nat.{ℕ, _*_, _≤_}
 use native.Mathlib.Omega.{arith}
-use mathlib.Core.Path.{_≡_, sym, ap, _∙_}
+use mathlib.Core.Path.{sym, ap, _∙_}
 use mathlib.Core.List.{List, []}
 use lib.IntN.{ℤ}
-use lib.ListN.{length, take}
+use lib.ListN.{take}
 use Rattle.theory.specs.Graph.{Graph}
 use Rattle.graph.specs.Lent.{graphIn}
 use Rattle.graph.specs.Lent.Sheets.{counted}
@@ -13,8 +13,7 @@ use Rattle.space.specs.Space.{answer, after}
 use Rattle.judge.specs.Judged.Lists.{Held, judged-held}
 use Rattle.rests.specs.Words.{Told}
 use Rattle.account.specs.Account.Laws.{room}
-use Rattle.account.specs.Account.Answers.{OverFound, over-found, PlanFound, plan-found}
-use Rattle.account.specs.Resting.{restNumbers}
+use Rattle.account.specs.Account.Answers.{over-found, PlanFound, plan-found}
 use Rattle.account.specs.Resting.Laws.{parts, pairs-are, none-stored}
 use Rattle.account.proofs.rests.Statement.{statement}
 use Rattle.account.proofs.rests.Tie as tie

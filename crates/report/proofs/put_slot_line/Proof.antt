@@ -1,6 +1,5 @@
 -- `report::put_slot_line` meets its contract: no line for a dead cluster, else its pieces. Assumes nothing.
 use borrow.Author.Needs.{needs}
-use native.Mathlib.Omega.{arith}
 use mathlib.Core.Path.{sym}
 use Rattle.space.specs.Space.Laws.{put-none, put-as, _then_}
 use Rattle.report.specs.Report.Laws.{slot-dead, slot-living}

@@ -135,7 +135,7 @@ member-shift (suc d) f x xs = refl
 among-shift : (k f x a b : ℕ) → ((y : ℕ) → at (f + y) a ≡ at y b) → among k (f + x) a ≡ map (λ (y : ℕ). f + y) (among k x b)
 unfolding among
 among-shift zero f x a b h = refl
-among-shift (suc k) f x a b h = 
+among-shift (suc k) f x a b h =
     ap₂ (λ (d : ℕ) (xs : List ℕ). member d (f + x) xs) (h x)
     (ap (λ (z : ℕ). among k z a) {x = suc (f + x)} {y = f + suc x} (omega arith) ∙ among-shift k f (suc x) a b h)
     ∙ member-shift (at x b) f x (among k (suc x) b)

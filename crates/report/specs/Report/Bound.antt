@@ -6,7 +6,7 @@ use native.Mathlib.Omega.{arith}
 use mathlib.Core.Path.{_≡_}
 use mathlib.Core.Logic.{_≢_}
 use mathlib.Core.Bool.{Bool, true, false}
-use mathlib.Core.List.{List, [], _∷_, _++_}
+use mathlib.Core.List.{List, [], _∷_}
 use lib.Dec.{ltb, eqb}
 use lib.Count.{ones}
 use lib.IntN.{ℤ, natAbs, _-ℤ_}
@@ -198,7 +198,7 @@ module _ (g : Graph) (pairs : Pairs (g .clusters)) (p : List Merge) (valid : Val
       omega (
         arith,
         report-short (g .n) (length (g .clusters)) v (stepsOf g p) (final (g .clusters) p) (restsOn (length (g .clusters)) p) small
-        (modest-steps g (g .clusters) p valid) (carrying (g .clusters) pairs p valid .count),
+            (modest-steps g (g .clusters) p valid) (carrying (g .clusters) pairs p valid .count),
         length-steps g (g .clusters) p,
         steps-left (g .clusters) pairs p valid,
         weights-kept (g .clusters) pairs p valid,

@@ -1,7 +1,7 @@
 -- The words of what clusters rest on, merge after merge. Assumes nothing.
 use mathlib.Core.Path.{_≡_, refl, sym, ap, ap₂, _∙_, subst}
 use mathlib.Core.Logic.{_≢_}
-use mathlib.Core.List.{List, [], _∷_, _++_, map}
+use mathlib.Core.List.{List, [], _∷_, map}
 use Prim.Native.Nat.{ℕ, zero, suc, _+_, _-_, _*_, _/_, _%_, _^_, _≤_, _<_}
 use native.Mathlib.Omega.{arith}
 use native.Mathlib.Numerals.{add-one}
@@ -13,7 +13,7 @@ use lib.Seq.{getD-set-same, getD-set-other, take-suc, take-all}
 use Rattle.theory.specs.Block.{block}
 use Rattle.theory.specs.Block.Laws.{getD-block}
 use Rattle.theory.specs.Set.{_∪_}
-use Rattle.theory.specs.Merge.{Merge, merge, slot, three, union, OpenAt, put, Valid, final}
+use Rattle.theory.specs.Merge.{Merge, merge, slot, union, OpenAt, put, Valid, final}
 use Rattle.theory.specs.Merge.Numbered.{alive-lt}
 use Rattle.theory.specs.Plan.{ascending}
 use Rattle.theory.specs.Plan.Order.{open-ascending, put-ascending}
