@@ -60,7 +60,7 @@ extern "C" {
 #define PATTERN_MAX_PART        3534 /* bytes of one cluster's steps: with this room no list of them is refused by 17 */
 #define PATTERN_MAX_MISSING     125  /* missing dimensions: with this room no list of them is refused by 17 */
 #define PATTERN_UNMEASURED      65535 /* the price of a pair that can't be measured */
-#define PATTERN_MAX_STACK       36864 /* bytes of stack that a call takes */
+#define PATTERN_MAX_STACK       32768 /* bytes of stack that a call takes */
 
 /* The rules that refuse, in checking order. */
 enum pattern_rule {

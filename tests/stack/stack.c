@@ -123,9 +123,9 @@ int main(int argc, char **argv)
 {
     static const struct { const char *name; void *(*call)(void *); } calls[] = {
         {"pattern_rewrite", rewrite}, {"pattern_write", write_}, {"pattern_over", over}, {"pattern_verdict", verdict}, {"pattern_plan", plan_},
-        {"pattern_initial", initial}, {"pattern_clusters", clusters}, {"pattern_rests", rests}, {"pattern_report", report}, {"pattern_check_plan", check}, {"pattern_hold", hold},
-        {"pattern_initial", initial}, {"pattern_clusters", clusters}, {"pattern_report", report}, {"pattern_check_plan", check}, {"pattern_missing", missing}, {"pattern_hold", hold},
-        {"pattern_ask", ask}, {"pattern_place", place}, {"pattern_held", held},
+        {"pattern_initial", initial}, {"pattern_clusters", clusters}, {"pattern_rests", rests}, {"pattern_report", report},
+        {"pattern_check_plan", check}, {"pattern_missing", missing}, {"pattern_hold", hold}, {"pattern_ask", ask},
+        {"pattern_place", place}, {"pattern_held", held},
         {"pattern_steps", steps}, {"pattern_saved_steps", saved_steps},
         {"pattern_part", part}, {"pattern_part_steps", part_steps}, {"pattern_part_bytes", part_bytes},
         {"pattern_chain", chain},

@@ -1,5 +1,6 @@
 //! The proved library beside libslvs on sheets of points: over means redundant, and where it is not over the
-//! freedoms left are 2n-3-e. What the library names of an over sheet is tried too.
+//! freedoms left are 2n-3-e. What the library names of an over sheet is tried too, and the dimensions that it says are missing
+//! of one that is under.
 
 use std::process::ExitCode;
 
@@ -41,6 +42,7 @@ fn main() -> ExitCode {
     for (verdict, least) in [("over", 500), ("well", 200), ("stuck", 200), ("under", 500)] {
         run.must("sheets", verdict, least);
     }
+    ["by 1 to 20", "by more than 20"].iter().for_each(|which| run.must("completed", which, 50));
     [MORE, FEW].iter().for_each(|which| run.must("over sheets", which, 200));
     run.finish()
 }
@@ -91,6 +93,21 @@ fn sheet(run: &mut Run, graph: &Graph) {
         run.count("over sheets", if freedoms(graph) < 0 { MORE } else { FEW });
         named(run, &bytes, graph, out[0] as usize, out[1]);
     }
+    if verdict == UNDER {
+        complete(run, &bytes, graph);
+    }
+}
+
+/// Compares a graph with the dimensions that it lacks, at random prices: no freedom and no redundancy is left.
+fn complete(run: &mut Run, bytes: &[u8], graph: &Graph) {
+    let prices: Vec<u16> = (0..graph.n * (graph.n - 1) / 2).map(|_| run.random.below(1_001) as u16).collect();
+    let mut out = [0; 125];
+    let count = ffi::missing(bytes, &prices, &mut out);
+    run.same("pattern_missing", &Hex(bytes), count, freedoms(graph));
+    run.count("completed", if count > 20 { "by more than 20" } else { "by 1 to 20" });
+    let mut whole = Graph { n: graph.n, pairs: graph.pairs.clone() };
+    whole.pairs.extend(out[..count as usize].iter().map(|&pair| (usize::from(pair / 256), usize::from(pair % 256))));
+    compare(run, "pattern_missing", bytes, &whole, Solved::Freedoms(0));
 }
 
 /// The freedoms that a graph leaves if it is not over: 2n-3-e.
