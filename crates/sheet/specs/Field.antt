@@ -6,6 +6,8 @@ use mathlib.Core.List.{List, [], _∷_}
 use lib.Dec.{eqb, ltb}
 use lib.IntN.{ℤ, pos, negsuc}
 use lib.ListN.{length, take, drop, getD}
+use Rattle.sheet.specs.declared.Opening.{Opening}
+use Rattle.sheet.specs.declared.Opening.the-variants.{Pf01, Pf02}
 pub mod Laws
 
 pub data Field (A : Type 0) : Type 0 where
@@ -56,14 +58,16 @@ abbrev pub unsigned32 : ℤ → ℕ
 unsigned32 (pos n) = n
 unsigned32 (negsuc n) = 2 ^ 32 - suc n
 
--- n/8 bytes rounded up: the kinds of n elements
-abbrev pub kindBytes : ℕ → ℕ
-kindBytes n = (n + 7) / 8
+-- the kinds of n elements: n/8 bytes rounded up under PF01; four elements a byte under PF02 (document 02, 2026-01)
+abbrev pub kindBytes : Opening → ℕ → ℕ
+kindBytes Pf01 n = (n + 7) / 8
+kindBytes Pf02 n = (n + 3) / 4
 
--- ---- the opening: PF01 in ASCII
+-- ---- the openings: PF01 and PF02 in ASCII
 
-abbrev pub openingBytes : List ℕ
-openingBytes = 0x50 ∷ 0x46 ∷ 0x30 ∷ 0x31 ∷ []
+abbrev pub openingBytes : Opening → List ℕ
+openingBytes Pf01 = 0x50 ∷ 0x46 ∷ 0x30 ∷ 0x31 ∷ []
+openingBytes Pf02 = 0x50 ∷ 0x46 ∷ 0x30 ∷ 0x32 ∷ []
 
 abbrev pub begins : List ℕ → List ℕ → Bool
 begins [] s = true

@@ -12,7 +12,7 @@ use lib.IntN.{ℤ, pos, negsuc}
 use lib.ListN.{length, take, drop, getD, length-append, take-append-drop}
 use lib.Seq.{take-at, drop-at, length-take-le, getD-drop}
 use lib.Signed.{mag}
-use Rattle.sheet.specs.Rules.Laws.{and-true}
+use Rattle.sheet.specs.Facts.Laws.{and-true}
 use Rattle.sheet.specs.Field.{Field, value, refused, next, demand, number, digits, field, byte, byteBy, signed32, unsigned32, begins, Bytes}
 
 -- ---- numbers and their bytes

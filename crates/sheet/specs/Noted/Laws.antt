@@ -16,7 +16,7 @@ use Rattle.theory.specs.Constraints.Laws.{pair-one}
 use Rattle.theory.specs.Near.Laws.{near-none, near-stored}
 use Rattle.sheet.specs.declared.Constraint.{Constraint}
 use Rattle.sheet.specs.Rules.{stands}
-use Rattle.sheet.specs.Rules.Laws.{and-true}
+use Rattle.sheet.specs.Facts.Laws.{and-true}
 use Rattle.sheet.specs.Graph.{clusterOf}
 use Rattle.sheet.specs.Noted.{Ascend, Noted}
 

@@ -18,7 +18,7 @@ use Rattle.sheet.specs.Field.{Field, refused, next, demand, field, byte,
 use Rattle.sheet.specs.Decode.{size, tag, dimension, constraint, constraints, readConstraints, readKinds, readSheet}
 use Rattle.sheet.specs.Rules.{elementsInRange, kindBitsUsed, constraintsInRange, endsAscend, stands, pairAt, sizeOptional, mapAllowed}
 use Rattle.sheet.specs.Rules.{sizeInRange, sizeFault, faultUnless, or-else, constraintFault, constraintsFault, sheetFault}
-use Rattle.sheet.specs.Rules.Laws.{and-true}
+use Rattle.sheet.specs.Facts.Laws.{and-true}
 use Rattle.sheet.specs.Refusals.{Rule, But, By, given, ruled, Fault}
 
 pub between : (low high k : ℕ) → leb low k && leb k high ≡ true → Rule low high k

@@ -17,7 +17,8 @@ use Rattle.sheet.specs.Field.{value, digits, field, byte, byteBy, signed
 use Rattle.sheet.specs.Field.Laws.{length-digits, next-value, demand-value, value-with, refused-value, field-front, byte-front}
 use Rattle.sheet.specs.Field.Laws.{byteBy-front, begins-front}
 use Rattle.sheet.specs.Field.Laws.{bytes-drop, unsigned32-signed32}
-use Rattle.sheet.specs.Rules.Laws.{and-true, elements-most, constraints-most}
+use Rattle.sheet.specs.Facts.Laws.{and-true}
+use Rattle.sheet.specs.Rules.Laws.{elements-most, constraints-most}
 use Rattle.sheet.specs.Rules.{elementsInRange, kindBitsUsed, constraintsInRange, endsAscend, stands, pairAt, sizeOptional, mapAllowed}
 use Rattle.sheet.specs.Rules.{sizeInRange, sizeFault}
 use Rattle.sheet.specs.Rules.{constraintFault, constraintsFault}

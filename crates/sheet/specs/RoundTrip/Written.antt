@@ -21,7 +21,8 @@ use Rattle.sheet.specs.Facts.{Facts, linesOf}
 use Rattle.sheet.specs.Facts.Laws.{linesOf-below, elementsOf-linesOf}
 use Rattle.sheet.specs.Field.{value, digits, unsigned32, kindBytes}
 use Rattle.sheet.specs.Field.Laws.{length-digits, field-digits, unsigned32-below, signed32-unsigned32}
-use Rattle.sheet.specs.Rules.Laws.{and-true, unless-none, none-else}
+use Rattle.sheet.specs.Facts.Laws.{and-true}
+use Rattle.sheet.specs.Rules.Laws.{unless-none, none-else}
 use Rattle.sheet.specs.Rules.{pairAt, sizeOptional, mapAllowed, within, sizeInRange, sizeFault, constraintFault, constraintsFault}
 use Rattle.sheet.specs.Decode.{size, tag, dimension, constraint, constraints, readConstraints, readKinds, readSheet}
 use Rattle.sheet.specs.Encode.{sizeBit, sizeBytes, constraintBytes, constraintsBytes, sheetBytes}

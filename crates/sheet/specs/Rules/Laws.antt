@@ -1,25 +1,24 @@
 -- Laws of the rules on facts: what a rule that refuses nothing says. Assumes nothing.
-use Prim.Native.Nat.{ℕ, zero, suc, _+_, _/_, _%_, _^_, _<_, _≤_}
+use Prim.Native.Nat.{ℕ, zero, suc, _+_, _<_, _≤_}
 use native.Mathlib.Numerals.{add-one}
 use native.Mathlib.Omega.{arith}
-use mathlib.Core.Path.{_≡_, refl, sym, ap₂, subst}
+use mathlib.Core.Path.{_≡_, refl, ap₂}
 use mathlib.Core.Bool.{Bool, true, false, _&&_, _||_, or-false, or-assoc}
 use mathlib.Core.List.{List, [], _∷_, _++_}
 use borrow.Author.Tests.{ltb-true, leb-true}
-use lib.Dec.{T, eqb, ltb, leb}
+use lib.Dec.{eqb, ltb, leb}
 use lib.ListN.{length, getD, take, drop}
 use lib.Seq.{take-suc}
-use Rattle.theory.specs.Set.Laws.{at-div}
+use Rattle.theory.specs.Set.{at}
+use Rattle.sheet.specs.declared.Opening.{Opening}
+use Rattle.sheet.specs.declared.Kinds.{Kinds}
 use Rattle.sheet.specs.declared.Element.{Element}
 use Rattle.sheet.specs.declared.Constraint.{Constraint}
-use Rattle.sheet.specs.Facts.{kindOf, linesOf, blankElement}
-use Rattle.sheet.specs.Facts.Laws.{kind-bit, turn, spent}
-use Rattle.sheet.specs.Rules.{elementsInRange, constraintsInRange, endsAscend, stands, pairOf, pairAt, faultUnless, or-else}
-use Rattle.sheet.specs.Rules.{constraintFault, constraintsFault}
-
-pub and-true : (x y : Bool) → x && y ≡ true → (x ≡ true) × (y ≡ true)
-and-true true y e = (refl, e)
-and-true false y e = absurd (subst T (sym e) tt)
+use Rattle.sheet.specs.Facts.{isLine, kindAt}
+use Rattle.sheet.specs.Facts.Kinds.{KindsIn}
+use Rattle.sheet.specs.Facts.Laws.{and-true, set-bit, turn, spent}
+use Rattle.sheet.specs.Rules.{elementsInRange, constraintsInRange, endsAscend, stands, pairBy, pairOf, faultUnless, or-else}
+use Rattle.sheet.specs.Rules.{kindsAllowed, radiiInRange, constraintFault, constraintsFault, elementsFault}
 
 pub elements-range : (n : ℕ) → elementsInRange n ≡ true → (2 ≤ n) × (n ≤ 64)
 elements-range n e = let h = and-true (leb 2 n) (leb n 64) e in (leb-true 2 n (h .0), leb-true n 64 (h .1))
@@ -69,11 +68,14 @@ module _ (es : List Element) (cs : List Constraint) (e i : ℕ) (room : e ≤ le
   unfolding constraintsFault
   faults-spent done all = rw (spent cs e i all room)
 
--- ---- the pair's kinds by the number of the kinds
+-- ---- the pair's kinds by the set of lines
 
-pub pair-shift : (es : List Element) (a b : ℕ)
-    → pairOf (kindOf (eqb (linesOf es / 2 ^ a % 2) 1)) (kindOf (eqb (linesOf es / 2 ^ b % 2) 1)) ≡ pairAt es a b
-pair-shift es a b = ap₂ pairOf (by a) (by b)
-  where
-    by : (i : ℕ) → kindOf (eqb (linesOf es / 2 ^ i % 2) 1) ≡ getD es i blankElement .kind
-    by i = rw (← at-div i (linesOf es)) (kind-bit es i)
+pub pair-lines : {es : List Element} {k : Kinds} {radii : List ℕ} → KindsIn es k radii → (a b : ℕ)
+    → pairBy (eqb (at a (k .lines)) 1) (eqb (at b (k .lines)) 1) ≡ pairOf (kindAt es a) (kindAt es b)
+pair-lines {es} h a b = rw (h .lines-are) (ap₂ pairBy (set-bit isLine refl es a) (set-bit isLine refl es b))
+
+-- ---- the elements
+
+pub elements-taken : (o : Opening) (es : List Element) → elementsFault o es ≡ 0 → (kindsAllowed o es ≡ true) × (radiiInRange es ≡ true)
+unfolding elementsFault
+elements-taken o es e = let a = unless-none (kindsAllowed o es) 17 _ e in (a .0, unless-none (radiiInRange es) 18 0 (a .1) .0)

@@ -9,7 +9,7 @@ use lib.Dec.{eqb}
 use lib.ListN.{length, take, drop, getD, length-append, take-append-drop}
 use lib.Seq.{take-at, drop-at, getD-append-add}
 use Rattle.sheet.specs.Field.{kindBytes, openingBytes}
-use Rattle.sheet.specs.Rules.Laws.{and-true}
+use Rattle.sheet.specs.Facts.Laws.{and-true}
 use Rattle.sheet.specs.WithoutTags.{sizeLength, tagLength, withoutBit1, dropTags, noTags, before, listed, withoutTags, untagged}
 
 -- ---- one constraint: its size and its tag stand in front of what is left
