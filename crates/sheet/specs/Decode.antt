@@ -22,7 +22,7 @@ use Rattle.sheet.specs.Rules.{pairOf, sizeBy, mapAllowed, radiiDiffer, s
 pub mod Laws
 
 -- rule 1: the opening is short or different
-abbrev pub opening : List ℕ → Field Opening
+unfoldable pub opening : List ℕ → Field Opening
 opening s =
     cond (begins (openingBytes Pf01) s) (value Pf01 (drop 4 s)) (demand (begins (openingBytes Pf02) s) 1 (value Pf02 (drop 4 s)))
 

@@ -47,6 +47,6 @@ constraintsBytes (c ∷ cs) = constraintBytes c ++ constraintsBytes cs
 
 unfoldable pub sheetBytes : Facts → List ℕ
 sheetBytes f =
-    openingBytes (f .opening) ++ (length (f .elements) ∷ [])
-    ++ digits (kindBytes (f .opening) (length (f .elements))) (kindsNumber (f .opening) (f .elements))
-    ++ radiiBytes (f .elements) ++ (length (f .constraints) ∷ constraintsBytes (f .constraints))
+    openingBytes (f .opening) ++ (length (f .elements)
+    ∷ digits (kindBytes (f .opening) (length (f .elements))) (kindsNumber (f .opening) (f .elements))
+    ++ (radiiBytes (f .elements) ++ (length (f .constraints) ∷ constraintsBytes (f .constraints))))

@@ -1,6 +1,6 @@
 -- Demand 1: nothing is refused except by a numbered rule. Which rules refuse a field, if any does.
 use Prim.Native.Nat.{ℕ, zero, suc, _≤_}
-use mathlib.Core.Logic.{_≢_}
+use mathlib.Core.Logic.{_≢_, _⊎_}
 use mathlib.Core.List.{List}
 use Rattle.sheet.specs.Field.{Field, value, refused}
 pub mod Laws
@@ -9,6 +9,10 @@ pub mod Laws
 pub record Rule (low high k : ℕ) : Type 0 where
   pub from : low ≤ k
   pub to : k ≤ high
+
+-- the rules of a sheet that is read: 1 to 10, and those of circles (document 02, 2026-01)
+abbrev pub OfSheet : ℕ → Type 0
+OfSheet k = Rule 1 10 k ⊎ Rule 18 20 k
 
 -- all of these rules but one
 abbrev pub But : ℕ → (ℕ → Type 0) → ℕ → Type 0

@@ -6,17 +6,15 @@ use mathlib.Core.Path.{_≡_, _∙_}
 use mathlib.Core.Bool.{true}
 use mathlib.Core.List.{List, []}
 use lib.ListN.{length}
-use Rattle.sheet.specs.declared.Element.{Element}
-use Rattle.sheet.specs.declared.Constraint.{Constraint}
 use Rattle.sheet.specs.Facts.{Facts}
 use Rattle.sheet.specs.Field.{value, Bytes}
-use Rattle.sheet.specs.Decode.{constraint, readSheet}
+use Rattle.sheet.specs.Decode.{readSheet}
 use Rattle.sheet.specs.Encode.{sheetBytes}
-use Rattle.sheet.specs.WithoutTags.{dropTags, withoutTags, untagged}
+use Rattle.sheet.specs.WithoutTags.{withoutTags, untagged}
 use Rattle.sheet.specs.WithoutTags.Laws.{untagged-same}
 use Rattle.sheet.specs.Accepted.{Accepted}
-use Rattle.sheet.specs.RoundTrip.Written.{constraint-back, sheet-back, sheet-untagged}
-use Rattle.sheet.specs.RoundTrip.Read.{constraint-front, sheet-read}
+use Rattle.sheet.specs.RoundTrip.Written.{sheet-back, sheet-untagged}
+use Rattle.sheet.specs.RoundTrip.Read.{sheet-read}
 use Rattle.sheet.specs.Accepted.Laws.{accepted-most}
 use Rattle.sheet.specs.Rules.Laws.{constraints-most}
 use Rattle.sheet.specs.Encode.Laws.{sheet-length}
@@ -36,26 +34,20 @@ pub untagged-returns : (s : List ℕ) (f : Facts) (t : List ℕ) → Bytes s →
 untagged-returns s f t h e u = written-read s f t h e .1 ∙ untagged-same s u
 
 -- a written sheet carries no tag
-pub written-untagged : (f : Facts) → untagged (sheetBytes f) ≡ true
-written-untagged f = sheet-untagged f
+pub written-untagged : (f : Facts) → Accepted f → untagged (sheetBytes f) ≡ true
+written-untagged f h = sheet-untagged f h
 
 -- a sheet says the same without its tags
 pub read-without-tags : (s : List ℕ) (f : Facts) (t : List ℕ) → Bytes s → readSheet s ≡ value f t → readSheet (withoutTags s) ≡ readSheet s
 read-without-tags s f t h e = let r = sheet-read s h e in rw (← r .same, e, r .spent) (read-written f (r .accepted))
 
 pub without-tags-again : (s : List ℕ) (f : Facts) (t : List ℕ) → Bytes s → readSheet s ≡ value f t → withoutTags (withoutTags s) ≡ withoutTags s
-without-tags-again s f t h e = rw (← written-read s f t h e .1) (untagged-same (sheetBytes f) (written-untagged f))
+without-tags-again s f t h e =
+    let r = written-read s f t h e in rw (← r .1) (untagged-same (sheetBytes f) (written-untagged f (r .2)))
 
--- and so does one constraint after those in done
-pub constraint-without-tag : (elements : List Element) (done : List Constraint) (s : List ℕ) (c : Constraint) (t : List ℕ) → Bytes s
-    → constraint elements done s ≡ value c t → constraint elements done (dropTags 1 s) ≡ value c t
-unfolding dropTags
-constraint-without-tag elements done s c t h e =
-    let r = constraint-front elements done s h e in rw (r .walk 0) (constraint-back elements done c t (r .taken))
-
--- a sheet that is read has at most 1,814 bytes, a written one at most 1,414
-pub read-most : (s : List ℕ) (f : Facts) (t : List ℕ) → Bytes s → readSheet s ≡ value f t → length s ≤ 1814
+-- a sheet that is read has at most 2,078 bytes, a written one at most 1,678
+pub read-most : (s : List ℕ) (f : Facts) (t : List ℕ) → Bytes s → readSheet s ≡ value f t → length s ≤ 2078
 read-most s f t h e = sheet-read s h e .most
 
-pub written-most : (f : Facts) → Accepted f → length (sheetBytes f) ≤ 1414
+pub written-most : (f : Facts) → Accepted f → length (sheetBytes f) ≤ 1678
 written-most f h = sheet-length f (accepted-most f h) (constraints-most _ (h .constraints-in-range))

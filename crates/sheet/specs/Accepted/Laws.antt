@@ -12,12 +12,13 @@ use lib.ListN.{length, take}
 use lib.Seq.{take-append-seam, length-take-le}
 use Rattle.theory.specs.Constraints.{Perm, same, skip, swap, then}
 use Rattle.theory.specs.Constraints.Laws.{length-perm}
+use Rattle.sheet.specs.declared.Opening.{Opening}
 use Rattle.sheet.specs.declared.Element.{Element}
 use Rattle.sheet.specs.declared.Constraint.{Constraint}
 use Rattle.sheet.specs.declared.Sheet.{Sheet}
-use Rattle.sheet.specs.Facts.{Facts, sheetOf, factsOf}
-use Rattle.sheet.specs.Rules.{elementsInRange, constraintsInRange, endsAscend, stands, pairAt, sizeFault, constraintFault, constraintsFault}
-use Rattle.sheet.specs.Rules.{sheetFault}
+use Rattle.sheet.specs.Facts.{Facts, kindAt, sheetOf, factsOf}
+use Rattle.sheet.specs.Rules.{elementsInRange, constraintsInRange, endsAscend, stands, sizeFault, constraintFault, constraintsFault}
+use Rattle.sheet.specs.Rules.{elementsFault, sheetFault}
 use Rattle.sheet.specs.Rules.Laws.{elements-range, elements-most, constraints-most, stands-more, unless-none, none-else}
 use Rattle.sheet.specs.Accepted.{Accepted}
 
@@ -33,7 +34,7 @@ module _ (es : List Element) where
   pub record Taken (done : List Constraint) (c : Constraint) : Type 0 where
     pub ends-ascend : endsAscend (length es) (c .first) (c .second) ≡ true
     pub is-new : stands done (c .first) (c .second) ≡ false
-    pub size-fits : sizeFault (pairAt es (c .first) (c .second)) (c .size) ≡ 0
+    pub size-fits : sizeFault (kindAt es (c .first)) (kindAt es (c .second)) (c .size) ≡ 0
 
   pub taken : (done : List Constraint) (c : Constraint) → constraintFault es done c ≡ 0 → Taken done c
   unfolding constraintFault
@@ -96,10 +97,11 @@ module _ (es : List Element) where
       rw (fy, fx, rest, g .1)
 
 -- what precedes the constraints, and each constraint's own fields, stay
-pub accepted-perm : (es : List Element) (cs ds : List Constraint) → Perm cs ds
-    → Accepted (record { elements = es; constraints = cs }) → Accepted (record { elements = es; constraints = ds })
-accepted-perm es cs ds p h = record {
+pub accepted-perm : (o : Opening) (es : List Element) (cs ds : List Constraint) → Perm cs ds
+    → Accepted (record { opening = o; elements = es; constraints = cs }) → Accepted (record { opening = o; elements = es; constraints = ds })
+accepted-perm o es cs ds p h = record {
   elements-in-range = h .elements-in-range;
+  elements-allowed = h .elements-allowed;
   constraints-in-range = rw (length-perm p) at (h .constraints-in-range);
   no-fault = faults-perm es p [] (h .no-fault);
 }
@@ -113,22 +115,40 @@ factsOf-sheetOf f = rw (take-append-seam (f .elements), take-append-seam (f .con
 pub sheetOf-fault : (f : Facts) → Accepted f → sheetFault (sheetOf f) ≡ 0
 unfolding sheetFault sheetOf
 sheetOf-fault f h =
-    rw (h .elements-in-range, h .constraints-in-range, take-append-seam (f .elements), take-append-seam (f .constraints)) (h .no-fault)
+    rw (
+      h .elements-in-range,
+      take-append-seam (f .elements),
+      h .elements-allowed,
+      h .constraints-in-range,
+      take-append-seam (f .constraints),
+    ) (h .no-fault)
 
 -- blocks that no rule refuses
-pub sheetFault-none : (s : Sheet) → sheetFault s ≡ 0
-    → (elementsInRange (s .n) ≡ true) × (constraintsInRange (s .e) ≡ true) × (constraintsFault (factsOf s .elements) [] (factsOf s .constraints) ≡ 0)
+pub record NoFault (s : Sheet) : Type 0 where
+  pub elements-in-range : elementsInRange (s .n) ≡ true
+  pub elements-allowed : elementsFault (s .opening) (factsOf s .elements) ≡ 0
+  pub constraints-in-range : constraintsInRange (s .e) ≡ true
+  pub no-fault : constraintsFault (factsOf s .elements) [] (factsOf s .constraints) ≡ 0
+
+pub sheetFault-none : (s : Sheet) → sheetFault s ≡ 0 → NoFault s
 unfolding sheetFault
 sheetFault-none s h =
     let a = unless-none (elementsInRange (s .n)) 2 _ h in
-    let b = unless-none (constraintsInRange (s .e)) 4 _ (a .1) in (a .0, b .0, b .1)
+    let b = none-else (elementsFault (s .opening) (factsOf s .elements)) _ (a .1) in
+    let c = unless-none (constraintsInRange (s .e)) 4 _ (b .1) in
+    record { elements-in-range = a .0; elements-allowed = b .0; constraints-in-range = c .0; no-fault = c .1 }
 
 -- and that have the right lengths
 module _ (s : Sheet) (elements : length (s .elements) ≡ 64) (constraints : length (s .constraints) ≡ 200) where
   pub factsOf-accepted : sheetFault s ≡ 0 → Accepted (factsOf s)
   factsOf-accepted h =
       let f = sheetFault-none s h in
-      let n-is : length (take (s .n) (s .elements)) ≡ s .n = length-take-le (s .n) (s .elements) (omega (arith, elements-most (s .n) (f .0))) in
+      let n-is : length (take (s .n) (s .elements)) ≡ s .n = length-take-le (s .n) (s .elements) (omega (arith, elements-most (s .n) (f .elements-in-range))) in
       let e-is : length (take (s .e) (s .constraints)) ≡ s .e =
-      length-take-le (s .e) (s .constraints) (omega (arith, constraints-most (s .e) (f .1))) in
-      record { elements-in-range = rw n-is (f .0); constraints-in-range = rw e-is (f .1); no-fault = f .2 }
+      length-take-le (s .e) (s .constraints) (omega (arith, constraints-most (s .e) (f .constraints-in-range))) in
+      record {
+        elements-in-range = rw n-is (f .elements-in-range);
+        elements-allowed = f .elements-allowed;
+        constraints-in-range = rw e-is (f .constraints-in-range);
+        no-fault = f .no-fault;
+      }

@@ -12,8 +12,11 @@ use lib.IntN.{ℤ, pos, negsuc}
 use lib.ListN.{length, take, drop, getD, length-append, take-append-drop}
 use lib.Seq.{take-at, drop-at, length-take-le, getD-drop}
 use lib.Signed.{mag}
+use Rattle.sheet.specs.declared.Opening.{Opening}
+use Rattle.sheet.specs.declared.Opening.the-variants.{Pf01, Pf02}
 use Rattle.sheet.specs.Facts.Laws.{and-true}
-use Rattle.sheet.specs.Field.{Field, value, refused, next, demand, number, digits, field, byte, byteBy, signed32, unsigned32, begins, Bytes}
+use Rattle.sheet.specs.Field.{Field, value, refused, next, demand, number, digits, field, byte, byteBy, signed32, unsigned32, openingBytes, begins}
+use Rattle.sheet.specs.Field.{Bytes}
 
 -- ---- numbers and their bytes
 
@@ -141,7 +144,11 @@ byteBy-front takes k s h e =
     next-value (byte s) _ e (λ x u was e1.
     demand-value (takes x) k _ e1 (λ ok e2. value-with (λ b t. (takes b ≡ true) × FrontByte s b t) e2 (ok, byte-front s h was)))
 
--- ---- the opening
+-- ---- the openings
+
+pub opening-length : (o : Opening) → length (openingBytes o) ≡ 4
+opening-length Pf01 = refl
+opening-length Pf02 = refl
 
 pub begins-front : (p s : List ℕ) → begins p s ≡ true → s ≡ p ++ drop (length p) s
 begins-front [] s e = refl

@@ -85,7 +85,7 @@ sheet-demand3 f h v =
     let r : (ds : List Constraint) → Perm (f .constraints) ds → demand.Reordered (graphOf f) (graphOf (reordered f ds)) =
     λ ds p. record { count = refl; kinds = refl; constraints = perm-map clusterOf p } in
     record {
-      orders = λ ds p. (accepted-perm (f .elements) (f .constraints) ds p h, d .orders (graphOf (reordered f ds)) (r ds p) .not-over);
+      orders = λ ds p. (accepted-perm (f .opening) (f .elements) (f .constraints) ds p h, d .orders (graphOf (reordered f ds)) (r ds p) .not-over);
       every = λ ds p a b m n. d .every (graphOf (reordered f ds)) (r ds p) a b m n;
       whole = d;
     }

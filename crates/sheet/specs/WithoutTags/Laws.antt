@@ -1,5 +1,5 @@
 -- Laws of a sheet without its tags, from the walk over its constraints. Assumes nothing.
-use Prim.Native.Nat.{ℕ, zero, suc, _+_, _/_, _%_}
+use Prim.Native.Nat.{ℕ, zero, suc, _+_, _*_, _-_, _/_, _%_}
 use native.Mathlib.Omega.{arith}
 use borrow.Author.Tests.{eqb-true}
 use mathlib.Core.Path.{_≡_, refl, sym, ap, _∙_}
@@ -8,9 +8,14 @@ use mathlib.Core.List.{List, [], _∷_, _++_, append-assoc}
 use lib.Dec.{eqb}
 use lib.ListN.{length, take, drop, getD, length-append, take-append-drop}
 use lib.Seq.{take-at, drop-at, getD-append-add}
-use Rattle.sheet.specs.Field.{kindBytes, openingBytes}
+use Rattle.sheet.specs.declared.Opening.{Opening}
+use Rattle.sheet.specs.declared.Opening.the-variants.{Pf01, Pf02}
+use Rattle.sheet.specs.Facts.{kindsOf}
+use Rattle.sheet.specs.Field.{number, kindBytes, openingBytes}
+use Rattle.sheet.specs.Field.Laws.{opening-length}
+use Rattle.sheet.specs.Rules.{withoutBit1}
 use Rattle.sheet.specs.Facts.Laws.{and-true}
-use Rattle.sheet.specs.WithoutTags.{sizeLength, tagLength, withoutBit1, dropTags, noTags, before, listed, withoutTags, untagged}
+use Rattle.sheet.specs.WithoutTags.{sizeLength, tagLength, circlesAmong, dropTags, noTags, before, listed, withoutTags, untagged}
 
 -- ---- one constraint: its size and its tag stand in front of what is left
 
@@ -43,34 +48,58 @@ untagged-same s h = rw (noTags-same (listed s) (drop (before s) s) h) (take-appe
 
 -- ---- what precedes the constraints of a sheet
 
-module _ (n e : ℕ) (kinds s : List ℕ) (kinds-long : length kinds ≡ kindBytes n) where
-  abbrev counts : List ℕ
-  counts = openingBytes ++ (n ∷ []) ++ kinds
+module _ (n e : ℕ) (kinds radii s : List ℕ) where
+  abbrev counts : Opening → List ℕ
+  counts o = openingBytes o ++ (n ∷ []) ++ kinds ++ radii
 
-  abbrev sheet : List ℕ
-  sheet = counts ++ (e ∷ s)
+  abbrev sheet : Opening → List ℕ
+  sheet o = counts o ++ (e ∷ s)
 
-  counted : listed sheet ≡ e
-  counted =
-      let at : 5 + kindBytes n ≡ length counts + 0 = omega (arith, kinds-long) in
-      ap (λ (k : ℕ). getD sheet k 0) at ∙ getD-append-add counts (e ∷ s) 0 0
+  -- the fields one after another
+  abbrev whole : Opening → List ℕ → List ℕ
+  whole o t = openingBytes o ++ (n ∷ kinds ++ (radii ++ (e ∷ t)))
 
-  long : length (counts ++ (e ∷ [])) ≡ 6 + kindBytes n
-  long = rw (length-append counts (e ∷ [])) (omega (arith, kinds-long))
+  regroup : (o : Opening) (t : List ℕ) → counts o ++ (e ∷ t) ≡ whole o t
+  regroup o t = simp append-assoc
 
-  split : sheet ≡ (counts ++ (e ∷ [])) ++ s
-  split = sym (append-assoc counts (e ∷ []) s)
+  abbrev head : Opening → ℕ
+  head o = 6 + kindBytes o n + 4 * circlesAmong (kindsOf o n (number kinds))
 
-  front : take (6 + kindBytes n) sheet ≡ counts ++ (e ∷ [])
-  front = rw split (take-at (counts ++ (e ∷ [])) s (6 + kindBytes n) long)
+  -- the kinds stand behind the opening and the count
+  kinds-stand : (k : ℕ) → length kinds ≡ k → take k ((kinds ++ radii) ++ (e ∷ s)) ≡ kinds
+  kinds-stand k l = rw (append-assoc kinds radii (e ∷ s)) (take-at kinds (radii ++ (e ∷ s)) k l)
 
-  rest : drop (6 + kindBytes n) sheet ≡ s
-  rest = rw split (drop-at (counts ++ (e ∷ [])) s (6 + kindBytes n) long)
+  before-is : (o : Opening) → length kinds ≡ kindBytes o n → before (sheet o) ≡ head o
+  unfolding before
+  before-is Pf01 l = ap (λ (x : List ℕ). 6 + kindBytes Pf01 n + 4 * circlesAmong (kindsOf Pf01 n (number x))) (kinds-stand _ l)
+  before-is Pf02 l = ap (λ (x : List ℕ). 6 + kindBytes Pf02 n + 4 * circlesAmong (kindsOf Pf02 n (number x))) (kinds-stand _ l)
 
-  pub withoutTags-front : withoutTags sheet ≡ counts ++ (e ∷ dropTags e s)
-  unfolding withoutTags
-  withoutTags-front = rw (counted, front, rest) (append-assoc counts (e ∷ []) (dropTags e s))
+  module _ (o : Opening) (kinds-long : length kinds ≡ kindBytes o n) (radii-long : length radii ≡ 4 * circlesAmong (kindsOf o n (number kinds))) where
+    counts-long : length (counts o) ≡ 5 + kindBytes o n + length radii
+    counts-long = simp (length-append, opening-length o) (omega (arith, kinds-long))
 
-  pub untagged-front : untagged sheet ≡ noTags e s
-  unfolding untagged
-  untagged-front = rw (counted, rest)
+    counted : listed (sheet o) ≡ e
+    counted =
+        let at : before (sheet o) - 1 ≡ length (counts o) + 0 = omega (arith, before-is o kinds-long, counts-long) in
+        ap (λ (k : ℕ). getD (sheet o) k 0) at ∙ getD-append-add (counts o) (e ∷ s) 0 0
+
+    long : length (counts o ++ (e ∷ [])) ≡ before (sheet o)
+    long = rw (length-append (counts o) (e ∷ [])) (omega (arith, before-is o kinds-long, counts-long))
+
+    split : sheet o ≡ (counts o ++ (e ∷ [])) ++ s
+    split = sym (append-assoc (counts o) (e ∷ []) s)
+
+    front : take (before (sheet o)) (sheet o) ≡ counts o ++ (e ∷ [])
+    front = ap (take (before (sheet o))) split ∙ take-at (counts o ++ (e ∷ [])) s (before (sheet o)) long
+
+    rest : drop (before (sheet o)) (sheet o) ≡ s
+    rest = ap (drop (before (sheet o))) split ∙ drop-at (counts o ++ (e ∷ [])) s (before (sheet o)) long
+
+    pub withoutTags-front : withoutTags (whole o s) ≡ whole o (dropTags e s)
+    unfolding withoutTags
+    withoutTags-front =
+        rw (← regroup o s, ← regroup o (dropTags e s), counted, front, rest) (append-assoc (counts o) (e ∷ []) (dropTags e s))
+
+    pub untagged-front : untagged (whole o s) ≡ noTags e s
+    unfolding untagged
+    untagged-front = rw (← regroup o s, counted, rest)
