@@ -2,10 +2,11 @@
 use Prim.Native.Nat.{ℕ, zero, suc, _+_, _-_, _%_, _/_, _<_, _≤_}
 use native.Mathlib.Nat.{le-of-suc-le-suc, pow-succ'}
 use native.Mathlib.Omega.{arith}
-use mathlib.Core.Path.{_≡_, refl, sym, ap, _∙_}
+use mathlib.Core.Path.{_≡_, refl, sym, ap, _∙_, subst}
 use mathlib.Core.Logic.{_≢_, ⊎-elim}
+use mathlib.Core.Bool.{false}
 use mathlib.Core.List.{List, [], _∷_, _++_, map, map-append, append-assoc}
-use lib.IntN.{ℤ, pos}
+use lib.IntN.{ℤ, pos, negsuc}
 use lib.Pow.{pow-pos}
 use lib.Count.{trailingZeros, under, leadingZeros, leading-unique}
 use lib.ListN.{length, getD, set, replicate, length-map, length-append, List·getD-append}
@@ -16,20 +17,21 @@ use Rattle.theory.specs.Constraints.{pair}
 use Rattle.theory.specs.Constraints.Laws.{at-pair, at-end, pair-below}
 use Rattle.sheet.specs.declared.Constraint.{Constraint}
 use Rattle.sheet.specs.declared.Element.{Element}
+use Rattle.sheet.specs.declared.Kind.{Kind}
 use Rattle.sheet.specs.declared.PairKind.{PairKind}
 use Rattle.sheet.specs.declared.PairKind.the-variants.{Points, PointLine, Lines}
 use Rattle.sheet.specs.declared.Size.{Size}
-use Rattle.sheet.specs.declared.Size.the-variants.{Given, Missing}
+use Rattle.sheet.specs.declared.Size.the-variants.{Given, Missing, Tangent, OtherTangent, Unfit}
 use Rattle.theory.specs.Block.{block}
-use Rattle.sheet.specs.Facts.{Facts}
-use Rattle.sheet.specs.Rules.{pairAt, sizeFault, constraintFault, constraintsFault}
-use Rattle.sheet.specs.Rules.Laws.{ends-true, none-else}
+use Rattle.sheet.specs.Facts.{Facts, kindAt}
+use Rattle.sheet.specs.Rules.{pairOf, sizeInRange, sizeFault, constraintFault, constraintsFault}
+use Rattle.sheet.specs.Rules.Laws.{ends-true, unless-none, none-else}
 use Rattle.sheet.specs.Accepted.{Accepted}
 use Rattle.sheet.specs.Accepted.Laws.{taken, accepted-most}
-use Rattle.sheet.specs.Graph.{clusterOf, sizeOf}
+use Rattle.sheet.specs.Graph.{clusterOf}
 use Rattle.sheet.specs.Noted.{Noted}
 use Rattle.sheet.specs.Noted.Laws.{noted-none, clusters-more}
-use Rattle.graph.specs.Lent.{InArrays, Unpacks}
+use Rattle.graph.specs.Lent.{codeOf, Fits, InArrays, Unpacks}
 
 -- ---- a block with one item more
 
@@ -45,41 +47,41 @@ filled-more : {A : Type 0} {l : List A} (blank : A) (xs : List A) (x : A) {ys : 
 filled-more blank xs x i n l more is = rw (is, more, ← n) (block-more 200 blank xs x (rw n l))
 
 pub in-arrays-none : InArrays [] (replicate 64 0) (replicate 200 0) (replicate 200 (pos 0))
-in-arrays-none = record { noted = noted-none; start-is = refl; sizes-are = refl }
+in-arrays-none = record { noted = noted-none; start-is = refl; codes-are = refl }
 
-pub in-arrays-more : {near near′ start : List ℕ} {sizes : List ℤ} (cs : List Constraint) (c : Constraint) (i : ℕ) → length cs ≡ i → i < 200
-    → InArrays cs near start sizes → Noted near′ (cs ++ c ∷ [])
-    → InArrays (cs ++ c ∷ []) near′ (set start i (pair (c .first) (c .second))) (set sizes i (sizeOf (c .size)))
+pub in-arrays-more : {near near′ start : List ℕ} {codes : List ℤ} (cs : List Constraint) (c : Constraint) (i : ℕ) → length cs ≡ i → i < 200
+    → InArrays cs near start codes → Noted near′ (cs ++ c ∷ [])
+    → InArrays (cs ++ c ∷ []) near′ (set start i (pair (c .first) (c .second))) (set codes i (codeOf (c .size)))
 in-arrays-more cs c i n l h more = record {
   noted = more;
   start-is =
       filled-more 0 (map clusterOf cs) (pair (c .first) (c .second)) i (length-map cs _ ∙ n) l (clusters-more cs c)
       (h .start-is);
-  sizes-are =
-      filled-more (pos 0) (map (λ d. sizeOf (d .size)) cs) (sizeOf (c .size)) i (length-map cs _ ∙ n) l
-      (map-append (λ d. sizeOf (d .size)) cs (c ∷ []))
-      (h .sizes-are);
+  codes-are =
+      filled-more (pos 0) (map (λ d. codeOf (d .size)) cs) (codeOf (c .size)) i (length-map cs _ ∙ n) l
+      (map-append (λ d. codeOf (d .size)) cs (c ∷ []))
+      (h .codes-are);
 }
 
 -- ---- a constraint out of the arrays
 
-getD-mapped : {A B : Type 0} (f : A → B) (xs : List A) (i : ℕ) (d : B) (e : A) → i < length xs → getD (map f xs) i d ≡ f (getD xs i e)
+pub getD-mapped : {A B : Type 0} (f : A → B) (xs : List A) (i : ℕ) (d : B) (e : A) → i < length xs → getD (map f xs) i d ≡ f (getD xs i e)
 getD-mapped f [] i d e l = absurd (omega arith)
 getD-mapped f (x ∷ xs) zero d e l = refl
 getD-mapped f (x ∷ xs) (suc i) d e l = getD-mapped f xs i d e (le-of-suc-le-suc l)
 
-module _ {cs : List Constraint} {near start : List ℕ} {sizes : List ℤ} (h : InArrays cs near start sizes) (i : ℕ) (d : Constraint)
+module _ {cs : List Constraint} {near start : List ℕ} {codes : List ℤ} (h : InArrays cs near start codes) (i : ℕ) (d : Constraint)
     (l : i < length cs) where
   pub pair-in-start : getD start i 0 ≡ pair (getD cs i d .first) (getD cs i d .second)
   pair-in-start =
       let k : i < length (map clusterOf cs) = rw length-map l in
       rw (h .start-is) (List·getD-append (map clusterOf cs) _ 0 i k ∙ getD-mapped clusterOf cs i 0 d l)
 
-  pub size-in-sizes : getD sizes i (pos 0) ≡ sizeOf (getD cs i d .size)
-  size-in-sizes =
-      let k : i < length (map (λ c. sizeOf (c .size)) cs) = rw length-map l in
-      rw (h .sizes-are)
-      (List·getD-append (map (λ c. sizeOf (c .size)) cs) _ (pos 0) i k ∙ getD-mapped (λ c. sizeOf (c .size)) cs i (pos 0) d l)
+  pub code-in-codes : getD codes i (pos 0) ≡ codeOf (getD cs i d .size)
+  code-in-codes =
+      let k : i < length (map (λ c. codeOf (c .size)) cs) = rw length-map l in
+      rw (h .codes-are)
+      (List·getD-append (map (λ c. codeOf (c .size)) cs) _ (pos 0) i k ∙ getD-mapped (λ c. codeOf (c .size)) cs i (pos 0) d l)
 
 trailing-least : (k x a : ℕ) → x ∈ a → trailingZeros k a ≤ x
 unfolding trailingZeros at
@@ -114,28 +116,74 @@ pub constraint-is : {c : Constraint} {a b : ℕ} {s : Size} → a ≡ c .first �
     → record { first = a; second = b; size = s } ≡ c
 constraint-is e f g = rw (e, f, g)
 
--- the size, given or missing
-module _ (c : Constraint) {z : ℤ} (is : sizeOf (c .size) ≡ z) where
-  pub size-missing : Unpacks c → z ≡ pos 0 → c .size ≡ Missing
-  size-missing u e = out (c .size) (is ∙ e) (u .not-zero)
-    where
-      out : (s : Size) → sizeOf s ≡ pos 0 → s ≢ Given (pos 0) → s ≡ Missing
-      out (Given y) e n = absurd (n (ap Given e))
-      out Missing e n = refl
+-- ---- the size by its number
 
-  pub size-given : z ≢ pos 0 → c .size ≡ Given z
-  size-given n = out (c .size) is
+module _ (s : Size) (h : Fits s) {z : ℤ} (is : codeOf s ≡ z) where
+  pub code-missing : z ≡ pos 0 → s ≡ Missing
+  code-missing e = out s h (is ∙ e)
     where
-      out : (s : Size) → sizeOf s ≡ z → s ≡ Given z
-      out (Given y) e = ap Given e
-      out Missing e = absurd (n (sym e))
+      out : (s : Size) → Fits s → codeOf s ≡ pos 0 → s ≡ Missing
+      out (Given y) h e = absurd (h .not-zero (ap Given e))
+      out Missing h e = refl
+      out Tangent h e = let n : _≡_ {A = ℕ} 0 1 = cc in absurd (omega arith)
+      out OtherTangent h e = let n : _≡_ {A = ℕ} 0 1 = cc in absurd (omega arith)
+      out Unfit h e = absurd (h .fit refl)
+
+  pub code-tangent : z ≡ pos 100000 → s ≡ Tangent
+  code-tangent e = out s h (is ∙ e)
+    where
+      out : (s : Size) → Fits s → codeOf s ≡ pos 100000 → s ≡ Tangent
+      out (Given y) h e = absurd (h .not-tangent (ap Given e))
+      out Missing h e = let n : _≡_ {A = ℕ} 0 1 = cc in absurd (omega arith)
+      out Tangent h e = refl
+      out OtherTangent h e = let n : _≡_ {A = ℕ} 0 1 = cc in absurd (omega arith)
+      out Unfit h e = absurd (h .fit refl)
+
+  pub code-other : z ≡ negsuc 99999 → s ≡ OtherTangent
+  code-other e = out s h (is ∙ e)
+    where
+      out : (s : Size) → Fits s → codeOf s ≡ negsuc 99999 → s ≡ OtherTangent
+      out (Given y) h e = absurd (h .not-other (ap Given e))
+      out Missing h e = let n : _≡_ {A = ℕ} 0 1 = cc in absurd (omega arith)
+      out Tangent h e = let n : _≡_ {A = ℕ} 0 1 = cc in absurd (omega arith)
+      out OtherTangent h e = refl
+      out Unfit h e = absurd (h .fit refl)
+
+  pub code-given : z ≢ pos 0 → z ≢ pos 100000 → z ≢ negsuc 99999 → s ≡ Given z
+  code-given n m o = out s h is
+    where
+      out : (s : Size) → Fits s → codeOf s ≡ z → s ≡ Given z
+      out (Given y) h e = ap Given e
+      out Missing h e = absurd (n (sym e))
+      out Tangent h e = absurd (m (sym e))
+      out OtherTangent h e = absurd (o (sym e))
+      out Unfit h e = absurd (h .fit refl)
 
 -- ---- the constraints of an accepted sheet
 
-zero-refused : (p : PairKind) (z : Size) → sizeFault p z ≡ 0 → z ≢ Given (pos 0)
-zero-refused Points z e q = let k : sizeFault Points (Given (pos 0)) ≡ 0 = rw q at e in omega arith
-zero-refused PointLine z e q = let k : sizeFault PointLine (Given (pos 0)) ≡ 0 = rw q at e in omega arith
-zero-refused Lines z e q = let k : sizeFault Lines (Given (pos 0)) ≡ 0 = rw q at e in omega arith
+-- no rule takes a size that is a contact's number, nor 0
+not-taken : (p : PairKind) → (sizeInRange p (pos 0) ≡ false) × (sizeInRange p (pos 100000) ≡ false) × (sizeInRange p (negsuc 99999) ≡ false)
+not-taken Points = (refl, refl, refl)
+not-taken PointLine = (refl, refl, refl)
+not-taken Lines = (refl, refl, refl)
+
+given-taken : (j k : Kind) (s : Size) (z : ℤ) → sizeFault j k s ≡ 0 → sizeInRange (pairOf j k) z ≡ false → s ≢ Given z
+unfolding sizeFault
+given-taken j k s z e out q =
+    let taken : sizeFault j k (Given z) ≡ 0 = subst (λ (x : Size). sizeFault j k x ≡ 0) q e in
+    let range = unless-none (sizeInRange (pairOf j k) z) 8 0 taken .0 in
+    let n : _≡_ {A = ℕ} 0 1 = cc in omega arith
+
+pub taken-fits : (j k : Kind) (s : Size) → sizeFault j k s ≡ 0 → Fits s
+unfolding sizeFault
+taken-fits j k s e =
+    let n = not-taken (pairOf j k) in
+    record {
+      not-zero = given-taken j k s (pos 0) e (n .0);
+      not-tangent = given-taken j k s (pos 100000) e (n .1);
+      not-other = given-taken j k s (negsuc 99999) e (n .2);
+      fit = λ q. let z : sizeFault j k Unfit ≡ 0 = subst (λ (x : Size). sizeFault j k x ≡ 0) q e in omega arith;
+    }
 
 faults-unpack : (es : List Element) (cs done : List Constraint) (i : ℕ) (d : Constraint) → length es ≤ 64
     → constraintsFault es done cs ≡ 0 → i < length cs
@@ -149,7 +197,7 @@ faults-unpack es (c ∷ cs) done zero d m e l =
     record {
       ascend = o .0;
       below = omega (arith, o .1);
-      not-zero = zero-refused (pairAt es (c .first) (c .second)) (c .size) (t .size-fits);
+      fits = taken-fits (kindAt es (c .first)) (kindAt es (c .second)) (c .size) (t .size-fits);
     }
 faults-unpack es (c ∷ cs) done (suc i) d m e l =
     let h = none-else (constraintFault es done c) (constraintsFault es (done ++ c ∷ []) cs) e in

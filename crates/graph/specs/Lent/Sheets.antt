@@ -27,10 +27,11 @@ use Rattle.sheet.specs.Rules.{stands, constraintFault, constraintsFault}
 use Rattle.sheet.specs.Rules.Laws.{ends-true, stands-more, none-else, constraints-most}
 use Rattle.sheet.specs.Accepted.{Accepted}
 use Rattle.sheet.specs.Accepted.Laws.{taken, accepted-two, accepted-most}
-use Rattle.sheet.specs.Graph.{clusterOf, sizeOf, graphOf}
+use Rattle.sheet.specs.Graph.{clusterOf, graphOf}
 use Rattle.sheet.specs.Graph.Laws.{clusters-pairs, clusters-below}
 use Rattle.graph.specs.declared.Head.{Head}
-use Rattle.graph.specs.Lent.{graphIn, SheetIn, Sound, Drawn}
+use Rattle.graph.specs.declared.Front.{Front}
+use Rattle.graph.specs.Lent.{graphIn, headIn, SheetIn, Stands, sizesOf, Sound, Drawn}
 
 -- ---- no constraint stands twice
 
@@ -94,28 +95,39 @@ module _ {n : ℕ} {cs : List ℕ} (s : Sound n cs) where
 
 -- ---- in arrays
 
-module _ {f : Facts} {h : Head} {near start : List ℕ} {sizes : List ℤ} (a : SheetIn f h near start sizes) where
+module _ {f : Facts} {h : Head} {near start : List ℕ} (a : Stands f h near start) where
   most : length (f .constraints) ≤ 200
   most = constraints-most (length (f .constraints)) (a .accepted .constraints-in-range)
 
   clusters-are : take (h .e) start ≡ graphOf f .clusters
   clusters-are =
-      ap₂ take (ap (λ (x : Head). x .e) (a .head-is)) (a .arrays .start-is)
+      ap₂ take (ap (λ (x : Head). x .e) (a .head-is)) (a .start-is)
       ∙ take-block 200 0 (map clusterOf (f .constraints)) (length (f .constraints)) (sym (length-map (f .constraints) _))
 
-  pub graph-is : graphIn h start sizes ≡ graphOf f
-  graph-is =
-      let sizes-are : take (h .e) sizes ≡ graphOf f .sizes = ap₂ take (ap (λ (x : Head). x .e) (a .head-is)) (a .arrays .sizes-are)
-      ∙ take-block 200 (pos 0) (map (λ c. sizeOf (c .size)) (f .constraints)) (length (f .constraints)) (sym (length-map (f .constraints) _)) in
+  pub graph-stands : {sizes : List ℤ} → sizes ≡ sizesOf f → graphIn h start sizes ≡ graphOf f
+  graph-stands {sizes} is =
+      let sizes-are : take (h .e) sizes ≡ graphOf f .sizes = ap₂ take (ap (λ (x : Head). x .e) (a .head-is)) is
+      ∙ take-block 200 (pos 0) (graphOf f .sizes) (length (f .constraints)) (sym (length-map (f .constraints) _)) in
       λ z. record { n = a .head-is z .n; lines = a .head-is z .lines; clusters = clusters-are z; sizes = sizes-are z }
 
   pub drawn : Drawn h near start
   drawn = record {
-    sound = subst (λ (g : Graph). Sound (g .n) (g .clusters)) (sym graph-is) (accepted-sound f (a .accepted));
+    sound = subst (λ (g : Graph). Sound (g .n) (g .clusters)) (sym (graph-stands refl)) (accepted-sound f (a .accepted));
     few = rw (a .head-is) most;
-    places = ap length (a .arrays .start-is) ∙ length-block 200 0 (map clusterOf (f .constraints)) (rw length-map most);
-    near-is = subst (λ (cs : List ℕ). Near cs near) (sym clusters-are) (a .arrays .noted .pairs);
+    places = ap length (a .start-is) ∙ length-block 200 0 (map clusterOf (f .constraints)) (rw length-map most);
+    near-is = subst (λ (cs : List ℕ). Near cs near) (sym clusters-are) (a .noted .pairs);
   }
+
+-- the arrays that hold a sheet hold its graph
+module _ {f : Facts} {h : Front} {near start : List ℕ} {codes : List ℤ} {radii : List ℕ} (a : SheetIn f h near start codes radii) where
+  pub stands-in : Stands f (headIn h) near start
+  stands-in = record { accepted = a .accepted; head-is = a .head-is; noted = a .arrays .noted; start-is = a .arrays .start-is }
+
+  pub drawn-in : Drawn (headIn h) near start
+  drawn-in = drawn stands-in
+
+  pub graph-is : graphIn (headIn h) start (sizesOf f) ≡ graphOf f
+  graph-is = graph-stands stands-in refl
 
 module _ {h : Head} {near start : List ℕ} (d : Drawn h near start) where
   pub counted : length (take (h .e) start) ≡ h .e
