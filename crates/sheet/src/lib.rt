@@ -352,7 +352,7 @@ fn bit_of(b: bool) -> u64
 
 // The kinds of the first n elements in numbers.
 pub fn kinds_of(elements: [Element; 64], n: usize, radii: &mut [u32; 64]) -> Kinds
-    requires { ⌜ n ≤ 64 ⌝ }
+    requires { ⌜ (n ≤ 64) × (length (now radii) ≡ 64) ⌝ }
     ensures { λ r. ⌜ KindsIn (take n elements) r (now (radii .exit)) ⌝ }
 {
     let mut lines: u64 = 0;
@@ -441,7 +441,7 @@ pub fn constraint_fault(near: &[u64; 64], n: usize, kinds: Kinds, radii: &[u32; 
 
 // The first rule of 6 to 9 and 20 that refuses one of e constraints, or 0.
 fn constraints_fault(cs: [Constraint; 200], e: usize, n: usize, kinds: Kinds, radii: &[u32; 64]) -> u8
-    requires { ⌜ (e ≤ 200) × (n ≤ 64) ⌝ }
+    requires { ⌜ (e ≤ 200) × (n ≤ 64) × ((es : List Element) × (n ≡ length es) × KindsIn es kinds (now radii)) ⌝ }
     ensures { λ r. ⌜ ((es : List Element) → n ≡ length es → KindsIn es kinds (now (radii .entry)) → r ≡ constraintsFault es [] (take e cs)) ⌝ }
 {
     let mut near = [0u64; 64];

@@ -1,75 +1,59 @@
+-- `sheet::radii_in_range` meets its contract: the circles before i have radii in range. Assumes nothing.
+use borrow.Author.Needs.{needs}
+use Prim.Native.Nat.{ℕ, _+_, _-_, _<_, _≤_}
+use native.Mathlib.Omega.{arith}
+use mathlib.Core.Path.{_≡_, refl, sym, ap, _∙_}
+use mathlib.Core.Logic.{⊎-elim}
+use mathlib.Core.Bool.{_&&_, _||_, not}
+use borrow.Author.Tests.{not-true, not-false}
+use lib.ListN.{length, take, drop, getD}
+use Rattle.sheet.specs.Facts.{isCircle, radiusOf, blankElement}
+use Rattle.sheet.specs.Rules.{radiusInRange, radiiInRange}
+use Rattle.sheet.specs.Rules.Kinds.{radii-turn, radii-spent}
 use Rattle.sheet.proofs.radii_in_range.Statement.{statement}
 use Rattle.sheet.proofs.radii_in_range.Tie as tie
-use Rattle.sheet.proofs.radii_in_range.Reads as reads
-use Rattle.sheet.proofs.radii_in_range.Lts as lts
-use Rattle.sheet.proofs.is_circle.Reads as is-circle-reads
-use Rattle.sheet.proofs.radius_in_range.Reads as radius-in-range-reads
-use Rattle.sheet.proofs.radius_of.Reads as radius-of-reads
 
 abbrev Inv-loop : tie.InvT-loop
-Inv-loop n elements i₀ i = ?
+Inv-loop n elements i₀ i = (i ≤ n) × (radiiInRange (take n elements) ≡ radiiInRange (drop i (take n elements)))
 
 abbrev μ-loop : tie.MeasureT-loop
-μ-loop n elements i₀ i = ?
+μ-loop n elements i₀ i = n - i
 
--- src/lib.rt:378:5
-loop-holds : tie.Need-loop-holds Inv-loop μ-loop
-loop-holds c = ?
+room : (c : tie.Start Inv-loop μ-loop) → c .args .n ≤ length (c .args .t1)
+room c = let l : length (c .args .t1) ≡ 64 = search needs in rw l (c .pre)
 
--- src/lib.rt:379:17
-mul-x : tie.Need-mul-x Inv-loop μ-loop
-mul-x c = ?
-
--- src/lib.rt:379:17
-array-copy-out-x : tie.Need-array-copy-out-x Inv-loop μ-loop
-array-copy-out-x c = ?
-
--- src/lib.rt:381:12
-is-circle-requires : tie.Need-is-circle-requires Inv-loop μ-loop
-is-circle-requires c κs = ?
-
--- src/lib.rt:382:33
-radius-of-requires : tie.Need-radius-of-requires Inv-loop μ-loop
-radius-of-requires c κs = ?
-
--- src/lib.rt:382:17
-radius-in-range-requires : tie.Need-radius-in-range-requires Inv-loop μ-loop
-radius-in-range-requires c κs = ?
-
--- src/lib.rt:383:17
 returns : tie.Need-returns Inv-loop μ-loop
-returns c = ?
+returns c =
+    let t = c .before .before .before .before .before .before in
+    let a = t .before .loop in
+    let s = t .before .before in
+    rw (
+      a .inv .1,
+      radii-turn (s .args .t1) (s .args .n) (a .i) blankElement (room s) (t .loop-test .taken),
+      sym (c .before .before .before .before .is-circle .ensures) ∙ c .before .before .before .if1 .taken,
+      ← c .before .before .radius-of .ensures,
+      sym (c .before .radius-in-range .ensures) ∙ not-true _ (c .if2 .taken),
+    )
 
--- src/lib.rt:386:9
-add-i : tie.Need-add-i Inv-loop μ-loop
-add-i c = ?
-
--- src/lib.rt:378:5
-loop-less : tie.Need-loop-less Inv-loop μ-loop
-loop-less c = ?
-
--- src/lib.rt:378:5
 loop-again : tie.Need-loop-again Inv-loop μ-loop
-loop-again c = ?
+loop-again c =
+    let t = c .before .before .before in
+    let a = t .before .loop in
+    let s = t .before .before in
+    let k = c .before .is-circle .ensures in (
+      omega arith,
+      a .inv .1 ∙ radii-turn (s .args .t1) (s .args .n) (a .i) blankElement (room s) (t .loop-test .taken)
+          ∙ ⊎-elim (λ w. rw (sym k ∙ w .0 .taken, ← w .1 .ensures, sym (w .2 .ensures) ∙ not-false _ (w .3 .left))) (λ w. rw (sym k ∙ w .left)) (c .if1 .came),
+    )
 
--- src/lib.rt:373:1
 returns-2 : tie.Need-returns-2 Inv-loop μ-loop
-returns-2 c = ?
+returns-2 c =
+    let a = c .before .loop in
+    let s = c .before .before in
+    sym (a .inv .1 ∙ radii-spent (s .args .t1) (s .args .n) (a .i) blankElement (room s) (c .loop-test .left))
 
 pub radii-in-range-spec : {M : Type 1} → statement M
 radii-in-range-spec =
     tie.close
-    (tie.spec
-    Inv-loop
-    μ-loop
-    loop-holds
-    mul-x
-    array-copy-out-x
-    is-circle-requires
-    radius-of-requires
-    radius-in-range-requires
-    returns
-    add-i
-    loop-less
-    loop-again
-    returns-2)
+    (tie.spec Inv-loop μ-loop (λ c. (search needs, refl)) (λ c. search needs) (λ c. search needs) (λ c κs. search needs)
+    (λ c κs. search needs) (λ c κs. search needs) returns (λ c. omega arith) (λ c. omega arith) loop-again returns-2)

@@ -1,6 +1,7 @@
 -- `sheet::size_by` meets its contract: the maps that say something, one after another. Assumes nothing.
 use borrow.Author.Needs.{needs}
 use borrow.Author.Tests.{eq-eqb, ne-eqb}
+use mir.Facts.{toZ-ofZ}
 use Rattle.sheet.specs.Rules.{sizeBy}
 use Rattle.sheet.proofs.size_by.Statement.{statement}
 use Rattle.sheet.proofs.size_by.Tie as tie
@@ -11,7 +12,7 @@ returns c = rw (eq-eqb _ _ (c .if1 .taken))
 
 returns-2 : tie.Need-returns-2
 unfolding sizeBy
-returns-2 c = rw (ne-eqb _ _ (c .before .if1 .left), eq-eqb _ _ (c .if2 .taken))
+returns-2 c = rw (ne-eqb _ _ (c .before .if1 .left), eq-eqb _ _ (c .if2 .taken), toZ-ofZ (c .before .before .fits .z))
 
 returns-3 : tie.Need-returns-3
 unfolding sizeBy

@@ -21,12 +21,12 @@ straight-allowed [] = refl
 straight-allowed (x ∷ xs) = by (isCircle (x .kind)) (setOf isCircle xs) (straight-allowed xs)
   where
     by : (b : Bool) (m : ℕ) → eqb m 0 ≡ kindsAllowed Pf01 xs → eqb (bitOf b + 2 * m) 0 ≡ not b && kindsAllowed Pf01 xs
-    by true m h = ne-eqb _ _ (λ e. omega arith)
+    by true m h = ne-eqb (1 + 2 * m) 0 (λ e. omega arith)
     by false m h = double m ∙ h
       where
         double : (m : ℕ) → eqb (0 + 2 * m) 0 ≡ eqb m 0
         double zero = refl
-        double (suc m) = ne-eqb _ _ (λ e. omega arith)
+        double (suc m) = ne-eqb (0 + 2 * suc m) 0 (λ e. omega arith) ∙ sym (ne-eqb (suc m) 0 (λ e. omega arith))
 
 -- PF02 allows all
 pub all-allowed : (es : List Element) → kindsAllowed Pf02 es ≡ true
