@@ -1,10 +1,11 @@
--- `sheet::kinds_of` meets its contract: the bits from the last element down, and the radii from i on; the numbers stay below 2 ^ 64. Assumes nothing.
+-- `sheet::kinds_of` meets its contract: the bits from the last element down, and the radii from i on; the numbers stay below 2 ^ 64.
+-- Assumes nothing.
 use borrow.Author.Needs.{needs}
 use Prim.Native.Nat.{ℕ, _+_, _*_, _-_, _<_, _≤_, _^_}
 use native.Mathlib.Nat.{pow-le-pow-right}
 use native.Mathlib.Decide.{ℕ-discrete}
 use native.Mathlib.Omega.{arith}
-use mathlib.Core.Path.{_≡_, refl, sym, ap, _∙_}
+use mathlib.Core.Path.{_≡_, sym, ap, _∙_}
 use mathlib.Core.Bool.{Bool, true, false}
 use mathlib.Core.List.{List}
 use lib.ListN.{length, take, drop, set, getD, length-drop, length-set, List·getD-eq-default}
@@ -36,7 +37,8 @@ bit-le true = omega arith
 bit-le false = omega arith
 
 module _ (l : List Element) (n i : ℕ) (some : 0 < i) (within : i ≤ n) (room : n ≤ length l) where
-  one-more : (is : Kind → Bool) → setOf is (drop (i - 1) (take n l)) ≡ 2 * setOf is (drop i (take n l)) + bitOf (is (getD l (i - 1) blankElement .kind))
+  one-more : (is : Kind → Bool)
+      → setOf is (drop (i - 1) (take n l)) ≡ 2 * setOf is (drop i (take n l)) + bitOf (is (getD l (i - 1) blankElement .kind))
   unfolding setOf
   one-more is =
       let h : i - 1 < n = omega arith in
@@ -76,48 +78,32 @@ loop-holds c =
       sym (ap (setOf isLine) s),
       sym (ap (setOf isCircle) s),
       c .pre .1,
-      none-from (take (c .args .n) (c .args .t1)) (c .args .n) (c .args .radii .now) (omega (arith, length-take-le (c .args .n) (c .args .t1) (room c))),
+      none-from (take (c .args .n) (c .args .t1)) (c .args .n) (c .args .radii .now)
+          (omega (arith, length-take-le (c .args .n) (c .args .t1) (room c))),
     )
 
+-- the numbers stay below 2 ^ 64
+fits : (c : tie.In-loop Inv-loop μ-loop) (is : Kind → Bool)
+    → 2 * setOf is (drop (c .before .loop .i) (take (c .before .before .args .n) (c .before .before .args .t1))) + 1 < 2 ^ 64
+fits c is =
+    let s = c .before .before in
+    small (s .args .t1) (s .args .n) (c .before .loop .i) (c .loop-test .taken) (c .before .loop .inv .0) (room s) (s .pre .0) is
+
 mul-lines : tie.Need-mul-lines Inv-loop μ-loop
-mul-lines c =
-    let a = c .before .before .loop in
-    let s = c .before .before .before in
-    omega (arith, small (s .args .t1) (s .args .n) (a .i) (c .before .loop-test .taken) (a .inv .0) (room s) (s .pre .0) isLine, a .inv .1)
+mul-lines c = omega (arith, fits (c .before) isLine, c .before .before .loop .inv .1)
 
 add-lines : tie.Need-add-lines Inv-loop μ-loop
 add-lines c =
-    let a = c .before .before .before .before .loop in
-    let s = c .before .before .before .before .before in
-    omega (
-      arith,
-      small (s .args .t1) (s .args .n) (a .i) (c .before .before .before .loop-test .taken) (a .inv .0) (room s) (s .pre .0) isLine,
-      a .inv .1,
-      c .bit-of .ensures,
-      bit-le (c .before .is-line .result),
-    )
+    let t = c .before .before .before in
+    omega (arith, fits t isLine, t .before .loop .inv .1, c .bit-of .ensures, bit-le (c .before .is-line .result))
 
 mul-circles : tie.Need-mul-circles Inv-loop μ-loop
-mul-circles c =
-    let a = c .before .before .before .before .loop in
-    let s = c .before .before .before .before .before in
-    omega (
-      arith,
-      small (s .args .t1) (s .args .n) (a .i) (c .before .before .before .loop-test .taken) (a .inv .0) (room s) (s .pre .0) isCircle,
-      a .inv .2,
-    )
+mul-circles c = let t = c .before .before .before in omega (arith, fits t isCircle, t .before .loop .inv .2)
 
 add-circles : tie.Need-add-circles Inv-loop μ-loop
 add-circles c =
-    let a = c .before .before .before .before .before .before .loop in
-    let s = c .before .before .before .before .before .before .before in
-    omega (
-      arith,
-      small (s .args .t1) (s .args .n) (a .i) (c .before .before .before .before .before .loop-test .taken) (a .inv .0) (room s) (s .pre .0) isCircle,
-      a .inv .2,
-      c .bit-of2 .ensures,
-      bit-le (c .before .is-circle .result),
-    )
+    let t = c .before .before .before .before .before in
+    omega (arith, fits t isCircle, t .before .loop .inv .2, c .bit-of2 .ensures, bit-le (c .before .is-circle .result))
 
 loop-again : tie.Need-loop-again Inv-loop μ-loop
 loop-again c =

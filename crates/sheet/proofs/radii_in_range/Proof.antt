@@ -1,14 +1,13 @@
 -- `sheet::radii_in_range` meets its contract: the circles before i have radii in range. Assumes nothing.
 use borrow.Author.Needs.{needs}
-use Prim.Native.Nat.{ℕ, _+_, _-_, _<_, _≤_}
+use Prim.Native.Nat.{_-_, _≤_}
 use native.Mathlib.Omega.{arith}
-use mathlib.Core.Path.{_≡_, refl, sym, ap, _∙_}
+use mathlib.Core.Path.{_≡_, refl, sym, _∙_}
 use mathlib.Core.Logic.{⊎-elim}
-use mathlib.Core.Bool.{_&&_, _||_, not}
 use borrow.Author.Tests.{not-true, not-false}
-use lib.ListN.{length, take, drop, getD}
-use Rattle.sheet.specs.Facts.{isCircle, radiusOf, blankElement}
-use Rattle.sheet.specs.Rules.{radiusInRange, radiiInRange}
+use lib.ListN.{length, take, drop}
+use Rattle.sheet.specs.Facts.{blankElement}
+use Rattle.sheet.specs.Rules.{radiiInRange}
 use Rattle.sheet.specs.Rules.Kinds.{radii-turn, radii-spent}
 use Rattle.sheet.proofs.radii_in_range.Statement.{statement}
 use Rattle.sheet.proofs.radii_in_range.Tie as tie
@@ -43,7 +42,8 @@ loop-again c =
     let k = c .before .is-circle .ensures in (
       omega arith,
       a .inv .1 ∙ radii-turn (s .args .t1) (s .args .n) (a .i) blankElement (room s) (t .loop-test .taken)
-          ∙ ⊎-elim (λ w. rw (sym k ∙ w .0 .taken, ← w .1 .ensures, sym (w .2 .ensures) ∙ not-false _ (w .3 .left))) (λ w. rw (sym k ∙ w .left)) (c .if1 .came),
+          ∙ ⊎-elim (λ w. rw (sym k ∙ w .0 .taken, ← w .1 .ensures, sym (w .2 .ensures) ∙ not-false _ (w .3 .left)))
+          (λ w. rw (sym k ∙ w .left)) (c .if1 .came),
     )
 
 returns-2 : tie.Need-returns-2 Inv-loop μ-loop
