@@ -14,7 +14,7 @@ abbrev pub Passed : Sheet → Type 0
 Passed s = Is (row the-type) s (val the-type the-laws s ∷ [])
 
 pub elements-long : (s : Sheet) → Passed s → length (s .elements) ≡ 64
-elements-long s g = sym (length-map (s .elements) _) ∙ g .1 .1 .1 .1 .0 .1 .0 .1
+elements-long s g = sym (length-map (s .elements) _) ∙ g .1 .1 .1 .1 .1 .0 .1 .0 .1
 
 pub constraints-long : (s : Sheet) → Passed s → length (s .constraints) ≡ 200
-constraints-long s g = sym (length-map (s .constraints) _) ∙ g .1 .1 .1 .1 .1 .0 .1 .0 .1
+constraints-long s g = sym (length-map (s .constraints) _) ∙ g .1 .1 .1 .1 .1 .1 .0 .1 .0 .1

@@ -19,6 +19,7 @@ use Rattle.sheet.specs.declared.Constraint.{Constraint}
 use Rattle.sheet.specs.declared.Sheet.{Sheet}
 use Rattle.sheet.specs.Facts.{Facts, factsOf, isPoint, isLine, isCircle, radiusOf, kindBase, kindAt}
 pub mod Laws
+pub mod Kinds
 
 -- 3: 2 to 64 elements
 abbrev pub elementsInRange : ℕ → Bool

@@ -157,9 +157,17 @@ pub fn pair_by(j: bool, k: bool) -> PairKind
     ensures { λ r. ⌜ r ≡ pairBy j k ⌝ }
 {
     if j {
-        if k { PairKind::Lines } else { PairKind::PointLine }
+        if k {
+            PairKind::Lines
+        } else {
+            PairKind::PointLine
+        }
     } else {
-        if k { PairKind::PointLine } else { PairKind::Points }
+        if k {
+            PairKind::PointLine
+        } else {
+            PairKind::Points
+        }
     }
 }
 
@@ -215,7 +223,13 @@ pub fn size_allowed(j: Kind, k: Kind, size: Size) -> bool
         Size::Given(_) => true,
         Size::Missing => size_optional(pair_by(is_line(j), is_line(k))),
         Size::Tangent => some_circle(j, k),
-        Size::OtherTangent => { if some_circle(j, k) { !some_point(j, k) } else { false } }
+        Size::OtherTangent => {
+            if some_circle(j, k) {
+                !some_point(j, k)
+            } else {
+                false
+            }
+        }
         Size::Unfit => false,
     }
 }
@@ -225,7 +239,11 @@ fn same_radii(j: Kind, k: Kind) -> bool
     ensures { λ r. ⌜ r ≡ isCircle j && isCircle k && eqb (radiusOf j) (radiusOf k) ⌝ }
 {
     if is_circle(j) {
-        if is_circle(k) { radius_of(j) == radius_of(k) } else { false }
+        if is_circle(k) {
+            radius_of(j) == radius_of(k)
+        } else {
+            false
+        }
     } else {
         false
     }
@@ -325,7 +343,11 @@ pub fn kind_at(kinds: Kinds, radii: &[u32; 64], i: u8) -> Kind
         let place = i as usize;
         return Kind::Circle(radii[place]);
     }
-    if has(kinds.lines, i) { Kind::Line } else { Kind::Point }
+    if has(kinds.lines, i) {
+        Kind::Line
+    } else {
+        Kind::Point
+    }
 }
 
 // The elements by their kinds in numbers.
@@ -352,7 +374,7 @@ fn bit_of(b: bool) -> u64
 
 // The kinds of the first n elements in numbers.
 pub fn kinds_of(elements: [Element; 64], n: usize, radii: &mut [u32; 64]) -> Kinds
-    requires { ⌜ n ≤ 64 ⌝ }
+    requires { ⌜ (n ≤ 64) × (length (now radii) ≡ 64) ⌝ }
     ensures { λ r. ⌜ KindsIn (take n elements) r (now (radii .exit)) ⌝ }
 {
     let mut lines: u64 = 0;
@@ -422,7 +444,13 @@ pub fn note_pair(near: &mut [u64; 64], a: u8, b: u8)
 }
 
 // Rules 6 to 9 and 20 of one constraint after those noted: the rule's number, or 0.
-pub fn constraint_fault(near: &[u64; 64], n: usize, kinds: Kinds, radii: &[u32; 64], c: Constraint) -> u8
+pub fn constraint_fault(
+    near: &[u64; 64],
+    n: usize,
+    kinds: Kinds,
+    radii: &[u32; 64],
+    c: Constraint,
+) -> u8
     requires { ⌜ n ≤ 64 ⌝ }
     ensures { λ r. ⌜ ((es : List Element) (cs : List Constraint) → n ≡ length es → KindsIn es kinds (now (radii .entry))
         → Noted (now (near .entry)) cs → r ≡ constraintFault es cs c) ⌝ }
@@ -440,8 +468,14 @@ pub fn constraint_fault(near: &[u64; 64], n: usize, kinds: Kinds, radii: &[u32; 
 }
 
 // The first rule of 6 to 9 and 20 that refuses one of e constraints, or 0.
-fn constraints_fault(cs: [Constraint; 200], e: usize, n: usize, kinds: Kinds, radii: &[u32; 64]) -> u8
-    requires { ⌜ (e ≤ 200) × (n ≤ 64) ⌝ }
+fn constraints_fault(
+    cs: [Constraint; 200],
+    e: usize,
+    n: usize,
+    kinds: Kinds,
+    radii: &[u32; 64],
+) -> u8
+    requires { ⌜ (e ≤ 200) × (n ≤ 64) × ((es : List Element) × (n ≡ length es) × KindsIn es kinds (now radii)) ⌝ }
     ensures { λ r. ⌜ ((es : List Element) → n ≡ length es → KindsIn es kinds (now (radii .entry)) → r ≡ constraintsFault es [] (take e cs)) ⌝ }
 {
     let mut near = [0u64; 64];

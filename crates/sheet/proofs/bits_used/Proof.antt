@@ -1,4 +1,4 @@
--- `sheet::kind_bits_used` meets its contract: the number is below 2 ^ n, and any number of 64 bits where n is 64. Assumes nothing.
+-- `sheet::bits_used` meets its contract: the number is below 2 ^ n, and any number of 64 bits where n is 64. Assumes nothing.
 use borrow.Author.Needs.{needs}
 use borrow.Author.Tests.{lt-ltb}
 use Prim.Native.Nat.{ℕ, _^_, _<_, _≤_}
@@ -6,8 +6,8 @@ use mathlib.Core.Path.{_≡_, sym, subst}
 use native.Mathlib.Nat.{one-mul, mod-eq-of-lt}
 use native.Mathlib.Omega.{arith}
 use lib.Pow.{pow-lt}
-use Rattle.sheet.proofs.kind_bits_used.Statement.{statement}
-use Rattle.sheet.proofs.kind_bits_used.Tie as tie
+use Rattle.sheet.proofs.bits_used.Statement.{statement}
+use Rattle.sheet.proofs.bits_used.Tie as tie
 
 returns : tie.Need-returns
 returns c =
@@ -21,5 +21,5 @@ returns-2 : tie.Need-returns-2
 returns-2 c =
     sym (lt-ltb _ _ (all (c .before .args .n) (c .before .args .m) (c .before .pre) (c .if1 .left) (c .before .fits .m .fits)))
 
-pub kind-bits-used-spec : {M : Type 1} → statement M
-kind-bits-used-spec = tie.close (tie.spec (λ c. search needs) returns returns-2)
+pub bits-used-spec : {M : Type 1} → statement M
+bits-used-spec = tie.close (tie.spec (λ c. search needs) returns returns-2)

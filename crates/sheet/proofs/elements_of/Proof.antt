@@ -1,73 +1,56 @@
--- `sheet::elements_of` meets its contract: the elements before i stand, the number has those from i on. Assumes nothing.
-use Prim.Native.Nat.{ℕ, suc, _+_, _-_, _/_, _%_, _<_, _≤_}
-use native.Mathlib.Nat.{div-one, sub-zero}
+-- `sheet::elements_of` meets its contract: the elements before i stand, the places from i on are blank. Assumes nothing.
+use borrow.Author.Needs.{needs}
+use Prim.Native.Nat.{ℕ, _+_, _-_, _<_, _≤_}
 use native.Mathlib.Numerals.{add-one}
 use native.Mathlib.Omega.{arith}
-use mathlib.Core.Path.{_≡_, refl, sym, ap, _∙_}
-use mathlib.Core.List.{List, [], _∷_, _++_, append-nil, append-assoc}
-use borrow.Author.Needs.{needs}
-use lib.ListN.{length, take, drop, set, replicate, length-set}
-use lib.Seq.{take-suc-set}
+use mathlib.Core.Path.{_≡_, refl, ap, _∙_}
+use mathlib.Core.List.{List}
+use lib.ListN.{length, take, drop, set, getD, replicate, length-set}
+use lib.Seq.{take-suc-set, take-suc, take-all}
 use Rattle.sheet.specs.declared.Kind.{Kind}
 use Rattle.sheet.specs.declared.Element.{Element}
 use Rattle.theory.specs.Block.{block}
-use Rattle.sheet.specs.Facts.{elementOf, elementsOf, blankElement}
-use Rattle.sheet.specs.Facts.Laws.{still-blank, filled}
+use Rattle.sheet.specs.Facts.{blankElement}
+use Rattle.sheet.specs.Facts.Kinds.{KindsIn}
+use Rattle.sheet.specs.Facts.Laws.{still-blank, filled, kind-in}
 use Rattle.sheet.proofs.elements_of.Statement.{statement}
 use Rattle.sheet.proofs.elements_of.Tie as tie
 
 abbrev Inv-loop : tie.InvT-loop
-Inv-loop n lines elements₀ left₀ i₀ elements left i =
-    (i ≤ n) × (length elements ≡ 64) × (elementsOf n lines ≡ take i elements ++ elementsOf (n - i) left)
+Inv-loop n kinds radii elements₀ i₀ elements i =
+    (i ≤ n) × (length elements ≡ 64) × ((es : List Element) → length es ≡ n → KindsIn es kinds radii → take i elements ≡ take i es)
     × (drop i elements ≡ replicate (64 - i) blankElement)
 
 abbrev μ-loop : tie.MeasureT-loop
-μ-loop n lines elements₀ left₀ i₀ elements left i = n - i
+μ-loop n kinds radii elements₀ i₀ elements i = n - i
 
--- one element more is taken from the number
-module _ (n i left : ℕ) (elements : List Element) (below : i < n) (room : i < length elements) where
-  one-more : take i elements ++ elementsOf (n - i) left ≡ take (i + 1) (set elements i (elementOf (left % 2))) ++ elementsOf (n - (i + 1)) (left / 2)
-  unfolding elementsOf
-  one-more =
-      let m : n - i ≡ suc (n - (i + 1)) = omega arith in
-      let x = elementOf (left % 2) in
-      ap (λ (k : ℕ). take i elements ++ elementsOf k left) m
-      ∙ sym (append-assoc (take i elements) (x ∷ []) (elementsOf (n - (i + 1)) (left / 2)))
-      ∙ ap (λ (l : List Element). l ++ elementsOf (n - (i + 1)) (left / 2)) (sym (rw (← add-one i) at (take-suc-set elements i x room)))
+-- one element more
+module _ (elements es : List Element) (i : ℕ) (room : i < length elements) (below : i < length es) where
+  one-more : take i elements ≡ take i es → take (i + 1) (set elements i (getD es i blankElement)) ≡ take (i + 1) es
+  one-more e = rw (add-one, take-suc-set elements i (getD es i blankElement) room, take-suc es i blankElement below, e)
 
 loop-again : tie.Need-loop-again Inv-loop μ-loop
 loop-again c =
     let a = c .before .before .loop in
-    let n = c .before .before .before .args .n in
-    let h = c .before .loop-test .taken in
-    let r : a .i < length (a .elements) = rw (a .inv .1) (omega arith) in
     let x : Element = record { kind = c .kind-at .result } in
-    let e : x ≡ elementOf (a .left % 2) = ap (λ (k : Kind). record { kind = k }) (c .kind-at .ensures ∙ rw div-one) in (
+    let r : a .i < length (a .elements) = rw (a .inv .1) (omega arith) in (
       omega arith,
       rw length-set (a .inv .1),
-      a .inv .2 ∙ one-more n (a .i) (a .left) (a .elements) h r ∙ rw e,
+      λ es l ks.
+          let e : x ≡ getD es (a .i) blankElement = ap (λ (k : Kind). record { kind = k }) (c .kind-at .ensures ∙ kind-in ks (a .i)) in
+          rw e (one-more (a .elements) es (a .i) r (omega arith) (a .inv .2 es l ks)),
       still-blank (a .elements) 64 (a .i) blankElement x (omega arith) (a .inv .3),
     )
 
--- at the end all elements are taken
-all : (n lines i left : ℕ) (elements : List Element) → i ≡ n → elementsOf n lines ≡ take i elements ++ elementsOf (n - i) left
-    → take i elements ≡ elementsOf n lines
-unfolding elementsOf
-all n lines i left elements e h =
-    let z : n - i ≡ 0 = omega arith in
-    sym (append-nil (take i elements)) ∙ sym (rw z at h)
-
 returns : tie.Need-returns Inv-loop μ-loop
-returns c =
+returns c = λ es l ks.
     let a = c .before .loop in
-    let n = c .before .before .args .n in
-    let i : a .i ≡ n = omega arith in
-    let l : a .i ≤ length (a .elements) = rw (a .inv .1) (omega arith) in
-    filled (a .elements) 64 (a .i) blankElement l (a .inv .3)
-    ∙ ap (block 64 blankElement) (all n (c .before .before .args .lines) (a .i) (a .left) (a .elements) i (a .inv .2))
+    let h : a .i ≤ length (a .elements) = rw (a .inv .1) (omega arith) in
+    filled (a .elements) 64 (a .i) blankElement h (a .inv .3)
+    ∙ ap (block 64 blankElement) (a .inv .2 es l ks ∙ take-all (a .i) es (omega arith))
 
 pub elements-of-spec : {M : Type 1} → statement M
 elements-of-spec =
     tie.close
-    (tie.spec Inv-loop μ-loop (λ c. (search needs, refl, rw sub-zero, refl)) (λ c κs. omega arith) (λ c. search needs) (λ c. search needs)
-    (λ c. omega arith) loop-again returns)
+    (tie.spec Inv-loop μ-loop (λ c. (search needs, refl, λ es l ks. refl, refl)) (λ c. omega arith) (λ c κs. omega arith)
+    (λ c. search needs) (λ c. search needs) (λ c. search needs) (λ c. omega arith) loop-again returns)

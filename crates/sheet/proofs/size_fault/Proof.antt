@@ -1,32 +1,38 @@
--- `sheet::size_fault` meets its contract: a given size by its range, a missing one by the kind of pair. Assumes nothing.
+-- `sheet::size_fault` meets its contract: the rules in their order. Assumes nothing.
 use borrow.Author.Needs.{needs}
-use mathlib.Core.Path.{ap}
-use mir.Facts.{toZ-ofZ}
-use mir.Syntax.{w32}
+use borrow.Author.Tests.{not-true, not-false}
+use mathlib.Core.Path.{sym, _∙_}
 use Rattle.sheet.specs.Rules.{sizeFault}
 use Rattle.sheet.proofs.size_fault.Statement.{statement}
 use Rattle.sheet.proofs.size_fault.Tie as tie
 
 returns : tie.Need-returns
-returns c =
-    let g = c .before .before .before .size .given in
-    rw (
-      ap (sizeFault (c .before .before .before .before .before .args .p)) (g .1),
-      ← (rw (toZ-ofZ {w = w32} {z = g .0 .0} (search needs)) at (c .before .size-in-range .ensures)),
-      c .if1 .taken,
-    )
+unfolding sizeFault
+returns c = rw (sym (c .before .size-allowed .ensures) ∙ not-true _ (c .if1 .taken))
 
 returns-2 : tie.Need-returns-2
+unfolding sizeFault
 returns-2 c =
-    let g = c .before .before .before .size .given in
     rw (
-      ap (sizeFault (c .before .before .before .before .before .args .p)) (g .1),
-      ← (rw (toZ-ofZ {w = w32} {z = g .0 .0} (search needs)) at (c .before .size-in-range .ensures)),
-      c .if1 .left,
+      sym (c .before .before .before .size-allowed .ensures) ∙ not-false _ (c .before .before .if1 .left),
+      sym (c .before .radii-differ .ensures) ∙ not-true _ (c .if2 .taken),
+    )
+
+returns-3 : tie.Need-returns-3
+unfolding sizeFault
+returns-3 c =
+    c .range-fault .ensures
+    ∙ rw (
+      c .before .pair-by .ensures,
+      c .before .before .is-line2 .ensures,
+      c .before .before .before .is-line .ensures,
+      sym (c .before .before .before .before .before .before .before .size-allowed .ensures)
+          ∙ not-false _ (c .before .before .before .before .before .before .if1 .left),
+      sym (c .before .before .before .before .before .radii-differ .ensures) ∙ not-false _ (c .before .before .before .before .if2 .left),
     )
 
 pub size-fault-spec : {M : Type 1} → statement M
 size-fault-spec =
     tie.close
-    (tie.spec (λ c. search needs) (λ c κs. search needs) (λ c. search needs) (λ c κs. search needs) returns returns-2
-    (λ c. search needs) (λ c. search needs))
+    (tie.spec (λ c κs. search needs) returns (λ c κs. search needs) returns-2 (λ c κs. search needs) (λ c κs. search needs)
+    (λ c κs. search needs) (λ c κs. search needs) returns-3)
