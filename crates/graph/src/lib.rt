@@ -1,12 +1,13 @@
 // The constraint graph of a sheet in lent arrays of numbers: near, who is constrained with whom; start, the initial clusters; sizes. A sheet by value
 // is packed into them and out again. Contracts cite this crate's specs.
 ghost use mathlib.Core.Path.{_≡_};
+ghost use mathlib.Core.Bool.{_&&_};
 ghost use mathlib.Core.List.{List, _∷_, [], _++_};
-ghost use Prim.Native.Nat.{ℕ, _<_, _≤_};
+ghost use Prim.Native.Nat.{ℕ, _+_, _-_, _<_, _≤_};
 ghost use Rattle.theory.specs.Constraints.{pair};
 ghost use lib.IntN.{pos};
 ghost use lib.ListN.{length, replicate};
-ghost use Rattle.sheet.specs.Facts.{Facts, radiusOf, factsOf, sheetOf};
+ghost use Rattle.sheet.specs.Facts.{Facts, isCircle, radiusOf, factsOf, sheetOf};
 ghost use Rattle.sheet.specs.Rules.{sheetFault};
 ghost use Rattle.sheet.specs.Graph.{sizeOf};
 ghost use Rattle.graph.specs.Lent.{headIn, codeOf, Fits, InArrays, SheetIn, sizesOf, Packed, Unpacks};
@@ -190,6 +191,13 @@ fn apart(r: u32, q: u32) -> u32
     if r < q { q - r } else { r - q }
 }
 
+// Whether both are circles.
+fn both_circles(j: Kind, k: Kind) -> bool
+    ensures { λ r. ⌜ r ≡ isCircle j && isCircle k ⌝ }
+{
+    if sheet::is_circle(j) { sheet::is_circle(k) } else { false }
+}
+
 // The size of a constraint between elements of two kinds.
 fn size_of(j: Kind, k: Kind, size: Size) -> i32
     requires { ⌜ (radiusOf j ≤ 40000) × (radiusOf k ≤ 40000) ⌝ }
@@ -200,7 +208,7 @@ fn size_of(j: Kind, k: Kind, size: Size) -> i32
         Size::Missing => 0,
         Size::Tangent => (sheet::radius_of(j) + sheet::radius_of(k)) as i32,
         Size::OtherTangent => {
-            if sheet::both_circles(j, k) {
+            if both_circles(j, k) {
                 apart(sheet::radius_of(j), sheet::radius_of(k)) as i32
             } else {
                 0 - ((sheet::radius_of(j) + sheet::radius_of(k)) as i32)

@@ -131,7 +131,7 @@ fn is_line(k: Kind) -> bool
     }
 }
 
-fn is_circle(k: Kind) -> bool
+pub fn is_circle(k: Kind) -> bool
     ensures { λ r. ⌜ r ≡ isCircle k ⌝ }
 {
     match k {
