@@ -14,6 +14,7 @@ ghost use Rattle.graph.specs.Lent.{graphIn, Drawn};
 ghost use Rattle.merges.specs.Run.{runOf, Start, Merged};
 ghost use Rattle.cycles.specs.Cycle.{HoldsBelow};
 ghost use Rattle.judge.specs.Judged.{listed as listedOf, overFound, judgedOf};
+ghost use Rattle.judge.specs.Telling.{Tells};
 use graph::Head;
 use merges::Run;
 use theory::Finding;
@@ -152,16 +153,6 @@ pub fn judge(h: Head, near: &[u64; 64], start: &[u64; 200]) -> Judged
     over_found(constraint, set)
 }
 
-// The verdict by way of the judgement.
-fn judged_verdict(h: Head, near: &[u64; 64], start: &[u64; 200]) -> Verdict
-    requires { ⌜ Drawn h (now near) (now start) ⌝ }
-    ensures { λ r. ⌜ ((z : List ℤ) → r ≡ verdictOf (graphIn h (now (start .entry)) z)) ⌝ }
-{
-    let judged = judge(h, near, start);
-    let verdict = judged.verdict;
-    verdict
-}
-
 // The verdict of a sheet that is not over, with fewer than 2n-3 constraints. Two lines or fewer are too few for a joint of three or a ring.
 pub fn fine_verdict(h: Head, near: &[u64; 64], start: &[u64; 200]) -> Verdict
     requires { ⌜ Drawn h (now near) (now start) × (h .e + 3 < 2 * h .n) × ((z : List ℤ) → findingOf (graphIn h (now start) z) ≡ Fine) ⌝ }
@@ -190,20 +181,46 @@ fn sparse_verdict(h: Head, near: &[u64; 64], start: &[u64; 200]) -> Verdict
     }
 }
 
-// The verdict of a sheet with 2n-3 constraints. One that peels off to the last element is well, unless three lines went so.
+// A verdict, and of an over sheet the first constraint that makes it so.
+pub struct Told {
+    pub verdict: Verdict,
+    pub first: usize,
+}
+
+// What is told of a sheet with 2n-3 constraints. One that peels off to the last element is well, unless three lines went so.
+pub fn full_told(h: Head, near: &[u64; 64], start: &[u64; 200]) -> Told
+    requires { ⌜ Drawn h (now near) (now start) × (h .e + 3 ≡ 2 * h .n) ⌝ }
+    ensures { λ r. ⌜ ((z : List ℤ) → Tells (graphIn h (now (start .entry)) z) (r .verdict) (r .first)) ⌝ }
+{
+    let peeling = peeling::peel_of(near, h.lines);
+    if peeling.left != 0 {
+        let judged = judge(h, near, start);
+        let verdict = judged.verdict;
+        return Told {
+            verdict,
+            first: judged.first,
+        };
+    }
+    if peeling.angle {
+        return Told {
+            verdict: Verdict::Angle,
+            first: 0,
+        };
+    }
+    Told {
+        verdict: Verdict::Well,
+        first: 0,
+    }
+}
+
+// The verdict of a sheet with 2n-3 constraints.
 fn full_verdict(h: Head, near: &[u64; 64], start: &[u64; 200]) -> Verdict
     requires { ⌜ Drawn h (now near) (now start) × (h .e + 3 ≡ 2 * h .n) ⌝ }
     ensures { λ r. ⌜ ((z : List ℤ) → r ≡ verdictOf (graphIn h (now (start .entry)) z)) ⌝ }
 {
-    let peeling = peeling::peel_of(near, h.lines);
-    if peeling.left != 0 {
-        return judged_verdict(h, near, start);
-    }
-    if peeling.angle {
-        Verdict::Angle
-    } else {
-        Verdict::Well
-    }
+    let told = full_told(h, near, start);
+    let verdict = told.verdict;
+    verdict
 }
 
 // The verdict of any sheet. No plan is made where counts, peeling or the search for an over set decide.

@@ -59,19 +59,17 @@ fn last_rule(first: usize, e: usize) -> u8
     if first + 1 == e { 11 } else { 27 }
 }
 
-// What the last constraint of a graph with 2n-3 constraints is answered: most that are not over have a verdict without a search for the first.
+// What the last constraint of a graph with 2n-3 constraints is answered: what is told of it has the first that makes it over.
 fn judge_full_last(h: Head, near: &[u64; 64], start: &[u64; 200]) -> Judgement
-    requires { ⌜ Drawn h (now near) (now start) ⌝ }
+    requires { ⌜ Drawn h (now near) (now start) × (h .e + 3 ≡ 2 * h .n) ⌝ }
     ensures { λ r. ⌜ ((z : List ℤ) → r ≡ lastAnswer (graphIn h (now (start .entry)) z)) ⌝ }
 {
-    let verdict = judge::verdict_of(h, near, start);
+    let told = judge::full_told(h, near, start);
+    let verdict = told.verdict;
     if verdict.number() != 0 {
         return Judgement::Is(verdict);
     }
-    match judge::over_of(h, near, start) {
-        Finding::First { constraint, .. } => { Judgement::Refused(last_rule(constraint, h.e)) }
-        Finding::Fine => Judgement::Is(verdict),
-    }
+    Judgement::Refused(last_rule(told.first, h.e))
 }
 
 // What the last constraint of a graph is answered, by the first that makes it over: it is looked for once.

@@ -32,6 +32,7 @@ use Rattle.merges.specs.Run.{runOf, Merged, Planned}
 use Rattle.merges.specs.declared.Run.{Run}
 use Rattle.judge.specs.declared.Judged.{Judged}
 use Rattle.judge.specs.Judged.{listed, overFound, judgedBy, judgedOf}
+use Rattle.judge.specs.Telling.{Tells}
 use Rattle.judge.specs.Judged.Laws.{steps-are}
 use Rattle.judge.specs.Judged.Lists.{judged-held}
 
@@ -55,8 +56,15 @@ module _ (g : Graph) (sound : Sound (g .n) (g .clusters)) where
   pub one-left : {run : Run} → Merged cs run → 2 * run .steps + 1 ≡ length cs → NotOver cs
   one-left m one = one-fine cs (sound .simple .pairs) (m .p) (m .valid) (omega (arith, steps-are cs (sound .simple .pairs) m, one))
 
-  pub judged-verdict : {j : Judged} → j ≡ judgedOf g → j .verdict ≡ verdictOf g
-  judged-verdict e = judged-held g sound e .verdict-is
+  pub judged-tells : {j : Judged} → j ≡ judgedOf g → Tells g (j .verdict) (j .first)
+  judged-tells e = record {
+    verdict-is = judged-held g sound e .verdict-is;
+    first-is = λ c x q. ap (λ (j : Judged). j .first) (e ∙ first-judged q);
+  }
+
+  -- of a sheet that is not over any number
+  fine-tells : {v : Verdict} {first : ℕ} → findingOf g ≡ Fine → v ≡ verdictOf g → Tells g v first
+  fine-tells q v = record { verdict-is = v; first-is = λ c x o. let z : _≡_ {A = ℕ} 0 1 = cc (q, o) in absurd (omega (arith, z)) }
 
   -- ---- verdicts without a plan
 
@@ -98,12 +106,13 @@ module _ (g : Graph) (sound : Sound (g .n) (g .clusters)) where
     angle-is : angle ≡ angled (g .lines) (joints cs (planOf cs))
     angle-is = t .angle-is none (g .n) (sound .two) (sound .most) (sound .below) full
 
-    pub angle-peeled : angle ≡ true → verdictOf g ≡ Angle
-    angle-peeled e = verdict-angle g none-found (sym angle-is ∙ e)
+    pub angle-peeled : angle ≡ true → {first : ℕ} → Tells g Angle first
+    angle-peeled e = fine-tells none-found (sym (verdict-angle g none-found (sym angle-is ∙ e)))
 
-    pub well-peeled : angle ≡ false → verdictOf g ≡ Well
+    pub well-peeled : angle ≡ false → {first : ℕ} → Tells g Well first
     well-peeled e =
         let m = plan-of-maximal cs (sound .simple .pairs) in
         let one =
         loose-one (g .n) cs (sound .two) (sound .most) (sound .simple .pairs) (sound .below) fine (t .core .loose none) full (planOf cs) m in
-        verdict-one g none-found (sym angle-is ∙ e) (one-ringed cs (sound .simple .pairs) fine (planOf cs) m (g .lines) one) full one
+        fine-tells none-found
+        (sym (verdict-one g none-found (sym angle-is ∙ e) (one-ringed cs (sound .simple .pairs) fine (planOf cs) m (g .lines) one) full one))
