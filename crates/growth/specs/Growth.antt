@@ -1,5 +1,5 @@
--- More dimensions, never a smaller part, of constraint graphs. Document 02, 2026-13: if constraints are added to a sheet and it is still not over, every
--- final cluster of the old sheet lies inside one final cluster of the new, for each order of merging on either side. Shown by `grown-whole` of
+-- More dimensions, never a smaller part, of constraint graphs. Document 02, 2026-13: if constraints are added to a sheet and it is still not over,
+-- every final cluster of the old sheet lies inside one final cluster of the new, for each order of merging on either side. Shown by `grown-whole` of
 -- Growth/Proof.antt. Assumes nothing.
 use mathlib.Core.Path.{_≡_}
 use mathlib.Core.Logic.{_≢_}

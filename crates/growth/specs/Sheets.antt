@@ -1,5 +1,6 @@
--- More dimensions, never a smaller part, of sheets. Document 02, 2026-13. A sheet is seen through its constraint graph alone (`sheet` Graph.`graphOf`),
--- which is the sketch of centres where it has circles. Shown by `never-smaller` and, for placed dimensions, `placed-never-smaller` of Sheets/Proof.antt.
+-- More dimensions, never a smaller part, of sheets. Document 02, 2026-13. The clusters of a sheet are those of its constraint graph (`sheet`
+-- Graph.`graphOf`), whatever the kinds of its elements. Shown by `never-smaller` and, for placed dimensions, `placed-never-smaller` of
+-- Sheets/Proof.antt. Assumes nothing.
 use mathlib.Core.Path.{_≡_}
 use mathlib.Core.Logic.{_≢_}
 use mathlib.Core.List.{List}

@@ -1,5 +1,5 @@
--- A graph with more constraints that isn't over: every cluster of the old graph lies inside one final cluster of the new, and what it rests on with it.
--- Assumes nothing.
+-- A graph with more constraints that isn't over: every cluster of the old graph lies inside one final cluster of the new, and what it rests on stays
+-- in that part. Assumes nothing.
 use mathlib.Core.Path.{_≡_, refl, sym, _∙_, subst}
 use mathlib.Core.Logic.{_≢_}
 use mathlib.Core.List.{List}
@@ -46,8 +46,9 @@ module _ {g h : Graph} (b : Accepted h) (w : GraphGrown g h) where
     two-or-more n l =
         big (g .clusters) (accepted-fine grown-accepted) (accepted-good grown-accepted p v .0) (slot olds n) (n, refl, l)
 
-    one-at-most : (n : ℕ) → slot olds n ≢ 0 → (i k : ℕ) → slot news i ≢ 0 → slot news k ≢ 0 → slot olds n ⊑ slot news i → slot olds n ⊑ slot news k → k ≡ i
-    one-at-most n l i k li lk a c = elim (ℕ-discrete k i) [
+    -- two new clusters that hold it would share two elements
+    one-at-most : (n i k : ℕ) → slot olds n ≢ 0 → slot news i ≢ 0 → slot news k ≢ 0 → slot olds n ⊑ slot news i → slot olds n ⊑ slot news k → k ≡ i
+    one-at-most n i k l li lk a c = elim (ℕ-discrete k i) [
       | yes e ↦ e
       | no ne ↦ absurd (omega (
         arith,
@@ -63,7 +64,7 @@ module _ {g h : Graph} (b : Accepted h) (w : GraphGrown g h) where
         let k = r .1 .0 in
         let lives : slot news k ≢ 0 = λ e. r .1 .2 (sym (r .1 .1) ∙ e) in
         let holds : slot olds n ⊑ slot news k = subst (λ (y : ℕ). slot olds n ⊑ y) (sym (r .1 .1)) (r .2) in
-        record { number = k; lives = lives; holds = holds; only = λ i li c. one-at-most n l k i lives li holds c }
+        record { number = k; lives = lives; holds = holds; only = λ i li c. one-at-most n k i l lives li holds c }
 
     -- constraints of any form, on both sides: those that are the same are the same set
     module _ {A : Type 0} {old new : List A} (more : More old new) (long : length old ≡ length (g .clusters))
@@ -72,7 +73,8 @@ module _ {g h : Graph} (b : Accepted h) (w : GraphGrown g h) where
       kept : (n k : ℕ) → slot olds n ≢ 0 → slot news k ≢ 0 → slot olds n ⊑ slot news k → (c : A) → RestsOn old p n c → RestsOn new q k c
       kept n k ln lk a c r =
           let j = more-numbered more (r .number) c (r .is) in
-          let o = rests (g .clusters) (grown-accepted .pairs) (accepted-fine grown-accepted) p v .exactly n ln (r .number) .0 (rw long at (r .carries)) in
+          let o = rests (g .clusters) (grown-accepted .pairs) (accepted-fine grown-accepted) p v .exactly n ln (r .number) .0 in
+          let within = ⊑-trans (o (rw long at (r .carries)) .1) a in
           let l : j .0 < length (h .clusters) = omega (arith, numbered-lt new (j .0) c (j .1)) in
           let e = sets (r .number) (j .0) c (r .is) (j .1) in
           record {
@@ -80,7 +82,7 @@ module _ {g h : Graph} (b : Accepted h) (w : GraphGrown g h) where
             is = j .1;
             carries =
                 rw longer (rests (h .clusters) (b .pairs) (accepted-fine b) q (m .valid) .exactly k lk (j .0) .1
-                (l, subst (λ (x : ℕ). x ⊑ slot news k) (sym e) (⊑-trans (o .1) a)));
+                (l, subst (λ (x : ℕ). x ⊑ slot news k) (sym e) within));
           }
 
       pub whole : Whole old new (g .clusters) (h .clusters) p q

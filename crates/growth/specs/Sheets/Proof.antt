@@ -46,7 +46,7 @@ module _ {f g : Facts} (a : Accepted g) (v : verdictOf (graphOf g) ≢ Over) (w 
 held-not-over : (s : Sheet) → Held s → verdictOf (graphOf (factsOf s)) ≢ Over
 unfolding holdFault
 held-not-over s h =
-    fine-not-over (graphOf (factsOf s)) (fault-none (graphOf (factsOf s)) (none-else (sheetFault s) (overFault (graphOf (factsOf s))) (h .no-fault) .1))
+    let g = graphOf (factsOf s) in fine-not-over g (fault-none g (none-else (sheetFault s) (overFault g) (h .no-fault) .1))
 
 module _ (s : Sheet) (h : Held s) (events : List Event) where
   -- the record after a run is the sheet with the placed ones last
