@@ -155,7 +155,9 @@ int32_t pattern_initial(const uint8_t *sheet, size_t len, uint64_t *out, size_t 
 
 /*
  * The clusters that are left when no merge is open, by number: bit i for element i. An over sheet
- * answers 0. Tries rules 1 to 10, then 17. There are at most PATTERN_MAX_CLUSTERS.
+ * answers 0. Tries rules 1 to 10, then 17. There are at most PATTERN_MAX_CLUSTERS. A part already cut
+ * stays whole: if constraints are added to the sheet and it is still not over, each of these sets lies
+ * inside exactly one of the new ones. Their numbers and their order may change.
  */
 int32_t pattern_clusters(const uint8_t *sheet, size_t len, uint64_t *out, size_t room);
 
