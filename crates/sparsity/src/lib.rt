@@ -6,15 +6,15 @@ ghost use mathlib.Core.Logic.{_≢_};
 ghost use mathlib.Core.List.{List};
 ghost use Prim.Native.Nat.{ℕ, _+_, _≤_, _<_};
 ghost use lib.Count.{ones};
-ghost use lib.ListN.{take};
-ghost use Rattle.theory.specs.Set.{_∈_};
+ghost use lib.ListN.{take, getD};
 ghost use Rattle.theory.specs.Constraints.{pair, Below};
 ghost use Rattle.theory.specs.Near.{Standing, Near};
 ghost use Rattle.theory.specs.Over.{overOf};
-ghost use Rattle.sparsity.specs.Freedoms.{same, free, Table, FreeBelow};
+ghost use Rattle.sparsity.specs.Freedoms.{entry, stored, same, free, Table, FreeBelow};
 ghost use Rattle.sparsity.specs.Reach.{item, Visit, Lent, Found, Way, Gained, Gathered, Placed};
 ghost use Rattle.sparsity.specs.Answer.{Using, More, Took};
 ghost use Rattle.peeling.specs.Core.{Core};
+ghost use Rattle.peeling.specs.Hard.{Noted};
 use theory::Finding;
 
 // 1 where y is x, else 0.
@@ -40,7 +40,7 @@ pub fn all_free() -> [[u8; 2]; 64]
 
 // How many entries of x, y and z, are free.
 fn free_of(y: u8, z: u8, x: u8) -> usize
-    ensures { λ r. ⌜ r ≡ same y x + same z x ⌝ }
+    ensures { λ r. ⌜ (r ≡ same y x + same z x) × (r ≤ 2) ⌝ }
 {
     one_if_same(y, x) + one_if_same(z, x)
 }
@@ -70,6 +70,16 @@ fn visit(queue: &mut [u8; 64], from: &mut [u8; 64], f: Front, y: u8, p: u8) -> F
     }
 }
 
+// How many entries of x, y and z, are free, for an x that made the count of elements reached grow.
+fn opens(y: u8, z: u8, x: u8, before: usize, after: usize) -> usize
+    ensures { λ r. ⌜ ((before < after) → r ≡ same y x + same z x) × ((after ≤ before) → r ≡ 0) ⌝ }
+{
+    if after <= before {
+        return 0;
+    }
+    free_of(y, z, x)
+}
+
 // What a search has found: the set of the elements reached, how many there are, and the place of one that has a free entry, or the count.
 pub struct Sought {
     pub seen: u64,
@@ -95,26 +105,22 @@ fn seek(own: [[u8; 2]; 64], queue: &mut [u8; 64], from: &mut [u8; 64], a: u8, b:
         let y = own[i][0];
         let z = own[i][1];
         let g = visit(queue, from, f, y, p as u8);
-        if f.count < g.count {
-            let k = peeling::wide(y);
-            if free_of(own[k][0], own[k][1], y) != 0 {
-                return Sought {
-                    seen: g.seen,
-                    count: g.count,
-                    place: f.count,
-                };
-            }
+        let j = peeling::wide(y);
+        if opens(own[j][0], own[j][1], y, f.count, g.count) != 0 {
+            return Sought {
+                seen: g.seen,
+                count: g.count,
+                place: f.count,
+            };
         }
         let h = visit(queue, from, g, z, p as u8);
-        if g.count < h.count {
-            let k = peeling::wide(z);
-            if free_of(own[k][0], own[k][1], z) != 0 {
-                return Sought {
-                    seen: h.seen,
-                    count: h.count,
-                    place: g.count,
-                };
-            }
+        let k = peeling::wide(z);
+        if opens(own[k][0], own[k][1], z, g.count, h.count) != 0 {
+            return Sought {
+                seen: h.seen,
+                count: h.count,
+                place: g.count,
+            };
         }
         f = h;
         p = p + 1;
@@ -158,6 +164,8 @@ fn gather(
     b: u8,
     over: &mut u64,
 ) -> [[u8; 2]; 64]
+    requires { ⌜ Table own × (a < 64) × (b < 64) × (a ≢ b) × Lent (now queue) (now from) ⌝ }
+    ensures { λ r. ⌜ Gathered own need a b r (now (over .exit)) × Lent (now (queue .exit)) (now (from .exit)) ⌝ }
 {
     let mut t = own;
     let i = peeling::wide(a);
@@ -176,26 +184,47 @@ fn gather(
     t
 }
 
-// Where a freedom is used: an entry of an element, and what it is to hold.
-pub struct Place {
+// Where a constraint uses a freedom: an entry of an element, and the other end that it is to hold.
+pub struct Spot {
     pub element: usize,
     pub entry: usize,
     pub other: u8,
 }
 
-// A free entry of a, whose entries are p and q, or of b, whose first is r, for the constraint between them.
-fn place(p: u8, q: u8, r: u8, a: u8, b: u8) -> Place
+// A free entry for the constraint between a and b: of a, whose entries are p and q, or of b, whose first is r.
+fn place(p: u8, q: u8, r: u8, a: u8, b: u8) -> Spot
+    requires { ⌜ (a < 64) × (b < 64) ⌝ }
+    ensures { λ k. ⌜ ((own : List (List ℕ)) → entry own a 0 ≡ p → entry own a 1 ≡ q → entry own b 0 ≡ r → 0 < free own a + free own b
+        → Placed own a b (stored own (k .element) (k .entry) (k .other))) × (k .element < 64) × (k .entry < 2) ⌝ }
 {
+    let i = peeling::wide(a);
     if p == a {
-        return Place { element: peeling::wide(a), entry: 0, other: b };
+        return Spot {
+            element: i,
+            entry: 0,
+            other: b,
+        };
     }
     if q == a {
-        return Place { element: peeling::wide(a), entry: 1, other: b };
+        return Spot {
+            element: i,
+            entry: 1,
+            other: b,
+        };
     }
+    let j = peeling::wide(b);
     if r == b {
-        return Place { element: peeling::wide(b), entry: 0, other: a };
+        return Spot {
+            element: j,
+            entry: 0,
+            other: a,
+        };
     }
-    Place { element: peeling::wide(b), entry: 1, other: a }
+    Spot {
+        element: j,
+        entry: 1,
+        other: a,
+    }
 }
 
 // One more constraint, between a and b: the table with it, and over is 0; or the table without it, and over is the smallest set that it makes over.
@@ -224,16 +253,11 @@ pub fn take_pair(
     t
 }
 
-// The other element of a set of two.
-pub fn other_end(pair: u64, a: u8) -> u8
-    requires { ⌜ (ones pair ≡ 2) × (a < 64) × (a ∈ pair) ⌝ }
-    ensures { λ r. ⌜ (r < 64) × (r ∈ pair) × (a ≢ r) ⌝ }
-{
-    sets::lowest(pair - sets::single(a))
-}
-
-// The first of e constraints that makes those up to it over, with the smallest set, where the sets within core tell.
+// The first of e constraints that makes those up to it over, with the smallest set, where the sets within core tell. Each needs as many free entries on
+// its ends as are noted: four, or one where it closes no over set.
 fn search(start: &[u64; 200], e: usize, core: u64, needs: &[u8; 200]) -> Finding
+    requires { ⌜ Standing (now start) e × Core (take e (now start)) core × ((c : ℕ) → c < e → Noted (take e (now start)) c 1 (getD (now needs) c 0)) ⌝ }
+    ensures { λ r. ⌜ ((n : ℕ) → Below n (take e (now (start .entry))) → r ≡ overOf n (take e (now (start .entry)))) ⌝ }
 {
     let mut own = all_free();
     let mut queue = [0u8; 64];
@@ -244,7 +268,7 @@ fn search(start: &[u64; 200], e: usize, core: u64, needs: &[u8; 200]) -> Finding
         let pair = start[c];
         if pair & core == pair {
             let a = sets::lowest(pair);
-            let b = other_end(pair, a);
+            let b = peeling::other_end(pair, a);
             let i = peeling::wide(a);
             let j = peeling::wide(b);
             let need = peeling::wide(needs[c]);
