@@ -3,7 +3,7 @@
 use mathlib.Core.Path.{_≡_, refl, sym, ap, ap₂, _∙_, subst}
 use mathlib.Core.Logic.{_≢_, inl, inr}
 use mathlib.Core.List.{List, [], _∷_, _++_}
-use Prim.Native.Nat.{ℕ, zero, suc, _+_, _-_, _^_, _≤_, _<_}
+use Prim.Native.Nat.{ℕ, zero, suc, _-_, _^_, _≤_, _<_}
 use native.Mathlib.Decide.{ℕ-discrete, decLt}
 use native.Mathlib.Nat.{le-refl}
 use native.Mathlib.Omega.{arith}
@@ -12,11 +12,11 @@ use lib.Count.{ones, trailingZeros}
 use lib.ListN.{length, take, getD, set, length-set, replicate}
 use lib.Seq.{take-suc, take-take, take-all, getD-set-same, getD-set-other}
 use Rattle.theory.specs.Set.{_∈_, _∩_, _⊑_, at}
-use Rattle.theory.specs.Set.Laws.{at-∩, at-le, at-zero, bit, ⊑⇒size≤, ⊑-trans, ∩≡⇒⊑, ⊑⇒∩≡, size-zero}
+use Rattle.theory.specs.Set.Laws.{at-∩, at-le, bit, ⊑⇒size≤, ⊑-trans, ∩≡⇒⊑, ⊑⇒∩≡, size-zero}
 use Rattle.theory.specs.Set.Less.{at-below, at-room, less-other, less-sub, trailing-at}
-use Rattle.theory.specs.Constraints.{pair, has, Among, Below, Pairs, carried, NotOver}
-use Rattle.theory.specs.Constraints.Laws.{Has, inside, outside, has-dec, pair-comm, at-end}
-use Rattle.theory.specs.Over.Laws.{among-take, among-at, carried-next}
+use Rattle.theory.specs.Constraints.{pair, has, Among, Below, Pairs, NotOver}
+use Rattle.theory.specs.Constraints.Laws.{inside, outside, has-dec, pair-comm, at-end}
+use Rattle.theory.specs.Over.Laws.{among-at, carried-next}
 use Rattle.theory.specs.Near.{Once, Simple, Standing, Near}
 use Rattle.theory.specs.Near.Laws.{simple-take, among-front, among-back, pair-is, pair-with, near-none, near-more, standing-count}
 use Rattle.peeling.specs.Core.{Peeled, whole, less}

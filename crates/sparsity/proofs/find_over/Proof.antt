@@ -2,7 +2,7 @@
 use mathlib.Core.Path.{subst}
 use Prim.Native.Nat.{ℕ}
 use native.Mathlib.Omega.{arith}
-use lib.ListN.{take, getD, replicate, getD-replicate}
+use lib.ListN.{take, getD, getD-replicate}
 use Rattle.peeling.specs.Core.{Core}
 use Rattle.peeling.specs.Core.Peeling.{core-none}
 use Rattle.peeling.specs.Hard.{Noted}

@@ -1,29 +1,26 @@
 -- Laws of the answer: the search from its start, one constraint more that uses a freedom or finds none, a constraint that does not lie in u.
 -- Assumes nothing.
-use mathlib.Core.Path.{_≡_, refl, sym, ap, ap₂, _∙_, subst}
-use mathlib.Core.Logic.{_≢_, _⊎_, inl, inr, ⊎-elim}
+use mathlib.Core.Path.{_≡_, sym, ap, ap₂, _∙_, subst}
+use mathlib.Core.Logic.{_≢_, inl, inr}
 use mathlib.Core.List.{List, []}
-use Prim.Native.Nat.{ℕ, zero, suc, _+_, _*_, _-_, _^_, _≤_, _<_}
-use native.Mathlib.Decide.{decLe}
-use native.Mathlib.Numerals.{add-one}
+use Prim.Native.Nat.{ℕ, suc, _+_, _*_, _^_, _≤_, _<_}
 use native.Mathlib.Nat.{le-refl}
 use native.Mathlib.Omega.{arith}
-use lib.Bits.{bitAnd, bitOr}
 use lib.Count.{ones}
 use lib.ListN.{length, take, getD}
-use Rattle.theory.specs.Set.{_∈_, _∩_, _∪_, _⊑_, at}
-use Rattle.theory.specs.Set.Laws.{at-∩, at-∪, at-le, bit, size-zero, filled, ⊑-refl, ⊑-trans, a∩b⊑a, a∩b⊑b, ∩≡⇒⊑, ⊑⇒∩≡, two-in}
+use Rattle.theory.specs.Set.{_∈_, _∩_, _⊑_, at}
+use Rattle.theory.specs.Set.Laws.{at-∩, ⊑-trans, a∩b⊑a, a∩b⊑b, two-in}
 use Rattle.theory.specs.Constraints.{pair, has, carried, NotOver, Below}
-use Rattle.theory.specs.Constraints.Laws.{Has, inside, outside, has-dec, at-end, pair-in, pair-ends, has-pair, pair-comm}
+use Rattle.theory.specs.Constraints.Laws.{inside, outside, has-dec, pair-in, pair-ends, has-pair, pair-comm}
 use Rattle.theory.specs.Over.{IsOver, Tight, Smallest, FirstOver, overOf}
 use Rattle.theory.specs.Over.Laws.{carried-next, tight-over, within-smallest, finds-overOf}
-use Rattle.theory.specs.Set.Less.{sub-below, less-sub, size-less}
+use Rattle.theory.specs.Set.Less.{sub-below}
 use Rattle.theory.specs.Near.{Simple, Standing}
-use Rattle.theory.specs.Near.Laws.{simple-take, standing-count, standing-item, standing-two, pair-is, carried-one}
+use Rattle.theory.specs.Near.Laws.{standing-item, standing-two, pair-is}
 use Rattle.theory.specs.declared.Finding.the-variants.{Fine, First}
 use Rattle.sparsity.specs.Freedoms.{entry, same, free, frees, Table, Balanced, Closed, FreeBelow}
 use Rattle.sparsity.specs.Freedoms.Sums.{free-count}
-use Rattle.sparsity.specs.Freedoms.Laws.{free-table, free-closed, free-balanced, kept-le, closed-kept, kept-closed, frees-two, frees-less}
+use Rattle.sparsity.specs.Freedoms.Laws.{free-table, free-closed, free-balanced, kept-le, closed-kept, kept-closed, frees-two}
 use Rattle.sparsity.specs.Freedoms.Laws.{frees-only}
 use Rattle.sparsity.specs.Freedoms.Stores.{balanced-outside, balanced-placed, stored-table, stored-closed}
 use Rattle.sparsity.specs.Reach.{Gathered, Placed}
