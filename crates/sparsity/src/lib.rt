@@ -11,7 +11,7 @@ ghost use Rattle.theory.specs.Constraints.{pair, Below};
 ghost use Rattle.theory.specs.Near.{Standing, Near};
 ghost use Rattle.theory.specs.Over.{overOf};
 ghost use Rattle.sparsity.specs.Freedoms.{entry, stored, same, free, Table, FreeBelow};
-ghost use Rattle.sparsity.specs.Reach.{item, Visit, Lent, Found, Way, Gained, Gathered, Placed};
+ghost use Rattle.sparsity.specs.Reach.{Visit, Lent, Found, Gathered, Placed};
 ghost use Rattle.sparsity.specs.Answer.{Using, More, Took};
 ghost use Rattle.peeling.specs.Core.{Core};
 ghost use Rattle.peeling.specs.Hard.{Noted};
@@ -132,29 +132,8 @@ fn seek(own: [[u8; 2]; 64], queue: &mut [u8; 64], from: &mut [u8; 64], a: u8, b:
     }
 }
 
-// Freedoms are turned along the way from place p back to one of the first two, which gets a free entry.
-fn release(own: [[u8; 2]; 64], queue: &[u8; 64], from: &[u8; 64], p: usize) -> [[u8; 2]; 64]
-    requires { ⌜ Way own (now queue) (now from) p ⌝ }
-    ensures { λ r. ⌜ Gained own (item (now (queue .entry)) 0) (item (now (queue .entry)) 1) r ⌝ }
-{
-    let mut t = own;
-    let mut i = p;
-    while 2 <= i {
-        let j = peeling::wide(from[i]);
-        let bx = queue[j];
-        let by = queue[i];
-        let x = peeling::wide(bx);
-        let y = peeling::wide(by);
-        let s = one_if_same(t[x][1], by);
-        let r = one_if_same(t[y][1], by);
-        t[x][s] = bx;
-        t[y][r] = bx;
-        i = j;
-    }
-    t
-}
-
-// Need free entries on a and b, and over is 0; or as many as can be had, and over is the set that was reached.
+// Need free entries on a and b, and over is 0; or as many as can be had, and over is the set that was reached. Along the way back from an element with
+// a free entry the freedoms are turned, so that a or b gets one.
 fn gather(
     own: [[u8; 2]; 64],
     need: usize,
@@ -171,14 +150,25 @@ fn gather(
     let i = peeling::wide(a);
     let j = peeling::wide(b);
     while free_of(t[i][0], t[i][1], a) + free_of(t[j][0], t[j][1], b) < need {
-        let s = seek(t, queue, from, a, b);
-        let p = s.place;
-        if s.count <= p {
-            *over = s.seen;
+        let found = seek(t, queue, from, a, b);
+        let p = found.place;
+        if found.count <= p {
+            *over = found.seen;
             return t;
         }
-        let next = release(t, queue, from, p);
-        t = next;
+        let mut to = p;
+        while 2 <= to {
+            let back = peeling::wide(from[to]);
+            let bx = queue[back];
+            let by = queue[to];
+            let x = peeling::wide(bx);
+            let y = peeling::wide(by);
+            let s = one_if_same(t[x][1], by);
+            let r = one_if_same(t[y][1], by);
+            t[x][s] = bx;
+            t[y][r] = bx;
+            to = back;
+        }
     }
     *over = 0;
     t

@@ -111,7 +111,7 @@ module _ {own : List (List ℕ)} {queue from : List ℕ} {p : ℕ} (way : Way ow
         subst (λ (z : ℕ). free new z ≡ free t z + 1) ex
         (turned-gains t (w .again .table) x y (x-fits ex) x≢y (y-fits ey) s r (holds .0) (opens .0) (holds .1) (opens .1))
 
-    pub walk-step : Walked own queue p j (stored (stored t x s x) y r x)
+    walk-step : Walked own queue p j (stored (stored t x s x) y r x)
     walk-step = record {
       inside = omega (arith, j-less, w .inside);
       again = record {
@@ -153,6 +153,10 @@ module _ {own : List (List ℕ)} {queue from : List ℕ} {p : ℕ} (way : Way ow
               subst (λ (k : ℕ). free new (item queue k) ≡ free own (item queue k) + 1) e here,
             ))
             (bit j (le-of-suc-le-suc l))
+
+    -- the same of what the code stores, z
+    pub walk-stored : {z : ℕ} → x ≡ z → Walked own queue p j (stored (stored t x s z) y r z)
+    walk-stored e = subst (λ (z : ℕ). Walked own queue p j (stored (stored t x s z) y r z)) e walk-step
 
 pub walk-end : {own : List (List ℕ)} {queue : List ℕ} {p i : ℕ} {t : List (List ℕ)} → Walked own queue p i t → i < 2
     → Gained own (item queue 0) (item queue 1) t
