@@ -104,14 +104,21 @@ pub fn judge(h: Head, near: &[u64; 64], start: &[u64; 200]) -> Judged
     over_found(constraint, set)
 }
 
-// The verdict by way of the judgement.
-fn judged_verdict(h: Head, near: &[u64; 64], start: &[u64; 200]) -> Verdict
-    requires { ⌜ Drawn h (now near) (now start) ⌝ }
+// The verdict of a sheet with 2n-3 constraints by way of the merges. Merges that leave one cluster show that it is not over.
+fn merged_full(h: Head, near: &[u64; 64], start: &[u64; 200]) -> Verdict
+    requires { ⌜ Drawn h (now near) (now start) × (h .e + 3 ≡ 2 * h .n) ⌝ }
     ensures { λ r. ⌜ ((z : List ℤ) → r ≡ verdictOf (graphIn h (now (start .entry)) z)) ⌝ }
 {
-    let judged = judge(h, near, start);
-    let verdict = judged.verdict;
-    verdict
+    let run = merges::merge_all(start, h.e);
+    let joints = run.joints;
+    let slots = run.slots;
+    if h.e == 2 * run.steps + 1 {
+        return engine::settle(&joints, &slots, run.steps, h.n, h.e, h.lines);
+    }
+    match over_of(h, near, start) {
+        Finding::First { .. } => Verdict::Over,
+        Finding::Fine => engine::settle(&joints, &slots, run.steps, h.n, h.e, h.lines),
+    }
 }
 
 // The verdict by way of the search for an over set and the merges.
@@ -148,7 +155,7 @@ fn full_verdict(h: Head, near: &[u64; 64], start: &[u64; 200]) -> Verdict
 {
     let peeling = peeling::peel_of(near, h.lines);
     if peeling.left != 0 {
-        return judged_verdict(h, near, start);
+        return merged_full(h, near, start);
     }
     if peeling.angle {
         Verdict::Angle

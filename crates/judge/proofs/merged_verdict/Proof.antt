@@ -1,17 +1,18 @@
 -- `judge::merged_verdict` meets its contract: over where a first constraint is found, else the verdict of the plan that was made. Assumes nothing.
 use borrow.Author.Needs.{needs}
 use native.Mathlib.Omega.{arith}
-use mathlib.Core.Path.{_≡_, refl, sym, ap, _∙_}
+use mathlib.Core.Path.{_≡_, refl, sym, _∙_}
 use mathlib.Core.List.{List, []}
 use lib.IntN.{ℤ}
 use lib.ListN.{take}
 use Rattle.theory.specs.Constraints.{NotOver}
-use Rattle.theory.specs.Graph.{Graph, findingOf, listVerdict}
-use Rattle.theory.specs.Graph.Laws.{first-verdict, fine-verdict}
+use Rattle.theory.specs.Graph.{Graph, findingOf}
+use Rattle.theory.specs.Graph.Laws.{first-verdict}
 use Rattle.theory.specs.declared.Finding.the-variants.{Fine}
 use Rattle.graph.specs.Lent.{graphIn}
 use Rattle.graph.specs.Lent.Sheets.{counted, found-fine, fine-few}
-use Rattle.judge.specs.Judged.Laws.{starts, steps-few, listed-verdict}
+use Rattle.judge.specs.Judged.Laws.{starts, steps-few}
+use Rattle.judge.specs.Judged.Short.{planned-verdict}
 use Rattle.judge.proofs.merged_verdict.Statement.{statement}
 use Rattle.judge.proofs.merged_verdict.Tie as tie
 
@@ -47,10 +48,8 @@ returns-2 : tie.Need-returns-2
 returns-2 c = λ z.
     let k = c .before .before .before .before .before in
     let s = start (k .before) in
-    let g = graph (k .before) z in
-    let p = k .merge-all .ensures in
-    listed-verdict g (s .pre .sound .simple .pairs) (p .merged) {h = s .args .h} refl refl (counted (s .pre)) (c .settle .ensures)
-    ∙ ap (listVerdict g) (p .plan (fine (k .before))) ∙ sym (fine-verdict g (found (k .before) z))
+    planned-verdict (graph (k .before) z) (s .pre .sound) (k .merge-all .ensures) (fine (k .before)) {h = s .args .h} refl refl (counted (s .pre))
+    (c .settle .ensures)
 
 pub merged-verdict-spec : {M : Type 1} → statement M
 merged-verdict-spec =

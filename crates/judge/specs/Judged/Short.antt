@@ -14,9 +14,11 @@ use Rattle.theory.specs.Plan.Laws.{plan-of-maximal}
 use Rattle.theory.specs.Verdict.{angled}
 use Rattle.theory.specs.declared.Finding.the-variants.{Fine, First}
 use Rattle.theory.specs.declared.Verdict.the-variants.{Over, Angle, Well, Under}
-use Rattle.theory.specs.Graph.{Graph, findingOf, verdictOf}
-use Rattle.theory.specs.Graph.Laws.{fine-finding}
+use Rattle.theory.specs.Graph.{Graph, findingOf, listVerdict, verdictOf}
+use Rattle.theory.specs.Graph.Laws.{fine-finding, fine-verdict}
 use Rattle.theory.specs.Graph.Short.{not-angled, verdict-more, verdict-angle, verdict-fewer, verdict-one}
+use Rattle.theory.specs.declared.Verdict.{Verdict}
+use Rattle.graph.specs.declared.Head.{Head}
 use Rattle.graph.specs.Lent.{Sound}
 use Rattle.peeling.specs.Core.{Core, Told}
 use Rattle.peeling.specs.Core.Peeling.{core-none}
@@ -25,10 +27,8 @@ use Rattle.theory.specs.Ring.Laws.{few-ringed, one-ringed}
 use Rattle.peeling.specs.Core.Merging.{loose-one}
 use Rattle.merges.specs.Run.{Merged, Planned}
 use Rattle.merges.specs.declared.Run.{Run}
-use Rattle.judge.specs.declared.Judged.{Judged}
 use Rattle.judge.specs.Judged.{listed, overFound, judgedBy, judgedOf}
-use Rattle.judge.specs.Judged.Laws.{steps-are}
-use Rattle.judge.specs.Judged.Lists.{judged-held}
+use Rattle.judge.specs.Judged.Laws.{steps-are, Settled, listed-verdict}
 
 module _ (g : Graph) (sound : Sound (g .n) (g .clusters)) where
   abbrev cs : List ℕ
@@ -50,8 +50,12 @@ module _ (g : Graph) (sound : Sound (g .n) (g .clusters)) where
   pub one-left : {run : Run} → Merged cs run → 2 * run .steps + 1 ≡ length cs → NotOver cs
   one-left m one = one-fine cs (sound .simple .pairs) (m .p) (m .valid) (omega (arith, steps-are cs (sound .simple .pairs) m, one))
 
-  pub judged-verdict : {j : Judged} → j ≡ judgedOf g → j .verdict ≡ verdictOf g
-  judged-verdict e = judged-held g sound e .verdict-is
+  -- what the engine's merges leave in the arrays gives the verdict, where it is not over
+  pub planned-verdict : {run : Run} (p : Planned cs run) → NotOver cs → {h : Head} {v : Verdict} → g .n ≡ h .n → g .lines ≡ h .lines
+      → length cs ≡ h .e → Settled h run v → v ≡ verdictOf g
+  planned-verdict p fine {h} n lines e s =
+      listed-verdict g (sound .simple .pairs) (p .merged) {h = h} n lines e s ∙ ap (listVerdict g) (p .plan fine)
+      ∙ sym (fine-verdict g (fine-finding g (sound .simple .pairs) (sound .below) fine))
 
   -- ---- verdicts without a plan
 
