@@ -132,8 +132,8 @@ fn seek(own: [[u8; 2]; 64], queue: &mut [u8; 64], from: &mut [u8; 64], a: u8, b:
     }
 }
 
-// Need free entries on a and b, and over is 0; or as many as can be had, and over is the set that was reached. Along the way back from an element with
-// a free entry the freedoms are turned, so that a or b gets one.
+// Need free entries on a and b, and over is 0; or as many as can be had, and over is the set that was reached. Along the way back from an element
+// with a free entry the freedoms are turned, so that a or b gets one.
 fn gather(
     own: [[u8; 2]; 64],
     need: usize,
@@ -243,10 +243,11 @@ pub fn take_pair(
     t
 }
 
-// The first of e constraints that makes those up to it over, with the smallest set, where the sets within core tell. Each needs as many free entries on
-// its ends as are noted: four, or one where it closes no over set.
+// The first of e constraints that makes those up to it over, with the smallest set, where the sets within core tell. Each needs as many free entries
+// on its ends as are noted: four, or one where it closes no over set.
 fn search(start: &[u64; 200], e: usize, core: u64, needs: &[u8; 200]) -> Finding
-    requires { ⌜ Standing (now start) e × Core (take e (now start)) core × ((c : ℕ) → c < e → Noted (take e (now start)) c 1 (getD (now needs) c 0)) ⌝ }
+    requires { ⌜ Standing (now start) e × Core (take e (now start)) core
+        × ((c : ℕ) → c < e → Noted (take e (now start)) c 1 (getD (now needs) c 0)) ⌝ }
     ensures { λ r. ⌜ ((n : ℕ) → Below n (take e (now (start .entry))) → r ≡ overOf n (take e (now (start .entry)))) ⌝ }
 {
     let mut own = all_free();

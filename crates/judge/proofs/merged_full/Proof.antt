@@ -38,7 +38,8 @@ returns c = λ z.
     let d = start k .pre .0 in
     let g = graphIn (start k .args .h) (start k .args .start .now) z in
     planned-verdict g (d .sound) (k .merge-all .ensures)
-    (one-left g (d .sound) (k .merge-all .ensures .merged) (sym (c .before .before .before .if1 .taken) ∙ sym (counted d))) {h = start k .args .h} refl refl (counted d)
+    (one-left g (d .sound) (k .merge-all .ensures .merged) (sym (c .before .before .before .if1 .taken) ∙ sym (counted d))) {h = start k .args .h}
+    refl refl (counted d)
     (c .settle .ensures)
 
 returns-2 : tie.Need-returns-2
@@ -49,11 +50,13 @@ returns-3 c = λ z.
     let k = c .before .before .before .before .before .before .before .before .before .before .before in
     let d = start k .pre .0 in
     planned-verdict (graphIn (start k .args .h) (start k .args .start .now) z) (d .sound) (k .merge-all .ensures)
-    (found-fine (d .sound) (sym (c .before .before .before .before .before .over-of .ensures z) ∙ c .before .before .before .enum-told2 .given .1)) {h = start k .args .h} refl refl (counted d)
+    (found-fine (d .sound) (sym (c .before .before .before .before .before .over-of .ensures z) ∙ c .before .before .before .enum-told2 .given .1))
+    {h = start k .args .h} refl refl (counted d)
     (c .settle2 .ensures)
 
 pub merged-full-spec : {M : Type 1} → statement M
 merged-full-spec =
     tie.close
-    (tie.spec merge-all-requires (λ c. omega (arith, room (c .before .before .before))) (λ c. omega (arith, room (c .before .before .before))) (λ c κs. search needs) returns
+    (tie.spec merge-all-requires (λ c. omega (arith, room (c .before .before .before))) (λ c. omega (arith, room (c .before .before .before))) (λ c
+    κs. search needs) returns
     (λ c κs. search needs) (λ c. search needs) (λ c. search needs) settle-requires-2 returns-2 returns-3)

@@ -28,7 +28,8 @@ returns c = λ cs simple k lk is w.
     let s = c .before .before .before .before .before .before .before .before .before .before .before .before in
     let a = c .before .before .before .before .before .before .before .before .before .before .before .lowest .ensures in
     left-shrunk
-    (left-dropped (s .pre .0) (s .pre .2) (a .0, a .1) (c .before .before .before .before .before .before .before .before .before .before .other-end .ensures)
+    (left-dropped (s .pre .0) (s .pre .2) (a .0, a .1) (c .before .before .before .before .before .before .before .before .before .before .other-end
+    .ensures)
     (c .before .before .before .before .before .before .before .before .before .wide .ensures)
     (c .before .before .before .before .before .before .before .before .wide2 .ensures)
     (c .before .before .before .before .single2 .ensures) (c .before .before .before .before .before .before .single .ensures) cs simple k lk is w)

@@ -102,7 +102,8 @@ returns-2 : tie.Need-returns-2 Inv-loop μ-loop
 returns-2 c =
     let s = c .before .before .before in
     let l = c .before .loop in
-    subst (λ (z : ℕ). Marks (take (s .args .e) (s .args .start .now)) z (s .args .needs .now) (l .needs)) (omega (arith, c .loop-test .left)) (l .inv .2)
+    subst (λ (z : ℕ). Marks (take (s .args .e) (s .args .start .now)) z (s .args .needs .now) (l .needs)) (omega (arith, c .loop-test .left)) (l
+    .inv .2)
 
 pub mark-hard-spec : {M : Type 1} → statement M
 mark-hard-spec =

@@ -48,7 +48,8 @@ module _ (near : List ℕ) (left todo x s : ℕ) (t : Light near left todo) (e :
       light-or near (left - s) (todo - s) r
       (subst (λ (z : ℕ). Light near (left - z) (todo - z)) (sym es) (light-rest near left todo x t in-left e)) g
 
-  pub heavy-left : left < 2 ^ 64 → (r i : ℕ) → i ≡ x → (Mutual near → Heavy near left left todo) → Heavy near (left - s) (bitAnd (getD near i 0) (left - s)) r
+  pub heavy-left : left < 2 ^ 64 → (r i : ℕ) → i ≡ x → (Mutual near → Heavy near left left todo) → Heavy near (left - s) (bitAnd (getD near i 0)
+      (left - s)) r
       → Mutual near → Heavy near (left - s) (left - s) (bitOr (todo - s) r)
   unfolding _∪_ _∩_
   heavy-left small r i ei h g m =

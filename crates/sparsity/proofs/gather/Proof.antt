@@ -1,5 +1,5 @@
--- `gather` meets its contract. The loops' invariants: the same constraints use the freedoms in another way; on the way back the freedoms from place p to
--- place `to` are turned. Assumes nothing.
+-- `gather` meets its contract. The loops' invariants: the same constraints use the freedoms in another way; on the way back the freedoms from place
+-- p to place `to` are turned. Assumes nothing.
 use mathlib.Core.Path.{refl, sym, ap, _∙_}
 use Prim.Native.Nat.{_+_, _-_}
 use native.Mathlib.Omega.{arith}
@@ -52,27 +52,41 @@ seek-requires c κs =
 returns : tie.Need-returns Inv-loop2 μ-loop2 Inv-loop μ-loop
 returns c =
     let l = c .before .before .before .before .before .before .before .before .before .before .before .before .loop in
-    let fa = free-count (l .t) (c .before .before .before .before .before .before .before .before .before .before .before .before .before .before .wide .ensures) (c .before .before .before .before .before .before .before .before .before .free-of .ensures .0) in
-    let fb = free-count (l .t) (c .before .before .before .before .before .before .before .before .before .before .before .before .before .wide2 .ensures) (c .before .before .before .before .before .before .free-of2 .ensures .0) in
+    let fa = free-count (l .t) (c .before .before .before .before .before .before .before .before .before .before .before .before .before .before
+    .wide .ensures) (c .before .before .before .before .before .before .before .before .before .free-of .ensures .0) in
+    let fb = free-count (l .t) (c .before .before .before .before .before .before .before .before .before .before .before .before .before .wide2
+    .ensures) (c .before .before .before .before .before .before .free-of2 .ensures .0) in
     let f = c .before .before .seek .ensures in (
       record {
         again = l .inv .0;
-        enough = λ z. absurd (filled (c .before .before .seek .result .seen) (c .before .before .before .before .before .before .before .before .before .before .before .before .before .before .before .args .a) (found-first f (c .if2 .taken)) z);
+        enough = λ z. absurd (filled (c .before .before .seek .result .seen) (c .before .before .before .before .before .before .before .before
+            .before .before .before .before .before .before .before .args .a) (found-first f (c .if2 .taken)) z);
         stuck = λ z. (omega (arith, fa, fb, c .before .before .before .before .before .if1 .taken), found-stuck f (c .if2 .taken));
       },
       f .reached .lent,
     )
 
 loop2-holds : tie.Need-loop2-holds Inv-loop2 μ-loop2 Inv-loop μ-loop
-loop2-holds c = let w = way-of (c .before .before .before .before .before .before .before .before .before .before .before .before .loop .inv .0 .table) (c .before .before .seek .ensures) (c .if2 .left) in (w, walk-start w)
+loop2-holds c = let w = way-of (c .before .before .before .before .before .before .before .before .before .before .before .before .loop .inv .0
+    .table) (c .before .before .seek .ensures) (c .if2 .left) in (w, walk-start w)
 
 loop-less : tie.Need-loop-less Inv-loop2 μ-loop2 Inv-loop μ-loop
 loop-less c =
     let l = c .before .before .before .before .before .before .before .before .before .before .before .before .before .before .loop in
-    let fa = free-count (l .t) (c .before .before .before .before .before .before .before .before .before .before .before .before .before .before .before .before .wide .ensures) (c .before .before .before .before .before .before .before .before .before .before .before .free-of .ensures .0) in
-    let fb = free-count (l .t) (c .before .before .before .before .before .before .before .before .before .before .before .before .before .before .before .wide2 .ensures) (c .before .before .before .before .before .before .before .before .free-of2 .ensures .0) in
+    let fa = free-count (l .t) (c .before .before .before .before .before .before .before .before .before .before .before .before .before .before
+    .before .before .wide .ensures) (c .before .before .before .before .before .before .before .before .before .before .before .free-of .ensures
+    .0) in
+    let fb = free-count (l .t) (c .before .before .before .before .before .before .before .before .before .before .before .before .before .before
+    .before .wide2 .ensures) (c .before .before .before .before .before .before .before .before .free-of2 .ensures .0) in
     let r = c .before .before .before .before .seek .ensures .reached in
-    omega (arith, fa, fb, gained-ends (r .start) (r .start′) (walk-end (c .before .loop2 .inv .1) (c .loop2-test .left)) .gain, c .before .before .before .before .before .before .before .if1 .taken)
+    omega (
+      arith,
+      fa,
+      fb,
+      gained-ends (r .start) (r .start′) (walk-end (c .before .loop2 .inv .1) (c .loop2-test .left)) .gain,
+      c .before .before
+          .before .before .before .before .before .if1 .taken,
+    )
 
 loop-again : tie.Need-loop-again Inv-loop2 μ-loop2 Inv-loop μ-loop
 loop-again c =
@@ -94,7 +108,8 @@ element-copy-out-by c = let w = c .before .before .before .before .loop2 .inv in
 index-1-one-if-same : tie.Need-index-1-one-if-same Inv-loop2 μ-loop2 Inv-loop μ-loop
 index-1-one-if-same c =
     let w = c .before .before .before .before .before .before .before .loop2 .inv in
-    x-fits (w .0) (w .1) (c .before .before .before .before .before .before .loop2-test .taken) (c .before .before .before .before .wide3 .ensures) (c .before .wide4 .ensures)
+    x-fits (w .0) (w .1) (c .before .before .before .before .before .before .loop2-test .taken) (c .before .before .before .before .wide3 .ensures)
+    (c .before .wide4 .ensures)
 
 mul-one-if-same : tie.Need-mul-one-if-same Inv-loop2 μ-loop2 Inv-loop μ-loop
 mul-one-if-same c = omega (arith, index-1-one-if-same c)
@@ -102,7 +117,8 @@ mul-one-if-same c = omega (arith, index-1-one-if-same c)
 index-1-one-if-same-2 : tie.Need-index-1-one-if-same-2 Inv-loop2 μ-loop2 Inv-loop μ-loop
 index-1-one-if-same-2 c =
     let w = c .before .before .before .before .before .before .before .before .before .loop2 .inv in
-    y-fits (w .0) (w .1) (c .before .before .before .before .before .before .before .before .loop2-test .taken) (c .before .before .before .before .before .before .wide3 .ensures) (c .before .before .wide5 .ensures)
+    y-fits (w .0) (w .1) (c .before .before .before .before .before .before .before .before .loop2-test .taken) (c .before .before .before .before
+    .before .before .wide3 .ensures) (c .before .before .wide5 .ensures)
 
 mul-one-if-same-2 : tie.Need-mul-one-if-same-2 Inv-loop2 μ-loop2 Inv-loop μ-loop
 mul-one-if-same-2 c = omega (arith, index-1-one-if-same-2 c)
@@ -110,7 +126,8 @@ mul-one-if-same-2 c = omega (arith, index-1-one-if-same-2 c)
 index-1-t : tie.Need-index-1-t Inv-loop2 μ-loop2 Inv-loop μ-loop
 index-1-t c =
     let w = c .before .before .before .before .before .before .before .before .before .before .before .loop2 .inv in
-    x-fits (w .0) (w .1) (c .before .before .before .before .before .before .before .before .before .before .loop2-test .taken) (c .before .before .before .before .before .before .before .before .wide3 .ensures) (c .before .before .before .before .before .wide4 .ensures)
+    x-fits (w .0) (w .1) (c .before .before .before .before .before .before .before .before .before .before .loop2-test .taken) (c .before .before
+    .before .before .before .before .before .before .wide3 .ensures) (c .before .before .before .before .before .wide4 .ensures)
 
 mul-t : tie.Need-mul-t Inv-loop2 μ-loop2 Inv-loop μ-loop
 mul-t c = omega (arith, index-1-t c)
@@ -121,7 +138,8 @@ index-2-t c = omega (arith, same-bit _ _ _ (c .before .before .one-if-same .ensu
 index-1-t-2 : tie.Need-index-1-t-2 Inv-loop2 μ-loop2 Inv-loop μ-loop
 index-1-t-2 c =
     let w = c .before .before .before .before .before .before .before .before .before .before .before .loop2 .inv in
-    y-fits (w .0) (w .1) (c .before .before .before .before .before .before .before .before .before .before .loop2-test .taken) (c .before .before .before .before .before .before .before .before .wide3 .ensures) (c .before .before .before .before .wide5 .ensures)
+    y-fits (w .0) (w .1) (c .before .before .before .before .before .before .before .before .before .before .loop2-test .taken) (c .before .before
+    .before .before .before .before .before .before .wide3 .ensures) (c .before .before .before .before .wide5 .ensures)
 
 mul-t-2 : tie.Need-mul-t-2 Inv-loop2 μ-loop2 Inv-loop μ-loop
 mul-t-2 c = omega (arith, index-1-t-2 c)
@@ -132,7 +150,8 @@ index-2-t-2 c = omega (arith, same-bit _ _ _ (c .one-if-same2 .ensures))
 loop2-less : tie.Need-loop2-less Inv-loop2 μ-loop2 Inv-loop μ-loop
 loop2-less c =
     let w = c .before .before .before .before .before .before .before .before .before .before .before .loop2 .inv in
-    j-less (w .0) (w .1) (c .before .before .before .before .before .before .before .before .before .before .loop2-test .taken) (c .before .before .before .before .before .before .before .before .wide3 .ensures)
+    j-less (w .0) (w .1) (c .before .before .before .before .before .before .before .before .before .before .loop2-test .taken) (c .before .before
+    .before .before .before .before .before .before .wide3 .ensures)
 
 loop2-again : tie.Need-loop2-again Inv-loop2 μ-loop2 Inv-loop μ-loop
 loop2-again c =
@@ -143,7 +162,8 @@ loop2-again c =
     let sx = c .before .before .one-if-same in
     let sy = c .one-if-same2 in (
       w .0,
-      walk-stored (w .0) (w .1) (c .before .before .before .before .before .before .before .before .before .before .loop2-test .taken) (c .before .before .before .before .before .before .before .before .wide3 .ensures) (x .ensures) (y .ensures)
+      walk-stored (w .0) (w .1) (c .before .before .before .before .before .before .before .before .before .before .loop2-test .taken) (c .before
+          .before .before .before .before .before .before .before .wide3 .ensures) (x .ensures) (y .ensures)
           (sx .ensures ∙ ap (same (entry t (x .result) 1)) (sym (y .ensures))) (sy .ensures ∙ ap (same (entry t (y .result) 1)) (sym (y .ensures)))
           (x .ensures),
     )
@@ -151,14 +171,17 @@ loop2-again c =
 returns-2 : tie.Need-returns-2 Inv-loop2 μ-loop2 Inv-loop μ-loop
 returns-2 c =
     let l = c .before .before .before .before .before .before .before .loop in
-    let fa = free-count (l .t) (c .before .before .before .before .before .before .before .before .before .wide .ensures) (c .before .before .before .before .free-of .ensures .0) in
-    let fb = free-count (l .t) (c .before .before .before .before .before .before .before .before .wide2 .ensures) (c .before .free-of2 .ensures .0) in
+    let fa = free-count (l .t) (c .before .before .before .before .before .before .before .before .before .wide .ensures) (c .before .before .before
+    .before .free-of .ensures .0) in
+    let fb = free-count (l .t) (c .before .before .before .before .before .before .before .before .wide2 .ensures) (c .before .free-of2 .ensures .0)
+    in
     (record { again = l .inv .0; enough = λ z. omega (arith, fa, fb, c .if1 .left); stuck = λ z. absurd (z refl) }, l .inv .1)
 
 pub gather-spec : {M : Type 1} → statement M
 gather-spec =
     tie.close
-    (tie.spec Inv-loop2 μ-loop2 Inv-loop μ-loop (λ c κs. search needs) (λ c κs. search needs) loop-holds mul-free-of index-1-free-of (λ c. omega arith)
+    (tie.spec Inv-loop2 μ-loop2 Inv-loop μ-loop (λ c κs. search needs) (λ c κs. search needs) loop-holds mul-free-of index-1-free-of (λ c. omega
+    arith)
     (λ c. mul-free-of (c .before)) (λ c. index-1-free-of (c .before)) (λ c. omega arith) (λ c κs. search needs) mul-free-of-3 index-1-free-of-3
     (λ c. omega arith) (λ c. mul-free-of-3 (c .before)) (λ c. index-1-free-of-3 (c .before)) (λ c. omega arith) (λ c κs. search needs) add-if1
     seek-requires returns loop2-holds loop-less loop-again element-copy-out-wide (λ c κs. search needs) element-copy-out-bx element-copy-out-by

@@ -30,7 +30,8 @@ returns-4 c =
     let s = c .before .before .before .before .before in
     let w = c .before .wide2 .ensures in (
       λ own p q r h. placed-second (s .args .a) 1 w (le-refl 2)
-          (last-free own h (λ e. c .before .before .before .if1 .left (sym p ∙ e)) (λ e. c .before .before .if2 .left (sym q ∙ e)) (λ e. c .if3 .left (sym r ∙ e))),
+          (last-free own h (λ e. c .before .before .before .if1 .left (sym p ∙ e)) (λ e. c .before .before .if2 .left (sym q ∙ e)) (λ e. c .if3
+          .left (sym r ∙ e))),
       omega (arith, w, s .pre .1),
       omega arith,
     )

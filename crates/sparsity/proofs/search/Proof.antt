@@ -45,7 +45,11 @@ lowest-requires c κs =
     two-pos (getD (s .args .start .now) (c .before .before .before .loop .c) 0) (two-ends (s .pre .0) (c .before .before .loop-test .taken) refl)
 
 other-end-requires : tie.Need-other-end-requires Inv-loop μ-loop
-other-end-requires c κs = (two-ends (c .before .before .before .before .before .before .pre .0) (c .before .before .before .loop-test .taken) refl, c .lowest .ensures .0, c .lowest .ensures .1)
+other-end-requires c κs = (
+  two-ends (c .before .before .before .before .before .before .pre .0) (c .before .before .before .loop-test .taken) refl,
+  c .lowest .ensures .0,
+  c .lowest .ensures .1,
+)
 
 element-copy-out-wide : tie.Need-element-copy-out-wide Inv-loop μ-loop
 element-copy-out-wide c = element-copy-out-pair (c .before .before .before .before .before .before)
@@ -57,7 +61,12 @@ mul-free-of : tie.Need-mul-free-of Inv-loop μ-loop
 mul-free-of c = omega (arith, index-1-free-of c)
 
 index-1-free-of-3 : tie.Need-index-1-free-of-3 Inv-loop μ-loop
-index-1-free-of-3 c = omega (arith, c .before .before .before .before .before .wide2 .ensures, c .before .before .before .before .before .before .before .other-end .ensures .0)
+index-1-free-of-3 c = omega (
+  arith,
+  c .before .before .before .before .before .wide2 .ensures,
+  c .before .before .before .before .before .before
+      .before .other-end .ensures .0,
+)
 
 mul-free-of-3 : tie.Need-mul-free-of-3 Inv-loop μ-loop
 mul-free-of-3 c = omega (arith, index-1-free-of-3 c)
@@ -67,38 +76,67 @@ add-if2 c = omega (arith, c .before .before .before .free-of .ensures .1, c .fre
 
 gather-requires : tie.Need-gather-requires Inv-loop μ-loop
 gather-requires c κs =
-    let l = c .before .before .before .before .before .before .before .before .before .before .before .before .before .before .before .before .before .before .before .loop in
-    let b = c .before .before .before .before .before .before .before .before .before .before .before .before .before .before .other-end .ensures in
-    (l .inv .1 .table, c .before .before .before .before .before .before .before .before .before .before .before .before .before .before .before .lowest .ensures .0, b .0, b .2, l .inv .2)
+    let l = c .before .before .before .before .before .before .before .before .before .before .before .before .before .before .before .before
+    .before .before .before .loop in
+    let b = c .before .before .before .before .before .before .before .before .before .before .before .before .before .before .other-end .ensures in (
+      l .inv .1 .table,
+      c .before .before .before .before .before .before .before .before .before .before .before .before .before .before .before
+          .lowest .ensures .0,
+      b .0,
+      b .2,
+      l .inv .2,
+    )
 
 returns : tie.Need-returns Inv-loop μ-loop
 returns c =
-    let s = c .before .before .before .before .before .before .before .before .before .before .before .before .before .before .before .before .before .before .before .before .before .before .before in
-    let l = c .before .before .before .before .before .before .before .before .before .before .before .before .before .before .before .before .before .before .before .before .before .loop in
-    let h = c .before .before .before .before .before .before .before .before .before .before .before .before .before .before .before .before .before .before .before .before .loop-test .taken in
+    let s = c .before .before .before .before .before .before .before .before .before .before .before .before .before .before .before .before
+    .before .before .before .before .before .before .before in
+    let l = c .before .before .before .before .before .before .before .before .before .before .before .before .before .before .before .before
+    .before .before .before .before .before .loop in
+    let h = c .before .before .before .before .before .before .before .before .before .before .before .before .before .before .before .before
+    .before .before .before .before .loop-test .taken in
     let lc = in-list (s .pre .0) h in
-    let a = c .before .before .before .before .before .before .before .before .before .before .before .before .before .before .before .before .before .lowest .ensures in
-    let i = told-in (standing-item (s .pre .0) (l .c) h) (c .before .before .before .before .before .before .before .before .before .before .before .before .before .before .before .before .before .before .if1 .taken) in
-    let w = subst (Noted (take (s .args .e) (s .args .start .now)) (l .c) 1) (sym (c .before .before .before .before .before .before .before .before .before .before .before .before .wide3 .ensures)) (s .pre .2 (l .c) h) in
+    let a = c .before .before .before .before .before .before .before .before .before .before .before .before .before .before .before .before
+    .before .lowest .ensures in
+    let i = told-in (standing-item (s .pre .0) (l .c) h) (c .before .before .before .before .before .before .before .before .before .before .before
+    .before .before .before .before .before .before .before .if1 .taken) in
+    let w = subst (Noted (take (s .args .e) (s .args .start .now)) (l .c) 1) (sym (c .before .before .before .before .before .before .before .before
+    .before .before .before .before .wide3 .ensures)) (s .pre .2 (l .c) h) in
     λ n below.
     answer-first (s .pre .0 .simple) n below
-    (first-at (s .pre .1) (l .c) lc (ends-at (s .pre .0) h refl (a .0, a .1) (c .before .before .before .before .before .before .before .before .before .before .before .before .before .before .before .before .other-end .ensures)) i (l .inv .1) w (c .before .gather .ensures .0)
+    (first-at (s .pre .1) (l .c) lc (ends-at (s .pre .0) h refl (a .0, a .1) (c .before .before .before .before .before .before .before .before
+    .before .before .before .before .before .before .before .before .other-end .ensures)) i (l .inv .1) w (c .before .gather .ensures .0)
     (c .if3 .taken))
 
 index-1-place : tie.Need-index-1-place Inv-loop μ-loop
-index-1-place c = omega (arith, c .before .before .before .before .before .before .before .before .before .before .wide .ensures, c .before .before .before .before .before .before .before .before .before .before .before .before .lowest .ensures .0)
+index-1-place c = omega (
+  arith,
+  c .before .before .before .before .before .before .before .before .before .before .wide .ensures,
+  c .before .before
+      .before .before .before .before .before .before .before .before .before .before .lowest .ensures .0,
+)
 
 mul-place : tie.Need-mul-place Inv-loop μ-loop
 mul-place c = omega (arith, index-1-place c)
 
 index-1-place-3 : tie.Need-index-1-place-3 Inv-loop μ-loop
-index-1-place-3 c = omega (arith, c .before .before .before .before .before .before .before .before .before .before .before .wide2 .ensures, c .before .before .before .before .before .before .before .before .before .before .before .before .before .other-end .ensures .0)
+index-1-place-3 c = omega (
+  arith,
+  c .before .before .before .before .before .before .before .before .before .before .before .wide2 .ensures,
+  c
+      .before .before .before .before .before .before .before .before .before .before .before .before .before .other-end .ensures .0,
+)
 
 mul-place-3 : tie.Need-mul-place-3 Inv-loop μ-loop
 mul-place-3 c = omega (arith, index-1-place-3 c)
 
 place-requires : tie.Need-place-requires Inv-loop μ-loop
-place-requires c κs = (c .before .before .before .before .before .before .before .before .before .before .before .before .before .before .before .lowest .ensures .0, c .before .before .before .before .before .before .before .before .before .before .before .before .before .before .other-end .ensures .0)
+place-requires c κs = (
+  c .before .before .before .before .before .before .before .before .before .before .before .before .before .before .before
+      .lowest .ensures .0,
+  c .before .before .before .before .before .before .before .before .before .before .before .before .before .before
+      .other-end .ensures .0,
+)
 
 mul-own : tie.Need-mul-own Inv-loop μ-loop
 mul-own c = omega (arith, c .place .ensures .1)
@@ -129,7 +167,8 @@ loop-again c =
     let own = v .13 .own in
     let k : Ready (take (l .c) cs) u need a b own =
     ⊎-elim
-    (λ o. subst (Ready (take (l .c) cs) u need a b) (sym (o .6)) (ready-gathered (s .pre .1) (l .c) lc ends i (l .inv .1) (o .4 .ensures .0) (o .5 .left)))
+    (λ o. subst (Ready (take (l .c) cs) u need a b) (sym (o .6)) (ready-gathered (s .pre .1) (l .c) lc ends i (l .inv .1) (o .4 .ensures .0) (o .5
+    .left)))
     (λ o. subst (Ready (take (l .c) cs) u need a b) (sym (o .1))
     (ready-now (l .inv .1) (v .3 .ensures) (v .4 .ensures) (v .9 .ensures .0) (v .12 .ensures .0) (omega (arith, o .0 .left))))
     (v .13 .came) in
@@ -162,6 +201,7 @@ search-spec =
     (λ c κs. search needs) (λ c κs. search needs) element-copy-out-wide (λ c κs. search needs) mul-free-of index-1-free-of (λ c. omega arith)
     (λ c. mul-free-of (c .before)) (λ c. index-1-free-of (c .before)) (λ c. omega arith) (λ c κs. search needs) mul-free-of-3 index-1-free-of-3
     (λ c. omega arith) (λ c. mul-free-of-3 (c .before)) (λ c. index-1-free-of-3 (c .before)) (λ c. omega arith) (λ c κs. search needs) add-if2
-    gather-requires returns mul-place index-1-place (λ c. omega arith) (λ c. mul-place (c .before)) (λ c. index-1-place (c .before)) (λ c. omega arith)
+    gather-requires returns mul-place index-1-place (λ c. omega arith) (λ c. mul-place (c .before)) (λ c. index-1-place (c .before)) (λ c. omega
+    arith)
     mul-place-3 index-1-place-3 (λ c. omega arith) place-requires mul-own (λ c. c .place .ensures .1) (λ c. c .place .ensures .2) add-c
     loop-less loop-again returns-2)

@@ -45,7 +45,12 @@ mul-z : tie.Need-mul-z Inv-loop μ-loop
 mul-z c = omega (arith, index-1-y (c .before))
 
 cast-visit : tie.Need-cast-visit Inv-loop μ-loop
-cast-visit c = omega (arith, reached-most (c .before .before .before .before .before .before .before .before .loop .inv .0), c .before .before .before .before .before .before .if1 .taken)
+cast-visit c = omega (
+  arith,
+  reached-most (c .before .before .before .before .before .before .before .before .loop .inv .0),
+  c .before .before
+      .before .before .before .before .if1 .taken,
+)
 
 visit-requires : tie.Need-visit-requires Inv-loop μ-loop
 visit-requires c κs =
@@ -74,7 +79,8 @@ mul-opens-2 c = omega (arith, index-1-opens (c .before))
 
 returns : tie.Need-returns Inv-loop μ-loop
 returns c =
-    let s = c .before .before .before .before .before .before .before .before .before .before .before .before .before .before .before .before .before in
+    let s = c .before .before .before .before .before .before .before .before .before .before .before .before .before .before .before .before
+    .before in
     let l = c .before .before .before .before .before .before .before .before .before .before .before .before .before .before .loop in
     let h = c .before .before .before .before .before .before .before .before .before .before .before .before .if1 .taken in
     let e = c .before .before .before .before .before .before .before .before .before .before .wide .ensures in
@@ -82,21 +88,34 @@ returns c =
     (opens-some (s .args .t1) (c .before .before .before .before .wide2 .ensures) (c .before .opens .ensures) (c .if2 .taken))
 
 cast-visit-2 : tie.Need-cast-visit-2 Inv-loop μ-loop
-cast-visit-2 c = omega (arith, reached-most (c .before .before .before .before .before .before .before .before .before .before .before .before .before .before .before .before .loop .inv .0), c .before .before .before .before .before .before .before .before .before .before .before .before .before .before .if1 .taken)
+cast-visit-2 c = omega (
+  arith,
+  reached-most (c .before .before .before .before .before .before .before .before .before .before .before .before
+      .before .before .before .before .loop .inv .0),
+  c .before .before .before .before .before .before .before .before .before .before .before
+      .before .before .before .if1 .taken,
+)
 
 visit-requires-2 : tie.Need-visit-requires-2 Inv-loop μ-loop
 visit-requires-2 c κs =
-    let s = c .before .before .before .before .before .before .before .before .before .before .before .before .before .before .before .before .before .before .before in
+    let s = c .before .before .before .before .before .before .before .before .before .before .before .before .before .before .before .before
+    .before .before .before in
     let l = c .before .before .before .before .before .before .before .before .before .before .before .before .before .before .before .before .loop in
     let h = c .before .before .before .before .before .before .before .before .before .before .before .before .before .before .if1 .taken in
-    let e = c .before .before .before .before .before .before .before .before .before .before .before .before .wide .ensures in
-    (scan-low (s .pre .0) (l .inv .0) (l .p) h e 1 (le-refl 2), mid-size (s .pre .0) (l .inv .0) (l .p) h e (c .before .before .before .before .before .before .before .visit .ensures))
+    let e = c .before .before .before .before .before .before .before .before .before .before .before .before .wide .ensures in (
+      scan-low (s .pre .0) (l .inv .0) (l .p) h e 1 (le-refl 2),
+      mid-size (s .pre .0) (l .inv .0) (l .p) h e (c .before .before .before .before
+          .before .before .before .visit .ensures),
+    )
 
 index-1-opens-3 : tie.Need-index-1-opens-3 Inv-loop μ-loop
 index-1-opens-3 c =
-    let s = c .before .before .before .before .before .before .before .before .before .before .before .before .before .before .before .before .before .before .before .before .before in
-    let l = c .before .before .before .before .before .before .before .before .before .before .before .before .before .before .before .before .before .before .loop in
-    let h = c .before .before .before .before .before .before .before .before .before .before .before .before .before .before .before .before .if1 .taken in
+    let s = c .before .before .before .before .before .before .before .before .before .before .before .before .before .before .before .before
+    .before .before .before .before .before in
+    let l = c .before .before .before .before .before .before .before .before .before .before .before .before .before .before .before .before
+    .before .before .loop in
+    let h = c .before .before .before .before .before .before .before .before .before .before .before .before .before .before .before .before .if1
+    .taken in
     let e = c .before .before .before .before .before .before .before .before .before .before .before .before .before .before .wide .ensures in
     omega (arith, c .wide3 .ensures, scan-low (s .pre .0) (l .inv .0) (l .p) h e 1 (le-refl 2))
 
@@ -111,31 +130,54 @@ mul-opens-4 c = omega (arith, index-1-opens-3 (c .before))
 
 returns-2 : tie.Need-returns-2 Inv-loop μ-loop
 returns-2 c =
-    let s = c .before .before .before .before .before .before .before .before .before .before .before .before .before .before .before .before .before .before .before .before .before .before .before .before .before in
-    let l = c .before .before .before .before .before .before .before .before .before .before .before .before .before .before .before .before .before .before .before .before .before .before .loop in
-    let h = c .before .before .before .before .before .before .before .before .before .before .before .before .before .before .before .before .before .before .before .before .if1 .taken in
-    let e = c .before .before .before .before .before .before .before .before .before .before .before .before .before .before .before .before .before .before .wide .ensures in
-    found-second-visit (s .pre .0) (l .inv .0) (l .p) h e (c .before .before .before .before .before .before .before .before .before .before .before .before .before .visit .ensures) (c .before .before .before .before .before .visit2 .ensures)
+    let s = c .before .before .before .before .before .before .before .before .before .before .before .before .before .before .before .before
+    .before .before .before .before .before .before .before .before .before in
+    let l = c .before .before .before .before .before .before .before .before .before .before .before .before .before .before .before .before
+    .before .before .before .before .before .before .loop in
+    let h = c .before .before .before .before .before .before .before .before .before .before .before .before .before .before .before .before
+    .before .before .before .before .if1 .taken in
+    let e = c .before .before .before .before .before .before .before .before .before .before .before .before .before .before .before .before
+    .before .before .wide .ensures in
+    found-second-visit (s .pre .0) (l .inv .0) (l .p) h e (c .before .before .before .before .before .before .before .before .before .before .before
+    .before .before .visit .ensures) (c .before .before .before .before .before .visit2 .ensures)
     (opens-some (s .args .t1) (c .before .before .before .before .wide3 .ensures) (c .before .opens2 .ensures) (c .if3 .taken))
 
 add-p : tie.Need-add-p Inv-loop μ-loop
-add-p c = omega (arith, reached-most (c .before .before .before .before .before .before .before .before .before .before .before .before .before .before .before .before .before .before .before .before .before .before .loop .inv .0), c .before .before .before .before .before .before .before .before .before .before .before .before .before .before .before .before .before .before .before .before .if1 .taken)
+add-p c = omega (
+  arith,
+  reached-most (c .before .before .before .before .before .before .before .before .before .before .before .before .before
+      .before .before .before .before .before .before .before .before .before .loop .inv .0),
+  c .before .before .before .before .before .before
+      .before .before .before .before .before .before .before .before .before .before .before .before .before .before .if1 .taken,
+)
 
 loop-less : tie.Need-loop-less Inv-loop μ-loop
-loop-less c = omega (arith, reached-most (c .before .before .before .before .before .before .before .before .before .before .before .before .before .before .before .before .before .before .before .before .before .before .loop .inv .0), c .before .before .before .before .before .before .before .before .before .before .before .before .before .before .before .before .before .before .before .before .if1 .taken)
+loop-less c = omega (
+  arith,
+  reached-most (c .before .before .before .before .before .before .before .before .before .before .before .before .before
+      .before .before .before .before .before .before .before .before .before .loop .inv .0),
+  c .before .before .before .before .before .before
+      .before .before .before .before .before .before .before .before .before .before .before .before .before .before .if1 .taken,
+)
 
 loop-again : tie.Need-loop-again Inv-loop μ-loop
 loop-again c =
-    let s = c .before .before .before .before .before .before .before .before .before .before .before .before .before .before .before .before .before .before .before .before .before .before .before .before .before in
-    let l = c .before .before .before .before .before .before .before .before .before .before .before .before .before .before .before .before .before .before .before .before .before .before .loop in
-    let h = c .before .before .before .before .before .before .before .before .before .before .before .before .before .before .before .before .before .before .before .before .if1 .taken in
-    let e = c .before .before .before .before .before .before .before .before .before .before .before .before .before .before .before .before .before .before .wide .ensures in
+    let s = c .before .before .before .before .before .before .before .before .before .before .before .before .before .before .before .before
+    .before .before .before .before .before .before .before .before .before in
+    let l = c .before .before .before .before .before .before .before .before .before .before .before .before .before .before .before .before
+    .before .before .before .before .before .before .loop in
+    let h = c .before .before .before .before .before .before .before .before .before .before .before .before .before .before .before .before
+    .before .before .before .before .if1 .taken in
+    let e = c .before .before .before .before .before .before .before .before .before .before .before .before .before .before .before .before
+    .before .before .wide .ensures in
     let one = c .before .before .before .before .before .before .before .before .before .before .before .before .before .visit .ensures in
     let two = c .before .before .before .before .before .visit2 .ensures in (
       scan-reached (s .pre .0) (l .inv .0) (l .p) h e one two,
       scan-next (s .pre .0) (l .inv .0) (l .p) h e one two (l .inv .1),
       scan-shut (s .pre .0) (l .inv .0) (l .p) h e one two (l .inv .2)
-          (opens-none (s .args .t1) (c .before .before .before .before .before .before .before .before .before .before .before .before .wide2 .ensures) (c .before .before .before .before .before .before .before .before .before .opens .ensures) (c .before .before .before .before .before .before .before .before .if2 .left))
+          (opens-none (s .args .t1) (c .before .before .before .before .before .before .before .before .before .before .before .before .wide2
+          .ensures) (c .before .before .before .before .before .before .before .before .before .opens .ensures) (c .before .before .before
+          .before .before .before .before .before .if2 .left))
           (opens-none (s .args .t1) (c .before .before .before .before .wide3 .ensures) (c .before .opens2 .ensures) (c .if3 .left)),
       scan-below (s .pre .0) (l .inv .0) (l .p) h e one two,
     )

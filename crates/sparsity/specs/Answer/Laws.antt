@@ -193,7 +193,8 @@ module _ {old new : List ℕ} {u a b : ℕ} (ends : (a < 64) × (b < 64) × (a �
 -- ---- constraint c
 
 -- one that does not lie in u
-pub using-skip : {cs : List ℕ} {u : ℕ} (core : Core cs u) (c : ℕ) → c < length cs → (getD cs c 0 ⊑ u → ⊥) → {own : List (List ℕ)} → Using (take c cs) u own
+pub using-skip : {cs : List ℕ} {u : ℕ} (core : Core cs u) (c : ℕ) → c < length cs → (getD cs c 0 ⊑ u → ⊥) → {own : List (List ℕ)} → Using (take c
+    cs) u own
     → Using (take (suc c) cs) u own
 unfolding NotOver
 using-skip {cs} {u} core c lc out {own} k =
@@ -233,7 +234,8 @@ module _ {cs : List ℕ} {u : ℕ} (core : Core cs u) (c : ℕ) (lc : c < length
   -- it uses one, and the list with it is not over
   pub using-next : {own fresh : List (List ℕ)} {need : ℕ} → Ready (take c cs) u need a b own → Noted cs c 1 need → Placed own a b fresh
       → Using (take (suc c) cs) u fresh
-  using-next {own} {fresh} {need} k w p = using-placed apart more-at (k .uses .table) (k .uses .closed) (k .uses .balanced) p (fine need w (k .enough))
+  using-next {own} {fresh} {need} k w p = using-placed apart more-at (k .uses .table) (k .uses .closed) (k .uses .balanced) p (fine need w (k
+      .enough))
     where
       fine : (need : ℕ) → Noted cs c 1 need → need ≤ free own a + free own b → NotOver (take (suc c) cs)
       fine need hard l = four-fine apart more-at (k .uses) l
