@@ -5,8 +5,8 @@ use native.Mathlib.Omega.{arith}
 use Rattle.theory.specs.Set.{_∈_}
 use Rattle.theory.specs.Set.Less.{at-room, less-in, less-some}
 use borrow.Author.Needs.{needs}
-use Rattle.sparsity.proofs.other_end.Statement.{statement}
-use Rattle.sparsity.proofs.other_end.Tie as tie
+use Rattle.peeling.proofs.other_end.Statement.{statement}
+use Rattle.peeling.proofs.other_end.Tie as tie
 
 sub-lowest : tie.Need-sub-lowest
 sub-lowest c = omega (arith, at-room (c .before .args .a) (c .before .args .pair) (c .before .pre .2))
