@@ -174,9 +174,10 @@ among-map f (x ∷ l) y (inr h) = let w = among-map f l y h in (w .0, inr (w .1)
 
 apart-map : (f : ℕ → ℕ) {lo : ℕ} {l : List ℕ} → Up lo l → ((x y : ℕ) → Among x l → Among y l → f x ≡ f y → x ≡ y) → Apart (map f l)
 apart-map f none h = tt
-apart-map f (more {x = x} {l = l} g u) h =
-    ((λ y a e. let (z, b, q) = among-map f l y a in omega (arith, up-least u z b, h z x (inr b) (inl refl) (sym q ∙ e))),
-    apart-map f u (λ a b i j. h a b (inr i) (inr j)))
+apart-map f (more {x = x} {l = l} g u) h = (
+  (λ y a e. let (z, b, q) = among-map f l y a in omega (arith, up-least u z b, h z x (inr b) (inl refl) (sym q ∙ e))),
+  apart-map f u (λ a b i j. h a b (inr i) (inr j)),
+)
 
 key-merge : {s : List ℕ} → length s ≤ 256 → {x : ℕ} (k : KeyOf s x) → mergeOf x ≡ k .0
 key-merge {s} short (m, o, e) =
