@@ -3,14 +3,13 @@
 use mathlib.Core.Path.{_≡_, refl, sym, ap, _∙_, subst}
 use mathlib.Core.Logic.{_≢_, _⊎_, inl, inr}
 use mathlib.Core.List.{List, [], _∷_, _++_, map}
-use Prim.Native.Nat.{ℕ, suc, _+_, _^_, _-_, _≤_, _<_}
+use Prim.Native.Nat.{ℕ, _+_, _≤_, _<_}
 use native.Mathlib.Omega.{arith}
-use native.Mathlib.Decide.{ℕ-discrete}
 use lib.ListN.{length, length-append, length-map}
-use Rattle.theory.specs.Set.{_∈_, _∩_, _∪_, full}
+use Rattle.theory.specs.Set.{_∈_, _∩_, _∪_}
 use Rattle.theory.specs.Set.Laws.{two-in, both, ∈-∪ˡ, ∈-∪ʳ, ∈-∪⁻, ∈-∩⁻}
 use Rattle.theory.specs.Constraints.{Among, Pairs, Below, NotOver}
-use Rattle.theory.specs.Merge.{slot, Merge, merge, OpenAt, three, union, joint, put, Part, Differ, Valid, final, EitherWay, moved}
+use Rattle.theory.specs.Merge.{slot, Merge, three, union, joint, put, Part, Valid, final, moved}
 use Rattle.theory.specs.Merge.Count.{steps-most}
 use Rattle.theory.specs.Merge.Either.{either-way}
 use Rattle.theory.specs.Merge.Numbered.{part-dec, alive-lt}

@@ -1,13 +1,11 @@
--- What is shown of the list of the open merges holds of every graph that is not over. Assumes nothing.
-use Prim.Native.Nat.{ℕ, zero, suc, _+_, _≤_, _<_}
+-- What is shown of the list of open merges holds of every graph that is not over. Assumes nothing.
+use Prim.Native.Nat.{ℕ, zero, suc, _≤_, _<_}
 use native.Mathlib.Omega.{arith}
-use native.Mathlib.Decide.{ℕ-discrete, decLt}
+use native.Mathlib.Decide.{decLt}
 use mathlib.Core.Path.{_≡_, refl, sym, ap, _∙_, subst}
 use mathlib.Core.Logic.{_≢_, _⊎_, inl, inr}
 use mathlib.Core.List.{List, [], _∷_, map}
-use lib.Count.{ones, trailingZeros}
 use lib.ListN.{length, take, length-map}
-use Rattle.theory.specs.Set.{_∈_}
 use Rattle.theory.specs.Constraints.{Pairs, NotOver}
 use Rattle.theory.specs.Merge.{Merge, OpenAt, three, joint, put, Valid, Ended, final}
 use Rattle.theory.specs.Merge.Count.{steps-most}
@@ -19,8 +17,7 @@ use Rattle.theory.specs.Graph.{Graph}
 use Rattle.graph.specs.Lent.{Sound}
 use Rattle.graph.specs.Lent.Sheets.{fine-few}
 use Rattle.merges.specs.Run.Laws.{length-final}
-use Rattle.search.proofs.Sets.{lowest-least}
-use Rattle.opens.specs.Opens.{lowest, openMerges, openAfter}
+use Rattle.opens.specs.Opens.{lowest, openAfter}
 use Rattle.opens.specs.Opens.Order.{Up, more, up-least, span-up}
 use Rattle.opens.specs.Opens.Laws.{Listed, OpenUp, number, keyOf, listed-open, open-listed, key-among, among-key, opens-span}
 use Rattle.opens.specs.Opens.Low.{lowest-low, lowest-is}
