@@ -12,7 +12,7 @@ use pattern_tests::{calls, damage, dress, shapes, tags, writer};
 
 fn main() -> ExitCode {
     let mut run = Run::start("open", 50_463_042);
-    for _ in 0..2_000 {
+    for _ in 0..10_000 {
         let most = run.random.between(2, 16);
         let sheet = dress::any(most, &mut run.random);
         every_count(&mut run, &sheet);
@@ -89,7 +89,7 @@ fn every_count(run: &mut Run, sheet: &Sheet) {
     for count in (0..=steps + 1).chain([64, 255, 256, 65_536, 1 << 32, usize::MAX]) {
         let answer = asked(run, &bytes, &found, count);
         if let Ok(numbers) = answer {
-            ordered(run, sheet, &numbers, plan.get(3 * count..));
+            ordered(run, sheet, &numbers, plan.chunks(3).nth(count));
         }
     }
     let damaged = damage::aimed(&bytes, &mut run.random);
@@ -108,9 +108,8 @@ fn asked(run: &mut Run, bytes: &[u8], found: &Found, count: usize) -> Result<Vec
 
 /// Compares, in the reference, the list with the plan: its first merge by the numbers alone is the next step, no list has more than n-2, and none is
 /// left after all steps.
-fn ordered(run: &mut Run, sheet: &Sheet, numbers: &[u16], rest: Option<&[u16]>) {
+fn ordered(run: &mut Run, sheet: &Sheet, numbers: &[u16], next: Option<&[u16]>) {
     let first = numbers.chunks(3).min();
-    let next = rest.and_then(|rest| rest.chunks(3).next());
     let input = Hex(&writer::bytes(sheet)).to_string();
     run.same("reference", &input, first, next);
     run.same("reference", &input, numbers.len() / 3 + 2 <= sheet.n(), true);
