@@ -26,7 +26,8 @@ known bytes rest f steps all e =
     shown.shown (graphOf f) sound (found-fine sound (fault-none (graphOf f) o)) steps
 
 -- 62 merges at most
-pub open-short : (bytes : List ℕ) (steps : ℕ) {items rest : List ℕ} → Bytes bytes → openMergesField bytes steps ≡ value items rest → length items ≤ 186
+pub open-short : (bytes : List ℕ) (steps : ℕ) {items rest : List ℕ} → Bytes bytes → openMergesField bytes steps ≡ value items rest
+    → length items ≤ 186
 open-short bytes steps {items} {rest} all e =
     next-value (heldSheet bytes) _ e (λ f t was e1.
     let same : flat (openAfter (graphOf f) steps) ≡ items = cc in
