@@ -250,7 +250,13 @@ fn put_radii_by(out: &mut [u8], at: usize, o: Opening, elements: [Element; 64], 
 // ---- the sheet
 
 // The opening, the count of elements, their kinds and their radii.
-fn put_front(out: &mut [u8], o: Opening, elements: [Element; 64], n: usize, kinds: KindNumbers) -> usize
+fn put_front(
+    out: &mut [u8],
+    o: Opening,
+    elements: [Element; 64],
+    n: usize,
+    kinds: KindNumbers,
+) -> usize
     requires { ⌜ (n ≤ 64) × (kindsAllowed o (take n elements) ≡ true) × Spread o (take n elements) kinds ⌝ }
     ensures { λ r. ⌜ Put (now (out .entry)) 0
         (openingBytesOf o ++ (n ∷ digits (kindBytesOf o n) (kindsNumber o (take n elements)) ++ radiiBytes (take n elements))) r

@@ -2,7 +2,7 @@
 use borrow.Author.Needs.{needs}
 use Prim.Native.Nat.{_+_, _*_, _-_, _≤_, _<_, _^_}
 use native.Mathlib.Omega.{arith}
-use mathlib.Core.Path.{_≡_, sym, ap, _∙_}
+use mathlib.Core.Path.{_≡_, sym, ap}
 use lib.ListN.{length, take, drop, getD}
 use Rattle.sheet.specs.declared.Opening.{Opening}
 use Rattle.sheet.specs.Facts.{kindBase, kindDigit, kindsNumber, blankElement}

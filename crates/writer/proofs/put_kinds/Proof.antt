@@ -1,6 +1,6 @@
 -- `writer::put_kinds` meets its contract: one number after the other. Assumes nothing.
 use borrow.Author.Needs.{needs}
-use Prim.Native.Nat.{_+_, _-_, _≤_, min}
+use Prim.Native.Nat.{_-_}
 use native.Mathlib.Omega.{arith}
 use Rattle.sheet.specs.Field.Laws.{length-digits}
 use Rattle.sheet.specs.Encode.Laws.{kinds-length}

@@ -1,8 +1,8 @@
 -- `writer::put_radius` meets its contract. Assumes nothing.
 use borrow.Author.Needs.{needs}
-use mathlib.Core.Path.{sym, ap}
+use mathlib.Core.Path.{ap}
 use Rattle.sheet.specs.Encode.{radiusBytes}
-use Rattle.space.specs.Space.Laws.{put-as, put-none}
+use Rattle.space.specs.Space.Laws.{put-none}
 use Rattle.writer.proofs.put_radius.Statement.{statement}
 use Rattle.writer.proofs.put_radius.Tie as tie
 
