@@ -1,10 +1,12 @@
 -- The sketch of centres (document 02, 2026-01: "A round light must get the verdict and plan of the sketch of its centres"): circles are their centre
 -- points, and a contact is the distance that it means. `Centres/Laws` shows that its graph is the sheet's own. Assumes nothing.
-use Prim.Native.Nat.{ℕ, _+_, _-_}
-use mathlib.Core.Bool.{cond}
+use Prim.Native.Nat.{ℕ, _+_, _-_, _≤_, _<_}
+use mathlib.Core.Path.{_≡_}
+use mathlib.Core.Logic.{_⊎_}
+use mathlib.Core.Bool.{Bool, true, false, cond}
 use mathlib.Core.List.{List, map}
 use lib.Dec.{leb}
-use lib.IntN.{ℤ, pos, negℤ}
+use lib.IntN.{ℤ, pos, negℤ, natAbs}
 use Rattle.sheet.specs.declared.Opening.the-variants.{Pf01}
 use Rattle.sheet.specs.declared.Kind.{Kind}
 use Rattle.sheet.specs.declared.Kind.the-variants.{Point, Line, Circle}
@@ -13,7 +15,11 @@ use Rattle.sheet.specs.declared.Size.{Size}
 use Rattle.sheet.specs.declared.Size.the-variants.{Given, Missing, Tangent, OtherTangent, Unfit}
 use Rattle.sheet.specs.declared.Constraint.{Constraint}
 use Rattle.sheet.specs.Facts.{Facts, kindAt}
+use Rattle.sheet.specs.Graph.{sizeIn}
 pub mod Laws
+pub mod Contact
+pub mod Sheet
+pub mod Same
 
 -- "a circle counts as its centre point"
 abbrev pub centre : Kind → Kind
@@ -72,3 +78,28 @@ centres f = record {
   elements = map centreElement (f .elements);
   constraints = map (centreConstraint (f .elements)) (f .constraints);
 }
+
+-- ---- what a contact means, whichever end is first
+
+abbrev pub Ends : List Element → Constraint → Kind → Kind → Type 0
+Ends es c j k =
+    ((kindAt es (c .first) ≡ j) × (kindAt es (c .second) ≡ k)) ⊎ ((kindAt es (c .first) ≡ k) × (kindAt es (c .second) ≡ j))
+
+pub record Contacts (es : List Element) (c : Constraint) : Type 0 where
+  pub tangent-line : (r : ℕ) → Ends es c (Circle r) Line → c .size ≡ Tangent → sizeIn es c ≡ pos r
+  pub tangent-point : (r : ℕ) → Ends es c (Circle r) Point → c .size ≡ Tangent → sizeIn es c ≡ pos r
+  pub tangent-circles : (q r : ℕ) → Ends es c (Circle q) (Circle r) → c .size ≡ Tangent → sizeIn es c ≡ pos (q + r)
+  pub other-line : (r : ℕ) → Ends es c (Circle r) Line → c .size ≡ OtherTangent → sizeIn es c ≡ negℤ (pos r)
+  pub other-circles : (q r : ℕ) → Ends es c (Circle q) (Circle r) → r < q → c .size ≡ OtherTangent → sizeIn es c ≡ pos (q - r)
+
+abbrev pub isContact : Size → Bool
+isContact (Given z) = false
+isContact Missing = false
+isContact Tangent = true
+isContact OtherTangent = true
+isContact Unfit = false
+
+-- a derived distance is never 0 and may reach 80,000
+pub record Derived (d : ℤ) : Type 0 where
+  pub some : 1 ≤ natAbs d
+  pub most : natAbs d ≤ 80000

@@ -1,3 +1,3 @@
--- Circles of known radius (document 02, 2026-01): PF01 sheets read as today, and a round light gets the verdict and plan of the sketch of its centres.
+-- Circles of known radius: PF01 sheets are read as document 01 alone reads them, and a round light gets what the sketch of its centres gets.
 pub mod First
 pub mod Centres

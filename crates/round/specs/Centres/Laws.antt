@@ -1,14 +1,13 @@
 -- The graph of the sketch of centres is the sheet's own, so that all that is found of the graph is the same. Assumes nothing.
-use Prim.Native.Nat.{ℕ, zero, suc, _+_, _-_, _*_, _≤_}
+use Prim.Native.Nat.{ℕ, _+_, _-_, _≤_}
 use native.Mathlib.Omega.{arith}
-use mathlib.Core.Path.{_≡_, refl, sym, ap, ap₂, _∙_, subst}
+use mathlib.Core.Path.{_≡_, refl, sym, ap, ap₂}
 use mathlib.Core.Bool.{Bool, true, false, cond}
 use mathlib.Core.List.{List, [], _∷_, map}
 use borrow.Author.Tests.{leb-true, leb-false}
 use lib.Dec.{leb}
-use lib.IntN.{ℤ, pos, negℤ}
-use lib.ListN.{length, length-map}
-use Rattle.theory.specs.Graph.{Graph}
+use lib.IntN.{pos, negℤ}
+use lib.ListN.{length-map}
 use Rattle.sheet.specs.declared.Kind.{Kind}
 use Rattle.sheet.specs.declared.Kind.the-variants.{Point, Line, Circle}
 use Rattle.sheet.specs.declared.Element.{Element}
@@ -62,15 +61,15 @@ between-size i l j k OtherTangent = sym (other-is j k)
 between-size i l j k Unfit = refl
 
 -- no circle is a line
+pub centre-line : (k : Kind) → isLine (centre k) ≡ isLine k
+centre-line Point = refl
+centre-line Line = refl
+centre-line (Circle r) = refl
+
 centre-lines : (es : List Element) → linesOf (map centreElement es) ≡ linesOf es
 unfolding setOf
 centre-lines [] = refl
-centre-lines (x ∷ xs) = rw (go (x .kind), centre-lines xs)
-  where
-    go : (k : Kind) → isLine (centre k) ≡ isLine k
-    go Point = refl
-    go Line = refl
-    go (Circle r) = refl
+centre-lines (x ∷ xs) = rw (centre-line (x .kind), centre-lines xs)
 
 centre-clusters : (es : List Element) (cs : List Constraint) → map clusterOf (map (centreConstraint es) cs) ≡ map clusterOf cs
 centre-clusters es [] = refl
@@ -82,4 +81,6 @@ centre-sizes es (c ∷ cs) = ap₂ _∷_ (between-size _ _ (kindAt es (c .first)
 
 pub graph-centres : (f : Facts) → graphOf (centres f) ≡ graphOf f
 graph-centres f =
-    rw (length-map (f .elements) centreElement, centre-lines (f .elements), centre-clusters (f .elements) (f .constraints), centre-sizes (f .elements) (f .constraints))
+    let es = f .elements in
+    let cs = f .constraints in
+    rw (length-map es centreElement, centre-lines es, centre-clusters es cs, centre-sizes es cs)

@@ -1,10 +1,10 @@
 -- A PF01 sheet is refused by one of rules 1 to 10 alone, and one that is read has at most 1,814 bytes. Assumes nothing.
-use Prim.Native.Nat.{ℕ, zero, suc, _+_, _*_, _/_, _%_, _^_, _≤_}
+use Prim.Native.Nat.{ℕ, zero, suc, _+_, _*_, _/_, _^_, _≤_}
 use native.Mathlib.Omega.{arith}
 use mathlib.Core.Path.{_≡_, refl, sym, ap, _∙_, subst}
 use mathlib.Core.Bool.{Bool, true, false, cond, not, _&&_}
 use mathlib.Core.List.{List, [], _∷_, _++_}
-use lib.Dec.{ltb, leb, eqb}
+use lib.Dec.{ltb, leb}
 use lib.ListN.{length, take, drop, length-drop}
 use Rattle.sheet.specs.declared.Opening.the-variants.{Pf01}
 use Rattle.sheet.specs.declared.Element.{Element}
@@ -18,7 +18,7 @@ use Rattle.sheet.specs.Decode.{tag, readSheet}
 use Rattle.sheet.specs.Refusals.{Rule}
 use Rattle.sheet.specs.Refusals.Laws.{between}
 use Rattle.sheet.specs.RoundTrip.{written-read}
-use Rattle.round.specs.First.{opening, elementsOf, elements, mapAllowed, size, dimension, constraint, constraints, readConstraints, readFirst}
+use Rattle.round.specs.First.{opening, elements, mapAllowed, size, dimension, constraint, constraints, readConstraints, readFirst}
 use Rattle.round.specs.First.Laws.{pf01-reads}
 
 -- a field that is read from the front of s: its value has at most k bytes, or one of rules 1 to 10 refuses it

@@ -1,27 +1,24 @@
 -- Bytes that begin with PF01, and all that do not begin with PF02, are read as document 01 alone reads them. Assumes nothing.
-use Prim.Native.Nat.{ℕ, zero, suc, _+_, _-_, _*_, _/_, _%_, _^_, _<_, _≤_}
+use Prim.Native.Nat.{ℕ, zero, suc, _+_, _/_, _%_, _^_, _<_, _≤_}
 use native.Mathlib.Omega.{arith}
 use borrow.Author.Tests.{ne-eqb, le-ltb}
-use mathlib.Core.Path.{_≡_, refl, sym, ap, _∙_, subst}
-use mathlib.Core.Bool.{Bool, true, false, cond, not, _&&_, _||_}
+use mathlib.Core.Path.{_≡_, refl, sym, _∙_}
+use mathlib.Core.Bool.{Bool, true, false, cond, _&&_}
 use mathlib.Core.List.{List, [], _∷_, _++_}
-use lib.Dec.{T, eqb, ltb}
-use lib.IntN.{pos}
-use lib.ListN.{length, drop, getD}
-use Rattle.sheet.specs.declared.Opening.{Opening}
+use lib.Dec.{eqb, ltb}
+use lib.ListN.{drop}
 use Rattle.sheet.specs.declared.Opening.the-variants.{Pf01, Pf02}
 use Rattle.sheet.specs.declared.Kind.{Kind}
-use Rattle.sheet.specs.declared.Kind.the-variants.{Point, Line, Circle}
 use Rattle.sheet.specs.declared.Element.{Element}
-use Rattle.sheet.specs.declared.Size.the-variants.{Given, Missing, Tangent, OtherTangent, Unfit}
+use Rattle.sheet.specs.declared.Size.the-variants.{Tangent, OtherTangent, Unfit}
 use Rattle.sheet.specs.declared.Constraint.{Constraint}
-use Rattle.sheet.specs.Facts.{Facts, isCircle, kindsOf, kindAt}
-use Rattle.sheet.specs.Field.{Field, value, refused, next, demand, field, byte, byteBy, openingBytes, begins}
-use Rattle.sheet.specs.Rules.{elementsInRange, constraintsInRange, endsAscend, stands, kindsKnown, pairOf, sizeOptional, withoutBit1, sizeBy, sizeAllowed}
+use Rattle.sheet.specs.Facts.{isCircle, kindsOf, kindAt}
+use Rattle.sheet.specs.Field.{Field, value, refused, next, demand, field, byteBy, openingBytes, begins}
+use Rattle.sheet.specs.Rules.{elementsInRange, constraintsInRange, kindsKnown, pairOf, sizeOptional, withoutBit1, sizeBy, sizeAllowed}
 use Rattle.sheet.specs.Rules as rules
 use Rattle.sheet.specs.Decode as now
-use Rattle.sheet.specs.Decode.{tag, readSheet}
-use Rattle.round.specs.First.{kindOf, elementsOf, elements, mapAllowed, size, dimension, constraint, constraints, readConstraints, readFirst}
+use Rattle.sheet.specs.Decode.{readSheet}
+use Rattle.round.specs.First.{kindOf, elementsOf, elements, size, dimension, constraint, constraints, readConstraints, readFirst}
 
 -- what follows a field is the same if it is so for each value
 next-same : {A B : Type 0} (x : Field A) (f g : A → List ℕ → Field B) → ((a : A) (s : List ℕ) → f a s ≡ g a s) → next x f ≡ next x g

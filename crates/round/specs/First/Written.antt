@@ -1,9 +1,9 @@
--- Accepted facts with the opening PF01 are written as document 01 alone writes them, in at most 1,414 bytes, and their graph has the sizes given. Assumes
--- nothing.
-use Prim.Native.Nat.{ℕ, zero, suc, _+_, _*_, _/_, _≤_}
+-- Accepted facts with the opening PF01 are written as document 01 alone writes them, in at most 1,414 bytes, and their graph has the sizes given.
+-- Assumes nothing.
+use Prim.Native.Nat.{ℕ, zero, suc, _≤_}
 use native.Mathlib.Omega.{arith}
 use mathlib.Core.Path.{_≡_, refl, sym, ap₂, subst}
-use mathlib.Core.Bool.{Bool, true, false, not, _&&_, _||_}
+use mathlib.Core.Bool.{Bool, true, false, not}
 use mathlib.Core.List.{List, [], _∷_, _++_, map}
 use lib.Dec.{T}
 use lib.ListN.{length, length-append}
@@ -26,7 +26,7 @@ use Rattle.sheet.specs.Encode.Laws.{constraints-length}
 use Rattle.sheet.specs.Accepted.{Accepted}
 use Rattle.sheet.specs.Accepted.Laws.{taken, accepted-most}
 use Rattle.sheet.specs.Graph.{sizeOf, sizeIn, graphOf}
-use Rattle.round.specs.First.{opening, sizeBit, sizeBytes, sizeGiven, constraintsBytes, firstBytes}
+use Rattle.round.specs.First.{sizeBit, sizeBytes, sizeGiven, constraintsBytes, firstBytes}
 use Rattle.round.specs.First.Laws.{Straight}
 
 -- ---- under PF01 no element is a circle
