@@ -1,5 +1,5 @@
 -- The elements under PF02 in the bytes s: the kinds at a place, and the radii after them (document 02, 2026-01).
-use Prim.Native.Nat.{ℕ, _+_, _*_, _/_, _<_}
+use Prim.Native.Nat.{ℕ, _+_, _*_, _/_}
 use mathlib.Core.Path.{_≡_}
 use mathlib.Core.Bool.{Bool, true}
 use mathlib.Core.List.{List, [], _∷_}

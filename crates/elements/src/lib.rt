@@ -10,7 +10,7 @@ ghost use Rattle.theory.specs.Set.{at as digit};
 ghost use Rattle.sheet.specs.declared.Opening.the-variants.{Pf01, Pf02};
 ghost use Rattle.sheet.specs.Facts.{bitOf};
 ghost use Rattle.sheet.specs.Rules.{kindBitsUsed};
-ghost use Rattle.sheet.specs.Decode.{element, readElements};
+ghost use Rattle.sheet.specs.Decode.{element};
 ghost use Rattle.elements.specs.Answers.{elementsField, ElementsRead, kindsRule};
 ghost use Rattle.elements.specs.Round.{roundNumber, roundKinds, SetsOf, ElementRead, RadiiRead};
 use fields::Cursor;
@@ -150,7 +150,9 @@ fn read_radii(s: &[u8], at: usize, n: usize, radii: &mut [u32; 64]) -> PlaceRead
     requires { ⌜ (n ≤ 64) × (at + (n + 3) / 4 ≤ length (now s)) × (length (now radii) ≡ 64) ⌝ }
     ensures { λ r. ⌜ RadiiRead (roundKinds (now (s .entry)) at n) (now (s .entry)) (at + (n + 3) / 4) (now (radii .exit)) r ⌝ }
 {
-    let mut c = Cursor { at: at + (n + 3) / 4 };
+    let mut c = Cursor {
+        at: at + (n + 3) / 4,
+    };
     let mut i: usize = 0;
     while i < n {
         let got = read_element(s, c, kind_of(s, at, i), i, radii);

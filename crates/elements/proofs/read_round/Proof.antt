@@ -1,9 +1,9 @@
 -- `elements::read_round` meets its contract: rules 2, 4 and 18 of the kinds, then the radii. Assumes nothing.
 use borrow.Author.Needs.{needs}
-use Prim.Native.Nat.{ℕ, _+_, _/_, _≤_}
+use Prim.Native.Nat.{_+_, _/_, _≤_}
 use native.Mathlib.Omega.{arith}
 use mathlib.Core.Path.{_≡_, sym, ap, _∙_}
-use mathlib.Core.Bool.{Bool, true}
+use mathlib.Core.Bool.{true}
 use mathlib.Core.List.{[]}
 use borrow.Author.Tests.{leb-true, leb-false, not-true, not-false}
 use lib.ListN.{length, drop}
@@ -37,8 +37,8 @@ returns-2 c =
 -- no bit stands above the last element's
 used : (c : tie.Else2)
     → kindBitsUsed Pf02 (c .before .before .before .before .before .args .n) (roundNumber (c .before .before .before .before .before .args .s .now)
-        (c .before .before .before .before .before .args .c .at) (c .before .before .before .before .before .args .n))
-        ≡ true
+    (c .before .before .before .before .before .args .c .at) (c .before .before .before .before .before .args .n))
+    ≡ true
 used c = sym (c .before .round-bits-used .ensures) ∙ not-false _ (c .if2 .left)
 
 returns-3 : tie.Need-returns-3
@@ -51,9 +51,9 @@ returns-3 c =
 -- each kind is known
 sets : (c : tie.Else3)
     → SetsOf (roundKinds (c .before .before .before .before .before .before .before .before .args .s .now)
-        (c .before .before .before .before .before .before .before .before .args .c .at)
-        (c .before .before .before .before .before .before .before .before .args .n))
-        (c .before .before .read-sets .result .lines) (c .before .before .read-sets .result .circles) true
+    (c .before .before .before .before .before .before .before .before .args .c .at)
+    (c .before .before .before .before .before .before .before .before .args .n))
+    (c .before .before .read-sets .result .lines) (c .before .before .read-sets .result .circles) true
 sets c = rw (not-false (c .before .before .read-sets .result .known) (c .if3 .left)) at (c .before .before .read-sets .ensures)
 
 returns-4 : tie.Need-returns-4

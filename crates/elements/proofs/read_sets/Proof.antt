@@ -1,10 +1,10 @@
 -- `elements::read_sets` meets its contract: the sets of the kinds from i on; the numbers stay below 2 ^ 64. Assumes nothing.
 use borrow.Author.Needs.{needs}
-use Prim.Native.Nat.{ℕ, _+_, _*_, _-_, _/_, _<_, _≤_, _^_}
+use Prim.Native.Nat.{ℕ, _+_, _*_, _-_, _<_, _≤_, _^_}
 use native.Mathlib.Omega.{arith}
-use mathlib.Core.Path.{_≡_, sym, ap, _∙_}
+use mathlib.Core.Path.{_≡_}
 use lib.Dec.{eqb}
-use lib.ListN.{length, drop, getD, drop-of-length-le}
+use lib.ListN.{length, drop, drop-of-length-le}
 use Rattle.sheet.specs.declared.Opening.the-variants.{Pf02}
 use Rattle.sheet.specs.Facts.Laws.{kindsOf-length}
 use Rattle.elements.specs.Round.{roundNumber, roundKinds, placesOf, SetsOf}
@@ -33,7 +33,7 @@ loop-holds c =
 -- the numbers stay below 2 ^ 64
 fits : (c : tie.In-loop Inv-loop μ-loop) (j : ℕ)
     → 2 * placesOf j (drop (c .before .loop .i) (roundKinds (c .before .before .before .args .s .now) (c .before .before .before .args .at)
-        (c .before .before .before .args .n))) + 1 < 2 ^ 64
+    (c .before .before .before .args .n))) + 1 < 2 ^ 64
 fits c j =
     let s = c .before .before .before in
     places-small j (roundKinds (s .args .s .now) (s .args .at) (s .args .n)) (s .args .n) (c .before .loop .i) (ks-long s) (s .pre .0)
@@ -65,8 +65,13 @@ loop-again c =
     let h : a .i - 1 < s .args .n = omega arith in
     let k = b .kind-of .ensures (s .args .n) h (s .pre .1) in (
       omega arith,
-      rw (kind-before ks (s .args .n) (a .i) (ks-long s) (t .loop-test .taken) (a .inv .0), ← k, c .also-known .ensures, c .before .bit2 .ensures,
-          c .before .before .bit .ensures)
+      rw (
+        kind-before ks (s .args .n) (a .i) (ks-long s) (t .loop-test .taken) (a .inv .0),
+        ← k,
+        c .also-known .ensures,
+        c .before .bit2 .ensures,
+        c .before .before .bit .ensures,
+      )
           (sets-more (b .kind-of .result) (a .inv .1)),
     )
 

@@ -1,7 +1,7 @@
 -- `elements::read_straight` meets its contract: a number, and then rule 4. Assumes nothing.
 use borrow.Author.Needs.{needs}
 use native.Mathlib.Omega.{arith}
-use mathlib.Core.Path.{_≡_, sym, ap, _∙_}
+use mathlib.Core.Path.{sym, ap, _∙_}
 use mathlib.Core.List.{[]}
 use borrow.Author.Tests.{ltb-true, not-true, not-false}
 use lib.ListN.{drop}

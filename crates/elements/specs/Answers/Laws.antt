@@ -1,20 +1,19 @@
 -- The elements by their opening: under PF01 a bit each and no radius, under PF02 rules 2, 4 and 18 and then the radii. Assumes nothing.
-use Prim.Native.Nat.{ℕ, zero, suc, _+_, _*_, _-_, _/_, _%_, _^_, _<_, _≤_}
+use Prim.Native.Nat.{ℕ, zero, suc, _+_, _*_, _/_, _%_, _^_, _<_, _≤_}
 use native.Mathlib.Nat.{pow-zero, pow-succ'}
 use native.Mathlib.Omega.{arith}
 use mathlib.Core.Path.{_≡_, refl, sym, ap, _∙_, subst}
-use mathlib.Core.Bool.{Bool, true, false}
+use mathlib.Core.Bool.{true, false}
 use mathlib.Core.List.{List, [], _∷_}
 use lib.Dec.{ltb}
 use lib.ListN.{length, drop, length-map}
 use Rattle.sheet.specs.declared.Opening.the-variants.{Pf01, Pf02}
 use Rattle.sheet.specs.declared.Kind.the-variants.{Point, Line}
-use Rattle.sheet.specs.declared.Kinds.{Kinds}
 use Rattle.sheet.specs.declared.Element.{Element}
 use Rattle.sheet.specs.Facts.{kindsOf, kindDigit, bitOf, isLine, isCircle, linesOf, setOf, kindAt}
 use Rattle.sheet.specs.Facts.Kinds.{KindsIn, circlesOf}
 use Rattle.sheet.specs.Facts.Laws.{digitsOf, kindsOf-length}
-use Rattle.sheet.specs.Field.{Field, value, refused, field}
+use Rattle.sheet.specs.Field.{value, refused, field}
 use Rattle.sheet.specs.Rules.{kindBitsUsed, kindsKnown}
 use Rattle.sheet.specs.Decode.{readKinds, element, readElements}
 use Rattle.elements.specs.Answers.{elementsField}

@@ -1,9 +1,9 @@
 -- The elements under PF02, read one after the other: each radius in its place, and the sets of what was read. Assumes nothing.
-use Prim.Native.Nat.{ℕ, zero, suc, _+_, _*_, _/_, _<_, _≤_}
+use Prim.Native.Nat.{ℕ, zero, suc, _+_, _<_, _≤_}
 use native.Mathlib.Decide.{ℕ-discrete}
 use native.Mathlib.Omega.{arith}
 use mathlib.Core.Path.{_≡_, refl, sym, ap, _∙_, subst}
-use mathlib.Core.Bool.{Bool, true, false}
+use mathlib.Core.Bool.{true, false}
 use mathlib.Core.List.{List, [], _∷_, _++_, append-nil, append-assoc}
 use borrow.Author.Tests.{ltb-true}
 use lib.Dec.{T, eqb, ltb}
@@ -110,7 +110,7 @@ stand-more es x i radii radii1 count h st j e = go (ℕ-discrete j (length es))
 module _ {ks s : List ℕ} {from i place : ℕ} {radii : List ℕ} (h : Partway ks s from i place radii) where
   turned : i < length ks
       → readElements (drop i ks) (drop place s)
-          ≡ next (element (getD ks i 0) (drop place s)) (λ y s1. next (readElements (drop (suc i) ks) s1) (λ xs s2. value (y ∷ xs) s2))
+      ≡ next (element (getD ks i 0) (drop place s)) (λ y s1. next (readElements (drop (suc i) ks) s1) (λ xs s2. value (y ∷ xs) s2))
   unfolding readElements
   turned l = ap (λ (m : List ℕ). readElements m (drop place s)) (drop-cons ks i 0 l)
 

@@ -45,7 +45,7 @@ module _ (s : List ℕ) (all : Bytes s) (from n : ℕ) where
 
   pub round-kind : (i : ℕ) → i < n
       → getD (roundKinds s from n) i 0
-          ≡ at (2 * (i % 4)) (getD s (from + i / 4) 0) + 2 * at (2 * (i % 4) + 1) (getD s (from + i / 4) 0)
+      ≡ at (2 * (i % 4)) (getD s (from + i / 4) 0) + 2 * at (2 * (i % 4) + 1) (getD s (from + i / 4) 0)
   round-kind i l =
       round-kind-byte (take ((n + 3) / 4) (drop from s)) (bytes-take ((n + 3) / 4) (drop from s) (bytes-drop from s all)) n i l
       ∙ ap (λ (b : ℕ). at (2 * (i % 4)) b + 2 * at (2 * (i % 4) + 1) b) (in-byte (i / 4) (omega arith))
@@ -91,7 +91,6 @@ last-byte (suc q) r (b ∷ t) l e h =
 pub last-used : (s : List ℕ) → Bytes s → (from n : ℕ) → 0 < n → from + (n + 3) / 4 ≤ length s
     → kindBitsUsed Pf02 n (roundNumber s from n) ≡ eqb (getD s (from + (n - 1) / 4) 0 / 2 ^ (2 * ((n - 1) % 4 + 1))) 0
 last-used s all from n some room =
-    let t : List ℕ = take ((n + 3) / 4) (drop from s) in
     let fits : (n + 3) / 4 ≤ length (drop from s) = rw (length-drop from s) (omega arith) in
     let bytes : (n + 3) / 4 ≡ suc ((n - 1) / 4) = omega arith in
     let long : length (take ((n + 3) / 4) (drop from s)) ≡ suc ((n - 1) / 4) = length-take-le ((n + 3) / 4) (drop from s) fits ∙ bytes in
@@ -99,7 +98,7 @@ last-used s all from n some room =
     let two : suc ((n - 1) % 4) ≡ (n - 1) % 4 + 1 = omega arith in
     ap (λ (m : ℕ). ltb (number (take ((n + 3) / 4) (drop from s))) (4 ^ m)) n-is
     ∙ last-byte ((n - 1) / 4) ((n - 1) % 4) (take ((n + 3) / 4) (drop from s)) (omega arith) long
-        (bytes-take ((n + 3) / 4) (drop from s) (bytes-drop from s all))
+    (bytes-take ((n + 3) / 4) (drop from s) (bytes-drop from s all))
     ∙ ap (λ (b : ℕ). eqb (b / 2 ^ (2 * suc ((n - 1) % 4))) 0) (in-byte s all from n ((n - 1) / 4) (omega arith))
     ∙ ap (λ (m : ℕ). eqb (getD s (from + (n - 1) / 4) 0 / 2 ^ (2 * m)) 0) two
 
