@@ -17,7 +17,8 @@ ghost use Rattle.sheet.specs.Noted.{Noted};
 ghost use Rattle.graph.specs.Lent.{InArrays};
 ghost use Rattle.fields.specs.Answers.{asPlace};
 ghost use Rattle.reader.specs.Answers.{openingRule, asOpening, asEnds, endsRule, Ascending, codeIn, sizeRule, asSize, announced, dimensionBy};
-ghost use Rattle.reader.specs.Answers.{frontRule, codesRule, graphRule, ListRead, asReading, outcomeNumber};
+ghost use Rattle.reader.specs.Answers.{frontRule, Fronted, codesRule, SheetRead, graphRule, GraphIs, ListRead, asReading, outcomeNumber};
+use elements::KindsRead;
 use fields::ByteRead;
 use fields::Cursor;
 use fields::NumberRead;
@@ -394,5 +395,107 @@ pub fn refusal(o: Outcome) -> u8
     match o {
         Outcome::Accepted => 0,
         Outcome::Refused(k) => k,
+    }
+}
+
+// All before the constraints: rules 1 to 5, 18 and 19.
+fn read_front(s: &[u8], radii: &mut [u32; 64]) -> FrontRead
+    requires { ⌜ length (now radii) ≡ 64 ⌝ }
+    ensures { λ r. ⌜ Fronted (readSheet (now (s .entry))) (now (s .entry)) (now (radii .exit)) r ⌝ }
+{
+    let first = read_opening(s);
+    let OpeningRead::Value(opening, c1) = first else {
+        return FrontRead::Refused(first.refusal());
+    };
+    let count = fields::read_byte(s, c1);
+    let ByteRead::Value(b, c2) = count else {
+        return FrontRead::Refused(count.refusal());
+    };
+    let n = b as usize;
+    if !sheet::elements_in_range(n) {
+        return FrontRead::Refused(3);
+    }
+    let got = elements::read_elements(s, c2, opening, n, radii);
+    let KindsRead::Value(kinds, c3) = got else {
+        return FrontRead::Refused(got.refusal());
+    };
+    let listed = fields::read_byte(s, c3);
+    let ByteRead::Value(k, c4) = listed else {
+        return FrontRead::Refused(listed.refusal());
+    };
+    let e = k as usize;
+    if !sheet::constraints_in_range(e) {
+        return FrontRead::Refused(5);
+    }
+    let front = Front {
+        opening,
+        n,
+        e,
+        kinds,
+    };
+    FrontRead::Value(front, c4)
+}
+
+// The sheet that any bytes stand for, in arrays that were blank and in the radii, or the rule that refuses them.
+pub fn read_codes(
+    s: &[u8],
+    near: &mut [u64; 64],
+    start: &mut [u64; 200],
+    codes: &mut [i32; 200],
+    radii: &mut [u32; 64],
+) -> CodesRead
+    requires { ⌜ (now near ≡ replicate 64 0) × (now start ≡ replicate 200 0) × (now codes ≡ replicate 200 (pos 0)) × (length (now radii) ≡ 64) ⌝ }
+    ensures { λ r. ⌜ SheetRead (readSheet (now (s .entry))) r (now (near .exit)) (now (start .exit)) (now (codes .exit)) (now (radii .exit)) ⌝ }
+{
+    let front = read_front(s, radii);
+    let FrontRead::Value(h, c) = front else {
+        return CodesRead::Refused(front.refusal());
+    };
+    let kinds = h.kinds;
+    let rest = read_constraints(s, c, h.n, kinds, radii, 0, h.e, near, start, codes);
+    let Outcome::Accepted = rest else {
+        return CodesRead::Refused(refusal(rest));
+    };
+    CodesRead::Value(h)
+}
+
+// The constraint graph of the sheet that any bytes stand for, in arrays that were blank, or the rule that refuses them.
+pub fn read_graph(
+    s: &[u8],
+    near: &mut [u64; 64],
+    start: &mut [u64; 200],
+    sizes: &mut [i32; 200],
+) -> GraphRead
+    requires { ⌜ (now near ≡ replicate 64 0) × (now start ≡ replicate 200 0) × (now sizes ≡ replicate 200 (pos 0)) ⌝ }
+    ensures { λ r. ⌜ GraphIs (readSheet (now (s .entry))) r (now (near .exit)) (now (start .exit)) (now (sizes .exit)) ⌝ }
+{
+    let mut radii = [0u32; 64];
+    let got = read_codes(s, near, start, sizes, &mut radii);
+    let CodesRead::Value(h) = got else {
+        return GraphRead::Refused(got.refusal());
+    };
+    let kinds = h.kinds;
+    if kinds.circles != 0 {
+        graph::measure(h, start, sizes, &radii);
+    }
+    GraphRead::Value(graph::head_of(h))
+}
+
+// The sheet that any bytes stand for, or the rule that refuses them.
+pub fn read_sheet(s: &[u8]) -> Reading
+    ensures { λ r. ⌜ r ≡ asReading (readSheet (now (s .entry))) ⌝ }
+{
+    let mut near = [0u64; 64];
+    let mut start = [0u64; 200];
+    let mut codes = [0i32; 200];
+    let mut radii = [0u32; 64];
+    let got = read_codes(s, &mut near, &mut start, &mut codes, &mut radii);
+    let CodesRead::Value(h) = got else {
+        return refuse(got.refusal());
+    };
+    let sheet = graph::sheet_of(h, &start, &codes, &radii);
+    Reading {
+        outcome: Outcome::Accepted,
+        sheet,
     }
 }
