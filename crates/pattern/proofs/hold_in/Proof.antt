@@ -2,7 +2,7 @@
 use borrow.Author.Needs.{needs}
 use mathlib.Core.Path.{_≡_, refl, sym, ap, _∙_}
 use Rattle.sheet.specs.Facts.{factsOf}
-use Rattle.sheet.specs.Field.{value, Bytes}
+use Rattle.sheet.specs.Field.{value}
 use Rattle.sheet.specs.Rules.{sheetFault}
 use Rattle.sheet.specs.Accepted.Laws.{factsOf-sheetOf, sheetOf-fault}
 use Rattle.sheet.specs.Graph.{graphOf, overFault}
@@ -24,9 +24,7 @@ read : (c : tie.After-start2)
     (c .before .before .before .before .before .read-graph .last .1 .0) (c .before .before .before .before .before .read-graph .last .1 .1 .0)
     (c .before .before .before .before .before .read-graph .last .1 .1 .1 .0)
 read c =
-    let all : Bytes _ =
-    record { each = λ i. c .before .before .before .before .before .before .before .before .before .before .shared-slice-known .given i .fits } in
-    facts-read _ (c .before .before .before .before .before .read-graph .ensures) all (c .before .before .before .got .given .1)
+    facts-read _ (c .before .before .before .before .before .read-graph .ensures) (c .before .before .before .got .given .1)
 
 over-is : (c : tie.After-over-fault) → c .over-fault .result ≡ overFault (graphOf (read (c .before) .facts))
 over-is c = c .over-fault .ensures _ ∙ ap overFault (read (c .before) .graph-read)
@@ -46,7 +44,7 @@ module _ (c : tie.After-sheet-of) where
 
   no-fault : sheetFault (c .sheet-of .result) ≡ 0
   no-fault =
-      let f = read sheet-read in ap sheetFault (c .sheet-of .ensures (f .facts) _ (f .sheet-in)) ∙ sheetOf-fault (f .facts) (f .sheet-in .accepted)
+      let f = read sheet-read in ap sheetFault (c .sheet-of .ensures (f .facts) _ (f .sheet-in)) ∙ sheetOf-fault (f .facts) (f .stands .accepted)
 
 returns-3 : tie.Need-returns-3
 unfolding heldSheet
