@@ -10,7 +10,7 @@ use Rattle.pattern.proofs.chain.Tie as tie
 returns : tie.Need-returns
 unfolding heldSheet
 returns c =
-    rw (refused-read _ (c .before .before .before .read-graph .ensures) (c .before .enum-told .given .1) (c .refusal .ensures)) (refl, refl)
+    rw (refused-read _ _ _ _ _ (c .before .before .before .read-graph .ensures) (c .before .enum-told .given .1) (c .refusal .ensures)) (refl, refl)
 
 -- the facts of the sheet
 read : (c : tie.After-start2)
@@ -19,7 +19,7 @@ read : (c : tie.After-start2)
     (c .before .before .before .before .before .read-graph .last .1 .0) (c .before .before .before .before .before .read-graph .last .1 .1 .0)
     (c .before .before .before .before .before .read-graph .last .1 .1 .1 .0)
 read c =
-    facts-read _ (c .before .before .before .before .before .read-graph .ensures) (c .before .before .before .got .given .1)
+    facts-read _ _ _ _ _ (c .before .before .before .before .before .read-graph .ensures) (c .before .before .before .got .given .1)
 
 returns-2 : tie.Need-returns-2
 returns-2 c =

@@ -18,7 +18,7 @@ use Rattle.pattern.proofs.check_plan.Tie as tie
 returns : tie.Need-returns
 unfolding heldSheet
 returns c =
-    answers-refused (rw (refused-read _ (c .before .before .before .read-graph .ensures) (c .before .enum-told .given .1) (c .refusal .ensures)))
+    answers-refused (rw (refused-read _ _ _ _ _ (c .before .before .before .read-graph .ensures) (c .before .enum-told .given .1) (c .refusal .ensures)))
 
 -- the facts of the sheet
 read : (c : tie.After-check-plan-arg)
@@ -28,7 +28,7 @@ read : (c : tie.After-check-plan-arg)
     (c .before .before .before .before .before .before .before .read-graph .last .1 .1 .0)
     (c .before .before .before .before .before .before .before .read-graph .last .1 .1 .1 .0)
 read c =
-    facts-read _ (c .before .before .before .before .before .before .before .read-graph .ensures)
+    facts-read _ _ _ _ _ (c .before .before .before .before .before .before .before .read-graph .ensures)
     (c .before .before .before .before .before .got .given .1)
 
 -- the answer goes by the graph alone

@@ -14,7 +14,7 @@ use Rattle.pattern.proofs.hold.Tie as tie
 returns : tie.Need-returns
 unfolding heldSheet
 returns c =
-    rw (refused-read _ (c .before .before .before .before .read-graph .ensures) (c .before .before .enum-told .given .1)
+    rw (refused-read _ _ _ _ _ (c .before .before .before .before .read-graph .ensures) (c .before .before .enum-told .given .1)
     (c .before .refusal .ensures))
     (c .refuse .ensures)
 
@@ -25,7 +25,7 @@ read : (c : tie.After-start2)
     (c .before .before .before .before .before .read-graph .last .1 .0) (c .before .before .before .before .before .read-graph .last .1 .1 .0)
     (c .before .before .before .before .before .read-graph .last .1 .1 .1 .0)
 read c =
-    facts-read _ (c .before .before .before .before .before .read-graph .ensures) (c .before .before .before .got .given .1)
+    facts-read _ _ _ _ _ (c .before .before .before .before .before .read-graph .ensures) (c .before .before .before .got .given .1)
 
 over-is : (c : tie.After-over-fault) → c .over-fault .result ≡ overFault (graphOf (read (c .before) .facts))
 over-is c = c .over-fault .ensures _ ∙ ap overFault (read (c .before) .graph-read)

@@ -12,7 +12,7 @@ use Rattle.pattern.proofs.over.Tie as tie
 
 returns : tie.Need-returns
 returns c =
-    answers-refused (rw (refused-read _ (c .before .before .before .read-graph .ensures) (c .before .enum-told .given .1) (c .refusal .ensures)))
+    answers-refused (rw (refused-read _ _ _ _ _ (c .before .before .before .read-graph .ensures) (c .before .enum-told .given .1) (c .refusal .ensures)))
 
 -- the facts of the sheet
 read : (c : tie.After-start2)
@@ -21,7 +21,7 @@ read : (c : tie.After-start2)
     (c .before .before .before .before .before .read-graph .last .1 .0) (c .before .before .before .before .before .read-graph .last .1 .1 .0)
     (c .before .before .before .before .before .read-graph .last .1 .1 .1 .0)
 read c =
-    facts-read _ (c .before .before .before .before .before .read-graph .ensures) (c .before .before .before .got .given .1)
+    facts-read _ _ _ _ _ (c .before .before .before .before .before .read-graph .ensures) (c .before .before .before .got .given .1)
 
 found : (c : tie.After-over-of) → findingOf (graphOf (read (c .before) .facts)) ≡ c .over-of .result
 found c = sym (c .over-of .ensures [] ∙ ap (λ (g : Graph). findingOf g) (read (c .before) .graph-read))

@@ -15,7 +15,7 @@ use Rattle.pattern.proofs.plan.Tie as tie
 
 returns : tie.Need-returns
 returns c =
-    answers-refused (rw (refused-read _ (c .before .before .before .read-graph .ensures) (c .before .enum-told .given .1) (c .refusal .ensures)))
+    answers-refused (rw (refused-read _ _ _ _ _ (c .before .before .before .read-graph .ensures) (c .before .enum-told .given .1) (c .refusal .ensures)))
 
 -- the facts of the sheet
 read : (c : tie.After-start2)
@@ -24,7 +24,7 @@ read : (c : tie.After-start2)
     (c .before .before .before .before .before .read-graph .last .1 .0) (c .before .before .before .before .before .read-graph .last .1 .1 .0)
     (c .before .before .before .before .before .read-graph .last .1 .1 .1 .0)
 read c =
-    facts-read _ (c .before .before .before .before .before .read-graph .ensures) (c .before .before .before .got .given .1)
+    facts-read _ _ _ _ _ (c .before .before .before .before .before .read-graph .ensures) (c .before .before .before .got .given .1)
 
 judged : (c : tie.After-judge) → Held (graphOf (read (c .before) .facts)) (accepted-sound _ (read (c .before) .stands .accepted)) (c .judge .result)
 judged c =

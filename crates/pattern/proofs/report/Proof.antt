@@ -12,7 +12,7 @@ use Rattle.pattern.proofs.report.Tie as tie
 
 returns : tie.Need-returns
 returns c =
-    answers-refused (rw (refused-read _ (c .before .before .before .read-graph .ensures) (c .before .enum-told .given .1) (c .refusal .ensures)))
+    answers-refused (rw (refused-read _ _ _ _ _ (c .before .before .before .read-graph .ensures) (c .before .enum-told .given .1) (c .refusal .ensures)))
 
 -- the facts of the sheet
 read : (c : tie.After-report-arg)
@@ -22,7 +22,7 @@ read : (c : tie.After-report-arg)
     (c .before .before .before .before .before .before .before .read-graph .last .1 .1 .0)
     (c .before .before .before .before .before .before .before .read-graph .last .1 .1 .1 .0)
 read c =
-    facts-read _ (c .before .before .before .before .before .before .before .read-graph .ensures)
+    facts-read _ _ _ _ _ (c .before .before .before .before .before .before .before .read-graph .ensures)
     (c .before .before .before .before .before .got .given .1)
 
 returns-2 : tie.Need-returns-2

@@ -10,7 +10,7 @@ use Rattle.pattern.proofs.saved_listing.Tie as tie
 returns : tie.Need-returns
 returns c =
     refused-listed (λ g. savedRecords g (c .before .before .before .before .before .before .before .before .before .before .args .plan .now)) _
-    (refused-read _ (c .before .before .before .before .read-graph .ensures) (c .before .before .enum-told .given .1) (c .before .refusal .ensures))
+    (refused-read _ _ _ _ _ (c .before .before .before .before .read-graph .ensures) (c .before .before .enum-told .given .1) (c .before .refusal .ensures))
     (c .refused .ensures)
 
 -- the facts of the sheet
@@ -21,7 +21,7 @@ read : (c : tie.After-sizes2)
     (c .before .before .before .before .before .before .read-graph .last .1 .1 .0)
     (c .before .before .before .before .before .before .read-graph .last .1 .1 .1 .0)
 read c =
-    facts-read _ (c .before .before .before .before .before .before .read-graph .ensures) (c .before .before .before .before .got .given .1)
+    facts-read _ _ _ _ _ (c .before .before .before .before .before .before .read-graph .ensures) (c .before .before .before .before .got .given .1)
 
 returns-2 : tie.Need-returns-2
 returns-2 c =

@@ -33,7 +33,7 @@ pub record FactsRead (bytes : List ℕ) (h : Head) (near start : List ℕ) (size
   pub drawn-is : Drawn h near start
   pub graph-read : graphIn h start sizes ≡ graphOf facts
 
-module _ (bytes : List ℕ) {r : GraphRead} {near start : List ℕ} {sizes : List ℤ} (got : GraphIs (readSheet bytes) r near start sizes) where
+module _ (bytes : List ℕ) (r : GraphRead) (near start : List ℕ) (sizes : List ℤ) (got : GraphIs (readSheet bytes) r near start sizes) where
   told : {k : GraphRead} → r ≡ k → GraphIs (readSheet bytes) k near start sizes
   told e = subst (λ (k : GraphRead). GraphIs (readSheet bytes) k near start sizes) e got
 
@@ -56,7 +56,7 @@ pub record SheetFound (bytes : List ℕ) (h : Front) (near start : List ℕ) (si
   pub drawn-is : Drawn (headIn h) near start
   pub graph-read : graphIn (headIn h) start (sizesOf facts) ≡ graphOf facts
 
-module _ (bytes : List ℕ) {r : CodesRead} {near start radii : List ℕ} {sizes : List ℤ} (got : SheetRead (readSheet bytes) r near start sizes radii) where
+module _ (bytes : List ℕ) (r : CodesRead) (near start : List ℕ) (sizes : List ℤ) (radii : List ℕ) (got : SheetRead (readSheet bytes) r near start sizes radii) where
   told-sheet : {k : CodesRead} → r ≡ k → SheetRead (readSheet bytes) k near start sizes radii
   told-sheet e = subst (λ (k : CodesRead). SheetRead (readSheet bytes) k near start sizes radii) e got
 

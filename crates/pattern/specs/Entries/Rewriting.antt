@@ -76,7 +76,7 @@ record Counted (ks : List ℕ) (es : List Element) : Type 0 where
   circles : circlesAmong ks ≡ ones (circlesOf es)
 
 counted : (ks s : List ℕ) {es : List Element} {t : List ℕ} → kindsKnown ks ≡ true → readElements ks s ≡ value es t → Counted ks es
-unfolding readElements kindsKnown circlesAmong setOf
+unfolding readElements kindsKnown circlesAmong setOf ones
 counted [] s known e = value-with (λ es t. Counted [] es) e (record { long = refl; circles = refl })
 counted (k ∷ ks) s known e =
     let both = and-true (ltb k 3) (kindsKnown ks) known in
