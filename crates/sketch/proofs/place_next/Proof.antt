@@ -36,23 +36,23 @@ small c = let d = drawn-in (c .pre .1) in (d .sound .most, d .few)
 
 returns : tie.Need-returns
 returns c = λ f a.
-    let s = c .before in
+    let s = c .before .before in
     refused-in f _ _ 27
     (place-over f _ _ (more-fault f (a .accepted) (omega (arith, c .if1 .taken, elements s a, count s a)))) (λ z. omega arith)
 
 returns-2 : tie.Need-returns-2
 returns-2 c = λ f a.
-    let s = c .before .before .before .before .before in
+    let s = c .before .before .before .before .before .before in
     unless-in a (s .args .c) (s .args .held) 24 (c .unless-over .ensures) (λ z. omega arith)
     (place-stale f _ _ (λ e. c .before .before .before .if2 .taken (e ∙ sym (count s a))))
 
 constraint-fault-requires : tie.Need-constraint-fault-requires
-constraint-fault-requires c κs = small (c .before .before .before) .0
+constraint-fault-requires c κs = small (c .before .before .before .before) .0
 
 -- the number is the one held, and the constraint is tried by 6 to 9
 module _ (c : tie.After-constraint-fault) where
   abbrev offered : tie.Start
-  offered = c .before .before .before .before
+  offered = c .before .before .before .before .before
 
   module _ {f : Facts}
       (a : SheetIn f (offered .args .h) (offered .args .near .now) (offered .args .start .now) (offered .args .codes .now) (offered .args .radii .now)) where
@@ -144,8 +144,8 @@ returns-5 c = λ f a.
 pub place-next-spec : {M : Type 1} → statement M
 place-next-spec =
     tie.close
-    (tie.spec (λ c. omega (arith, small c)) (λ c. omega (arith, small c)) returns (λ c κs. drawn-in (c .before .before .before .before .pre .1)) returns-2
-    constraint-fault-requires (λ c κs. drawn-in (c .before .before .before .before .before .before .before .pre .1)) returns-3
-    (λ c. omega (arith, small (c .before .before .before .before .before))) (λ c. omega (arith, small (c .before .before .before .before .before)))
-    (λ c κs. drawn-in (c .before .before .before .before .before .before .before .before .pre .1)) returns-4 (λ c κs. search needs) note-requires
-    (λ c. omega (arith, small (c .before .before .before .before .before .before .before .before .before .before .before))) judge-last-requires returns-5)
+    (tie.spec (λ c. omega (arith, small (c .before))) (λ c. omega (arith, small (c .before))) returns
+    (λ c κs. drawn-in (c .before .before .before .before .before .pre .1)) returns-2 constraint-fault-requires
+    (λ c κs. drawn-in (offered (c .before .before .before) .pre .1)) returns-3 (λ c. omega (arith, small (start c))) (λ c. omega (arith, small (start c)))
+    (λ c κs. drawn-in (start (c .before .before .before) .pre .1)) returns-4 (λ c κs. search needs) note-requires
+    (λ c. omega (arith, small (start (took c)))) judge-last-requires returns-5)

@@ -2,7 +2,7 @@
 use Prim.Native.Nat.{ℕ, zero, suc, _+_, _≤_, _<_}
 use native.Mathlib.Numerals.{add-one}
 use native.Mathlib.Omega.{arith}
-use mathlib.Core.Path.{_≡_, refl, _∙_}
+use mathlib.Core.Path.{_≡_, refl, _∙_, ap, sym}
 use mathlib.Core.Bool.{true}
 use mathlib.Core.List.{List, [], _∷_, _++_, append-nil, append-assoc}
 use borrow.Author.Tests.{le-leb, eq-eqb}
@@ -21,6 +21,7 @@ use Rattle.sheet.specs.Graph.Laws.{length-clusters, fault-none}
 use Rattle.theory.specs.Graph.{verdictOf}
 use Rattle.theory.specs.declared.Verdict.{Verdict}
 use Rattle.graph.specs.declared.Front.{Front}
+use Rattle.graph.specs.declared.Head.{Head}
 use Rattle.graph.specs.Lent.{InArrays, SheetIn}
 use Rattle.graph.specs.Lent.Sheets.{accepted-sound, found-fine, fine-few}
 use Rattle.sketch.specs.declared.Judgement.the-variants.{Is, Refused}
@@ -73,10 +74,13 @@ pub extended-in : {f : Facts} {h : Front} {near start near′ start′ radii : L
     → SheetIn f h near start codes radii
     → length (f .constraints) < 200 → constraintFault (f .elements) (f .constraints) c ≡ 0 → InArrays (f .constraints ++ c ∷ []) near′ start′ codes′
     → SheetIn (extended f c) (record { opening = h .opening; n = h .n; e = h .e + 1; kinds = h .kinds }) near′ start′ codes′ radii
-extended-in {f} c a l k more = record {
+extended-in {f} {h} c a l k more =
+    let more-count : h .e + 1 ≡ length (f .constraints ++ c ∷ []) =
+    ap (λ (x : Head). x .e + 1) (a .head-is) ∙ sym (length-append (f .constraints) (c ∷ [])) in
+    record {
   accepted = extended-accepted f c (a .accepted) l k;
   opening-is = a .opening-is;
-  head-is = cc (a .head-is, length-append (f .constraints) (c ∷ []));
+  head-is = λ z. record { n = a .head-is z .n; e = more-count z; lines = a .head-is z .lines };
   kinds-in = a .kinds-in;
   arrays = more;
 }
