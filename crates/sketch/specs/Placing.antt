@@ -12,7 +12,7 @@ use Rattle.theory.specs.declared.Finding.the-variants.{Fine, First}
 use Rattle.sheet.specs.declared.Constraint.{Constraint}
 use Rattle.sheet.specs.Facts.{Facts}
 use Rattle.sheet.specs.Graph.{graphOf}
-use Rattle.graph.specs.declared.Head.{Head}
+use Rattle.graph.specs.declared.Front.{Front}
 use Rattle.graph.specs.Lent.{SheetIn}
 use Rattle.sketch.specs.declared.Judgement.{Judgement}
 use Rattle.sketch.specs.declared.Judgement.the-variants.{Is, Refused}
@@ -31,7 +31,12 @@ lastBy g (First k x) = Refused (lastRule k (length (g .clusters)))
 unfoldable pub lastAnswer : Graph → Judgement
 lastAnswer g = lastBy g (findingOf g)
 
+-- what precedes the constraints, with one more of them
+abbrev pub withMore : Front → Front
+withMore h = record { opening = h .opening; n = h .n; e = h .e + 1; kinds = h .kinds }
+
 -- the answer is that of placing, and where no rule refuses the arrays hold the facts with the constraint
-pub record PlacedIn (f : Facts) (c : Constraint) (held : ℕ) (h : Head) (r : Judgement) (near start : List ℕ) (sizes : List ℤ) : Type 0 where
+pub record PlacedIn (f : Facts) (c : Constraint) (held : ℕ) (h : Front) (r : Judgement) (near start : List ℕ) (codes : List ℤ) (radii : List ℕ)
+    : Type 0 where
   pub answer-is : r ≡ asJudged (placeFault f c held) (verdictOf (graphOf (extended f c)))
-  pub holds : placeFault f c held ≡ 0 → SheetIn (extended f c) (record { n = h .n; e = h .e + 1; lines = h .lines }) near start sizes
+  pub holds : placeFault f c held ≡ 0 → SheetIn (extended f c) (withMore h) near start codes radii

@@ -46,7 +46,7 @@ afterAll s (e ∷ events) = afterAll (afterOf s e) events
 -- one constraint more: the verdict of the list with it, where no rule refuses, or the rule
 pub data Told (f : Facts) (c : Constraint) : Judgement → Type 0 where
   takes : nextFault f c ≡ 0 → Told f c (Is (verdictOf (graphOf (extended f c))))
-  refuses : (k : ℕ) → Among k (6 ∷ 7 ∷ 8 ∷ 9 ∷ 11 ∷ []) → nextFault f c ≡ k → Told f c (Refused k)
+  refuses : (k : ℕ) → Among k (6 ∷ 7 ∷ 8 ∷ 20 ∷ 9 ∷ 11 ∷ []) → nextFault f c ≡ k → Told f c (Refused k)
 
 -- from the list of f, by these answers, to the list of g
 pub data Plain : Facts → List Event → List Judgement → Facts → Type 0 where
@@ -88,6 +88,7 @@ placedIn s (e ∷ events) = placedBy e (answerOf s e) ++ placedIn (afterOf s e) 
 pub record Run (s : Sheet) (events : List Event) : Type 0 where
   pub plain : Plain (factsOf s) events (answersTo s events) (factsOf (afterAll s events))
   -- the record after it is the sheet with the placed ones in that order, and may be held
+  pub opening : factsOf (afterAll s events) .opening ≡ factsOf s .opening
   pub elements : factsOf (afterAll s events) .elements ≡ factsOf s .elements
   pub constraints : factsOf (afterAll s events) .constraints ≡ factsOf s .constraints ++ placedIn s events
   pub held : Held (afterAll s events)

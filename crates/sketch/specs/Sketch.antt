@@ -1,5 +1,5 @@
 -- A held sketch by value: the blocks of a sheet. Document 01, "A held sketch": a sketch held from an accepted sheet takes one more constraint by 6, 7,
--- 8 (the missing size), 9 and 11, in that order. It is then the sheet with that constraint last, and the answer is its verdict. Document 02, 2026-05:
+-- 8 (the missing size), 9 and 11, in that order (document 02, 2026-01: contacts by 8 and 20 too). It is then the sheet with that constraint last, and the answer is its verdict. Document 02, 2026-05:
 -- asking gives the verdict, or the refusal, that the sketch with that constraint would get; placing answers as asking would, and alone alters the
 -- sketch. A record that stands for no sheet that may be held is refused by 27, before all else, and placing by 24, before 6, where the number of
 -- constraints held is another.
@@ -23,9 +23,9 @@ pub mod Laws
 
 -- the sheet with that constraint last
 abbrev pub extended : Facts → Constraint → Facts
-extended f c = record { elements = f .elements; constraints = f .constraints ++ c ∷ [] }
+extended f c = record { opening = f .opening; elements = f .elements; constraints = f .constraints ++ c ∷ [] }
 
--- one more constraint after those of the facts, by 6 to 9 and 11
+-- one more constraint after those of the facts, by 6 to 9, 20 and 11
 unfoldable pub nextFault : Facts → Constraint → ℕ
 nextFault f c = or-else (constraintFault (f .elements) (f .constraints) c) (overFault (graphOf (extended f c)))
 
@@ -64,7 +64,7 @@ placeAnswer s c held = asJudged (placeRule s c held) (verdictOf (graphOf (extend
 
 -- the constraint at place e, and e + 1 constraints
 unfoldable pub stored : Sheet → Constraint → Sheet
-stored s c = record { n = s .n; e = s .e + 1; elements = s .elements; constraints = set (s .constraints) (s .e) c }
+stored s c = record { opening = s .opening; n = s .n; e = s .e + 1; elements = s .elements; constraints = set (s .constraints) (s .e) c }
 
 -- a refusal leaves the sketch
 abbrev pub unlessRefused : ℕ → Sheet → Sheet → Sheet

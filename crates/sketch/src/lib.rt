@@ -10,6 +10,7 @@ ghost use Rattle.sheet.specs.Graph.{overFault};
 ghost use Rattle.graph.specs.Lent.{graphIn, SheetIn, Drawn};
 ghost use Rattle.sketch.specs.Sketch.{by27, stored, askAnswer, placedOf};
 ghost use Rattle.sketch.specs.Placing.{lastRule, lastAnswer, PlacedIn};
+use graph::Front;
 use graph::Head;
 use sheet::Constraint;
 use sheet::Sheet;
@@ -89,40 +90,40 @@ fn judge_last(h: Head, near: &[u64; 64], start: &[u64; 200]) -> Judgement
 // A constraint offered by the number held to the sheet in the arrays, and noted there last: its verdict, or the rule that refuses it. Whatever is
 // refused anyway is refused by 27 where the sheet is over.
 pub fn place_next(
-    h: Head,
+    h: Front,
     near: &mut [u64; 64],
     start: &mut [u64; 200],
-    sizes: &mut [i32; 200],
+    codes: &mut [i32; 200],
+    radii: &[u32; 64],
     c: Constraint,
     held: usize,
 ) -> Judgement
-    requires { ⌜ ((f : Facts) × SheetIn f h (now near) (now start) (now sizes)) ⌝ }
-    ensures { λ r. ⌜ ((f : Facts) → SheetIn f h (now (near .entry)) (now (start .entry)) (now (sizes .entry))
-        → PlacedIn f c held h r (now (near .exit)) (now (start .exit)) (now (sizes .exit))) ⌝ }
+    requires { ⌜ ((f : Facts) × SheetIn f h (now near) (now start) (now codes) (now radii)) ⌝ }
+    ensures { λ r. ⌜ ((f : Facts) → SheetIn f h (now (near .entry)) (now (start .entry)) (now (codes .entry)) (now (radii .entry))
+        → PlacedIn f c held h r (now (near .exit)) (now (start .exit)) (now (codes .exit)) (now (radii .entry))) ⌝ }
 {
     let n = h.n;
     let e = h.e;
+    let kinds = h.kinds;
+    let lines = kinds.lines;
+    let head = Head { n, e, lines };
     if 2 * n < e + 3 {
         return Judgement::Refused(27);
     }
     if held != e {
-        return Judgement::Refused(unless_over(h, near, start, 24));
+        return Judgement::Refused(unless_over(head, near, start, 24));
     }
-    let rule = sheet::constraint_fault(near, n, h.lines, c);
+    let rule = sheet::constraint_fault(near, n, kinds, radii, c);
     if rule != 0 {
-        return Judgement::Refused(unless_over(h, near, start, rule));
+        return Judgement::Refused(unless_over(head, near, start, rule));
     }
     if e + 3 == 2 * n {
-        return Judgement::Refused(unless_over(h, near, start, 11));
+        return Judgement::Refused(unless_over(head, near, start, 11));
     }
     let size = c.size;
-    let z = graph::size_of(size);
-    graph::note(near, start, sizes, e, c.first, c.second, z);
-    let next = Head {
-        n,
-        e: e + 1,
-        lines: h.lines,
-    };
+    let z = graph::code_of(size);
+    graph::note(near, start, codes, e, c.first, c.second, z);
+    let next = Head { n, e: e + 1, lines };
     judge_last(next, near, start)
 }
 
@@ -137,9 +138,10 @@ pub fn asking(s: Sheet, c: Constraint) -> Judgement
     }
     let mut near = [0u64; 64];
     let mut start = [0u64; 200];
-    let mut sizes = [0i32; 200];
-    let head = graph::fill(s, &mut near, &mut start, &mut sizes);
-    place_next(head, &mut near, &mut start, &mut sizes, c, head.e)
+    let mut codes = [0i32; 200];
+    let mut radii = [0u32; 64];
+    let front = graph::fill(s, &mut near, &mut start, &mut codes, &mut radii);
+    place_next(front, &mut near, &mut start, &mut codes, &radii, c, front.e)
 }
 
 // What placing answers, and the sketch after it.
@@ -154,9 +156,10 @@ pub fn placing(s: Sheet, c: Constraint, held: usize) -> Placed
     }
     let mut near = [0u64; 64];
     let mut start = [0u64; 200];
-    let mut sizes = [0i32; 200];
-    let head = graph::fill(s, &mut near, &mut start, &mut sizes);
-    let answer = place_next(head, &mut near, &mut start, &mut sizes, c, held);
+    let mut codes = [0i32; 200];
+    let mut radii = [0u32; 64];
+    let front = graph::fill(s, &mut near, &mut start, &mut codes, &mut radii);
+    let answer = place_next(front, &mut near, &mut start, &mut codes, &radii, c, held);
     let Judgement::Is(_) = answer else {
         return Placed { answer, sketch: s };
     };

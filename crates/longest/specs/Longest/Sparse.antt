@@ -27,7 +27,8 @@ abbrev pub clusters : ℕ → List ℕ
 clusters j = map clusterOf (strip j)
 
 pub strip-pairs : (j : ℕ) → Pairs (clusters j)
-strip-pairs j = clusters-pairs (record { opening = Pf01; elements = points (suc (suc j)); constraints = strip j }) (strip-taken (suc (suc j)) j (omega arith))
+strip-pairs j =
+    clusters-pairs (record { opening = Pf01; elements = points (suc (suc j)); constraints = strip j }) (strip-taken (suc (suc j)) j (omega arith))
 
 pub strip-below : (j : ℕ) → Below (suc (suc j)) (clusters j)
 strip-below j =

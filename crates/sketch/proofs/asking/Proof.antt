@@ -17,18 +17,18 @@ returns c = sym (ask-unsound _ _ (λ e. c .if1 .taken (c .before .sheet-fault .e
 
 returns-2 : tie.Need-returns-2
 returns-2 c =
-    let f = c .before .before .before .before in
-    let s = f .before .before .before .before .before in
+    let f = c .before .before .before .before .before in
+    let s = f .before .before .before .before .before .before in
     let facts = factsOf (s .before .args .s) in
     let one = s .before .args .c in
     let n = ap (λ (h : Head). h .e) (f .fill .ensures .head-is) in
     c .place-next .ensures facts (f .fill .ensures) .answer-is
     ∙ ap (λ (k : ℕ). asJudged k (verdictOf (graphOf (extended facts one)))) (place-asked facts one _ n)
-    ∙ sym (ask-sound _ _ (sym (s .sheet-fault .ensures) ∙ f .before .before .before .before .if1 .left))
+    ∙ sym (ask-sound _ _ (sym (s .sheet-fault .ensures) ∙ f .before .before .before .before .before .if1 .left))
 
 pub asking-spec : {M : Type 1} → statement M
 asking-spec =
     tie.close
     (tie.spec (λ c κs. search needs) returns
-    (λ c κs. (sym (c .before .before .before .before .sheet-fault .ensures) ∙ c .before .before .before .if1 .left, refl, refl, refl))
-    (λ c κs. (_, c .before .before .before .fill .ensures)) returns-2)
+    (λ c κs. (sym (c .before .before .before .before .before .sheet-fault .ensures) ∙ c .before .before .before .before .if1 .left, refl, refl, refl, refl))
+    (λ c κs. (_, c .before .before .before .before .fill .ensures)) returns-2)

@@ -30,13 +30,13 @@ returns c =
 -- facts that the writer takes, and what the constraint is answered
 module _ (c : tie.After-place-next) where
   abbrev filled : tie.After-fill
-  filled = c .before .before .before .before
+  filled = c .before .before .before .before .before
 
   abbrev start : tie.Start
-  start = filled .before .before .before .before .before .before
+  start = filled .before .before .before .before .before .before .before
 
   sound : sheetFault (start .args .s) ≡ 0
-  sound = sym (filled .before .before .before .before .before .sheet-fault .ensures) ∙ filled .before .before .before .before .if1 .left
+  sound = sym (filled .before .before .before .before .before .before .sheet-fault .ensures) ∙ filled .before .before .before .before .before .if1 .left
 
   answered : c .place-next .result ≡ placeAnswer (start .args .s) (start .args .c) (start .args .held)
   answered = c .place-next .ensures _ (filled .fill .ensures) .answer-is ∙ sym (answer-sound (start .args .s) _ _ sound)
@@ -56,7 +56,7 @@ module _ (c : tie.After-enum-told) where
   none = is-placed (start judged .args .s) _ _ (sym (answered judged) ∙ c .enum-told .given .1)
 
   long : length (start judged .args .s .constraints) ≡ 200
-  long = sym (length-map (start judged .args .s .constraints) _) ∙ start judged .good .0 .1 .1 .1 .1 .1 .0 .1 .0 .1
+  long = sym (length-map (start judged .args .s .constraints) _) ∙ start judged .good .0 .1 .1 .1 .1 .1 .1 .0 .1 .0 .1
 
   room : start judged .args .s .e < 200
   room =
@@ -81,5 +81,5 @@ pub placing-spec : {M : Type 1} → statement M
 placing-spec =
     tie.close
     (tie.spec (λ c κs. search needs) returns
-    (λ c κs. (sym (c .before .before .before .before .sheet-fault .ensures) ∙ c .before .before .before .if1 .left, refl, refl, refl))
-    (λ c κs. (_, c .before .before .before .fill .ensures)) (λ c. search needs) (λ c. search needs) returns-2 (λ c κs. room c) returns-3)
+    (λ c κs. (sym (c .before .before .before .before .before .sheet-fault .ensures) ∙ c .before .before .before .before .if1 .left, refl, refl, refl, refl))
+    (λ c κs. (_, c .before .before .before .before .fill .ensures)) (λ c. search needs) (λ c. search needs) returns-2 (λ c κs. room c) returns-3)

@@ -26,8 +26,9 @@ use Rattle.sheet.specs.Rules.Laws.{or-else-some}
 use Rattle.sheet.specs.Accepted.{Accepted}
 use Rattle.sheet.specs.Graph.{graphOf, clusterOf, overFault}
 use Rattle.sheet.specs.Graph.Laws.{fine-fault, first-fault, length-clusters}
+use Rattle.graph.specs.declared.Front.{Front}
 use Rattle.graph.specs.declared.Head.{Head}
-use Rattle.graph.specs.Lent.{graphIn, SheetIn, Sound, Drawn}
+use Rattle.graph.specs.Lent.{graphIn, headIn, SheetIn, sizesOf, Sound, Drawn}
 use Rattle.graph.specs.Lent.Sheets.{accepted-sound, found-fine, graph-is, counted}
 use Rattle.judge.specs.Telling.{Tells}
 use Rattle.sketch.specs.declared.Judgement.the-variants.{Is, Refused}
@@ -181,7 +182,7 @@ module _ (f : Facts) (c : Constraint) (held : ℕ) where
   place-asked e = ap (placeFault f c) e ∙ ask-place f c
 
   module _ (e : held ≡ length (f .constraints)) where
-    -- a rule of 6 to 9
+    -- a rule of 6 to 9 or 20
     pub place-fault : (k : ℕ) → k ≡ constraintFault (f .elements) (f .constraints) c → (k ≡ 0 → ⊥)
         → placeFault f c held ≡ or-else (by27 (overFault (graphOf f))) k
     unfolding askFault nextFault
@@ -198,8 +199,8 @@ module _ (f : Facts) (c : Constraint) (held : ℕ) where
         place-asked e ∙ rw (none, o)
 
   -- a refusal: nothing is asked of the arrays
-  pub refused-in : {h : Head} {near start : List ℕ} {sizes : List ℤ} (k : ℕ) → placeFault f c held ≡ k → (k ≡ 0 → ⊥)
-      → PlacedIn f c held h (Refused k) near start sizes
+  pub refused-in : {h : Front} {near start : List ℕ} {codes : List ℤ} {radii : List ℕ} (k : ℕ) → placeFault f c held ≡ k → (k ≡ 0 → ⊥)
+      → PlacedIn f c held h (Refused k) near start codes radii
   refused-in k e n = record {
     answer-is = sym (judged-refused k _ n) ∙ ap (λ (i : ℕ). asJudged i (verdictOf (graphOf (extended f c)))) (sym e);
     holds = λ z. absurd (n (sym e ∙ z));
@@ -211,9 +212,10 @@ some-rule zero k n e = n e
 some-rule (suc i) k n e = omega arith
 
 -- that rule, unless the sheet in the arrays is over
-pub unless-in : {f : Facts} {h : Head} {near start near′ start′ : List ℕ} {sizes sizes′ : List ℤ} → SheetIn f h near start sizes
-    → (c : Constraint) (held rule : ℕ) {r : ℕ} → ((z : List ℤ) → r ≡ or-else (by27 (overFault (graphIn h start z))) rule) → (rule ≡ 0 → ⊥)
-    → placeFault f c held ≡ or-else (by27 (overFault (graphOf f))) rule → PlacedIn f c held h (Refused r) near′ start′ sizes′
-unless-in {f} {sizes = sizes} a c held rule {r} told n e =
-    let is = told sizes ∙ ap (λ (g : Graph). or-else (by27 (overFault g)) rule) (graph-is a) in
+pub unless-in : {f : Facts} {h : Front} {near start near′ start′ radii : List ℕ} {codes codes′ : List ℤ} → SheetIn f h near start codes radii
+    → (c : Constraint) (held rule : ℕ) {r : ℕ} → ((z : List ℤ) → r ≡ or-else (by27 (overFault (graphIn (headIn h) start z))) rule)
+    → (rule ≡ 0 → ⊥)
+    → placeFault f c held ≡ or-else (by27 (overFault (graphOf f))) rule → PlacedIn f c held h (Refused r) near′ start′ codes′ radii
+unless-in {f} a c held rule {r} told n e =
+    let is = told (sizesOf f) ∙ ap (λ (g : Graph). or-else (by27 (overFault g)) rule) (graph-is a) in
     refused-in f c held r (e ∙ sym is) (λ z. some-rule (overFault (graphOf f)) rule n (sym is ∙ z))

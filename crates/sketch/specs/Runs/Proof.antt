@@ -11,13 +11,15 @@ use Rattle.theory.specs.Constraints.{Among}
 use Rattle.theory.specs.declared.Finding.{Finding}
 use Rattle.theory.specs.declared.Finding.the-variants.{Fine, First}
 use Rattle.theory.specs.Graph.{findingOf, verdictOf}
+use Rattle.sheet.specs.declared.Kind.{Kind}
 use Rattle.sheet.specs.declared.PairKind.{PairKind}
 use Rattle.sheet.specs.declared.Size.{Size}
-use Rattle.sheet.specs.declared.Size.the-variants.{Given, Missing}
+use Rattle.sheet.specs.declared.Size.the-variants.{Given, Missing, Tangent, OtherTangent, Unfit}
 use Rattle.sheet.specs.declared.Constraint.{Constraint}
 use Rattle.sheet.specs.declared.Sheet.{Sheet}
-use Rattle.sheet.specs.Facts.{Facts, sheetOf, factsOf}
-use Rattle.sheet.specs.Rules.{endsAscend, stands, pairAt, sizeOptional, sizeInRange, sizeFault, or-else, constraintFault, sheetFault}
+use Rattle.sheet.specs.Facts.{Facts, kindAt, sheetOf, factsOf}
+use Rattle.sheet.specs.Rules.{endsAscend, stands, pairOf, sizeAllowed, radiiDiffer, sizeInRange, rangeFault, sizeFault}
+use Rattle.sheet.specs.Rules.{or-else, constraintFault, sheetFault}
 use Rattle.sheet.specs.Accepted.{Accepted}
 use Rattle.sheet.specs.Rules.Laws.{none-else, constraints-most}
 use Rattle.sheet.specs.Accepted.Laws.{accepted-most, factsOf-accepted, factsOf-sheetOf, sheetOf-fault}
@@ -35,7 +37,7 @@ use Rattle.sketch.specs.Runs.{Plain, ends, asked, placed, refused, anoth
 -- ---- no other rule refuses
 
 abbrev pub Rule : ℕ → Type 0
-Rule k = (k ≡ 0) ⊎ Among k (6 ∷ 7 ∷ 8 ∷ 9 ∷ 11 ∷ [])
+Rule k = (k ≡ 0) ⊎ Among k (6 ∷ 7 ∷ 8 ∷ 20 ∷ 9 ∷ 11 ∷ [])
 
 pick-rule : (b : Bool) {i j : ℕ} → Rule i → Rule j → Rule (cond b i j)
 pick-rule true p q = p
@@ -45,23 +47,31 @@ else-rule : (i j : ℕ) → Rule i → Rule j → Rule (or-else i j)
 else-rule zero j p q = q
 else-rule (suc i) j p q = p
 
-size-rule : (p : PairKind) (z : Size) → Rule (sizeFault p z)
-size-rule p Missing = pick-rule (sizeOptional p) (inl refl) (inr (inr (inr (inl refl))))
-size-rule p (Given z) = pick-rule (sizeInRange p z) (inl refl) (inr (inr (inr (inr (inl refl)))))
+range-rule : (p : PairKind) (z : Size) → Rule (rangeFault p z)
+range-rule p (Given z) = pick-rule (sizeInRange p z) (inl refl) (inr (inr (inr (inr (inr (inl refl))))))
+range-rule p Missing = inl refl
+range-rule p Tangent = inl refl
+range-rule p OtherTangent = inl refl
+range-rule p Unfit = inl refl
+
+size-rule : (j k : Kind) (z : Size) → Rule (sizeFault j k z)
+unfolding sizeFault
+size-rule j k z =
+    pick-rule (sizeAllowed j k z) (pick-rule (radiiDiffer j k z) (range-rule (pairOf j k) z) (inr (inr (inr (inr (inl refl)))))) (inr (inr (inr (inl refl))))
 
 over-rule : (o : Finding) → Rule (overRule o)
 over-rule Fine = inl refl
-over-rule (First c x) = inr (inr (inr (inr (inr (inl refl)))))
+over-rule (First c x) = inr (inr (inr (inr (inr (inr (inl refl))))))
 
 pub next-rule : (f : Facts) (c : Constraint) → Rule (nextFault f c)
 unfolding nextFault constraintFault overFault
 next-rule f c =
     else-rule (constraintFault (f .elements) (f .constraints) c) (overFault (graphOf (extended f c)))
     (pick-rule (endsAscend (length (f .elements)) (c .first) (c .second)) (pick-rule (not (stands (f .constraints) (c .first) (c .second)))
-    (size-rule (pairAt (f .elements) (c .first) (c .second)) (c .size)) (inr (inr (inl refl)))) (inr (inl refl)))
+    (size-rule (kindAt (f .elements) (c .first)) (kindAt (f .elements) (c .second)) (c .size)) (inr (inr (inl refl)))) (inr (inl refl)))
     (over-rule (findingOf (graphOf (extended f c))))
 
-named : (k : ℕ) → Rule (suc k) → Among (suc k) (6 ∷ 7 ∷ 8 ∷ 9 ∷ 11 ∷ [])
+named : (k : ℕ) → Rule (suc k) → Among (suc k) (6 ∷ 7 ∷ 8 ∷ 20 ∷ 9 ∷ 11 ∷ [])
 named k (inl e) = absurd (omega arith)
 named k (inr h) = h
 
@@ -177,11 +187,13 @@ plain-step s h _ (refusing c held k n r a t) events answers g p =
 plain-step s h _ (staling c held n a t) events answers g p =
     rw a (another (factsOf s) c held events answers g n (subst (λ (x : Sheet). Plain (factsOf x) events answers g) t p))
 
-step-elements : (s : Sheet) → Held s → (e : Event) → Step s e → factsOf (afterOf s e) .elements ≡ factsOf s .elements
-step-elements s h _ (asking c t) = refl
-step-elements s h _ (placing c held n e a t) = ap (λ (x : Facts). x .elements) (ap factsOf t ∙ stored-facts s c (h .constraints-long) (room s h))
-step-elements s h _ (refusing c held k n r a t) = ap (λ (x : Sheet). factsOf x .elements) t
-step-elements s h _ (staling c held n a t) = ap (λ (x : Sheet). factsOf x .elements) t
+-- what a placed constraint leaves as it was
+module _ {A : Type 0} (part : Facts → A) (kept : (f : Facts) (c : Constraint) → part (extended f c) ≡ part f) where
+  step-kept : (s : Sheet) → Held s → (e : Event) → Step s e → part (factsOf (afterOf s e)) ≡ part (factsOf s)
+  step-kept s h _ (asking c t) = refl
+  step-kept s h _ (placing c held n e a t) = ap part (ap factsOf t ∙ stored-facts s c (h .constraints-long) (room s h)) ∙ kept (factsOf s) c
+  step-kept s h _ (refusing c held k n r a t) = ap (λ (x : Sheet). part (factsOf x)) t
+  step-kept s h _ (staling c held n a t) = ap (λ (x : Sheet). part (factsOf x)) t
 
 step-constraints : (s : Sheet) → Held s → (e : Event) → Step s e → (later : List Constraint)
     → factsOf (afterOf s e) .constraints ++ later ≡ factsOf s .constraints ++ (placedBy e (answerOf s e) ++ later)
@@ -202,10 +214,17 @@ all-plain s h [] = ends (factsOf s)
 all-plain s h (e ∷ events) =
     let t = step s h e in plain-step s h e t events _ _ (all-plain (afterOf s e) (after-held s h e t) events)
 
+module _ {A : Type 0} (part : Facts → A) (kept : (f : Facts) (c : Constraint) → part (extended f c) ≡ part f) where
+  all-kept : (s : Sheet) → Held s → (events : List Event) → part (factsOf (afterAll s events)) ≡ part (factsOf s)
+  unfolding afterAll
+  all-kept s h [] = refl
+  all-kept s h (e ∷ events) = let t = step s h e in all-kept (afterOf s e) (after-held s h e t) events ∙ step-kept part kept s h e t
+
 all-elements : (s : Sheet) → Held s → (events : List Event) → factsOf (afterAll s events) .elements ≡ factsOf s .elements
-unfolding afterAll
-all-elements s h [] = refl
-all-elements s h (e ∷ events) = let t = step s h e in all-elements (afterOf s e) (after-held s h e t) events ∙ step-elements s h e t
+all-elements = all-kept (λ f. f .elements) (λ f c. refl)
+
+all-opening : (s : Sheet) → Held s → (events : List Event) → factsOf (afterAll s events) .opening ≡ factsOf s .opening
+all-opening = all-kept (λ f. f .opening) (λ f c. refl)
 
 all-constraints : (s : Sheet) → Held s → (events : List Event)
     → factsOf (afterAll s events) .constraints ≡ factsOf s .constraints ++ placedIn s events
@@ -232,8 +251,8 @@ module _ (s : Sheet) (h : Held s) (events : List Event) where
       let more = all-constraints s h events in
       let long : length (factsOf s .constraints ++ placedIn s events) ≡ length (factsOf s .constraints) =
       ap length (sym more) ∙ count later later-held ∙ e ∙ sym (count s h) in
-      ap₂ {C = Facts} (λ (es : _) (cs : List Constraint). record { elements = es; constraints = cs }) (all-elements s h events)
-      (more ∙ none-added (factsOf s .constraints) (placedIn s events) long)
+      let cs = more ∙ none-added (factsOf s .constraints) (placedIn s events) long in
+      λ i. record { opening = all-opening s h events i; elements = all-elements s h events i; constraints = cs i }
 
   same-number : (c : Constraint) → later .e ≡ s .e → placeAnswer later c (s .e) ≡ askAnswer s c
   unfolding placeAnswer
@@ -291,6 +310,7 @@ pub runs : Runs
 runs = record {
   run = λ s h events. record {
     plain = all-plain s h events;
+    opening = all-opening s h events;
     elements = all-elements s h events;
     constraints = all-constraints s h events;
     held = all-held s h events;

@@ -2,7 +2,7 @@
 use Prim.Native.Nat.{ℕ, zero, suc, _+_, _≤_, _<_}
 use native.Mathlib.Numerals.{add-one}
 use native.Mathlib.Omega.{arith}
-use mathlib.Core.Path.{_≡_, refl, _∙_}
+use mathlib.Core.Path.{_≡_, refl, _∙_, ap, sym}
 use mathlib.Core.Bool.{true}
 use mathlib.Core.List.{List, [], _∷_, _++_, append-nil, append-assoc}
 use borrow.Author.Tests.{le-leb, eq-eqb}
@@ -20,6 +20,7 @@ use Rattle.sheet.specs.Graph.{graphOf, overFault}
 use Rattle.sheet.specs.Graph.Laws.{length-clusters, fault-none}
 use Rattle.theory.specs.Graph.{verdictOf}
 use Rattle.theory.specs.declared.Verdict.{Verdict}
+use Rattle.graph.specs.declared.Front.{Front}
 use Rattle.graph.specs.declared.Head.{Head}
 use Rattle.graph.specs.Lent.{InArrays, SheetIn}
 use Rattle.graph.specs.Lent.Sheets.{accepted-sound, found-fine, fine-few}
@@ -63,17 +64,24 @@ pub extended-accepted : (f : Facts) (c : Constraint) → Accepted f → length (
     → Accepted (extended f c)
 extended-accepted f c h l k = record {
   elements-in-range = h .elements-in-range;
+  elements-allowed = h .elements-allowed;
   constraints-in-range = rw length-append (le-leb (length (f .constraints) + 1) 200 (omega arith));
   no-fault = extended-none f c (h .no-fault) k;
 }
 
 -- nor the arrays with it
-pub extended-in : {f : Facts} {h : Head} {near start near′ start′ : List ℕ} {sizes sizes′ : List ℤ} (c : Constraint) → SheetIn f h near start sizes
-    → length (f .constraints) < 200 → constraintFault (f .elements) (f .constraints) c ≡ 0 → InArrays (f .constraints ++ c ∷ []) near′ start′ sizes′
-    → SheetIn (extended f c) (record { n = h .n; e = h .e + 1; lines = h .lines }) near′ start′ sizes′
-extended-in {f} c a l k more = record {
+pub extended-in : {f : Facts} {h : Front} {near start near′ start′ radii : List ℕ} {codes codes′ : List ℤ} (c : Constraint)
+    → SheetIn f h near start codes radii
+    → length (f .constraints) < 200 → constraintFault (f .elements) (f .constraints) c ≡ 0 → InArrays (f .constraints ++ c ∷ []) near′ start′ codes′
+    → SheetIn (extended f c) (record { opening = h .opening; n = h .n; e = h .e + 1; kinds = h .kinds }) near′ start′ codes′ radii
+extended-in {f} {h} c a l k more =
+    let more-count : h .e + 1 ≡ length (f .constraints ++ c ∷ []) =
+    ap (λ (x : Head). x .e + 1) (a .head-is) ∙ sym (length-append (f .constraints) (c ∷ [])) in
+    record {
   accepted = extended-accepted f c (a .accepted) l k;
-  head-is = rw (a .head-is, length-append);
+  opening-is = a .opening-is;
+  head-is = λ z. record { n = a .head-is z .n; e = more-count z; lines = a .head-is z .lines };
+  kinds-in = a .kinds-in;
   arrays = more;
 }
 
@@ -91,7 +99,8 @@ module _ (s : Sheet) (c : Constraint) (long : length (s .constraints) ≡ 200) (
       let h = sheetFault-none s e in
       let q : s .e < length (s .constraints) = rw long room in
       let m : constraintsInRange (s .e + 1) ≡ true = le-leb (s .e + 1) 200 (omega arith) in
-      rw (h .0, m, add-one, take-suc-set (s .constraints) (s .e) c q) (extended-none (factsOf s) c (h .2) k)
+      rw (h .elements-in-range, h .elements-allowed, m, add-one, take-suc-set (s .constraints) (s .e) c q)
+      (extended-none (factsOf s) c (h .no-fault) k)
 
 -- ---- the rules in their order
 
