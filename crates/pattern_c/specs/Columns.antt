@@ -41,14 +41,14 @@ kindFrom zero radius = Point
 kindFrom (suc zero) radius = Line
 kindFrom (suc (suc k)) radius = Circle radius
 
--- the first k kinds are such; one beyond the list is not
+-- the first k kinds are such; one beyond the list is 3
 unfoldable pub kindsListed : List ℕ → ℕ → Bool
 kindsListed kinds zero = true
 kindsListed kinds (suc k) = kindsListed kinds k && ltb (getD kinds k 3) 3
 
 -- a radius beyond the list is 0, which rule 19 refuses
 abbrev pub elementIn : List ℕ → List ℕ → ℕ → Element
-elementIn kinds radii i = record { kind = kindFrom (getD kinds i 0) (getD radii i 0) }
+elementIn kinds radii i = record { kind = kindFrom (getD kinds i 3) (getD radii i 0) }
 
 -- ---- the constraints
 

@@ -122,11 +122,11 @@ fn constraints_in(firsts: &[u8], seconds: &[u8], maps: &[u8], sizes: &[i32]) -> 
     cs
 }
 
-// A kind as a number, or what stands past the end.
-fn kind_number(kinds: &[u8], i: usize, past: u8) -> u8
-    ensures { λ r. ⌜ r ≡ getD (now (kinds .entry)) i past ⌝ }
+// A kind as a number; past the end 3, which no kind has.
+fn kind_number(kinds: &[u8], i: usize) -> u8
+    ensures { λ r. ⌜ r ≡ getD (now (kinds .entry)) i 3 ⌝ }
 {
-    if i < kinds.len() { kinds[i] } else { past }
+    if i < kinds.len() { kinds[i] } else { 3 }
 }
 
 // A radius, 0 past the end.
@@ -142,7 +142,7 @@ fn kinds_listed(kinds: &[u8], n: usize) -> bool
 {
     let mut i: usize = 0;
     while i < n {
-        if kind_number(kinds, i, 3) >= 3 {
+        if 2 < kind_number(kinds, i) {
             return false;
         }
         i += 1;
@@ -169,7 +169,7 @@ fn elements_in(kinds: &[u8], radii: &[u32]) -> [Element; 64]
     let mut elements = [none; 64];
     let mut i: usize = 0;
     while i < 64 {
-        let k = kind_from(kind_number(kinds, i, 0), radius_at(radii, i));
+        let k = kind_from(kind_number(kinds, i), radius_at(radii, i));
         elements[i] = Element { kind: k };
         i += 1;
     }

@@ -1,10 +1,11 @@
 -- The blocks of a sheet that its columns give: each constraint by the lists that reach it, and a block filled from the front. Assumes nothing.
 use Prim.Native.Nat.{ℕ, zero, suc, _+_, _%_, _≤_, _<_}
+use native.Mathlib.Nat.{le-of-suc-le-suc}
 use native.Mathlib.Numerals.{add-one}
 use native.Mathlib.Omega.{arith}
 use mathlib.Core.Path.{_≡_, refl, sym, ap, _∙_}
 use mathlib.Core.Bool.{Bool, true, false, _&&_}
-use mathlib.Core.List.{List}
+use mathlib.Core.List.{List, [], _∷_}
 use borrow.Author.Tests.{eq-eqb, ne-eqb, lt-ltb, le-ltb, ltb-true, ltb-false}
 use lib.Dec.{ltb}
 use lib.IntN.{ℤ, pos}
@@ -20,21 +21,31 @@ and-false true = refl
 and-false false = refl
 
 module _ (kinds : List ℕ) where
-  pub kinds-more : (i : ℕ) → kindsListed kinds i ≡ true → getD kinds i 3 < 3 → kindsListed kinds (i + 1) ≡ true
+  pub kinds-none-listed : kindsListed kinds 0 ≡ true
   unfolding kindsListed
-  kinds-more i h l = rw (add-one, h, lt-ltb (getD kinds i 3) 3 l)
+  kinds-none-listed = refl
+
+  pub kinds-more : (i : ℕ) → kindsListed kinds i ≡ true → getD kinds i 3 ≤ 2 → kindsListed kinds (i + 1) ≡ true
+  unfolding kindsListed
+  kinds-more i h l = rw (add-one, h, lt-ltb (getD kinds i 3) 3 (omega (arith, l)))
 
   -- one that is not known is not listed, whatever follows it
-  pub kinds-none : (n i : ℕ) → i < n → 3 ≤ getD kinds i 3 → kindsListed kinds n ≡ false
+  pub kinds-none : (n i : ℕ) → i < n → 2 < getD kinds i 3 → kindsListed kinds n ≡ false
   unfolding kindsListed
   kinds-none zero i l h = absurd (omega arith)
-  kinds-none (suc n) i l h = by (ltb i n) refl
+  kinds-none (suc n) i l h = by (ltb i n) refl (λ q. kinds-none n i (ltb-true i n q) h)
     where
-      by : (b : Bool) → ltb i n ≡ b → kindsListed kinds n && ltb (getD kinds n 3) 3 ≡ false
-      by true q = rw (kinds-none n i (ltb-true i n q) h)
-      by false q =
+      by : (b : Bool) → ltb i n ≡ b → (ltb i n ≡ true → kindsListed kinds n ≡ false) → kindsListed kinds n && ltb (getD kinds n 3) 3 ≡ false
+      by true q before = rw (before q)
+      by false q before =
           let s : i ≡ n = omega (arith, ltb-false i n q) in
           rw (← s, le-ltb (getD kinds i 3) 3 h) (and-false (kindsListed kinds i))
+
+-- within a list it does not matter what would stand past the end
+pub within-list : (xs : List ℕ) (i a b : ℕ) → i < length xs → getD xs i a ≡ getD xs i b
+within-list [] i a b h = absurd (omega arith)
+within-list (x ∷ xs) zero a b h = refl
+within-list (x ∷ xs) (suc i) a b h = within-list xs i a b (le-of-suc-le-suc h)
 
 -- ---- a constraint by its place, list after list
 
