@@ -40,7 +40,7 @@ SameFacts lent s = recordSheet lent ≡ value (factsOf s) []
 
 pub record RecordRuns : Type 0 where
   -- with room for every held sketch
-  pub run : (lent : List ℕ) (s : Sheet) → 891 ≤ length lent → Held s → SameFacts lent s → (events : List Event)
+  pub run : (lent : List ℕ) (s : Sheet) → 1155 ≤ length lent → Held s → SameFacts lent s → (events : List Event)
       → (answersIn lent events ≡ answersTo s events) × SameFacts (allIn lent events) (afterAll s events)
   -- a record that stands for no sheet that may be held: 27 to all, and no change
   pub never : (lent : List ℕ) → sheetField lent ≡ refused 27 → (events : List Event)

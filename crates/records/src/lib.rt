@@ -3,7 +3,7 @@
 ghost use mathlib.Core.Path.{_≡_};
 ghost use Prim.Native.Nat.{_<_};
 ghost use lib.IntN.{pos};
-ghost use lib.ListN.{replicate};
+ghost use lib.ListN.{length, replicate};
 ghost use Rattle.space.specs.Space.{answer, after};
 ghost use Rattle.sheet.specs.Facts.{factsOf};
 ghost use Rattle.sheet.specs.Rules.{sheetFault};
@@ -11,8 +11,8 @@ ghost use Rattle.sheet.specs.Answer.{Answers, afterTo};
 ghost use Rattle.reader.specs.Answers.{SheetRead};
 ghost use Rattle.records.specs.Record.{recordBytes, recordSheet, asJudgement, askField, placeField};
 ghost use Rattle.records.specs.Record.{writtenField, placeJudged, placedIn, sheetField};
-use graph::Head;
-use reader::GraphRead;
+use graph::Front;
+use reader::CodesRead;
 use sheet::Constraint;
 use sheet::Sheet;
 use sketch::Judgement;
@@ -30,25 +30,26 @@ fn read(
     lent: &[u8],
     near: &mut [u64; 64],
     start: &mut [u64; 200],
-    sizes: &mut [i32; 200],
-) -> GraphRead
-    requires { ⌜ (now near ≡ replicate 64 0) × (now start ≡ replicate 200 0) × (now sizes ≡ replicate 200 (pos 0)) ⌝ }
-    ensures { λ r. ⌜ SheetRead (recordSheet (now (lent .entry))) r (now (near .exit)) (now (start .exit)) (now (sizes .exit)) ⌝ }
+    codes: &mut [i32; 200],
+    radii: &mut [u32; 64],
+) -> CodesRead
+    requires { ⌜ (now near ≡ replicate 64 0) × (now start ≡ replicate 200 0) × (now codes ≡ replicate 200 (pos 0)) × (length (now radii) ≡ 64) ⌝ }
+    ensures { λ r. ⌜ SheetRead (recordSheet (now (lent .entry))) r (now (near .exit)) (now (start .exit)) (now (codes .exit)) (now (radii .exit)) ⌝ }
 {
     let room = lent.len();
     if room < 2 {
-        return GraphRead::Refused(27);
+        return CodesRead::Refused(27);
     }
     let length = wide(lent[0]) + 256 * wide(lent[1]);
     let end = 2 + length;
     if room < end {
-        return GraphRead::Refused(27);
+        return CodesRead::Refused(27);
     }
-    let got = reader::read_graph(&lent[2..end], near, start, sizes);
-    let GraphRead::Value(head) = got else {
-        return GraphRead::Refused(27);
+    let got = reader::read_codes(&lent[2..end], near, start, codes, radii);
+    let CodesRead::Value(front) = got else {
+        return CodesRead::Refused(27);
     };
-    GraphRead::Value(head)
+    CodesRead::Value(front)
 }
 
 // The facts as a record at the front of lent bytes, or 17.
@@ -75,12 +76,13 @@ pub fn ask(lent: &[u8], c: Constraint) -> Judgement
 {
     let mut near = [0u64; 64];
     let mut start = [0u64; 200];
-    let mut sizes = [0i32; 200];
-    let got = read(lent, &mut near, &mut start, &mut sizes);
-    let GraphRead::Value(head) = got else {
+    let mut codes = [0i32; 200];
+    let mut radii = [0u32; 64];
+    let got = read(lent, &mut near, &mut start, &mut codes, &mut radii);
+    let CodesRead::Value(front) = got else {
         return Judgement::Refused(got.refusal());
     };
-    sketch::place_next(head, &mut near, &mut start, &mut sizes, c, head.e)
+    sketch::place_next(front, &mut near, &mut start, &mut codes, &radii, c, front.e)
 }
 
 // A verdict, once the record is written.
@@ -100,20 +102,27 @@ pub fn place(lent: &mut [u8], c: Constraint, held: usize) -> Judgement
 {
     let mut near = [0u64; 64];
     let mut start = [0u64; 200];
-    let mut sizes = [0i32; 200];
-    let got = read(lent, &mut near, &mut start, &mut sizes);
-    let GraphRead::Value(head) = got else {
+    let mut codes = [0i32; 200];
+    let mut radii = [0u32; 64];
+    let got = read(lent, &mut near, &mut start, &mut codes, &mut radii);
+    let CodesRead::Value(front) = got else {
         return Judgement::Refused(got.refusal());
     };
-    let n = head.n;
-    let e = head.e;
-    let lines = head.lines;
-    let answer = sketch::place_next(head, &mut near, &mut start, &mut sizes, c, held);
+    let opening = front.opening;
+    let n = front.n;
+    let e = front.e;
+    let kinds = front.kinds;
+    let answer = sketch::place_next(front, &mut near, &mut start, &mut codes, &radii, c, held);
     let Judgement::Is(_) = answer else {
         return answer;
     };
-    let next = Head { n, e: e + 1, lines };
-    let more = graph::sheet_of(next, &start, &sizes);
+    let next = Front {
+        opening,
+        n,
+        e: e + 1,
+        kinds,
+    };
+    let more = graph::sheet_of(next, &start, &codes, &radii);
     judged(write(more, lent), answer)
 }
 
@@ -123,14 +132,15 @@ pub fn sheet(lent: &[u8], out: &mut [u8]) -> Written
 {
     let mut near = [0u64; 64];
     let mut start = [0u64; 200];
-    let mut sizes = [0i32; 200];
-    let got = read(lent, &mut near, &mut start, &mut sizes);
-    let GraphRead::Value(head) = got else {
+    let mut codes = [0i32; 200];
+    let mut radii = [0u32; 64];
+    let got = read(lent, &mut near, &mut start, &mut codes, &mut radii);
+    let CodesRead::Value(front) = got else {
         return Written::Refused(got.refusal());
     };
-    if judge::over_fault(head, &near, &start) != 0 {
+    if judge::over_fault(graph::head_of(front), &near, &start) != 0 {
         return Written::Refused(27);
     }
-    let held = graph::sheet_of(head, &start, &sizes);
+    let held = graph::sheet_of(front, &start, &codes, &radii);
     writer::write_accepted(held, out)
 }

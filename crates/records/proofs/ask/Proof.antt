@@ -3,7 +3,6 @@ use borrow.Author.Needs.{needs}
 use mathlib.Core.Path.{refl, sym, ap, _∙_}
 use Prim.Native.Nat.{ℕ}
 use Rattle.theory.specs.Graph.{verdictOf}
-use Rattle.sheet.specs.Field.{Bytes}
 use Rattle.sheet.specs.Graph.{graphOf}
 use Rattle.graph.specs.declared.Head.{Head}
 use Rattle.sketch.specs.Sketch.{extended, asJudged}
@@ -13,23 +12,20 @@ use Rattle.records.proofs.ask.Statement.{statement}
 use Rattle.records.proofs.ask.Tie as tie
 
 returns : tie.Need-returns
-returns c = asked-refused _ _ (read-refused (c .before .before .before .read .ensures) (c .before .enum-told .given .1) (c .refusal .ensures))
+returns c =
+    asked-refused _ _ (read-refused _ _ _ _ _ (c .before .before .before .read .ensures) (c .before .enum-told .given .1) (c .refusal .ensures))
 
 -- the facts in the record
-read : (c : tie.After-sizes2)
-    → RecordRead (c .before .before .before .before .before .before .before .before .before .before .before .args .lent .now)
-    (c .before .before .before .before .got .given .0 .0)
-    (c .before .before .before .before .before .before .read .last .1 .0) (c .before .before .before .before .before .before .read .last .1 .1 .0)
-    (c .before .before .before .before .before .before .read .last .1 .1 .1 .0)
-read c =
-    let all : Bytes _ =
-    record { each = λ i. c .before .before .before .before .before .before .before .before .before .before .shared-slice-known .given i .fits } in
-    record-read _ all (c .before .before .before .before .before .before .read .ensures) (c .before .before .before .before .got .given .1)
+read : (c : tie.After-radii2)
+    → RecordRead (c .before .before .before .before .before .before .before .before .before .before .before .before .before .args .lent .now) (c .before .before .before .before .before .got .given .0 .0)
+    (c .before .before .before .before .before .before .before .read .last .1 .0) (c .before .before .before .before .before .before .before .read .last .1 .1 .0)
+    (c .before .before .before .before .before .before .before .read .last .1 .1 .1 .0) (c .before .before .before .before .before .before .before .read .last .1 .1 .1 .1 .0)
+read c = record-read _ _ _ _ _ (c .before .before .before .before .before .before .before .read .ensures) (c .before .before .before .before .before .got .given .1)
 
 returns-2 : tie.Need-returns-2
 returns-2 c =
     let f = read (c .before) in
-    let one = c .before .before .before .before .before .before .before .before .before .before .before .before .args .c in
+    let one = c .before .before .before .before .before .before .before .before .before .before .before .before .before .before .args .c in
     let n = ap (λ (h : Head). h .e) (f .sheet-in .head-is) in
     c .place-next .ensures (f .facts) (f .sheet-in) .answer-is
     ∙ ap (λ (k : ℕ). asJudged k (verdictOf (graphOf (extended (f .facts) one)))) (place-asked (f .facts) one _ n)
@@ -38,5 +34,5 @@ returns-2 c =
 pub ask-spec : {M : Type 1} → statement M
 ask-spec =
     tie.close
-    (tie.spec (λ c κs. (refl, refl, refl)) (λ c. search needs) (λ c. search needs) (λ c κs. search needs) returns
+    (tie.spec (λ c κs. (refl, refl, refl, refl)) (λ c. search needs) (λ c. search needs) (λ c κs. search needs) returns
     (λ c κs. (read c .facts, read c .sheet-in)) returns-2)

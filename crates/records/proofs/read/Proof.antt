@@ -2,17 +2,19 @@
 use borrow.Author.Needs.{needs}
 use Prim.Native.Nat.{ℕ, _+_, _*_, _-_, _≤_}
 use native.Mathlib.Omega.{arith}
-use mathlib.Core.Path.{_≡_, sym, ap, _∙_}
+use mathlib.Core.Path.{_≡_, sym, ap, _∙_, subst}
 use mathlib.Core.List.{List}
 use lib.ListN.{length, take, drop}
 use Rattle.sheet.specs.Decode.{readSheet}
+use Rattle.reader.specs.declared.CodesRead.{CodesRead}
+use Rattle.reader.specs.Answers.{SheetRead}
 use Rattle.records.specs.Record.{as27, recordSheet}
-use Rattle.records.specs.Record.Laws.{told, record-short, record-cut, record-whole, none-read, unread, was-read}
+use Rattle.records.specs.Record.Laws.{told, record-short, record-cut, record-whole}
 use Rattle.records.proofs.read.Statement.{statement}
 use Rattle.records.proofs.read.Tie as tie
 
 returns : tie.Need-returns
-returns c = none-read _ (record-short _ (c .if1 .taken))
+returns c = record-short _ (c .if1 .taken)
 
 -- the count
 module _ (c : tie.After-wide2) where
@@ -26,7 +28,7 @@ module _ (c : tie.After-wide2) where
   count = omega (arith, c .wide2 .ensures .0, c .before .before .wide .ensures .0)
 
 returns-2 : tie.Need-returns-2
-returns-2 c = none-read _ (record-cut _ (two (c .before)) (omega (arith, c .if2 .taken, count (c .before))))
+returns-2 c = record-cut _ (two (c .before)) (omega (arith, c .if2 .taken, count (c .before)))
 
 -- the bytes that follow
 module _ (c : tie.Else2) where
@@ -39,14 +41,24 @@ module _ (c : tie.Else2) where
       record-whole (lent (c .before)) (two (c .before)) (omega (arith, c .if2 .left, count (c .before)))
       ∙ ap (λ (k : ℕ). as27 (readSheet (take k (drop 2 (lent (c .before)))))) (sym n)
 
+-- what the reading of these bytes answers
+module _ (c : tie.After-read-codes) where
+  abbrev bytes : List ℕ
+  bytes = take (end (c .before .before .before .before .before .before) - 2) (drop 2 (lent (c .before .before .before .before .before .before .before)))
+
+  told-of : {k : CodesRead} → c .read-codes .result ≡ k → SheetRead (readSheet bytes) k (c .read-codes .last .1 .0) (c .read-codes .last .1 .1 .0)
+      (c .read-codes .last .1 .1 .1 .0) (c .read-codes .last .1 .1 .1 .1 .0)
+  told-of e =
+      subst (λ (k : CodesRead). SheetRead (readSheet bytes) k (c .read-codes .last .1 .0) (c .read-codes .last .1 .1 .0)
+      (c .read-codes .last .1 .1 .1 .0) (c .read-codes .last .1 .1 .1 .1 .0)) e (c .read-codes .ensures)
+
 returns-3 : tie.Need-returns-3
-returns-3 c =
-    unread _ _ (whole (c .before .before .before .before .before .before .before)) (c .before .before .read-graph .ensures) (c .enum-told .given .1)
+returns-3 c = whole (c .before .before .before .before .before .before .before .before) ∙ ap as27 (told-of (c .before .before) (c .enum-told .given .1))
 
 returns-4 : tie.Need-returns-4
 returns-4 c =
-    was-read _ _ (whole (c .before .before .before .before .before .before .before .before)) (c .before .before .before .read-graph .ensures)
-    (c .before .got .given .1)
+    let (f, rest, q, a) = told-of (c .before .before .before) (c .before .got .given .1) in
+    (f, rest, whole (c .before .before .before .before .before .before .before .before .before) ∙ ap as27 q, a)
 
 pub read-spec : {M : Type 1} → statement M
 read-spec =

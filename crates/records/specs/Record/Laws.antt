@@ -31,11 +31,10 @@ use Rattle.sheet.specs.Encode.{sheetBytes}
 use Rattle.sheet.specs.Graph.{graphOf, overFault}
 use Rattle.sheet.specs.Answer.{byRule, afterTo}
 use Rattle.sheet.specs.Answer.Laws.{rule-some}
-use Rattle.reader.specs.declared.GraphRead.{GraphRead}
-use Rattle.reader.specs.declared.GraphRead.the-variants.{Value, Refused as Unread}
-use Rattle.reader.specs.Answers.{asGraph, graphRule, SheetRead}
-use Rattle.reader.specs.Answers.Laws.{graph-refused, graph-accepted}
-use Rattle.graph.specs.declared.Head.{Head}
+use Rattle.reader.specs.declared.CodesRead.{CodesRead}
+use Rattle.reader.specs.declared.CodesRead.the-variants.{Value, Refused as Unread}
+use Rattle.reader.specs.Answers.{codesRule, SheetRead}
+use Rattle.graph.specs.declared.Front.{Front}
 use Rattle.graph.specs.Lent.{SheetIn}
 use Rattle.sketch.specs.declared.Judgement.{Judgement}
 use Rattle.sketch.specs.declared.Judgement.the-variants.{Is, Refused}
@@ -82,36 +81,23 @@ as27-value : (x : Field Facts) {f : Facts} {t : List ℕ} → as27 x ≡ value f
 as27-value (value g s) e = e
 as27-value (refused k) e = absurd (let z : _≡_ {A = ℕ} 0 1 = cc in omega arith)
 
-pub none-read : (lent : List ℕ) {near start : List ℕ} {sizes : List ℤ} → recordSheet lent ≡ refused 27 → SheetRead (recordSheet lent) (Unread 27) near start sizes
-none-read lent e = record {
-  answers = sym (ap asGraph e);
-  holds = λ f t h. absurd (let z : _≡_ {A = ℕ} 0 1 = cc in omega arith);
-}
-
-module _ (lent bytes : List ℕ) (is : recordSheet lent ≡ as27 (readSheet bytes)) {r : GraphRead} {near start : List ℕ} {sizes : List ℤ}
-    (got : SheetRead (readSheet bytes) r near start sizes) where
-  pub unread : {k : ℕ} → r ≡ Unread k → SheetRead (recordSheet lent) (Unread 27) near start sizes
-  unread {k} e = none-read lent (is ∙ ap as27 (graph-refused (readSheet bytes) r k (got .answers) e))
-
-  pub was-read : {h : Head} → r ≡ Value h → SheetRead (recordSheet lent) (Value h) near start sizes
-  was-read {h} e =
-      let (f, rest, q, n) = graph-accepted (readSheet bytes) r h (got .answers) e in
-      record {
-        answers = ap Value n ∙ sym (ap asGraph (is ∙ ap as27 q));
-        holds = λ g t o. got .holds g t (as27-value (readSheet bytes) (sym is ∙ o));
-      }
-
--- one that is refused has the number of the rule
-pub read-refused : {x : Field Facts} {r : GraphRead} {near start : List ℕ} {sizes : List ℤ} → SheetRead x r near start sizes
-    → {k j : ℕ} → r ≡ Unread k → j ≡ graphRule r → x ≡ refused j
-read-refused {x} {r} got {k} e n = graph-refused x r k (got .answers) e ∙ ap refused (sym (n ∙ ap graphRule e))
-
--- the facts in a record, in head and arrays
-pub record RecordRead (lent : List ℕ) (h : Head) (near start : List ℕ) (sizes : List ℤ) : Type 0 where
+-- the facts in a record, in front and arrays
+pub record RecordRead (lent : List ℕ) (h : Front) (near start : List ℕ) (codes : List ℤ) (radii : List ℕ) : Type 0 where
   pub facts : Facts
   pub rest : List ℕ
   pub reads : recordSheet lent ≡ value facts rest
-  pub sheet-in : SheetIn facts h near start sizes
+  pub sheet-in : SheetIn facts h near start codes radii
+
+-- what the reading of a record answers is one or the other
+module _ (lent near start : List ℕ) (codes : List ℤ) (radii : List ℕ) {r : CodesRead} (got : SheetRead (recordSheet lent) r near start codes radii) where
+  pub read-refused : {k j : ℕ} → r ≡ Unread k → j ≡ codesRule r → recordSheet lent ≡ refused j
+  read-refused {k} e n =
+      subst (λ (y : CodesRead). SheetRead (recordSheet lent) y near start codes radii) e got ∙ ap refused (sym (n ∙ ap codesRule e))
+
+  pub record-read : {h : Front} → r ≡ Value h → RecordRead lent h near start codes radii
+  record-read e =
+      let (f, t, q, a) = subst (λ (x : CodesRead). SheetRead (recordSheet lent) x near start codes radii) e got in
+      record { facts = f; rest = t; reads = q; sheet-in = a }
 
 -- no rule refuses them, and all bytes that are counted are read
 pub record-accepted : (lent : List ℕ) {f : Facts} {t : List ℕ} → Bytes lent → recordSheet lent ≡ value f t → (t ≡ []) × Accepted f
@@ -120,17 +106,6 @@ record-accepted lent {f} {t} all e =
     next-value (field 2 lent) counted (as27-value (next (field 2 lent) counted) e) (λ n rest was e1.
     demand-value (leb n (length rest)) 2 (readSheet (take n rest)) e1 (λ m e2.
     let r = written-read (take n rest) f t (bytes-take n rest (field-front 2 lent all was .rest)) e2 in (r .0, r .2)))
-
-pub record-read : (lent : List ℕ) {near start : List ℕ} {sizes : List ℤ} {r : GraphRead} {h : Head} → Bytes lent
-    → SheetRead (recordSheet lent) r near start sizes → r ≡ Value h → RecordRead lent h near start sizes
-record-read lent {r = r} {h = h} all got e =
-    let (f, t, q, n) = graph-accepted (recordSheet lent) r h (got .answers) e in
-    record {
-      facts = f;
-      rest = t;
-      reads = q;
-      sheet-in = record { accepted = record-accepted lent all q .1; head-is = n; arrays = got .holds f t q };
-    }
 
 -- ---- what is answered
 
@@ -163,11 +138,11 @@ module _ (lent : List ℕ) where
 
 -- ---- a record written
 
-pub sheet-short : (s : Sheet) → sheetFault s ≡ 0 → length (sheetBytes (factsOf s)) ≤ 1414
+pub sheet-short : (s : Sheet) → sheetFault s ≡ 0 → length (sheetBytes (factsOf s)) ≤ 1678
 sheet-short s z =
-    let (n, e, _) = sheetFault-none s z in
-    sheet-length (factsOf s) (omega (arith, elements-most (s .n) n, length-take (s .n) (s .elements)))
-    (omega (arith, constraints-most (s .e) e, length-take (s .e) (s .constraints)))
+    let h = sheetFault-none s z in
+    sheet-length (factsOf s) (omega (arith, elements-most (s .n) (h .elements-in-range), length-take (s .n) (s .elements)))
+    (omega (arith, constraints-most (s .e) (h .constraints-in-range), length-take (s .e) (s .constraints)))
 
 done-is : (items space : List ℕ) {n : ℕ} → answer items space ≡ Done n → (n ≡ length items) × (length items ≤ length space)
 done-is items space {n} e = by (decLt (length space) (length items))
@@ -253,7 +228,7 @@ module _ (f : Facts) (out : List ℕ) (two : 2 ≤ length out) {r : Written} {le
 -- the count fits in its two bytes
 pub record-counted : (s : Sheet) → sheetFault s ≡ 0 → (out : List ℕ) {r : Written} {left : List ℕ} {n : ℕ}
     → (r ≡ answer (sheetBytes (factsOf s)) (take (length out - 2) (drop 2 out))) × (left ≡ after (sheetBytes (factsOf s)) (take (length out - 2) (drop 2 out)))
-    → r ≡ Done n → n ≤ 1414
+    → r ≡ Done n → n ≤ 1678
 record-counted s z out told-is e =
     omega (arith, sheet-short s z, done-is (sheetBytes (factsOf s)) (take (length out - 2) (drop 2 out)) (sym (told-is .0) ∙ e) .0)
 

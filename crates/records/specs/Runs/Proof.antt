@@ -33,7 +33,7 @@ use Rattle.records.specs.Runs.{answerIn, afterIn, answersIn, allIn, Same
 -- ---- what is written in a record stands there
 
 module _ (g : Facts) (h : Accepted g) where
-  short : length (sheetBytes g) ≤ 1414
+  short : length (sheetBytes g) ≤ 1678
   short = sheet-length g (accepted-most g h) (constraints-most (length (g .constraints)) (h .constraints-in-range))
 
   stands : (tail : List ℕ) → recordSheet (recordBytes g ++ tail) ≡ value g []
@@ -63,7 +63,7 @@ pub record Alike (lent : List ℕ) (s : Sheet) (e : Event) : Type 0 where
   pub facts : SameFacts (afterIn lent e) (afterOf s e)
   pub long : length (afterIn lent e) ≡ length lent
 
-module _ (lent : List ℕ) (s : Sheet) (long : 891 ≤ length lent) (h : Held s) (same : SameFacts lent s) where
+module _ (lent : List ℕ) (s : Sheet) (long : 1155 ≤ length lent) (h : Held s) (same : SameFacts lent s) where
   alike : (e : Event) → Alike lent s e
   alike (asks c) = record { answers = asked-value lent c same ∙ sym (ask-sound s c (writes s h)); facts = same; long = refl }
   alike (places c held) = by (placeFault (factsOf s) c held) refl
@@ -91,7 +91,7 @@ module _ (lent : List ℕ) (s : Sheet) (long : 891 ≤ length lent) (h : Held s)
 
 -- ---- every run
 
-run : (lent : List ℕ) (s : Sheet) → 891 ≤ length lent → Held s → SameFacts lent s → (events : List Event)
+run : (lent : List ℕ) (s : Sheet) → 1155 ≤ length lent → Held s → SameFacts lent s → (events : List Event)
     → (answersIn lent events ≡ answersTo s events) × SameFacts (allIn lent events) (afterAll s events)
 unfolding answersIn allIn answersTo afterAll
 run lent s long h same [] = (refl, same)
