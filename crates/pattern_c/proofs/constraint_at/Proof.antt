@@ -1,10 +1,10 @@
 -- Each branch is one law of `constraintIn`: a list that ends before the place, or all that the map needs.
 use borrow.Author.Needs.{needs}
-use mathlib.Core.Path.{sym, _∙_}
-use lib.IntN.{pos}
+use mathlib.Core.Path.{sym, ap, _∙_}
 use lib.ListN.{getD}
 use mir.Syntax.{w32}
 use mir.Facts.{toZ-ofZ}
+use Rattle.pattern_c.specs.Columns.{constraintFrom}
 use Rattle.pattern_c.specs.Columns.Laws.{short-firsts, short-seconds, short-maps, short-sizes, without-size, with-size}
 use Rattle.pattern_c.proofs.constraint_at.Statement.{statement}
 use Rattle.pattern_c.proofs.constraint_at.Tie as tie
@@ -28,7 +28,9 @@ returns-3 c =
 returns-4 : tie.Need-returns-4
 returns-4 c =
     let a = c .before .before .before .before .before .before .before .before .before .before .before .before .args in
-    c .constraint-from .ensures ∙ rw (c .before .before .size-at .ensures) ?
+    c .constraint-from .ensures
+    ∙ ap (constraintFrom (getD (a .firsts .now) (a .i) 0) (getD (a .seconds .now) (a .i) 0) (getD (a .maps .now) (a .i) 0))
+    (toZ-ofZ {w = w32} (record { sfits = c .before .before .size-at .ok }) ∙ c .before .before .size-at .ensures)
     ∙ sym (without-size (a .firsts .now) (a .seconds .now) (a .maps .now) (a .sizes .now) (a .i) (search needs) (search needs) (search needs)
     (c .before .if4 .taken))
 
@@ -41,7 +43,9 @@ returns-5 c =
 returns-6 : tie.Need-returns-6
 returns-6 c =
     let a = c .before .before .before .before .before .before .before .before .before .before .before .before .before .args in
-    c .constraint-from2 .ensures ∙ rw (c .before .before .before .size-at .ensures) ?
+    c .constraint-from2 .ensures
+    ∙ ap (constraintFrom (getD (a .firsts .now) (a .i) 0) (getD (a .seconds .now) (a .i) 0) (getD (a .maps .now) (a .i) 0))
+    (toZ-ofZ {w = w32} (record { sfits = c .before .before .before .size-at .ok }) ∙ c .before .before .before .size-at .ensures)
     ∙ sym (with-size (a .firsts .now) (a .seconds .now) (a .maps .now) (a .sizes .now) (a .i) (search needs) (search needs) (search needs)
     (c .before .before .if4 .left) (search needs))
 

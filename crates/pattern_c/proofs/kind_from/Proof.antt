@@ -14,7 +14,7 @@ round (suc zero) r a b = absurd (b refl)
 round (suc (suc k)) r a b = refl
 
 returns-3 : tie.Need-returns-3
-returns-3 c = let a = c .before .args in round (a .kind) (a .radius) (λ e. ?) (λ e. ?)
+returns-3 c = let a = c .before .args in round (a .kind) (a .radius) (c .match .rest .0 .1) (c .match .rest .1)
 
 pub kind-from-spec : {M : Type 1} → statement M
 kind-from-spec = tie.close (tie.spec (λ c. search needs) (λ c. search needs) returns-3)
