@@ -65,7 +65,8 @@ fn length_before(h: Front) -> usize
 {
     let kinds = h.kinds;
     let radii = 4 * (u64::count_ones(kinds.circles) as usize);
-    match h.opening {
+    let o = h.opening;
+    match o {
         Opening::Pf01 => 6 + (h.n + 7) / 8 + radii,
         Opening::Pf02 => 6 + (h.n + 3) / 4 + radii,
     }

@@ -7,6 +7,7 @@ use mathlib.Core.Bool.{Bool, true, false, cond}
 use mathlib.Core.List.{List, [], _∷_, _++_}
 use lib.Count.{ones, ones-step}
 use lib.Dec.{eqb, ltb}
+use lib.IntN.{ℤ}
 use lib.ListN.{length, take, drop}
 use Rattle.sheet.specs.declared.Opening.{Opening}
 use Rattle.sheet.specs.declared.Opening.the-variants.{Pf01, Pf02}
@@ -19,6 +20,9 @@ use Rattle.sheet.specs.Field.Laws.{next-value, demand-value, value-with, refuse
 use Rattle.sheet.specs.Rules.{elementsInRange, kindBitsUsed, kindsKnown, radiusInRange, constraintsInRange}
 use Rattle.sheet.specs.Decode.{opening, readKinds, element, readElements, constraints, readConstraints, readSheet}
 use Rattle.sheet.specs.WithoutTags.{circlesAmong, before}
+use Rattle.graph.specs.declared.Head.{Head}
+use Rattle.graph.specs.declared.Front.{Front}
+use Rattle.pattern.specs.Entries.Reading.{SheetFound}
 
 -- ---- the fields at the front
 
@@ -116,3 +120,11 @@ before-read s e =
     value-with (λ f t. before s ≡ 6 + kindBytes (f .opening) (length (f .elements)) + 4 * ones (circlesOf (f .elements))) e6
     (ap before (opening-stands s was ∙ ap (λ (l : List ℕ). openingBytes o ++ l) (byte-stands elementsInRange 3 s1 was2)) ∙ front o n s2
     ∙ ap₂ (λ (j m : ℕ). 6 + kindBytes o j + 4 * m) (sym n-is) (ap circlesAmong (sym (kinds .0)) ∙ c .circles))))))))
+
+-- what is read before the constraints tells it
+pub before-found : {bytes : List ℕ} {h : Front} {near start radii : List ℕ} {codes : List ℤ} → SheetFound bytes h near start codes radii
+    → 6 + kindBytes (h .opening) (h .n) + 4 * ones (h .kinds .circles) ≡ before bytes
+before-found {bytes} {h} f =
+    let s = f .sheet-in in
+    let n-is : h .n ≡ length (f .facts .elements) = ap (λ (x : Head). x .n) (s .head-is) in
+    rw (s .opening-is, n-is, s .kinds-in .circles-are) (sym (before-read bytes (f .reads)))
