@@ -11,8 +11,14 @@ use lib.Dec.{ltb}
 use lib.IntN.{ℤ, pos}
 use lib.ListN.{length, getD, take, set, length-set}
 use lib.Seq.{take-suc-set, take-all}
+use Rattle.sheet.specs.declared.Opening.{Opening}
+use Rattle.sheet.specs.declared.Element.{Element}
+use Rattle.sheet.specs.declared.Constraint.{Constraint}
 use Rattle.sheet.specs.Facts.{blankConstraint}
-use Rattle.pattern_c.specs.Columns.{placesOf, kindsListed, constraintFrom, constraintIn}
+use Rattle.sheet.specs.Field.{refused}
+use Rattle.sheet.specs.Answer.Laws.{rule-some}
+use Rattle.writer.specs.Write.{writeField}
+use Rattle.pattern_c.specs.Columns.{placesOf, openingBy, kindsListed, elementIn, constraintFrom, constraintIn, columnsFault, sheetIn, columnsField}
 
 -- ---- kinds
 
@@ -99,3 +105,18 @@ module _ {A : Type 0} (what : ℕ → A) (most : ℕ) where
       let s : i ≡ most = omega (arith, h .within) in
       let q : length block ≤ i = rw (h .long) l in
       sym (take-all i block q) ∙ h .front ∙ ap (placesOf what) s
+
+-- ---- the sheet
+
+module _ (opening n e : ℕ) (kinds radii firsts seconds maps : List ℕ) (sizes : List ℤ) where
+  pub columns-refused : {k : ℕ} → k ≡ columnsFault opening n kinds → (k ≡ 0 → ⊥)
+      → columnsField opening n e kinds radii firsts seconds maps sizes ≡ refused k
+  unfolding columnsField
+  columns-refused {k} is some = rule-some _ k is some
+
+  pub columns-taken : {o : Opening} {es : List Element} {cs : List Constraint} → columnsFault opening n kinds ≡ 0 → o ≡ openingBy opening
+      → es ≡ placesOf (elementIn kinds radii) 64 → cs ≡ placesOf (constraintIn firsts seconds maps sizes) 200
+      → writeField (record { opening = o; n = n; e = e; elements = es; constraints = cs })
+      ≡ columnsField opening n e kinds radii firsts seconds maps sizes
+  unfolding columnsField sheetIn
+  columns-taken none o-is es-are cs-are = rw (none, o-is, es-are, cs-are)
