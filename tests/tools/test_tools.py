@@ -1,0 +1,150 @@
+"""The command pattern, run as a program: exit statuses, JSON, many files at once, completion."""
+
+import json
+import os
+import random
+import subprocess
+import sys
+import tempfile
+import time
+import unittest
+
+ROOT = os.path.abspath(os.path.join(os.path.dirname(__file__), "..", ".."))
+TEXTS = os.path.join(ROOT, "examples", "text")
+SHEETS = os.path.join(ROOT, "tests", "programs", "report")
+
+
+def pattern(*arguments, text=None):
+    """Runs the command: its status, standard output and standard error."""
+    done = subprocess.run(["pattern", *arguments], input=text, capture_output=True)
+    return done.returncode, done.stdout.decode(), done.stderr.decode()
+
+
+def text(name):
+    """A text sheet of the examples."""
+    return os.path.join(TEXTS, name + ".txt")
+
+
+class Statuses(unittest.TestCase):
+    """0 well, 1 another verdict, 2 refused, 3 a file cannot be read or written, 64 usage."""
+
+    def test_verdicts(self):
+        for command in ("check", "report"):
+            self.assertEqual(pattern(command, text("gable"))[0], 0)
+            for name in ("frame", "braced", "lattice", "triangle", "hipped"):
+                self.assertEqual(pattern(command, text(name))[0], 1, name)
+
+    def test_the_worst_of_many(self):
+        refused = os.path.join(SHEETS, "refused_3_one.sheet")
+        self.assertEqual(pattern("check", text("gable"), text("rails"))[0], 0)
+        self.assertEqual(pattern("check", text("gable"), text("frame"), text("gable"))[0], 1)
+        self.assertEqual(pattern("check", text("frame"), refused, text("gable"))[0], 2)
+        self.assertEqual(pattern("check", refused, "no such file", text("gable"))[0], 3)
+
+    def test_files_and_usage(self):
+        for command in ("check", "show", "make", "report", "plan"):
+            self.assertEqual(pattern(command, "/")[0], 3, command)
+            status, out, error = pattern(command)
+            self.assertEqual((status, out), (64, ""), command)
+            self.assertIn("usage: pattern " + command, error)
+            status, out, error = pattern(command, "--help")
+            self.assertEqual((status, error), (0, ""), command)
+            self.assertIn("usage: pattern " + command, out)
+
+
+class Json(unittest.TestCase):
+    """What is printed for programs is JSON, and says what the words say."""
+
+    def check(self, *paths):
+        return json.loads(pattern("check", "--json", *paths)[1])
+
+    def test_every_stored_sheet(self):
+        paths = [os.path.join(SHEETS, name) for name in sorted(os.listdir(SHEETS)) if name.endswith(".sheet")]
+        for path, found in zip(paths, self.check(*paths)):
+            with open(path[: -len("sheet")] + "out") as file:
+                lines = [line.split() for line in file]
+            self.assertEqual(found["file"], path)
+            if lines[0][0] == "refused":
+                self.assertEqual((found["status"], found["rule"]), ("refused", int(lines[0][1])))
+                continue
+            self.assertEqual(found["status"], lines[0][1])
+            self.assertEqual([found["elements"], found["constraints"]], [int(lines[1][1]), int(lines[1][3])])
+            number = lambda name: int(name[1:])
+            steps = [line for line in lines if line[0] == "step"]
+            self.assertEqual([step["made"] for step in found["steps"]], [int(step[1]) for step in steps])
+            self.assertEqual([list(map(number, step["joint"])) for step in found["steps"]], [list(map(int, step[7:10])) for step in steps])
+            clusters = [line for line in lines if line[0] == "cluster"]
+            for cluster, line in zip(found["clusters"], clusters, strict=True):
+                on = line.index("rests")
+                self.assertEqual(list(map(number, cluster["holds"])), list(map(int, line[3:on])))
+                self.assertEqual(cluster["rests_on"], list(map(int, line[on + 2 :])))
+            over = [int(line[1]) for line in lines if line[0] == "first"]
+            self.assertEqual([found["over"]["constraint"]] if found["over"] else [], over)
+
+    def test_a_file_name_with_every_kind_of_character(self):
+        with tempfile.TemporaryDirectory() as folder:
+            path = os.path.join(folder, 'a "quoted"\\ \n\x01 näme')
+            os.symlink(text("gable"), path)
+            self.assertEqual(self.check(path)[0]["file"], path)
+
+    def test_commands(self):
+        calls = [["show", text("gable")], ["plan", text("gable")], ["part", text("gable"), "12"], ["chain", text("frame"), "A", "C"]]
+        calls += [["report", text("frame")], ["diff", text("frame"), text("braced")], ["add", text("frame"), "distance A C 7"]]
+        for call in calls:
+            self.assertTrue(json.loads(pattern(*call, "--json")[1]), call)
+
+
+class Many(unittest.TestCase):
+    """Ten thousand files in one call."""
+
+    def test_ten_thousand(self):
+        chance = random.Random(25)
+        with tempfile.TemporaryDirectory() as folder:
+            paths, wanted = [], []
+            for i in range(10_000):
+                n = chance.randrange(2, 12)
+                pairs = [(0, 1)] + [(j, k) for k in range(2, n) for j in (k - 2, k - 1)]
+                lacking = chance.randrange(0, 3)
+                pairs = pairs[: len(pairs) - min(lacking, len(pairs))]
+                lines = [f"point A{k}" for k in range(n)] + [f"distance A{j} A{k} 30" for j, k in pairs]
+                paths.append(os.path.join(folder, f"{i}.txt"))
+                wanted.append("well" if len(pairs) == 2 * n - 3 else "under")
+                with open(paths[-1], "w") as file:
+                    file.write("\n".join(lines))
+            start = time.monotonic()
+            status, out, error = pattern("check", "--json", *paths)
+            took = time.monotonic() - start
+            found = json.loads(out)
+            self.assertEqual((status, error), (1, ""))
+            self.assertEqual([row["file"] for row in found], paths)
+            self.assertEqual([row["status"] for row in found], wanted)
+            status, out, _ = pattern("check", "--quiet", *paths)
+            self.assertIn(f"well       {wanted.count('well'):6}\n", out)
+            print(f"ten thousand files: {took:.1f} s", file=sys.stderr)
+
+
+class Completion(unittest.TestCase):
+    """The completion script for bash completes commands, options and files."""
+
+    def complete(self, *words):
+        script = 'eval "$(pattern completion bash)"; COMP_WORDS=("$@"); COMP_CWORD=$(($# - 1)); _pattern; printf "%s\\n" "${COMPREPLY[@]}"'
+        done = subprocess.run(["bash", "-c", script, "bash", *words], capture_output=True, cwd=TEXTS)
+        return done.stdout.decode().split()
+
+    def test_bash(self):
+        self.assertEqual(self.complete("pattern", "ch"), ["check", "chain"])
+        self.assertEqual(self.complete("pattern", "check", "--h"), ["--help"])
+        self.assertEqual(self.complete("pattern", "check", "ga"), ["gable.txt"])
+
+    def test_every_command_and_option_is_there(self):
+        commands = [line.split()[0] for line in pattern("--help")[1].splitlines() if line.startswith("  ")]
+        for shell in ("bash", "zsh", "fish"):
+            status, script, _ = pattern("completion", shell)
+            self.assertEqual(status, 0)
+            for command in commands:
+                self.assertIn(command, script)
+        self.assertEqual(pattern("completion", "csh")[0], 64)
+
+
+if __name__ == "__main__":
+    unittest.main()
