@@ -1,6 +1,7 @@
 """The command pattern, run as a program: exit statuses, JSON, many files at once, completion."""
 
 import json
+import math
 import os
 import random
 import re
@@ -9,6 +10,7 @@ import sys
 import tempfile
 import time
 import unittest
+import xml.etree.ElementTree
 
 ROOT = os.path.abspath(os.path.join(os.path.dirname(__file__), "..", ".."))
 TEXTS = os.path.join(ROOT, "examples", "text")
@@ -43,7 +45,7 @@ class Statuses(unittest.TestCase):
         self.assertEqual(pattern("check", refused, "no such file", text("gable"))[0], 3)
 
     def test_files_and_usage(self):
-        for command in ("check", "show", "make", "report", "plan"):
+        for command in ("check", "show", "make", "report", "plan", "draw"):
             self.assertEqual(pattern(command, "/")[0], 3, command)
             status, out, error = pattern(command)
             self.assertEqual((status, out), (64, ""), command)
@@ -124,6 +126,82 @@ class Many(unittest.TestCase):
             print(f"ten thousand files: {took:.1f} s", file=sys.stderr)
 
 
+class Pictures(unittest.TestCase):
+    """Pictures are well-formed, show every element and constraint, and are to scale."""
+
+    NAMES = ("gable", "frame", "braced", "lattice", "triangle", "hipped", "rails", "open")
+
+    def facts(self, name):
+        return json.loads(pattern("show", "--json", text(name))[1])
+
+    def groups(self, picture):
+        """The groups of a picture by the key that they light: the shapes of each, in the order they are drawn."""
+        found = {}
+        for group in picture.iter("{http://www.w3.org/2000/svg}g"):
+            if "data-key" in group.attrib:
+                found.setdefault(group.attrib["data-key"], []).extend(group)
+        return found
+
+    def draw(self, path, *options):
+        status, out, error = pattern("draw", path, *options)
+        self.assertEqual((status, error), (0, ""), path)
+        return out
+
+    def test_everything_is_shown(self):
+        for name in self.NAMES:
+            facts = self.facts(name)
+            picture = xml.etree.ElementTree.fromstring(self.draw(text(name)))
+            groups = self.groups(picture)
+            wanted = [f"e{i}" for i in range(len(facts["elements"]))] + [f"k{k}" for k in range(len(facts["constraints"]))]
+            self.assertEqual(sorted(groups), sorted(wanted), name)
+            words = "".join(picture.itertext())
+            for element in facts["elements"]:
+                self.assertIn(element["name"], words)
+            for constraint in facts["constraints"]:
+                self.assertIn(constraint["text"], words)
+            width, height = (float(picture.attrib[side]) for side in ("width", "height"))
+            for shape in picture.iter("{http://www.w3.org/2000/svg}circle"):
+                self.assertTrue(0 < float(shape.attrib["cx"]) < width and 0 < float(shape.attrib["cy"]) < height, name)
+
+    def test_distances_are_to_scale(self):
+        for name in ("gable", "frame", "braced", "lattice"):
+            facts = self.facts(name)
+            groups = self.groups(xml.etree.ElementTree.fromstring(self.draw(text(name))))
+            places = {}
+            for i, element in enumerate(facts["elements"]):
+                if element["kind"] == "point":
+                    dot = next(shape for shape in groups[f"e{i}"] if shape.tag.endswith("circle"))
+                    places[element["name"]] = (float(dot.attrib["cx"]), float(dot.attrib["cy"]))
+            scales = []
+            for constraint in facts["constraints"]:
+                if constraint["demand"] == "size" and all(end in places for end in constraint["ends"]):
+                    scales.append(math.dist(*(places[end] for end in constraint["ends"])) / constraint["size"])
+            self.assertGreater(len(scales), 2)
+            self.assertLess(max(scales) / min(scales), 1.01, name)
+
+    def test_colours(self):
+        self.assertNotIn("stroke-dasharray", self.draw(text("gable")))
+        self.assertIn("stroke-dasharray", self.draw(text("frame")))
+        braced = xml.etree.ElementTree.fromstring(self.draw(text("braced")))
+        red = {key for key, shapes in self.groups(braced).items() if any("#d00000" in shape.attrib.values() for shape in shapes)}
+        self.assertEqual(red, {"e0", "e1", "e2", "e3", "k0", "k1", "k2", "k3", "k4", "k5"})
+
+    def test_every_stored_sheet_is_drawn(self):
+        for name in sorted(os.listdir(SHEETS)):
+            if name.endswith(".sheet") and not name.startswith("refused"):
+                xml.etree.ElementTree.fromstring(self.draw(os.path.join(SHEETS, name)))
+
+    def test_the_page(self):
+        for name in self.NAMES:
+            page = self.draw(text(name), "--html")
+            self.assertIn(pattern("report", text(name))[1].strip(), page)
+            self.assertNotRegex(page.replace('xmlns="http://www.w3.org/2000/svg"', ""), "https?:|src=|href=|url\\(|@import")
+            rows = re.findall('<tr tabindex="0" data-key="([pk][0-9]+)"', page)
+            self.assertEqual(len(rows), len(set(rows)))
+            body = re.sub("<script>.*?</script>|<style>.*?</style>|<!DOCTYPE html>|<meta[^>]*>", "", page, flags=re.DOTALL)
+            xml.etree.ElementTree.fromstring(body)
+
+
 class Completion(unittest.TestCase):
     """The completion script for bash completes commands, options and files."""
 
@@ -134,8 +212,8 @@ class Completion(unittest.TestCase):
 
     def test_bash(self):
         self.assertEqual(self.complete("pattern", "ch"), ["check", "chain"])
-        self.assertEqual(self.complete("pattern", "check", "--h"), ["--help"])
-        self.assertEqual(self.complete("pattern", "check", "ga"), ["gable.txt"])
+        self.assertEqual(self.complete("pattern", "draw", "--h"), ["--html", "--help"])
+        self.assertEqual(self.complete("pattern", "draw", "ga"), ["gable.txt"])
 
     def test_every_command_and_option_is_there(self):
         commands = [line.split()[0] for line in pattern("--help")[1].splitlines() if re.match("  [a-z]", line)]

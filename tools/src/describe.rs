@@ -8,7 +8,7 @@ use crate::finding::{Finding, verdict_name};
 use crate::json::Json;
 use crate::sheet::members;
 
-/// The most pairs that a line names.
+/// The most pairs, or constraints, that are named.
 const MOST_SHOWN: usize = 8;
 
 /// A count with its noun.
@@ -42,7 +42,10 @@ pub fn lines(document: &Document, finding: &Finding, position: Option<&Position>
     if let Some(over) = &finding.over {
         lines.push(format!("one too many: {} (constraint {})", document.statement(over.constraint), over.constraint));
         lines.push(format!("the part {} is fixed already, by:", document.named(over.part).join(" ")));
-        lines.extend(over.earlier.iter().map(|&k| format!("  {} (constraint {k})", document.statement(k))));
+        let shown = over.earlier.iter().take(MOST_SHOWN);
+        lines.extend(shown.map(|&k| format!("  {} (constraint {k})", document.statement(k))));
+        let rest = over.earlier.len().saturating_sub(MOST_SHOWN);
+        lines.extend((rest > 0).then(|| format!("  and {rest} more")));
         lines.push("leave one of these out, or the one too many".to_string());
     }
     if finding.verdict == Verdict::Under {
@@ -73,7 +76,7 @@ pub fn warnings(document: &Document, finding: &Finding, position: Option<&Positi
         let statements = finding.step_statements(document, step).join(", ");
         format!("WARNING: NO PLACEMENT: these sizes do not close (step {}): {statements}", step.made)
     });
-    open.chain(position.and_then(|position| position.warning(document))).collect()
+    open.chain(position.map(|position| position.warning(document))).collect()
 }
 
 /// The fields of a finding for a program.

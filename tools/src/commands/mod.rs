@@ -5,6 +5,7 @@ mod chain;
 mod check;
 mod completion;
 mod diff;
+mod draw;
 mod part;
 mod plan;
 mod report;
@@ -19,12 +20,13 @@ const PRICES: Flag = Flag {
     says: "what measuring costs: lines \"A B 5\", \"A C never\", \"default 10\"",
 };
 const QUIET: Flag = Flag { name: "quiet", short: Some('q'), value: None, says: "print the table at the end alone" };
+const HTML: Flag = Flag { name: "html", short: None, value: None, says: "a page with the report, lit by the mouse" };
 
 /// The most operands of a command that takes any number.
 const ANY: usize = usize::MAX;
 
 /// Every command, in the order of the help.
-pub const COMMANDS: [Command; 11] = [
+pub const COMMANDS: [Command; 12] = [
     Command {
         name: "check",
         operands: "FILE..",
@@ -142,6 +144,19 @@ the two are not connected it prints none and ends with status 1.",
 Elements are compared by name where both files are text, else by number. Ends with status 1
 where the sheets differ.",
         run: diff::run,
+    },
+    Command {
+        name: "draw",
+        operands: "FILE",
+        count: (1, 1),
+        flags: &[&OUTPUT, &HTML],
+        summary: "draw a sheet as SVG, or as a page with --html",
+        about: "
+The elements are laid out from their dimensions where the plan gives a construction, the first
+placement of each step; else by a numeric search, else on a circle. The layout is tested, not
+proved. Parts have colours of their own, what is over is red, parts that can still move are
+dashed.",
+        run: draw::run,
     },
     Command {
         name: "completion",
