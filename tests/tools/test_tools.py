@@ -23,6 +23,12 @@ def pattern(*arguments, text=None):
     return done.returncode, done.stdout.decode(), done.stderr.decode()
 
 
+def open_text(path):
+    """The content of a text file."""
+    with open(path) as file:
+        return file.read()
+
+
 def text(name):
     """A text sheet of the examples."""
     return os.path.join(TEXTS, name + ".txt")
@@ -190,6 +196,21 @@ class Pictures(unittest.TestCase):
         for name in sorted(os.listdir(SHEETS)):
             if name.endswith(".sheet") and not name.startswith("refused"):
                 xml.etree.ElementTree.fromstring(self.draw(os.path.join(SHEETS, name)))
+
+    def test_the_pictures_of_the_guide_are_drawn_again(self):
+        stored = os.path.join(ROOT, "docs", "pictures")
+        with tempfile.TemporaryDirectory() as folder:
+            subprocess.run([os.path.join(stored, "make"), folder], check=True)
+            names = sorted(name for name in os.listdir(stored) if name.endswith(".svg"))
+            self.assertEqual(sorted(os.listdir(folder)), names)
+            with open(os.path.join(ROOT, "docs", "GUIDE.md")) as file:
+                self.assertEqual(sorted(re.findall(r"\(pictures/(.*?\.svg)\)", file.read())), names)
+            for name in names:
+                old, new = (re.split(r"(-?[0-9]+\.[0-9]+)", open_text(os.path.join(place, name))) for place in (stored, folder))
+                self.assertEqual(old[::2], new[::2], name)
+                # numbers may differ by rounding on another machine
+                for a, b in zip(old[1::2], new[1::2]):
+                    self.assertAlmostEqual(float(a), float(b), delta=0.25, msg=name)
 
     def test_the_page(self):
         for name in self.NAMES:

@@ -142,8 +142,10 @@ fn merge(sheet: &Sheet, parts: [&Part; 3], joint: u64) -> Vec<Part> {
         }
         Some(union)
     };
-    let mut found: Vec<Part> = triangles(lines, sizes).into_iter().filter_map(placed).collect();
-    found.sort_by(|a, b| spread(sheet, a).total_cmp(&spread(sheet, b)));
+    // of two that spread the points as wide, but for rounding, the first stands last
+    let mut found: Vec<Part> = triangles(lines, sizes).into_iter().rev().filter_map(placed).collect();
+    let rounded = |part: &Part| (spread(sheet, part).max(1e-9).ln() * 1e6).round();
+    found.sort_by(|a, b| rounded(a).total_cmp(&rounded(b)));
     found
 }
 

@@ -2,7 +2,7 @@
 
 use super::layout::layout;
 use super::scene::Scene;
-use super::svg::{constraint_keys, escaped, picture};
+use super::svg::{bare, constraint_keys, escaped};
 use crate::describe;
 use crate::document::Document;
 use crate::draw::Position;
@@ -10,7 +10,7 @@ use crate::engine;
 use crate::finding::{Finding, verdict_name};
 use crate::sheet::members;
 
-const STYLE: &str = "body{font:15px sans-serif;margin:1.5em;color:#222;max-width:80em}main{display:flex;flex-wrap:wrap;gap:2em}\
+const STYLE: &str = "body{font:15px sans-serif;margin:1.5em;color:#222;max-width:80em}p{margin:.2em 0}main{display:flex;flex-wrap:wrap;gap:2em}\
 svg{max-width:100%;height:auto;border:1px solid #ccc}table{border-collapse:collapse}td,th{padding:.15em .6em;text-align:left}\
 tr[data-key]:hover{background:#eee}.swatch{display:inline-block;width:1.6em;height:.7em}pre{background:#f4f4f4;padding:.8em;overflow:auto}\
 [data-lit]{transition:opacity .15s}.lighting [data-lit]{opacity:.2}.lighting .lit{opacity:1}.loud{color:#d00000;font-weight:bold}";
@@ -37,7 +37,7 @@ pub fn page(document: &Document, finding: &Finding, position: Option<&Position>)
         "<!DOCTYPE html>\n<html lang=\"en\">\n<head><meta charset=\"utf-8\"><title>{name}: {verdict}</title>\n<style>{STYLE}</style></head>\n<body>\n\
          <h1>{name}: {verdict}</h1>\n{lines}<main>\n<div>{}</div>\n<div>\n<h2>Parts</h2>\n<table>\n{parts}</table>\n<h2>Dimensions</h2>\n<table>\n{constraints}</table>\n\
          </div>\n</main>\n<h2>Report</h2>\n<pre>{report}</pre>\n<script>{SCRIPT}</script>\n</body>\n</html>\n",
-        picture(document, finding, position)
+        bare(&scene)
     )
 }
 

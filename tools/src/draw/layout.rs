@@ -55,11 +55,10 @@ pub fn layout(document: &Document) -> Layout {
     let turns = if sheet.elements.len() > 24 { 3 } else { 9 };
     let circles = (0..turns).map(|turn| circle(&sheet, system.scale(), f64::from(turn)));
     let starts = [joined(&sheet, &finished, system.scale())].into_iter().chain(circles);
-    let found = starts
-        .filter_map(|start| system.solve(start))
-        .max_by(|a, b| clearness(&sheet, a).total_cmp(&clearness(&sheet, b)));
-    match found {
-        Some(places) => Layout { places: upright(&sheet, places), how: How::Search },
+    // a later one must be clearer by more than rounding
+    let scored = starts.filter_map(|start| system.solve(start)).map(|places| (clearness(&sheet, &places), places));
+    match scored.reduce(|a, b| if b.0 > a.0 + 1e-6 { b } else { a }) {
+        Some((_, places)) => Layout { places: upright(&sheet, places), how: How::Search },
         None => Layout { places: circle(&sheet, 100.0, 0.0), how: How::Circle },
     }
 }

@@ -157,6 +157,17 @@ impl<'a> Scene<'a> {
         }
     }
 
+    /// Whether a text of so many characters has room along what a constraint measures.
+    pub fn roomy(&self, constraint: &Constraint, characters: usize) -> bool {
+        let [a, b] = self.span(constraint);
+        self.long(length(between(a, b))) > 7.0 * characters as f64
+    }
+
+    /// Whether there are so many elements that names are small.
+    pub fn dense(&self) -> bool {
+        self.places.len() > 20
+    }
+
     /// Where the size of a constraint stands on the canvas: in the middle of what it measures, or before it where another has the middle.
     pub fn size_at(&self, constraint: usize) -> Place {
         let all = &self.document.sheet.constraints;

@@ -9,8 +9,9 @@ use super::scene::{MARGIN, Paint, Scene};
 use crate::describe;
 use crate::document::Document;
 use crate::draw::Position;
+use crate::engine::Cluster;
 use crate::finding::{Finding, verdict_name};
-use crate::sheet::{Constraint, Demand, members};
+use crate::sheet::{Constraint, Demand};
 use crate::text::{degrees, millimetres};
 
 /// The most clusters that the legend names.
@@ -22,25 +23,32 @@ const WRAP: usize = 84;
 const LEAST: f64 = 720.0;
 
 const STYLE: &str = "text{font:13px sans-serif;fill:#222}.label{paint-order:stroke;stroke:#fff;stroke-width:4px;stroke-linejoin:round}\
-.name{font-weight:bold}.size{font-size:11px}.head{font-weight:bold;font-size:15px}.loud{fill:#d00000;font-weight:bold}";
+.name{font-weight:bold}.dense .name{font-size:9px;font-weight:normal}.size{font-size:11px}.head{font-weight:bold;font-size:15px}.loud{fill:#d00000;font-weight:bold}";
 
 /// The picture of a sheet, with its legend.
 pub fn picture(document: &Document, finding: &Finding, position: Option<&Position>) -> String {
     let scene = Scene::of(document, finding, layout(document));
-    let legend = legend(&scene, position);
+    let legend = [words(&scene, position), parts(&scene), noted(&scene)].concat();
+    drawing(&scene, &legend)
+}
+
+/// The drawing of a scene, with some lines below it.
+fn drawing(scene: &Scene, legend: &[String]) -> String {
+    let document = scene.document;
     let width = (scene.size[0] + 2.0 * MARGIN).max(LEAST);
     let top = scene.size[1] + 2.0 * MARGIN;
     let height = top + LINE * (legend.len() as f64 + 1.0);
-    let verdict = verdict_name(finding.verdict);
+    let verdict = verdict_name(scene.finding.verdict);
     let mut out = format!(
         "<svg xmlns=\"http://www.w3.org/2000/svg\" viewBox=\"0 0 {width:.0} {height:.0}\" width=\"{width:.0}\" height=\"{height:.0}\" role=\"img\">\n\
          <title>{}: {verdict}</title>\n<style>{STYLE}</style>\n<rect width=\"100%\" height=\"100%\" fill=\"#fff\"/>\n",
         escaped(&document.path)
     );
     let shift = (width - scene.size[0] - 2.0 * MARGIN) / 2.0;
-    let _ = writeln!(out, "<g transform=\"translate({shift:.1} 0)\">");
-    let constraints = (0..document.sheet.constraints.len()).map(|k| constraint(&scene, k));
-    let elements = (0..document.sheet.elements.len()).map(|i| element(&scene, i));
+    let class = if scene.dense() { "dense" } else { "clear" };
+    let _ = writeln!(out, "<g class=\"{class}\" transform=\"translate({shift:.1} 0)\">");
+    let constraints = (0..document.sheet.constraints.len()).map(|k| constraint(scene, k));
+    let elements = (0..document.sheet.elements.len()).map(|i| element(scene, i));
     let (shapes, labels): (Vec<_>, Vec<_>) =
         constraints.chain(elements).map(|drawn| (drawn.shape, drawn.label)).unzip();
     out.extend(shapes.into_iter().chain(labels));
@@ -150,8 +158,9 @@ fn element(scene: &Scene, i: usize) -> Drawn {
             let at = scene.at(scene.place(i));
             let ring = radius.map_or(String::new(), |radius| circle(at, radius, &stroke(paint, 2.0)));
             let fill = if paint.dashed { "#ffffff" } else { paint.colour };
-            let dot = circle(at, 4.0, &format!("fill=\"{fill}\" stroke=\"{}\" stroke-width=\"1.5\"", paint.colour));
-            let label = name_label(at, scene.outward(scene.place(i)), 14.0, paint.colour, name);
+            let (small, far) = if scene.dense() { (2.5, 9.0) } else { (4.0, 14.0) };
+            let dot = circle(at, small, &format!("fill=\"{fill}\" stroke=\"{}\" stroke-width=\"1.5\"", paint.colour));
+            let label = name_label(at, scene.outward(scene.place(i)), far, paint.colour, name);
             Drawn { shape: ring + &dot, label }
         }
     };
@@ -210,14 +219,13 @@ fn size(scene: &Scene, c: &Constraint) -> String {
     }
 }
 
-/// A line along what a constraint measures, and its size.
+/// A line along what a constraint measures, and its size where it has room.
 fn measured(scene: &Scene, k: usize, paint: Paint) -> Drawn {
     let c = &scene.document.sheet.constraints[k];
-    let [a, b] = scene.span(c);
-    Drawn {
-        shape: straight(scene, a, b, &stroke(paint, 1.2)),
-        label: size_label(scene.size_at(k), paint.colour, &size(scene, c)),
-    }
+    let ([a, b], size) = (scene.span(c), size(scene, c));
+    let roomy = scene.roomy(c, size.chars().count());
+    let label = if roomy { size_label(scene.size_at(k), paint.colour, &size) } else { String::new() };
+    Drawn { shape: straight(scene, a, b, &stroke(paint, 1.2)), label }
 }
 
 /// A point on a line: a ring about it.
@@ -265,30 +273,44 @@ fn angle(scene: &Scene, k: usize, paint: Paint) -> Drawn {
     }
 }
 
-/// The lines below the picture: verdict, parts, warnings, how it was laid out.
-fn legend(scene: &Scene, position: Option<&Position>) -> Vec<String> {
-    let (document, finding) = (scene.document, scene.finding);
-    let words = |class: &str, text: &str| format!("<text class=\"{class}\">{}</text>", escaped(text));
-    let lines = describe::lines(document, finding, position);
-    let mut rows = vec![words("head", verdict_name(finding.verdict))];
-    for line in &lines {
-        let class = if line.to_lowercase().starts_with("warning") { "loud" } else { "" };
-        rows.extend(wrapped_words(line).iter().map(|line| words(class, line)));
+/// A line of the legend.
+fn line(class: &str, text: &str) -> String {
+    format!("<text class=\"{class}\">{}</text>", escaped(text))
+}
+
+/// The verdict and what there is to say of it.
+fn words(scene: &Scene, position: Option<&Position>) -> Vec<String> {
+    let mut rows = vec![line("head", verdict_name(scene.finding.verdict))];
+    for words in describe::lines(scene.document, scene.finding, position) {
+        let class = if words.to_lowercase().starts_with("warning") { "loud" } else { "plain" };
+        rows.extend(wrapped_words(&words).iter().map(|words| line(class, words)));
     }
-    let clusters = &finding.clusters;
-    for (p, cluster) in clusters.iter().enumerate().take(MOST_PARTS) {
-        let dash = if scene.free(p) { " stroke-dasharray=\"6 4\"" } else { "" };
-        let swatch = format!("<path d=\"M0 -4h26\" stroke=\"{}\" stroke-width=\"4\"{dash}/>", scene.colour(p));
-        let names: Vec<_> = members(cluster.elements).map(|i| document.names[i].as_str()).collect();
-        let free = if scene.free(p) { ", free" } else { "" };
-        let text = format!("part {}: {}{free}", cluster.number, shortened(&names.join(" ")));
-        rows.push(format!("{swatch}<text x=\"34\">{}</text>", escaped(&text)));
-    }
-    if clusters.len() > MOST_PARTS {
-        rows.push(words("", &format!("and {} more parts", clusters.len() - MOST_PARTS)));
-    }
-    rows.extend(wrapped_words(note(scene.how)).iter().map(|line| words("size", line)));
     rows
+}
+
+/// The parts with their colours.
+fn parts(scene: &Scene) -> Vec<String> {
+    let clusters = &scene.finding.clusters;
+    let row = |(p, cluster): (usize, &Cluster)| {
+        let (dash, free) = if scene.free(p) { (" stroke-dasharray=\"6 4\"", ", free") } else { ("", "") };
+        let swatch = format!("<path d=\"M0 -4h26\" stroke=\"{}\" stroke-width=\"4\"{dash}/>", scene.colour(p));
+        let names = shortened(&scene.document.named(cluster.elements).join(" "));
+        format!("{swatch}<text x=\"34\">{}</text>", escaped(&format!("part {}: {names}{free}", cluster.number)))
+    };
+    let mut rows: Vec<String> = clusters.iter().enumerate().take(MOST_PARTS).map(row).collect();
+    let rest = clusters.len().saturating_sub(MOST_PARTS);
+    rows.extend((rest > 0).then(|| line("plain", &format!("and {rest} more parts"))));
+    rows
+}
+
+/// How it was laid out.
+fn noted(scene: &Scene) -> Vec<String> {
+    wrapped_words(note(scene.how)).iter().map(|words| line("size", words)).collect()
+}
+
+/// The drawing of a scene for a page that has the words and the parts beside it.
+pub fn bare(scene: &Scene) -> String {
+    drawing(scene, &noted(scene))
 }
 
 /// A text that is cut where it is too long for a line.
