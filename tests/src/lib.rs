@@ -2,7 +2,7 @@
 //! proved library beside it: random sheets, damage, lent space with guards, counts.
 //!
 //! The reference: `facts`, `rules`, `reader`, `writer`, `over`, `matching`, `merging`, `rings`, `verdict`, `placements`,
-//! `report`, `records`, `parts`, `plans`, `sketch`, `missing`, and `interface`, which gives the answers the C interface must give.
+//! `report`, `records`, `parts`, `plans`, `sketch`, `missing`, `opens`, and `interface`, which gives the answers the C interface must give.
 //! The runs: `random`, `graph`, `shapes`, `dress`, `tags`, `damage`, `space`, `run`, and `ffi`, the only unsafe code.
 
 pub mod calls;
@@ -18,6 +18,7 @@ pub mod interface;
 pub mod matching;
 pub mod merging;
 pub mod missing;
+pub mod opens;
 pub mod over;
 pub mod parts;
 pub mod placements;
