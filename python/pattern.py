@@ -29,7 +29,7 @@ from typing import Any
 
 __all__ = [
     "CIRCLE", "Cluster", "Constraint", "Element", "Facts", "Kind", "LINE", "Over", "POINT", "Refused", "Sketch", "Step", "UNMEASURED", "Verdict",
-    "card", "chain", "check_plan", "clusters", "initial", "longest", "missing", "over", "part", "part_bytes", "part_steps", "plan", "read", "report",
+    "card", "chain", "check_plan", "clusters", "initial", "longest", "missing", "open_merges", "over", "part", "part_bytes", "part_steps", "plan", "read", "report",
     "rewrite", "rule_text", "saved_steps", "shared", "steps", "verdict", "version", "write",
 ]
 
@@ -38,6 +38,7 @@ MOST_CONSTRAINTS = 200
 MOST_WRITTEN = 1414
 MOST_REPORT = 4667
 MOST_PLAN = 186
+MOST_OPEN = 186
 MOST_STEPS = 62
 MOST_CLUSTERS = 125
 MOST_RESTS = 250
@@ -195,6 +196,12 @@ def report(sheet: bytes) -> str:
 def plan(sheet: bytes) -> list[tuple[int, int, int]]:
     """The plan: three cluster numbers a step. A sheet that is over has none."""
     numbers = _list("pattern_plan", ctypes.c_uint16, MOST_PLAN, *_bytes(sheet))
+    return [(a, b, c) for a, b, c in _threes(numbers)]
+
+
+def open_merges(sheet: bytes, steps: int) -> list[tuple[int, int, int]]:
+    """The merges that are open after so many steps of the plan, or after all: by the lowest element of the joint, then by number."""
+    numbers = _list("pattern_open", ctypes.c_uint16, MOST_OPEN, *_bytes(sheet), ctypes.c_size_t(steps))
     return [(a, b, c) for a, b, c in _threes(numbers)]
 
 

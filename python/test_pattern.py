@@ -80,6 +80,8 @@ class Calls(unittest.TestCase):
 
     def test_steps_and_plans(self):
         self.assertEqual(pattern.plan(self.sheet), [(0, 1, 2), (3, 4, 5)])
+        self.assertEqual(pattern.open_merges(self.sheet, 0), [(0, 1, 2), (2, 3, 4)])
+        self.assertEqual([pattern.open_merges(self.sheet, steps) for steps in (1, 2, 9)], [[(3, 4, 5)], [], []])
         first, second = pattern.steps(self.sheet)
         self.assertEqual(first, pattern.Step(5, (0, 1, 2), frozenset({0, 1, 2}), "ppp", 2))
         self.assertEqual((second.made, second.ways), (6, None))
