@@ -78,6 +78,23 @@ class Calls(unittest.TestCase):
             facts = Facts(elements, constraints)
             self.assertEqual(pattern.read(pattern.write(facts)), facts)
 
+    def test_damaged_sheets(self):
+        chance = random.Random(12)
+        sheets = [pattern.longest(n) for n in (2, 9, 64)] + [stored("report/" + name + ".sheet") for name in ("some_tags", "hipped_frame", "touching")]
+        for _ in range(5000):
+            sheet = bytearray(chance.choice(sheets))
+            if chance.random() < 0.3:
+                del sheet[chance.randrange(len(sheet)) :]
+            for _ in range(chance.randrange(3)):
+                if sheet:
+                    sheet[chance.randrange(len(sheet))] = chance.randrange(256)
+            try:
+                plain = pattern.rewrite(bytes(sheet))
+            except Refused as refused:
+                self.refused(refused.rule, pattern.read, bytes(sheet))
+            else:
+                self.assertEqual(pattern.write(pattern.read(bytes(sheet))), plain)
+
     def test_steps_and_plans(self):
         self.assertEqual(pattern.plan(self.sheet), [(0, 1, 2), (3, 4, 5)])
         self.assertEqual(pattern.open_merges(self.sheet, 0), [(0, 1, 2), (2, 3, 4)])

@@ -20,6 +20,9 @@ int main()
         return 4;
     if (facts.n != 2 || facts.e != 1 || facts.sizes[0] != 300)
         return 5;
+    struct pattern_columns same = facts;
+    if (pattern_read(sheet, static_cast<size_t>(len) - 1, &facts) != -PATTERN_CUT || std::memcmp(&same, &facts, sizeof facts) != 0)
+        return 7; // a refused sheet leaves the columns as they were
     struct pattern_step steps[PATTERN_MAX_STEPS];
     if (pattern_steps(sheet, static_cast<size_t>(len), reinterpret_cast<uint64_t *>(steps), PATTERN_MAX_STEPS * PATTERN_STEP) != 0)
         return 6;

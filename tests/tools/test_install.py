@@ -94,6 +94,15 @@ class Install(unittest.TestCase):
                     run(compiler, "-std=" + standard, *strict, source, *flags, "-o", program)
                     run(program, env=self.environment)
 
+    def test_reading_under_the_sanitizers(self):
+        sources = [os.path.join(ROOT, "tests", "tools", "read.c"), os.path.join(ROOT, "c", "pattern_text.c")]
+        proved = os.path.join(ROOT, "target", "staticlib", "libpattern_c.a")
+        flags = ["-std=c11", "-g", "-O1", "-Wall", "-Wextra", "-Wpedantic", "-Werror", "-fsanitize=address,undefined", "-fno-sanitize-recover=all"]
+        with tempfile.TemporaryDirectory() as folder:
+            program = os.path.join(folder, "read")
+            run("cc", *flags, "-I" + self.path("include"), *sources, proved, "-o", program)
+            run(program)
+
     def test_python(self):
         code = "import pattern; print(pattern.version(), pattern.verdict(open(%r, 'rb').read()).name)" % EXAMPLE
         environment = {"PATH": os.environ["PATH"], "PYTHONPATH": self.path("share/pattern"), "PYTHONDONTWRITEBYTECODE": "1"}

@@ -3,6 +3,7 @@
 import json
 import math
 import os
+import pty
 import random
 import re
 import subprocess
@@ -106,6 +107,21 @@ class Json(unittest.TestCase):
 class Many(unittest.TestCase):
     """Ten thousand files in one call."""
 
+    def on_a_terminal(self, *arguments):
+        """What the command says on a standard error that is a terminal."""
+        ours, its = pty.openpty()
+        running = subprocess.Popen(["pattern", *arguments], stdout=subprocess.DEVNULL, stderr=its)
+        os.close(its)
+        said = b""
+        try:
+            while piece := os.read(ours, 4096):
+                said += piece
+        except OSError:  # the terminal is gone once the command has ended
+            pass
+        os.close(ours)
+        running.wait()
+        return said.decode()
+
     def test_ten_thousand(self):
         chance = random.Random(25)
         with tempfile.TemporaryDirectory() as folder:
@@ -129,6 +145,7 @@ class Many(unittest.TestCase):
             self.assertEqual([row["status"] for row in found], wanted)
             status, out, _ = pattern("check", "--quiet", *paths)
             self.assertIn(f"well       {wanted.count('well'):6}\n", out)
+            self.assertRegex(self.on_a_terminal("check", "--quiet", *paths), r"\r[0-9]+ of 10000 files.*\r\x1b\[K$")
             print(f"ten thousand files: {took:.1f} s", file=sys.stderr)
 
 
