@@ -240,6 +240,24 @@ class Pictures(unittest.TestCase):
             xml.etree.ElementTree.fromstring(body)
 
 
+class Documents(unittest.TestCase):
+    """What README and the guide show is what the command prints."""
+
+    def test_readme(self):
+        readme = open_text(os.path.join(ROOT, "README.md"))
+        shown = [open_text(text("frame")), pattern("check", text("frame"))[1].replace(text("frame"), "frame.txt")]
+        for wanted in shown:
+            self.assertIn("\n".join("    " + line for line in wanted.splitlines()), readme)
+
+    def test_guide(self):
+        guide = open_text(os.path.join(ROOT, "docs", "GUIDE.md"))
+        section = guide[guide.index("## Reading a report") : guide.index("## Common mistakes")]
+        rows = re.findall(r"^\| `(.*?)` \|", section, re.MULTILINE)
+        self.assertEqual(rows, pattern("report", text("gable"))[1].splitlines())
+        frame = pattern("check", text("frame"))[1].replace(text("frame"), "frame.txt")
+        self.assertIn("\n".join("    " + line for line in frame.splitlines()), guide)
+
+
 class Completion(unittest.TestCase):
     """The completion script for bash completes commands, options and files."""
 

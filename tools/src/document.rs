@@ -93,6 +93,7 @@ pub fn read(path: &OsStr) -> Result<Vec<u8>, Fault> {
 /// The content as a text form, if it is one: it does not open as a sheet, and holds characters and no control characters but white space.
 fn as_text(content: &[u8]) -> Option<&str> {
     let text = std::str::from_utf8(content).ok()?;
+    let text = text.strip_prefix('\u{feff}').unwrap_or(text);
     let printable = text.chars().all(|c| !c.is_control() || c.is_whitespace());
     (!content.is_empty() && !content.starts_with(b"PF0") && printable).then_some(text)
 }

@@ -140,3 +140,36 @@ fn every_example_has_the_layout_that_it_is_known_for() {
     assert_eq!(how("point A B\n"), How::Search);
     assert_eq!(how("line a b c\n"), How::Search);
 }
+
+#[test]
+fn every_sheet_is_drawn() {
+    let mut random = Random(77);
+    for round in 0..300 {
+        let n = if round % 50 == 0 { 64 } else { 2 + random.below(12) };
+        let lines: Vec<bool> = (0..n).map(|_| random.below(3) == 0).collect();
+        let mut text: String = lines
+            .iter()
+            .enumerate()
+            .map(|(i, line)| format!("{} E{i}\n", if *line { "line" } else { "point" }))
+            .collect();
+        let mut pairs: Vec<(usize, usize)> = Vec::new();
+        for _ in 0..random.below(2 * n + 2).min(200) {
+            let (a, b) = (random.below(n), random.below(n));
+            if a < b && !pairs.contains(&(a, b)) {
+                pairs.push((a, b));
+                let size = 1 + random.below(150);
+                text += &match (lines[a], lines[b]) {
+                    (true, true) => format!("angle E{a} E{b} {size}\n"),
+                    (false, false) => format!("distance E{a} E{b} {size}\n"),
+                    _ if size < 40 => format!("on E{a} E{b}\n"),
+                    _ => format!("distance E{a} E{b} -{size}\n"),
+                };
+            }
+        }
+        let document = document(&text);
+        let finding = Finding::of(&document, &Prices::default().of(&document).expect("prices")).expect("a finding");
+        let page = draw::page(&document, &finding, draw::examine(&document, &finding).as_ref());
+        assert!(!page.contains("NaN") && !page.contains("inf"), "{text}");
+        assert_eq!(page.matches("class=\"element\"").count(), 2 * n, "{text}");
+    }
+}

@@ -20,59 +20,51 @@ fn flags(command: &Command) -> impl Iterator<Item = &'static Flag> {
     command.flags.iter().copied().chain([&HELP])
 }
 
-/// The names of all commands.
-fn names() -> String {
-    COMMANDS.map(|command| command.name).join(" ")
+/// What an option says, without the quotation marks that a script would take for its own.
+fn says(flag: &Flag) -> String {
+    flag.says.replace('"', "")
+}
+
+/// Something of each command, joined.
+fn each(row: impl Fn(&Command) -> String, between: &str) -> String {
+    COMMANDS.iter().map(row).collect::<Vec<_>>().join(between)
 }
 
 /// The script for bash.
 fn bash() -> String {
     let case = |command: &Command| {
         let words: Vec<_> = flags(command).map(|flag| format!("--{}", flag.name)).collect();
-        format!("        {}) words='{}' ;;\n", command.name, words.join(" "))
+        format!("        {}) words='{}' ;;", command.name, words.join(" "))
     };
-    let cases: String = COMMANDS.iter().map(case).collect();
-    format!(
-        "# bash completion for pattern\n_pattern() {{\n    local words current=${{COMP_WORDS[COMP_CWORD]}}\n\
-         \x20   if [ \"$COMP_CWORD\" -eq 1 ]; then\n        COMPREPLY=($(compgen -W '{} --help --version' -- \"$current\"))\n        return\n    fi\n\
-         \x20   case ${{COMP_WORDS[1]}} in\n{cases}        *) words='' ;;\n    esac\n\
-         \x20   case $current in\n        -*) COMPREPLY=($(compgen -W \"$words\" -- \"$current\")) ;;\n\
-         \x20       *) COMPREPLY=($(compgen -f -- \"$current\")) ;;\n    esac\n}}\ncomplete -o filenames -F _pattern pattern\n",
-        names()
-    )
+    let names = each(|command| command.name.to_string(), " ");
+    include_str!("completion/bash.template").replace("@NAMES@", &names).replace("@CASES@", &each(case, "\n"))
 }
 
 /// The script for zsh.
 fn zsh() -> String {
-    let rows: String =
-        COMMANDS.iter().map(|command| format!("        '{}:{}'\n", command.name, command.summary)).collect();
-    let case = |command: &Command| {
-        let words: Vec<_> =
-            flags(command).map(|flag| format!("'--{}[{}]'", flag.name, flag.says.replace('"', ""))).collect();
-        format!("        {}) _arguments {} '*:file:_files' ;;\n", command.name, words.join(" "))
+    let option = |flag: &Flag| {
+        let (sign, value) = flag.value.map_or(("", String::new()), |value| ("=", format!(":{value}:_files")));
+        format!("'--{}{sign}[{}]{value}'", flag.name, says(flag))
     };
-    let cases: String = COMMANDS.iter().map(case).collect();
-    format!(
-        "#compdef pattern\n_pattern() {{\n    local -a commands=(\n{rows}    )\n    if (( CURRENT == 2 )); then\n        _describe command commands\n        return\n    fi\n\
-         \x20   case $words[2] in\n{cases}    esac\n}}\n_pattern \"$@\"\n"
-    )
+    let case = |command: &Command| {
+        let words: Vec<_> = flags(command).map(option).collect();
+        format!("        {}) _arguments {} '*:file:_files' ;;", command.name, words.join(" "))
+    };
+    let names = each(|command| format!("        '{}:{}'", command.name, command.summary), "\n");
+    include_str!("completion/zsh.template").replace("@NAMES@", &names).replace("@CASES@", &each(case, "\n"))
 }
 
 /// The script for fish.
 fn fish() -> String {
-    let command_rows = |command: &Command| {
-        let first =
-            format!("complete -c pattern -n __fish_use_subcommand -a {} -d '{}'\n", command.name, command.summary);
-        let rows = flags(command).map(|flag| {
+    let row = |command: &Command| {
+        let (name, summary) = (command.name, command.summary);
+        let option = |flag: &Flag| {
             let value = if flag.value.is_some() { " -r" } else { "" };
-            let says = flag.says.replace('"', "");
-            format!(
-                "complete -c pattern -n '__fish_seen_subcommand_from {}' -l {}{value} -d '{says}'\n",
-                command.name, flag.name
-            )
-        });
-        [first].into_iter().chain(rows).collect::<String>()
+            let seen = format!("'__fish_seen_subcommand_from {name}'");
+            format!("complete -c pattern -n {seen} -l {}{value} -d '{}'\n", flag.name, says(flag))
+        };
+        let first = format!("complete -c pattern -n __fish_use_subcommand -a {name} -d '{summary}'\n");
+        [first].into_iter().chain(flags(command).map(option)).collect()
     };
-    let rows: String = COMMANDS.iter().map(command_rows).collect();
-    format!("# fish completion for pattern\n{rows}")
+    format!("# fish completion for pattern\n{}", each(row, ""))
 }

@@ -3,6 +3,7 @@
 mod construct;
 mod html;
 mod layout;
+mod legend;
 mod place;
 mod scene;
 mod svg;

@@ -82,7 +82,7 @@ impl<'a> Scene<'a> {
         self.segments[element]
     }
 
-    /// The place of a circle's edge in a direction, and its radius on the canvas.
+    /// The radius of a circle on the canvas; a picture that is not to scale has small ones.
     pub fn radius(&self, element: usize) -> Option<f64> {
         match self.document.sheet.elements[element] {
             Kind::Circle(_) if self.how == How::Circle => Some(14.0),

@@ -3,32 +3,28 @@
 use std::fmt::Write;
 
 use super::layout::{How, layout};
-use super::note;
+use super::legend;
 use super::place::{Place, along, between, direction, foot, length, wrapped};
 use super::scene::{MARGIN, Paint, Scene};
-use crate::describe;
 use crate::document::Document;
 use crate::draw::Position;
-use crate::engine::Cluster;
 use crate::finding::{Finding, verdict_name};
 use crate::sheet::{Constraint, Demand};
 use crate::text::{degrees, millimetres};
 
-/// The most clusters that the legend names.
-const MOST_PARTS: usize = 12;
-/// The height of a line of the legend, and its longest line in characters.
+/// The height of a line of the legend.
 const LINE: f64 = 18.0;
-const WRAP: usize = 84;
 /// The least width of a picture, so that the legend fits.
 const LEAST: f64 = 720.0;
 
 const STYLE: &str = "text{font:13px sans-serif;fill:#222}.label{paint-order:stroke;stroke:#fff;stroke-width:4px;stroke-linejoin:round}\
-.name{font-weight:bold}.dense .name{font-size:9px;font-weight:normal}.size{font-size:11px}.head{font-weight:bold;font-size:15px}.loud{fill:#d00000;font-weight:bold}";
+.name{font-weight:bold}.dense .name{font-size:9px;font-weight:normal}.size{font-size:11px}\
+.head{font-weight:bold;font-size:15px}.loud{fill:#d00000;font-weight:bold}";
 
 /// The picture of a sheet, with its legend.
 pub fn picture(document: &Document, finding: &Finding, position: Option<&Position>) -> String {
     let scene = Scene::of(document, finding, layout(document));
-    let legend = [words(&scene, position), parts(&scene), noted(&scene)].concat();
+    let legend = [legend::words(&scene, position), legend::parts(&scene), legend::noted(&scene)].concat();
     drawing(&scene, &legend)
 }
 
@@ -273,65 +269,7 @@ fn angle(scene: &Scene, k: usize, paint: Paint) -> Drawn {
     }
 }
 
-/// A line of the legend.
-fn line(class: &str, text: &str) -> String {
-    format!("<text class=\"{class}\">{}</text>", escaped(text))
-}
-
-/// The verdict and what there is to say of it.
-fn words(scene: &Scene, position: Option<&Position>) -> Vec<String> {
-    let mut rows = vec![line("head", verdict_name(scene.finding.verdict))];
-    for words in describe::lines(scene.document, scene.finding, position) {
-        let class = if words.to_lowercase().starts_with("warning") { "loud" } else { "plain" };
-        rows.extend(wrapped_words(&words).iter().map(|words| line(class, words)));
-    }
-    rows
-}
-
-/// The parts with their colours.
-fn parts(scene: &Scene) -> Vec<String> {
-    let clusters = &scene.finding.clusters;
-    let row = |(p, cluster): (usize, &Cluster)| {
-        let (dash, free) = if scene.free(p) { (" stroke-dasharray=\"6 4\"", ", free") } else { ("", "") };
-        let swatch = format!("<path d=\"M0 -4h26\" stroke=\"{}\" stroke-width=\"4\"{dash}/>", scene.colour(p));
-        let names = shortened(&scene.document.named(cluster.elements).join(" "));
-        format!("{swatch}<text x=\"34\">{}</text>", escaped(&format!("part {}: {names}{free}", cluster.number)))
-    };
-    let mut rows: Vec<String> = clusters.iter().enumerate().take(MOST_PARTS).map(row).collect();
-    let rest = clusters.len().saturating_sub(MOST_PARTS);
-    rows.extend((rest > 0).then(|| line("plain", &format!("and {rest} more parts"))));
-    rows
-}
-
-/// How it was laid out.
-fn noted(scene: &Scene) -> Vec<String> {
-    wrapped_words(note(scene.how)).iter().map(|words| line("size", words)).collect()
-}
-
 /// The drawing of a scene for a page that has the words and the parts beside it.
 pub fn bare(scene: &Scene) -> String {
-    drawing(scene, &noted(scene))
-}
-
-/// A text that is cut where it is too long for a line.
-fn shortened(text: &str) -> String {
-    match text.char_indices().nth(WRAP - 16) {
-        Some((end, _)) => format!("{} ..", &text[..end]),
-        None => text.to_string(),
-    }
-}
-
-/// A text in lines that are short enough.
-fn wrapped_words(text: &str) -> Vec<String> {
-    let mut lines = vec![String::new()];
-    for word in text.split(' ') {
-        let last = lines.len() - 1;
-        if lines[last].chars().count() + word.chars().count() > WRAP {
-            lines.push(format!("   {word}"));
-        } else {
-            let gap = if lines[last].is_empty() { "" } else { " " };
-            lines[last] += &format!("{gap}{word}");
-        }
-    }
-    lines
+    drawing(scene, &legend::noted(scene))
 }
