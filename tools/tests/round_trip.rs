@@ -173,3 +173,39 @@ fn an_angle_turns_the_other_way_from_the_other_line() {
     let other = text::parse("line a b\nangle b a -30\n").expect("it is understood");
     assert_eq!(one.sheet, other.sheet);
 }
+
+#[test]
+fn any_content_is_a_sheet_or_refused() {
+    let mut random = Random(5);
+    let texts = [
+        include_str!("../../examples/text/gable.txt"),
+        include_str!("../../examples/text/hipped.txt"),
+        "point ä ß\ndistance ä ß 5°\n",
+    ];
+    let (mut accepted, mut refused) = (0, 0);
+    for round in 0..6000 {
+        let mut content = texts[round % texts.len()].as_bytes().to_vec();
+        for _ in 0..random.below(4) {
+            let place = random.below(content.len());
+            match random.below(3) {
+                0 => content[place] = random.next() as u8,
+                1 => drop(content.remove(place)),
+                _ => content.insert(place, b" 0123456789.-#\nabPF"[random.below(19)]),
+            }
+        }
+        match Document::of("it", &content) {
+            Ok(document) => {
+                accepted += 1;
+                let again = Document::of("it", text::print(&document.sheet, &document.names).as_bytes())
+                    .expect("it is printed");
+                assert_eq!(again.bytes, document.bytes);
+            }
+            Err(fault) => {
+                refused += 1;
+                assert_eq!(fault.status() as u8, 2, "{fault}");
+                assert!(!fault.to_string().is_empty());
+            }
+        }
+    }
+    assert!(accepted > 1000 && refused > 1000, "{accepted} accepted, {refused} refused");
+}
