@@ -50,6 +50,11 @@ impl Document {
         }
     }
 
+    /// The name of the file without its folder.
+    pub fn title(&self) -> &str {
+        self.path.rsplit('/').next().unwrap_or_default()
+    }
+
     /// The names of the elements of a set.
     pub fn named(&self, set: u64) -> Vec<&str> {
         members(set).map(|i| self.names[i].as_str()).collect()

@@ -10,7 +10,7 @@ use crate::engine;
 use crate::finding::{Finding, verdict_name};
 use crate::sheet::members;
 
-const STYLE: &str = "body{font:15px sans-serif;margin:1.5em;color:#222;max-width:80em}p{margin:.2em 0}main{display:flex;flex-wrap:wrap;gap:2em}\
+const STYLE: &str = "body{font:15px sans-serif;margin:1.5em;color:#222}p{margin:.2em 0}main{margin-top:1em;display:flex;align-items:flex-start;flex-wrap:wrap;gap:2em}\
 svg{max-width:100%;height:auto;border:1px solid #ccc}table{border-collapse:collapse}td,th{padding:.15em .6em;text-align:left}\
 tr[data-key]:hover{background:#eee}.swatch{display:inline-block;width:1.6em;height:.7em}pre{background:#f4f4f4;padding:.8em;overflow:auto}\
 [data-lit]{transition:opacity .15s}.lighting [data-lit]{opacity:.2}.lighting .lit{opacity:1}.loud{color:#d00000;font-weight:bold}";
@@ -24,7 +24,7 @@ if(from)document.querySelectorAll('[data-lit~=\"'+from.dataset.key+'\"]').forEac
 /// The page of a sheet.
 pub fn page(document: &Document, finding: &Finding, position: Option<&Position>) -> String {
     let scene = Scene::of(document, finding, layout(document));
-    let (name, verdict) = (escaped(&document.path), verdict_name(finding.verdict));
+    let (name, verdict) = (escaped(document.title()), verdict_name(finding.verdict));
     let line = |line: &String| {
         let class = if line.to_lowercase().starts_with("warning") { " class=\"loud\"" } else { "" };
         format!("<p{class}>{}</p>\n", escaped(line))

@@ -38,7 +38,7 @@ fn drawing(scene: &Scene, legend: &[String]) -> String {
     let mut out = format!(
         "<svg xmlns=\"http://www.w3.org/2000/svg\" viewBox=\"0 0 {width:.0} {height:.0}\" width=\"{width:.0}\" height=\"{height:.0}\" role=\"img\">\n\
          <title>{}: {verdict}</title>\n<style>{STYLE}</style>\n<rect width=\"100%\" height=\"100%\" fill=\"#fff\"/>\n",
-        escaped(&document.path)
+        escaped(document.title())
     );
     let shift = (width - scene.size[0] - 2.0 * MARGIN) / 2.0;
     let class = if scene.dense() { "dense" } else { "clear" };
