@@ -52,7 +52,9 @@ const SHAPES: [Shape; 17] = [
     |n, random| less(shapes::strip(n), 1, random),
     |n, random| shapes::scattered(n, n + n / 2, random),
     |n, random| shapes::scattered(n, MOST_CONSTRAINTS, random),
-    |n, _| Graph::of(n, (0..(n - 1) / 2).flat_map(|k| [(2 * k, 2 * k + 1), (2 * k, 2 * k + 2), (2 * k + 1, 2 * k + 2)])),
+    |n, _| {
+        Graph::of(n, (0..(n - 1) / 2).flat_map(|k| [(2 * k, 2 * k + 1), (2 * k, 2 * k + 2), (2 * k + 1, 2 * k + 2)]))
+    },
     |n, _| Graph::of(n, (0..n / 2).map(|k| (2 * k, 2 * k + 1)).chain((2..n).map(|k| (k - 2, k)))),
 ];
 
