@@ -57,7 +57,7 @@ fn with_line(sheet: &Sheet, line: u8) -> Sheet {
     sheet.kinds[usize::from(line)] = Kind::Line;
     for constraint in &mut sheet.constraints {
         if constraint.first == line || constraint.second == line {
-            constraint.size = None;
+            *constraint = Constraint::bare(constraint.first, constraint.second);
         }
     }
     sheet
@@ -69,7 +69,7 @@ fn five_points(number: usize, run: &mut Run) -> Sheet {
     let constraints = pairs
         .enumerate()
         .filter(|(bit, _)| number >> bit & 1 == 1)
-        .map(|(_, (first, second))| Constraint { first, second, size: Some(run.random.between(1, MOST_SIZE) as i32) })
+        .map(|(_, (first, second))| Constraint::sized(first, second, run.random.between(1, MOST_SIZE) as i32))
         .collect();
-    Sheet { kinds: vec![Kind::Point; POINTS.into()], constraints }
+    Sheet::first(vec![Kind::Point; POINTS.into()], constraints)
 }

@@ -3,14 +3,14 @@
 
 use std::process::ExitCode;
 
-use pattern_tests::facts::{Constraint, Kind, MOST_ELEMENTS, Sheet};
+use pattern_tests::facts::{Constraint, MOST_ELEMENTS, OTHER, SIZED, Sheet, TAGGED, TANGENT};
 use pattern_tests::interface::Found;
 use pattern_tests::run::{Run, rules};
 use pattern_tests::{calls, damage, dress, sketch, tags, writer};
 
 const ROUNDS: usize = 4_000;
 /// Room for every held sketch.
-const MOST_RECORD: usize = 891;
+const MOST_RECORD: usize = 1_155;
 
 fn main() -> ExitCode {
     let mut run = Run::start("sketch", 50_463_036);
@@ -23,9 +23,9 @@ fn main() -> ExitCode {
             grow(&mut run, &sheet);
         }
     }
-    rules((1..=11).chain([17])).for_each(|rule| run.must("pattern_hold", &rule, 20));
-    rules([6, 7, 8, 9, 11, 27]).for_each(|rule| run.must("pattern_ask", &rule, 100));
-    rules([6, 7, 8, 9, 11, 17, 24, 27]).for_each(|rule| run.must("pattern_place", &rule, 100));
+    rules((1..=11).chain(17..=20)).for_each(|rule| run.must("pattern_hold", &rule, 20));
+    rules([6, 7, 8, 9, 11, 20, 27]).for_each(|rule| run.must("pattern_ask", &rule, 100));
+    rules([6, 7, 8, 9, 11, 17, 20, 24, 27]).for_each(|rule| run.must("pattern_place", &rule, 100));
     rules([17, 27]).for_each(|rule| run.must("pattern_held", &rule, 100));
     for call in ["pattern_hold", "pattern_ask", "pattern_place", "pattern_held"] {
         run.must(call, "accepted", 1000);
@@ -102,12 +102,20 @@ fn broken(run: &mut Run, record: &[u8]) -> Vec<u8> {
 /// A constraint for a sketch: sound, or with a fault in one field.
 fn offered(run: &mut Run, held: &Sheet) -> Constraint {
     let mut more = dress::next(&held.kinds, &mut run.random);
-    match run.random.below(10) {
+    if !more.is_sized() {
+        more.size = run.random.bits() as i32;
+    }
+    match run.random.below(12) {
         0 => more.first = run.random.byte() >> run.random.below(8),
         1 => more.second = run.random.byte() >> run.random.below(8),
-        2 => more.size = None,
-        3 => more.size = Some(run.random.pick(&[0, 40_001, -40_001, 18_000, -18_000, i32::MIN, i32::MAX])),
-        4 if held.e() > 0 => {
+        2 => more.map &= !(SIZED | TANGENT | OTHER),
+        3 => {
+            more.map = SIZED;
+            more.size = run.random.pick(&[0, 40_001, -40_001, 18_000, -18_000, i32::MIN, i32::MAX]);
+        }
+        4 => more.map ^= 1 << run.random.below(8),
+        5 => more.map = run.random.pick(&[TANGENT, TANGENT | OTHER, TANGENT | OTHER | TAGGED]),
+        6 if held.e() > 0 => {
             let old = held.constraints[run.random.below(held.e())];
             (more.first, more.second) = (old.first, old.second);
         }
@@ -118,8 +126,7 @@ fn offered(run: &mut Run, held: &Sheet) -> Constraint {
 
 /// Compares constraints offered one after another to a sketch that begins without any, and the engine on what it is then.
 fn grow(run: &mut Run, sheet: &Sheet) {
-    let kinds: Vec<Kind> = sheet.kinds.clone();
-    let mut held = Sheet { kinds, constraints: Vec::new() };
+    let mut held = Sheet { constraints: Vec::new(), ..sheet.clone() };
     let mut record = record(run, &held);
     record.resize(MOST_RECORD, 0);
     for _ in 0..4 * held.n() {
