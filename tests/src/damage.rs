@@ -1,9 +1,9 @@
 //! Damage: sheets, facts and plans with faults.
 
-use crate::facts::{Columns, MOST_ELEMENTS, OTHER, Opening, Sheet, TANGENT};
-use crate::layout;
+use crate::facts::{Columns, Constraint, Kind, MOST_ELEMENTS, OTHER, Opening, SIZED, Sheet, TAGGED, TANGENT};
 use crate::merging::Merges;
 use crate::random::Random;
+use crate::{dress, layout};
 
 /// The bytes with one of them changed.
 pub fn changed(bytes: &[u8], random: &mut Random) -> Vec<u8> {
@@ -219,6 +219,40 @@ fn cut(facts: &mut Columns, at: usize, random: &mut Random) {
         2 => facts.maps.truncate(at),
         _ => facts.sizes.truncate(at),
     }
+}
+
+/// A constraint for a sketch: sound, or with a fault in one field; a size that is not given may be anything.
+pub fn offered(held: &Sheet, random: &mut Random) -> Constraint {
+    let mut more = dress::next(&held.kinds, random);
+    if !more.is_sized() {
+        more.size = random.bits() as i32;
+    }
+    match random.below(14) {
+        0 => more.first = random.byte() >> random.below(8),
+        1 => more.second = random.byte() >> random.below(8),
+        2 => more.map &= !(SIZED | TANGENT | OTHER),
+        3 => {
+            more.map = SIZED;
+            more.size = random.pick(&[0, 40_001, -40_001, 18_000, -18_000, i32::MIN, i32::MAX]);
+        }
+        4 => more.map ^= 1 << random.below(8),
+        5 => more.map = random.pick(&[TANGENT, TANGENT | OTHER, TANGENT | OTHER | TAGGED]),
+        6 if held.e() > 0 => {
+            let old = held.constraints[random.below(held.e())];
+            (more.first, more.second) = (old.first, old.second);
+        }
+        7 => more = alike(&held.kinds, random).unwrap_or(more),
+        _ => {}
+    }
+    more
+}
+
+/// The other contact of two circles with equal radii, where there are such.
+fn alike(kinds: &[Kind], random: &mut Random) -> Option<Constraint> {
+    let circles: Vec<usize> = (0..kinds.len()).filter(|&i| kinds[i].radius().is_some()).collect();
+    let first = *circles.get(random.below(kinds.len()))?;
+    let second = circles.into_iter().find(|&i| i > first && kinds[i] == kinds[first])?;
+    Some(Constraint::other_tangent(first as u8, second as u8))
 }
 
 /// A plan with the numbers of each step in a random order.

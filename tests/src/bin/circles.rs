@@ -34,7 +34,7 @@ fn main() -> ExitCode {
     rules([1, 3, 5, 6, 7, 8, 9, 17, 18, 19, 20]).for_each(|rule| run.must("pattern_write", &rule, 10));
     rules([6, 7, 8, 9, 11, 20, 24]).for_each(|rule| run.must("pattern_place", &rule, 10));
     for name in ["over", "angle", "well", "stuck", "under"] {
-        run.must("sheets", name, 100);
+        run.must("sheets", name, 50);
         run.must("round lights as their centres", name, 100);
     }
     for kind in ["ppp", "ppl"] {
@@ -114,10 +114,7 @@ fn sketches(run: &mut Run, sheet: &Sheet) {
     let mut record = sketch::record(&held);
     record.resize(record.len() + 40, 0);
     for _ in 0..4 {
-        let mut more = dress::next(&sheet.kinds, &mut run.random);
-        if run.random.chance(30) {
-            more.map = run.random.byte() >> run.random.below(8);
-        }
+        let more = damage::offered(&held, &mut run.random);
         let told = held.e() + usize::from(run.random.chance(10));
         calls::ask(run, &record, &more);
         record = calls::place(run, &record, &more, told);

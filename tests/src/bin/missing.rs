@@ -34,7 +34,7 @@ fn main() -> ExitCode {
         calls::missing(&mut run, &damaged, &prices);
         complete(&mut run, &sheet, &by_greed(&sheet, &prices));
     }
-    rules(1..=11).for_each(|rule| run.must("pattern_missing", &rule, 1));
+    rules((1..=11).chain(18..=20)).for_each(|rule| run.must("pattern_missing", &rule, 1));
     rules([11, 17, 21, 22, 23]).for_each(|rule| run.must("pattern_missing", &rule, 50));
     for (what, least) in [("none", 100), ("some", 500), ("more than 60", 10)] {
         run.must("pairs missing", what, least);

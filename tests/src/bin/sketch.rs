@@ -3,7 +3,7 @@
 
 use std::process::ExitCode;
 
-use pattern_tests::facts::{Constraint, MOST_ELEMENTS, OTHER, SIZED, Sheet, TAGGED, TANGENT};
+use pattern_tests::facts::{MOST_ELEMENTS, Sheet};
 use pattern_tests::interface::Found;
 use pattern_tests::run::{Run, rules};
 use pattern_tests::{calls, damage, dress, sketch, tags, writer};
@@ -58,7 +58,7 @@ fn events(run: &mut Run, sheet: &Sheet) {
     held.constraints.truncate(run.random.below(sheet.e() + 1));
     let mut record = record(run, &held);
     for _ in 0..run.random.between(1, 12) {
-        let more = offered(run, &held);
+        let more = damage::offered(&held, &mut run.random);
         let told = number(run, held.e());
         match run.random.below(6) {
             0 | 1 => calls::ask(run, &record, &more),
@@ -97,31 +97,6 @@ fn broken(run: &mut Run, record: &[u8]) -> Vec<u8> {
         _ => {}
     }
     out
-}
-
-/// A constraint for a sketch: sound, or with a fault in one field.
-fn offered(run: &mut Run, held: &Sheet) -> Constraint {
-    let mut more = dress::next(&held.kinds, &mut run.random);
-    if !more.is_sized() {
-        more.size = run.random.bits() as i32;
-    }
-    match run.random.below(12) {
-        0 => more.first = run.random.byte() >> run.random.below(8),
-        1 => more.second = run.random.byte() >> run.random.below(8),
-        2 => more.map &= !(SIZED | TANGENT | OTHER),
-        3 => {
-            more.map = SIZED;
-            more.size = run.random.pick(&[0, 40_001, -40_001, 18_000, -18_000, i32::MIN, i32::MAX]);
-        }
-        4 => more.map ^= 1 << run.random.below(8),
-        5 => more.map = run.random.pick(&[TANGENT, TANGENT | OTHER, TANGENT | OTHER | TAGGED]),
-        6 if held.e() > 0 => {
-            let old = held.constraints[run.random.below(held.e())];
-            (more.first, more.second) = (old.first, old.second);
-        }
-        _ => {}
-    }
-    more
 }
 
 /// Compares constraints offered one after another to a sketch that begins without any, and the engine on what it is then.
