@@ -29,7 +29,7 @@ fn main() -> ExitCode {
     (0..CENTRES).for_each(|_| centres(&mut run));
     (0..20).for_each(|_| largest(&mut run));
     for function in ["pattern_rewrite", "pattern_report"] {
-        rules((1..=10).chain(18..=20)).for_each(|rule| run.must(function, &rule, 100));
+        rules((1..=10).chain(18..=20)).for_each(|rule| run.must(function, &rule, 50));
     }
     rules([1, 3, 5, 6, 7, 8, 9, 17, 18, 19, 20]).for_each(|rule| run.must("pattern_write", &rule, 10));
     rules([6, 7, 8, 9, 11, 20, 24]).for_each(|rule| run.must("pattern_place", &rule, 10));
