@@ -250,7 +250,7 @@ pub fn offered(held: &Sheet, random: &mut Random) -> Constraint {
 /// The other contact of two circles with equal radii, where there are such.
 fn alike(kinds: &[Kind], random: &mut Random) -> Option<Constraint> {
     let circles: Vec<usize> = (0..kinds.len()).filter(|&i| kinds[i].radius().is_some()).collect();
-    let first = *circles.get(random.below(kinds.len()))?;
+    let first = *circles.get(random.below(circles.len().max(1)))?;
     let second = circles.into_iter().find(|&i| i > first && kinds[i] == kinds[first])?;
     Some(Constraint::other_tangent(first as u8, second as u8))
 }

@@ -40,7 +40,7 @@ fn main() -> ExitCode {
         run.must("pairs missing", what, least);
     }
     for kinds in ["with lines", "with circles", "with lines and circles"] {
-        run.must("sheets", kinds, 500);
+        run.must("sheets", kinds, 300);
     }
     run.finish()
 }

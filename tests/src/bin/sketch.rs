@@ -24,8 +24,9 @@ fn main() -> ExitCode {
         }
     }
     rules((1..=11).chain(17..=20)).for_each(|rule| run.must("pattern_hold", &rule, 20));
-    rules([6, 7, 8, 9, 11, 20, 27]).for_each(|rule| run.must("pattern_ask", &rule, 100));
-    rules([6, 7, 8, 9, 11, 17, 20, 24, 27]).for_each(|rule| run.must("pattern_place", &rule, 100));
+    rules([6, 7, 8, 9, 11, 27]).for_each(|rule| run.must("pattern_ask", &rule, 100));
+    rules([6, 7, 8, 9, 11, 17, 24, 27]).for_each(|rule| run.must("pattern_place", &rule, 100));
+    ["pattern_ask", "pattern_place"].iter().for_each(|call| run.must(call, "rule 20", 30));
     rules([17, 27]).for_each(|rule| run.must("pattern_held", &rule, 100));
     for call in ["pattern_hold", "pattern_ask", "pattern_place", "pattern_held"] {
         run.must(call, "accepted", 1000);
