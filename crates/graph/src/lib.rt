@@ -105,7 +105,8 @@ pub fn fill(
     codes: &mut [i32; 200],
     radii: &mut [u32; 64],
 ) -> Front
-    requires { ⌜ (sheetFault s ≡ 0) × (now near ≡ replicate 64 0) × (now start ≡ replicate 200 0) × (now codes ≡ replicate 200 (pos 0)) ⌝ }
+    requires { ⌜ (sheetFault s ≡ 0) × (now near ≡ replicate 64 0) × (now start ≡ replicate 200 0) × (now codes ≡ replicate 200 (pos 0))
+        × (length (now radii) ≡ 64) ⌝ }
     ensures { λ r. ⌜ SheetIn (factsOf s) r (now (near .exit)) (now (start .exit)) (now (codes .exit)) (now (radii .exit)) ⌝ }
 {
     let n = s.n;

@@ -171,7 +171,7 @@ pub fn pair_by(j: bool, k: bool) -> PairKind
     }
 }
 
-fn size_optional(p: PairKind) -> bool
+pub fn size_optional(p: PairKind) -> bool
     ensures { λ r. ⌜ r ≡ sizeOptional p ⌝ }
 {
     match p {

@@ -25,23 +25,23 @@ abbrev zeros : Constraint
 zeros = record { first = 0; second = 0; size = Given (pos 0) }
 
 abbrev Inv-loop : tie.InvT-loop
-Inv-loop near₀ start₀ sizes₀ s n e i₀ near start sizes i = (i ≤ s .e) × InArrays (take i (s .constraints)) near start sizes
+Inv-loop near₀ start₀ codes₀ radii s n e i₀ near start codes i = (i ≤ s .e) × InArrays (take i (s .constraints)) near start codes
 
 abbrev μ-loop : tie.MeasureT-loop
-μ-loop near₀ start₀ sizes₀ s n e i₀ near start sizes i = s .e - i
+μ-loop near₀ start₀ codes₀ radii s n e i₀ near start codes i = s .e - i
 
 module _ (c : tie.Start Inv-loop μ-loop) where
   long : (length (c .args .t1 .elements) ≡ 64) × (length (c .args .t1 .constraints) ≡ 200)
   long = (
-    sym (length-map (c .args .t1 .elements) _) ∙ c .good .0 .1 .1 .1 .1 .0 .1 .0 .1,
-    sym (length-map (c .args .t1 .constraints) _) ∙ c .good .0 .1 .1 .1 .1 .1 .0 .1 .0 .1,
+    sym (length-map (c .args .t1 .elements) _) ∙ c .good .0 .1 .1 .1 .1 .1 .0 .1 .0 .1,
+    sym (length-map (c .args .t1 .constraints) _) ∙ c .good .0 .1 .1 .1 .1 .1 .1 .0 .1 .0 .1,
   )
 
   accepted : Accepted (factsOf (c .args .t1))
   accepted = factsOf-accepted (c .args .t1) (long .0) (long .1) (c .pre .0)
 
   few : (c .args .t1 .n ≤ 64) × (c .args .t1 .e ≤ 200)
-  few = let h = sheetFault-none (c .args .t1) (c .pre .0) in (elements-most _ (h .0), constraints-most _ (h .1))
+  few = let h = sheetFault-none (c .args .t1) (c .pre .0) in (elements-most _ (h .elements-in-range), constraints-most _ (h .constraints-in-range))
 
   counted : length (take (c .args .t1 .e) (c .args .t1 .constraints)) ≡ c .args .t1 .e
   counted = length-take-le (c .args .t1 .e) (c .args .t1 .constraints) (rw (long .1) (few .1))
@@ -81,23 +81,29 @@ loop-again c =
           (record {
             first-is = refl;
             second-is = refl;
-            size-is =
-                sym (toZ-ofZ {w = w32} {z = c .before .size-of .result} (record { sfits = c .before .size-of .ok }) ∙ c .before .size-of .ensures);
+            code-is =
+                sym (toZ-ofZ {w = w32} {z = c .before .code-of .result} (record { sfits = c .before .code-of .ok }) ∙ c .before .code-of .ensures);
           })
           (a .inv .1)),
     )
 
 returns : tie.Need-returns Inv-loop μ-loop
 returns c =
-    let s = c .before .before .before .before in
-    let a = c .before .before .before .loop in
+    let s = c .before .before .before .before .before in
+    let a = c .before .before .before .before .loop in
     let same : a .i ≡ s .args .t1 .e = omega arith in
     let n : length (take (s .args .t1 .n) (s .args .t1 .elements)) ≡ s .args .t1 .n =
     length-take-le (s .args .t1 .n) (s .args .t1 .elements) (rw (long s .0) (few s .0)) in
-    record { accepted = accepted s; head-is = cc (c .lines-of .ensures, counted s); arrays = rw (← same) (a .inv .1) }
+    record {
+      accepted = accepted s;
+      opening-is = refl;
+      head-is = cc (c .kinds-of .ensures .lines-are, counted s);
+      kinds-in = c .kinds-of .ensures;
+      arrays = rw (← same) (a .inv .1);
+    }
 
 pub fill-spec : {M : Type 1} → statement M
 fill-spec =
     tie.close
     (tie.spec Inv-loop μ-loop loop-holds mul-c element-copy-out-c (λ c κs. search needs) note-requires add-i (λ c. search needs) loop-again
-    (λ c κs. few (c .before .before .before) .0) returns)
+    (λ c κs. (few (c .before .before .before .before) .0, c .before .before .before .before .pre .4)) returns)

@@ -9,7 +9,7 @@ use Rattle.graph.proofs.note.Tie as tie
 returns : tie.Need-returns
 returns c = λ cs k n p h.
     let s = c .before .before .before in
-    rw (toZ-ofZ {w = w32} {z = s .args .z} (search needs), c .pair .ensures, ← p .first-is, ← p .second-is, ← p .size-is)
+    rw (toZ-ofZ {w = w32} {z = s .args .z} (search needs), c .pair .ensures, ← p .first-is, ← p .second-is, ← p .code-is)
     (in-arrays-more cs k (s .args .i) n (s .pre .0) h (c .before .note-pair .ensures cs k (p .first-is) (p .second-is) (h .noted)))
 
 pub note-spec : {M : Type 1} → statement M

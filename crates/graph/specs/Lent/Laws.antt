@@ -4,8 +4,10 @@ use native.Mathlib.Nat.{le-of-suc-le-suc, pow-succ'}
 use native.Mathlib.Omega.{arith}
 use mathlib.Core.Path.{_≡_, refl, sym, ap, _∙_, subst}
 use mathlib.Core.Logic.{_≢_, ⊎-elim}
-use mathlib.Core.Bool.{false}
+use mathlib.Core.Bool.{true, false, _||_, not}
 use mathlib.Core.List.{List, [], _∷_, _++_, map, map-append, append-assoc}
+use borrow.Author.Tests.{leb-true}
+use lib.Dec.{leb}
 use lib.IntN.{ℤ, pos, negsuc}
 use lib.Pow.{pow-pos}
 use lib.Count.{trailingZeros, under, leadingZeros, leading-unique}
@@ -18,13 +20,15 @@ use Rattle.theory.specs.Constraints.Laws.{at-pair, at-end, pair-below}
 use Rattle.sheet.specs.declared.Constraint.{Constraint}
 use Rattle.sheet.specs.declared.Element.{Element}
 use Rattle.sheet.specs.declared.Kind.{Kind}
+use Rattle.sheet.specs.declared.Kind.the-variants.{Point, Line, Circle}
 use Rattle.sheet.specs.declared.PairKind.{PairKind}
 use Rattle.sheet.specs.declared.PairKind.the-variants.{Points, PointLine, Lines}
 use Rattle.sheet.specs.declared.Size.{Size}
 use Rattle.sheet.specs.declared.Size.the-variants.{Given, Missing, Tangent, OtherTangent, Unfit}
 use Rattle.theory.specs.Block.{block}
-use Rattle.sheet.specs.Facts.{Facts, kindAt}
-use Rattle.sheet.specs.Rules.{pairOf, sizeInRange, sizeFault, constraintFault, constraintsFault}
+use Rattle.sheet.specs.Facts.{Facts, isCircle, radiusOf, kindAt}
+use Rattle.sheet.specs.Facts.Laws.{and-true}
+use Rattle.sheet.specs.Rules.{radiusInRange, radiiInRange, pairOf, sizeInRange, sizeFault, constraintFault, constraintsFault}
 use Rattle.sheet.specs.Rules.Laws.{ends-true, unless-none, none-else}
 use Rattle.sheet.specs.Accepted.{Accepted}
 use Rattle.sheet.specs.Accepted.Laws.{taken, accepted-most}
@@ -205,3 +209,19 @@ faults-unpack es (c ∷ cs) done (suc i) d m e l =
 
 pub accepted-unpack : (f : Facts) (i : ℕ) (d : Constraint) → Accepted f → i < length (f .constraints) → Unpacks (getD (f .constraints) i d)
 accepted-unpack f i d h l = faults-unpack (f .elements) (f .constraints) [] i d (accepted-most f h) (h .no-fault) l
+
+-- ---- radii
+
+-- no radius is above 40,000
+pub radius-most : (xs : List Element) → radiiInRange xs ≡ true → (i : ℕ) → radiusOf (kindAt xs i) ≤ 40000
+unfolding radiiInRange
+radius-most [] e i = omega arith
+radius-most (x ∷ xs) e zero = one (x .kind) (and-true (not (isCircle (x .kind)) || radiusInRange (radiusOf (x .kind))) (radiiInRange xs) e .0)
+  where
+    one : (k : Kind) → not (isCircle k) || radiusInRange (radiusOf k) ≡ true → radiusOf k ≤ 40000
+    one Point e = omega arith
+    one Line e = omega arith
+    one (Circle r) e = leb-true r 40000 (and-true (leb 1 r) (leb r 40000) e .1)
+radius-most (x ∷ xs) e (suc i) =
+    radius-most xs (and-true (not (isCircle (x .kind)) || radiusInRange (radiusOf (x .kind))) (radiiInRange xs) e .1) i
+

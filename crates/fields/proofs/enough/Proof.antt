@@ -5,8 +5,8 @@ use mathlib.Core.Path.{_≡_, refl, sym, _∙_}
 use mathlib.Core.Bool.{Bool, true, false}
 use borrow.Author.Tests.{leb-true, leb-false, le-leb, lt-leb}
 use lib.Dec.{leb}
-use Rattle.reader.proofs.enough.Statement.{statement}
-use Rattle.reader.proofs.enough.Tie as tie
+use Rattle.fields.proofs.enough.Statement.{statement}
+use Rattle.fields.proofs.enough.Tie as tie
 
 shifted : (at k len : ℕ) → k ≤ len → leb at (len - k) ≡ leb (at + k) len
 shifted at k len h = by (leb (at + k) len) refl

@@ -3,8 +3,8 @@ use native.Mathlib.Numerals.{add-one}
 use borrow.Author.Needs.{needs}
 use lib.ListN.{drop-of-length-le}
 use lib.Seq.{drop-cons}
-use Rattle.reader.proofs.read_byte.Statement.{statement}
-use Rattle.reader.proofs.read_byte.Tie as tie
+use Rattle.fields.proofs.read_byte.Statement.{statement}
+use Rattle.fields.proofs.read_byte.Tie as tie
 
 returns : tie.Need-returns
 returns c =

@@ -7,10 +7,10 @@ use borrow.Author.Needs.{needs}
 use borrow.Author.Tests.{leb-true, leb-false, not-true, not-false}
 use lib.ListN.{length, take, drop}
 use Rattle.sheet.specs.Field.{value, number}
-use Rattle.reader.proofs.Constraints.{no-number}
-use Rattle.reader.proofs.Numbers.{field-short, field-whole, number-none, number-more, below-more, below-most}
-use Rattle.reader.proofs.read_number.Statement.{statement}
-use Rattle.reader.proofs.read_number.Tie as tie
+use Rattle.fields.specs.Answers.Laws.{no-number}
+use Rattle.fields.proofs.Numbers.{field-short, field-whole, number-none, number-more, below-more, below-most}
+use Rattle.fields.proofs.read_number.Statement.{statement}
+use Rattle.fields.proofs.read_number.Tie as tie
 
 abbrev Inv-loop : tie.InvT-loop
 Inv-loop s k at u₀ i₀ u i =

@@ -1,0 +1,2 @@
+-- What the reading of a sheet's elements says.
+pub mod Answers

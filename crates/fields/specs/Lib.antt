@@ -1,0 +1,2 @@
+-- What the answers of a field's reading say.
+pub mod Answers
