@@ -104,7 +104,8 @@ fn kinds_and_radii() {
 
 #[test]
 fn maps() {
-    let kinds = [Kind::Point, Kind::Point, Kind::Line, Kind::Line, Kind::Circle(300), Kind::Circle(300), Kind::Circle(200)];
+    let kinds =
+        [Kind::Point, Kind::Point, Kind::Line, Kind::Line, Kind::Circle(300), Kind::Circle(300), Kind::Circle(200)];
     let sheet = round(&kinds, &[]);
     // of each kind of pair the maps that are allowed, without bit 1
     for (first, second, allowed) in [

@@ -91,7 +91,13 @@ pub fn next(kinds: &[Kind], random: &mut Random) -> Constraint {
 }
 
 /// A constraint of a pair.
-fn constraint(kinds: &[Kind], (i, j): (usize, usize), contacts: usize, sizes: Sizes, random: &mut Random) -> Constraint {
+fn constraint(
+    kinds: &[Kind],
+    (i, j): (usize, usize),
+    contacts: usize,
+    sizes: Sizes,
+    random: &mut Random,
+) -> Constraint {
     let (a, b) = (kinds[i], kinds[j]);
     let (first, second) = (i as u8, j as u8);
     if (a.radius().is_some() || b.radius().is_some()) && random.chance(contacts) {

@@ -188,7 +188,25 @@ mod tests {
             assert_eq!(c::pattern_rewrite(sheet, len, null_mut(), 0), -17);
             let kinds = [1, 0].as_ptr();
             let write = |kinds, count, out, room| {
-                c::pattern_write(1, 2, 0, kinds, count, null(), 0, null(), 0, null(), 0, null(), 0, null(), 0, out, room)
+                c::pattern_write(
+                    1,
+                    2,
+                    0,
+                    kinds,
+                    count,
+                    null(),
+                    0,
+                    null(),
+                    0,
+                    null(),
+                    0,
+                    null(),
+                    0,
+                    null(),
+                    0,
+                    out,
+                    room,
+                )
             };
             assert_eq!(write(kinds, 2, out, room), 7);
             assert_eq!(write(kinds, 2, null_mut(), 0), -17);

@@ -72,7 +72,8 @@ fn every_call(run: &mut Run, sheet: &Sheet) {
     calls::plan(run, &bytes, &found);
     calls::report(run, &bytes, &found);
     calls::steps(run, &bytes, &found);
-    let (from, to, number) = (run.random.below(sheet.n()), run.random.below(sheet.n()), run.random.below(2 * sheet.n()));
+    let (from, to, number) =
+        (run.random.below(sheet.n()), run.random.below(sheet.n()), run.random.below(2 * sheet.n()));
     let _ = calls::chain(run, &bytes, &found, from, to);
     calls::part(run, &bytes, &found, number);
     let plan = another_plan(run, &found);
@@ -142,8 +143,10 @@ fn every_byte(run: &mut Run) {
 /// Compares three elements that touch or are measured, with small radii and sizes or the greatest, so that borders are met.
 fn triangle(run: &mut Run) {
     let small = run.random.chance(80);
-    let radius = |run: &mut Run| if small { run.random.between(1, 6) as u32 } else { run.random.pick(&[39_999, 40_000, 1]) };
-    let size = |run: &mut Run| if small { run.random.between(1, 12) as i32 } else { run.random.pick(&[39_999, 40_000, 1, 2]) };
+    let radius =
+        |run: &mut Run| if small { run.random.between(1, 6) as u32 } else { run.random.pick(&[39_999, 40_000, 1]) };
+    let size =
+        |run: &mut Run| if small { run.random.between(1, 12) as i32 } else { run.random.pick(&[39_999, 40_000, 1, 2]) };
     let mut kinds: Vec<Kind> = (0..3)
         .map(|_| {
             let radius = radius(run);
