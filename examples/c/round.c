@@ -1,6 +1,7 @@
 /*
- * Writes the sheet of a round light of radius 300 mm with one of 50 mm beside it, and prints its report: both stand on the sill,
- * line 0, and touch each other, and the large one touches the jamb, line 1, at 90 degrees. round SHEET
+ * Writes the sheet of a round light of radius 300 mm with one of 50 mm beside it, prints its report, and asks whether the small one
+ * may touch the jamb too: both stand on the sill, line 0, and touch each other, and the large one touches the jamb, line 1, which is at
+ * 90 degrees to the sill. round SHEET
  */
 #include <stdio.h>
 
@@ -33,5 +34,10 @@ int main(int argc, char **argv)
     }
     int32_t count = pattern_report(sheet, (size_t)len, report, sizeof report);
     fwrite(report, 1, (size_t)count, stdout);
+
+    uint8_t record[PATTERN_MAX_RECORD];
+    pattern_hold(sheet, (size_t)len, record, sizeof record);
+    int32_t asked = pattern_ask(record, sizeof record, 1, 3, PATTERN_TANGENT, 0);
+    printf("%d held, one more contact: %d\n", (int)pattern_held_count(record), (int)asked);
     return 0;
 }

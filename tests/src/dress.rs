@@ -16,8 +16,8 @@ enum Sizes {
     All,
 }
 
-/// What the elements and constraints of a sheet are, in hundredths: lines among the elements, circles among the others, contacts among the constraints
-/// that may be one.
+/// What the elements and constraints of a sheet are, in hundredths: lines among the elements, circles among the others, contacts among the
+/// constraints that may be one.
 #[derive(Clone, Copy, Debug)]
 pub struct Mix {
     pub opening: Opening,

@@ -1,4 +1,5 @@
-//! Joint kinds and placements (document 01, "Joint kinds and placements"; document 02, 2026-01: contacts count as the distances they mean, circles as points).
+//! Joint kinds and placements (document 01, "Joint kinds and placements"; document 02, 2026-01: contacts count as the distances they mean, circles as
+//! points).
 
 use crate::facts::Sheet;
 use crate::merging::Step;

@@ -26,8 +26,9 @@ pub fn ends(first: u8, second: u8, n: usize, earlier: &[Constraint]) -> Result<(
     refuse(earlier.iter().any(|c| c.first == first && c.second == second), 7)
 }
 
-/// Rule 8, then 20. Bit 2 without a circle or beside bit 0, bit 3 without bit 2 or for point and circle, bits 4 to 7, and neither size nor contact unless
-/// one end is a line and the other is not; then two circles of equal radii under bit 3. A PF01 sheet has no circle, so that its bits 2 and 3 are refused.
+/// Rule 8, then 20. Bit 2 without a circle or beside bit 0, bit 3 without bit 2 or for point and circle, bits 4 to 7, and neither size nor contact
+/// unless one end is a line and the other is not; then two circles of equal radii under bit 3. A PF01 sheet has no circle, so that its bits 2 and 3
+/// are refused.
 pub fn map(a: Kind, b: Kind, map: u8) -> Result<(), Rule> {
     let stands = |bit: u8| map & bit != 0;
     let circle = a.radius().is_some() || b.radius().is_some();

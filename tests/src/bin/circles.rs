@@ -1,5 +1,5 @@
-//! Circles of known radius: PF02 sheets of every mix through every call beside the reference, cut at every byte and with every byte changed, the placements
-//! that contacts leave, the largest sheets, and round lights beside the sketch of their centres.
+//! Circles of known radius: PF02 sheets of every mix through every call beside the reference, cut at every byte and with every byte changed, the
+//! placements that contacts leave, the largest sheets, and round lights beside the sketch of their centres.
 
 use std::process::ExitCode;
 
