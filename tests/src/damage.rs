@@ -153,9 +153,21 @@ fn spoil(facts: &mut Columns, random: &mut Random) {
         2 => facts.e = random.below(201),
         3 => facts.opening = random.pick(&[0, 1, 2, 3, 257, (1 << 32) + 2, usize::MAX]),
         4 => facts.n = random.between(2, 64),
-        5..=7 => spoil_element(facts, random),
+        5..=7 => spoil_elements(facts, random),
         8 | 9 => equal_listed(facts),
         _ => spoil_constraint(facts, random),
+    }
+}
+
+/// Puts a fault into the kinds or the radii, and often another beside it, so that it shows which rule is tried first.
+fn spoil_elements(facts: &mut Columns, random: &mut Random) {
+    spoil_element(facts, random);
+    match random.below(6) {
+        0 => facts.opening = 1,
+        1 => facts.e = 201,
+        2 => facts.n = random.pick(&[1, 65]),
+        3 => spoil_element(facts, random),
+        _ => {}
     }
 }
 
