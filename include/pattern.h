@@ -21,8 +21,8 @@
  *   1 byte        n, the count of elements, 2 to 64
  *   n/8 rounded   the kinds of PF01: bit (i mod 8) of byte (i div 8) is 1 where element i is a line, 0
  *   up bytes      where it is a point; the bits from n on are 0
- *   n/4 rounded   the kinds of PF02: bits 2 (i mod 4) and above it of byte (i div 4) are 0 where element
- *   up bytes      i is a point, 1 where it is a line, 2 where it is a circle; the bits beyond n are 0
+ *   n/4 rounded   the kinds of PF02: the two bits from 2(i mod 4) on of byte (i div 4) are 0 where element
+ *   up bytes      i is a point, 1 where it is a line, 2 where it is a circle; the bits from 2n on are 0
  *   4 bytes each  PF02: the radius of each circle, in element order, 1 to 40,000 tenths of a millimetre,
  *                 lowest byte first
  *   1 byte        e, the count of constraints, 0 to 200; then each constraint:
