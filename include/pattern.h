@@ -72,6 +72,7 @@ extern "C" {
 #define PATTERN_MAX_RECORD      1155 /* bytes of a record: with this room no sketch is refused by 17 */
 #define PATTERN_MAX_PART        3534 /* bytes of one cluster's steps: with this room no list of them is refused by 17 */
 #define PATTERN_MAX_MISSING     125  /* missing dimensions: with this room no list of them is refused by 17 */
+#define PATTERN_MAX_OPEN        186  /* numbers of the open merges, three each: with this room no list of them is refused by 17 */
 #define PATTERN_UNMEASURED      65535 /* the price of a pair that can't be measured */
 #define PATTERN_MAX_STACK       32768 /* bytes of stack that a call takes */
 
@@ -189,7 +190,9 @@ int32_t pattern_initial(const uint8_t *sheet, size_t len, uint64_t *out, size_t 
 
 /*
  * The clusters that are left when no merge is open, by number: bit i for element i. An over sheet
- * answers 0. Tries rules 1 to 10, then 17. There are at most PATTERN_MAX_CLUSTERS.
+ * answers 0. Tries rules 1 to 10, then 17. There are at most PATTERN_MAX_CLUSTERS. A part already cut
+ * stays whole: if constraints are added to the sheet and it is still not over, each of these sets lies
+ * inside exactly one of the new ones. Their numbers and their order may change.
  */
 int32_t pattern_clusters(const uint8_t *sheet, size_t len, uint64_t *out, size_t room);
 
@@ -359,6 +362,16 @@ int32_t pattern_chain(
  * is not over has a longer one. Tries rule 3, then 17. Answers the count of bytes.
  */
 int32_t pattern_longest(size_t n, uint8_t *out, size_t room);
+
+/*
+ * The merges that are open after so many steps of a sheet's plan, or after all of them where the plan
+ * has fewer: three cluster numbers a merge, ascending, as a plan gives them. Each open merge stands
+ * there once, by the lowest of the three elements that its clusters share, then by its numbers, place
+ * by place; the one that the next step takes is the first by its numbers alone. After all steps none is
+ * open. Tries rules 1 to 11, then 17. Answers the count of numbers: at most n - 2 merges,
+ * PATTERN_MAX_OPEN numbers.
+ */
+int32_t pattern_open(const uint8_t *sheet, size_t len, size_t steps, uint16_t *out, size_t room);
 
 #ifdef __cplusplus
 }

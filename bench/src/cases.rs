@@ -179,6 +179,12 @@ pub fn for_plan() -> Vec<Case> {
         case("merge tree less 8, 6% lines", few, true, |random| less(shapes::merge_tree(64, random), 8, random)),
         case("row, all lines", all, false, |_| shapes::row(64)),
         case("row, mixed, all lines", all, true, |_| shapes::row(64)),
+        case("tree, mixed, all lines", all, true, |random| shapes::tree(64, random)),
+        case("comb, mixed, all lines", all, true, |_| shapes::comb(64)),
+        case("four rows, mixed, all lines", all, true, |_| rows(64, 16)),
+        lined("row of lines and five round, mixed", true, &row_and_round(64), |k| k < 63),
+        lined("parts that share lines, in a row", false, &triangles(63), |k| k % 2 == 0),
+        lined("the same, mixed", true, &triangles(63), |k| k % 2 == 0),
         case("ring of parts, all lines", all, true, |random| shapes::frame(64, random)),
         case("merge tree less 8, 90% lines", most, true, |random| less(shapes::merge_tree(64, random), 8, random)),
         case("K2,31 closed late", PLAIN, false, |_| shapes::closed_late(64, 31)),
@@ -215,6 +221,37 @@ fn ladder(n: usize) -> Graph {
 /// Triangles, each sharing one element with the next.
 fn triangles(n: usize) -> Graph {
     Graph::of(n, (0..(n - 1) / 2).flat_map(|k| [(2 * k, 2 * k + 1), (2 * k, 2 * k + 2), (2 * k + 1, 2 * k + 2)]))
+}
+
+/// Rows side by side, each of `length` elements.
+fn rows(n: usize, length: usize) -> Graph {
+    Graph::of(n, (1..n).filter(|k| k % length != 0).map(|k| (k - 1, k)))
+}
+
+/// A row of all but five elements, and these round.
+fn row_and_round(n: usize) -> Graph {
+    let round = (n - 5..n).map(|k| (k, if k + 1 < n { k + 1 } else { n - 5 }));
+    Graph::of(n, (1..n - 5).map(|k| (k - 1, k)).chain(round))
+}
+
+/// A graph in which the given elements are lines, each sheet with other names and in another order if `mixed`.
+fn lined(name: &str, mixed: bool, graph: &Graph, line: fn(usize) -> bool) -> Case {
+    let random = &mut Random::new(name.len() as u64);
+    let mut sheet = || {
+        let (mut pairs, mut names) = (graph.pairs.clone(), (0..graph.n).collect::<Vec<usize>>());
+        if mixed {
+            random.shuffle(&mut pairs);
+            random.shuffle(&mut names);
+        }
+        let mut kinds = vec![Kind::Point; graph.n];
+        for element in (0..graph.n).filter(|&element| line(element)) {
+            kinds[names[element]] = Kind::Line;
+        }
+        let constraint = |&(a, b): &(usize, usize)| Constraint::sized(names[a].min(names[b]) as u8, names[a].max(names[b]) as u8, 300);
+        writer::bytes(&Sheet::first(kinds, pairs.iter().map(constraint).collect()))
+    };
+    let pool = (0..POOL).map(|_| sheet()).collect();
+    Case { name: name.to_string(), n: graph.n, e: graph.pairs.len(), pool }
 }
 
 /// The graph without the pair in the middle of its list.

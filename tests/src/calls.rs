@@ -173,3 +173,13 @@ pub fn held(run: &mut Run, record: &[u8]) {
     let answer = sketch::in_record(record).map(|sheet| writer::bytes(&sheet));
     run.lent("pattern_held", &Hex(record), &answer, |out| ffi::held(given.held(), out));
 }
+
+/// Compares `pattern_open` on some bytes and a number of steps; the answer.
+#[inline]
+pub fn open(run: &mut Run, bytes: &[u8], found: &Found, count: usize) -> Result<Vec<u16>, Rule> {
+    let given = Space::holding(bytes, &mut run.random);
+    let answer = found.open(count);
+    let input = format!("{} after {count}", Hex(bytes));
+    run.lent("pattern_open", &input, &answer, |out| ffi::open(given.held(), count, out));
+    answer
+}

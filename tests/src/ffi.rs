@@ -243,6 +243,8 @@ mod tests {
             assert_eq!(c::pattern_place(out, 9, 0, 1, 0, 0, 0), -17);
             assert_eq!(c::pattern_held(null(), 0, null_mut(), 0), -27);
             assert_eq!(c::pattern_held(out, room, null_mut(), 0), -17);
+            assert_eq!(c::pattern_open(null(), 0, 0, null_mut(), 0), -1);
+            assert_eq!(c::pattern_open(sheet, len, 0, null_mut(), 0), 0);
         }
     }
 }
@@ -251,4 +253,10 @@ mod tests {
 #[inline]
 pub fn chain(sheet: &[u8], from: usize, to: usize, out: &mut [u16]) -> i32 {
     unsafe { c::pattern_chain(sheet.as_ptr(), sheet.len(), from, to, out.as_mut_ptr(), out.len()) }
+}
+
+/// `pattern_open`
+#[inline]
+pub fn open(sheet: &[u8], steps: usize, out: &mut [u16]) -> i32 {
+    unsafe { c::pattern_open(sheet.as_ptr(), sheet.len(), steps, out.as_mut_ptr(), out.len()) }
 }

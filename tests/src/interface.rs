@@ -8,7 +8,7 @@ use crate::reader::read;
 use crate::rules::refuse;
 use crate::set::{Set, one};
 use crate::verdict::{Judged, judge};
-use crate::{chain, parts, plans, records, report, sketch, verdict, writer};
+use crate::{chain, opens, parts, plans, records, report, sketch, verdict, writer};
 
 /// `pattern_rewrite`: the sheet read and written again.
 pub fn rewrite(bytes: &[u8]) -> Result<Vec<u8>, Rule> {
@@ -131,6 +131,16 @@ impl Found {
             Judged::Over(_) => Vec::new(),
             Judged::Merged(merges) => merges.rests.iter().flat_map(|rests| words(rests)).collect(),
         })
+    }
+
+    /// `pattern_open`: the merges that are open after a number of the engine's steps, three numbers each.
+    pub fn open(&self, count: usize) -> Result<Vec<u16>, Rule> {
+        match self.accepted()? {
+            (_, Judged::Over(_)) => Err(11),
+            (sheet, Judged::Merged(merges)) => {
+                Ok(opens::after(sheet, merges, count).concat().iter().map(|&number| number as u16).collect())
+            }
+        }
     }
 
     /// `pattern_report`.

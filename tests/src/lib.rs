@@ -2,7 +2,7 @@
 //! proved library beside it: random sheets, damage, lent space with guards, counts.
 //!
 //! The reference: `facts`, `rules`, `reader`, `first`, `writer`, `over`, `matching`, `merging`, `rings`, `verdict`, `placements`,
-//! `report`, `records`, `parts`, `plans`, `sketch`, `missing`, and `interface`, which gives the answers the C interface must give.
+//! `report`, `records`, `parts`, `plans`, `sketch`, `missing`, `opens`, and `interface`, which gives the answers the C interface must give.
 //! The runs: `random`, `graph`, `shapes`, `dress`, `layout`, `tags`, `damage`, `space`, `run`, `calls`, `answers`, and `ffi`, the only unsafe code.
 
 pub mod answers;
@@ -23,6 +23,7 @@ pub mod layout;
 pub mod matching;
 pub mod merging;
 pub mod missing;
+pub mod opens;
 pub mod over;
 pub mod parts;
 pub mod placements;

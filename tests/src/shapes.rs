@@ -27,6 +27,17 @@ pub fn row(n: usize) -> Graph {
     Graph::of(n, (1..n).map(|k| (k - 1, k)))
 }
 
+/// Each element to one before it, whichever.
+pub fn tree(n: usize, random: &mut Random) -> Graph {
+    Graph::of(n, (1..n).map(|k| (random.below(k), k)))
+}
+
+/// A row of half the elements, each with one more at its side.
+pub fn comb(n: usize) -> Graph {
+    let half = n / 2;
+    Graph::of(n, (1..n).map(|k| (if k < half { k - 1 } else { k - half }, k)))
+}
+
 /// Each element to the next, and the last to the first.
 pub fn ring(n: usize) -> Graph {
     Graph::of(n, (0..n).map(|k| (k, (k + 1) % n)))
@@ -154,7 +165,7 @@ pub fn frame(n: usize, random: &mut Random) -> Graph {
 
 /// A graph of one of the plain families.
 fn basic(n: usize, random: &mut Random) -> Graph {
-    match random.below(16) {
+    match random.below(18) {
         0 => strip(n),
         1 => fan(n),
         2 => wheel(n),
@@ -171,6 +182,7 @@ fn basic(n: usize, random: &mut Random) -> Graph {
         }
         13 => scattered(n, random.below(2 * n), random),
         14 if n >= 5 => frame(n, random),
+        15 | 16 => tree(n, random),
         _ => scattered(n, random.below(MOST_CONSTRAINTS + 1), random),
     }
 }

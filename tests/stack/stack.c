@@ -98,6 +98,12 @@ static void *held(void *u) { pattern_held(record_, sizeof record_, bytes, sizeof
 static void *part(void *u) { pattern_part(sheet, len, last, bytes, sizeof bytes); return u; }
 static void *part_steps(void *u) { pattern_part_steps(sheet, len, last); return u; }
 static void *part_bytes(void *u) { pattern_part_bytes(sheet, len, last); return u; }
+static void *open_(void *u)
+{
+    for (size_t steps = 0; steps <= PATTERN_MAX_STEPS; steps++)
+        pattern_open(sheet, len, steps, plan, PATTERN_MAX_OPEN);
+    return u;
+}
 /* The number of the last cluster: the highest that is not refused by 26. */
 static size_t last_made(void)
 {
@@ -133,7 +139,7 @@ int main(int argc, char **argv)
         {"pattern_place", place}, {"pattern_held", held},
         {"pattern_steps", steps}, {"pattern_saved_steps", saved_steps},
         {"pattern_part", part}, {"pattern_part_steps", part_steps}, {"pattern_part_bytes", part_bytes},
-        {"pattern_chain", chain},
+        {"pattern_chain", chain}, {"pattern_open", open_},
     };
     size_t most[sizeof calls / sizeof *calls] = {0};
     facts();

@@ -4,13 +4,14 @@ use mathlib.Core.Bool.{Bool, true, false, _&&_}
 use Prim.Native.Nat.{ℕ, zero, suc, _/_, _%_, _^_}
 use lib.Dec.{eqb}
 use lib.IntN.{pos}
-use lib.ListN.{length, getD}
+use lib.ListN.{length, getD, replicate}
 use Rattle.theory.specs.Graph.{verdictOf}
 use Rattle.theory.specs.declared.Verdict.{Verdict}
 use Rattle.report.specs.Report.{verdictName}
+use Rattle.sheet.specs.declared.Opening.the-variants.{Pf01}
 use Rattle.sheet.specs.declared.Size.the-variants.{Given}
 use Rattle.sheet.specs.declared.Constraint.{Constraint}
-use Rattle.sheet.specs.Facts.{Facts, elementsOf}
+use Rattle.sheet.specs.Facts.{Facts, blankElement}
 use Rattle.sheet.specs.Graph.{graphOf}
 pub mod Table
 pub mod Every
@@ -35,7 +36,7 @@ standing i (c ∷ cs) = elim (eqb (i % 2) 1) [ true ↦ c ∷ standing (i / 2) c
 
 -- the sheet of n points with the pairs whose bit stands in i, pair (0,1) the lowest bit, then dictionary order
 unfoldable pub pointsSheet : ℕ → ℕ → Facts
-pointsSheet n i = record { elements = elementsOf n 0; constraints = standing i (eachTwo 0 n) }
+pointsSheet n i = record { opening = Pf01; elements = replicate n blankElement; constraints = standing i (eachTwo 0 n) }
 
 unfoldable pub setVerdict : ℕ → ℕ → Verdict
 setVerdict n i = verdictOf (graphOf (pointsSheet n i))

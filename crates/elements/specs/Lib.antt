@@ -1,2 +1,3 @@
 -- What the reading of a sheet's elements says.
 pub mod Answers
+pub mod Round

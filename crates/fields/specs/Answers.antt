@@ -13,6 +13,7 @@ use Rattle.fields.specs.declared.ByteRead.the-variants as byte
 use Rattle.fields.specs.declared.NumberRead.{NumberRead}
 use Rattle.fields.specs.declared.NumberRead.the-variants as number
 pub mod Laws
+pub mod Numbers
 
 abbrev pub asPlace : List ℕ → PlaceRead → Field (Unit {0})
 asPlace s (place.Value c) = value tt (drop (c .at) s)

@@ -1,2 +1,3 @@
 -- The judgement of a constraint graph.
 pub mod Judged
+pub mod Telling

@@ -1,16 +1,20 @@
 // The judgement of a constraint graph in lent arrays. Contracts cite theory's definitions; a judgement does not look at the sizes z.
 ghost use mathlib.Core.Path.{_≡_};
-ghost use mathlib.Core.List.{List};
+ghost use mathlib.Core.List.{List, []};
 ghost use Prim.Native.Nat.{_+_, _*_, _≤_, _<_};
-ghost use lib.Count.{ones};
 ghost use lib.IntN.{ℤ};
-ghost use lib.ListN.{length};
+ghost use lib.ListN.{length, take};
+ghost use mathlib.Core.Bool.{true};
+ghost use mathlib.Core.Logic.{_≢_};
 ghost use Rattle.theory.specs.Graph.{Graph, findingOf, verdictOf};
 ghost use Rattle.theory.specs.Constraints.{Pairs};
+ghost use Rattle.theory.specs.declared.Finding.the-variants.{Fine};
 ghost use Rattle.sheet.specs.Graph.{overFault};
 ghost use Rattle.graph.specs.Lent.{graphIn, Drawn};
-ghost use Rattle.merges.specs.Run.{Merged};
+ghost use Rattle.merges.specs.Run.{runOf, Start, Merged};
+ghost use Rattle.cycles.specs.Cycle.{HoldsBelow};
 ghost use Rattle.judge.specs.Judged.{listed as listedOf, overFound, judgedOf};
+ghost use Rattle.judge.specs.Telling.{Tells};
 use graph::Head;
 use merges::Run;
 use theory::Finding;
@@ -73,6 +77,52 @@ fn listed(h: Head, run: Run) -> Judged
     }
 }
 
+// Does the sheet have three lines or more, and do no constraints run round? It is looked for only where there are fewer than elements.
+fn forest(h: Head, near: &[u64; 64]) -> bool
+    requires { ⌜ (1 ≤ h .n) × (h .n ≤ 64) ⌝ }
+    ensures { λ r. ⌜ (r ≡ true → HoldsBelow (now (near .entry)) (h .n) 0) ⌝ }
+{
+    if u64::count_ones(h.lines) < 3 {
+        return false;
+    }
+    if h.n <= h.e {
+        return false;
+    }
+    cycles::rounds(near, h.n) == 0
+}
+
+// No merge of the constraints.
+fn unmerged(start: &[u64; 200], e: usize) -> Run
+    requires { ⌜ Start (now start) e ⌝ }
+    ensures { λ r. ⌜ r ≡ runOf (take e (now (start .entry))) [] ⌝ }
+{
+    let slots = merges::begin(start, e);
+    Run {
+        steps: 0,
+        parts: [0u16; 192],
+        joints: [0u64; 64],
+        slots,
+    }
+}
+
+// The judgement of a sheet that is not over. Where no constraints run round nothing merges, and no ring is looked for.
+fn fine_judged(h: Head, near: &[u64; 64], start: &[u64; 200]) -> Judged
+    requires { ⌜ Drawn h (now near) (now start) × (h .e + 3 ≢ 2 * h .n) × ((z : List ℤ) → findingOf (graphIn h (now start) z) ≡ Fine) ⌝ }
+    ensures { λ r. ⌜ ((z : List ℤ) → r ≡ judgedOf (graphIn h (now (start .entry)) z)) ⌝ }
+{
+    if forest(h, near) {
+        let run = unmerged(start, h.e);
+        return Judged {
+            verdict: Verdict::Under,
+            first: 0,
+            set: 0,
+            run,
+        };
+    }
+    let run = merges::merge_all(start, h.e);
+    listed(h, run)
+}
+
 // The judgement of a sheet with 2n-3 constraints. Merges that leave one cluster show that it is not over.
 fn judge_full(h: Head, near: &[u64; 64], start: &[u64; 200]) -> Judged
     requires { ⌜ Drawn h (now near) (now start) × (h .e + 3 ≡ 2 * h .n) ⌝ }
@@ -98,63 +148,79 @@ pub fn judge(h: Head, near: &[u64; 64], start: &[u64; 200]) -> Judged
     }
     let found = over_of(h, near, start);
     let Finding::First { constraint, set } = found else {
-        let run = merges::merge_all(start, h.e);
-        return listed(h, run);
+        return fine_judged(h, near, start);
     };
     over_found(constraint, set)
 }
 
-// The verdict by way of the judgement.
-fn judged_verdict(h: Head, near: &[u64; 64], start: &[u64; 200]) -> Verdict
-    requires { ⌜ Drawn h (now near) (now start) ⌝ }
+// The verdict of a sheet that is not over, with fewer than 2n-3 constraints. Two lines or fewer are too few for a joint of three or a ring.
+pub fn fine_verdict(h: Head, near: &[u64; 64], start: &[u64; 200]) -> Verdict
+    requires { ⌜ Drawn h (now near) (now start) × (h .e + 3 < 2 * h .n) × ((z : List ℤ) → findingOf (graphIn h (now start) z) ≡ Fine) ⌝ }
     ensures { λ r. ⌜ ((z : List ℤ) → r ≡ verdictOf (graphIn h (now (start .entry)) z)) ⌝ }
 {
-    let judged = judge(h, near, start);
-    let verdict = judged.verdict;
-    verdict
-}
-
-// The verdict by way of the search for an over set and the merges.
-fn merged_verdict(h: Head, near: &[u64; 64], start: &[u64; 200]) -> Verdict
-    requires { ⌜ Drawn h (now near) (now start) ⌝ }
-    ensures { λ r. ⌜ ((z : List ℤ) → r ≡ verdictOf (graphIn h (now (start .entry)) z)) ⌝ }
-{
-    match over_of(h, near, start) {
-        Finding::First { .. } => Verdict::Over,
-        Finding::Fine => {
-            let run = merges::merge_all(start, h.e);
-            let joints = run.joints;
-            let slots = run.slots;
-            engine::settle(&joints, &slots, run.steps, h.n, h.e, h.lines)
-        }
+    if u64::count_ones(h.lines) <= 2 {
+        return Verdict::Under;
     }
+    if forest(h, near) {
+        return Verdict::Under;
+    }
+    let run = merges::merge_all(start, h.e);
+    let joints = run.joints;
+    let slots = run.slots;
+    engine::settle(&joints, &slots, run.steps, h.n, h.e, h.lines)
 }
 
-// The verdict of a sheet with two lines or fewer, too few for a joint of three or a ring, and fewer than 2n-3 constraints.
+// The verdict of a sheet with fewer than 2n-3 constraints.
 fn sparse_verdict(h: Head, near: &[u64; 64], start: &[u64; 200]) -> Verdict
-    requires { ⌜ Drawn h (now near) (now start) × (ones (h .lines) ≤ 2) × (h .e + 3 < 2 * h .n) ⌝ }
+    requires { ⌜ Drawn h (now near) (now start) × (h .e + 3 < 2 * h .n) ⌝ }
     ensures { λ r. ⌜ ((z : List ℤ) → r ≡ verdictOf (graphIn h (now (start .entry)) z)) ⌝ }
 {
     match over_of(h, near, start) {
         Finding::First { .. } => Verdict::Over,
-        Finding::Fine => Verdict::Under,
+        Finding::Fine => fine_verdict(h, near, start),
     }
 }
 
-// The verdict of a sheet with 2n-3 constraints. One that peels off to the last element is well, unless three lines went so.
+// A verdict, and of an over sheet the first constraint that makes it so.
+pub struct Told {
+    pub verdict: Verdict,
+    pub first: usize,
+}
+
+// What is told of a sheet with 2n-3 constraints. One that peels off to the last element is well, unless three lines went so.
+pub fn full_told(h: Head, near: &[u64; 64], start: &[u64; 200]) -> Told
+    requires { ⌜ Drawn h (now near) (now start) × (h .e + 3 ≡ 2 * h .n) ⌝ }
+    ensures { λ r. ⌜ ((z : List ℤ) → Tells (graphIn h (now (start .entry)) z) (r .verdict) (r .first)) ⌝ }
+{
+    let peeling = peeling::peel_of(near, h.lines);
+    if peeling.left != 0 {
+        let judged = judge(h, near, start);
+        let verdict = judged.verdict;
+        return Told {
+            verdict,
+            first: judged.first,
+        };
+    }
+    if peeling.angle {
+        return Told {
+            verdict: Verdict::Angle,
+            first: 0,
+        };
+    }
+    Told {
+        verdict: Verdict::Well,
+        first: 0,
+    }
+}
+
+// The verdict of a sheet with 2n-3 constraints.
 fn full_verdict(h: Head, near: &[u64; 64], start: &[u64; 200]) -> Verdict
     requires { ⌜ Drawn h (now near) (now start) × (h .e + 3 ≡ 2 * h .n) ⌝ }
     ensures { λ r. ⌜ ((z : List ℤ) → r ≡ verdictOf (graphIn h (now (start .entry)) z)) ⌝ }
 {
-    let peeling = peeling::peel_of(near, h.lines);
-    if peeling.left != 0 {
-        return judged_verdict(h, near, start);
-    }
-    if peeling.angle {
-        Verdict::Angle
-    } else {
-        Verdict::Well
-    }
+    let told = full_told(h, near, start);
+    let verdict = told.verdict;
+    verdict
 }
 
 // The verdict of any sheet. No plan is made where counts, peeling or the search for an over set decide.
@@ -168,9 +234,6 @@ fn any_verdict(h: Head, near: &[u64; 64], start: &[u64; 200]) -> Verdict
     }
     if used == 2 * h.n {
         return full_verdict(h, near, start);
-    }
-    if 2 < u64::count_ones(h.lines) {
-        return merged_verdict(h, near, start);
     }
     sparse_verdict(h, near, start)
 }

@@ -4,15 +4,17 @@ use mathlib.Core.Logic.{_≢_}
 use mathlib.Core.List.{List, [], _∷_, _++_}
 use Prim.Native.Nat.{ℕ, zero, suc, _-_, _≤_}
 use lib.IntN.{pos}
-use lib.ListN.{length}
+use lib.ListN.{length, replicate}
 use Rattle.theory.specs.Constraints.{Perm}
 use Rattle.theory.specs.Merge.{Merge, Valid}
 use Rattle.theory.specs.Plan.{planOf}
 use Rattle.theory.specs.Graph.{verdictOf}
 use Rattle.theory.specs.declared.Verdict.the-variants.{Over, Well}
+use Rattle.sheet.specs.declared.Opening.the-variants.{Pf01}
+use Rattle.sheet.specs.declared.Element.{Element}
 use Rattle.sheet.specs.declared.Size.the-variants.{Given}
 use Rattle.sheet.specs.declared.Constraint.{Constraint}
-use Rattle.sheet.specs.Facts.{Facts, elementsOf}
+use Rattle.sheet.specs.Facts.{Facts, blankElement}
 use Rattle.sheet.specs.Field.{Field, value, demand}
 use Rattle.sheet.specs.Rules.{elementsInRange}
 use Rattle.sheet.specs.Decode.{readSheet}
@@ -32,9 +34,12 @@ unfoldable pub strip : ℕ → List Constraint
 strip zero = distance 0 1 ∷ []
 strip (suc j) = strip j ++ distance j (suc (suc j)) ∷ distance (suc j) (suc (suc j)) ∷ []
 
+abbrev pub points : ℕ → List Element
+points n = replicate n blankElement
+
 -- the sheet of n points
 abbrev pub longestSheet : ℕ → Facts
-longestSheet n = record { elements = elementsOf n 0; constraints = strip (n - 2) }
+longestSheet n = record { opening = Pf01; elements = points n; constraints = strip (n - 2) }
 
 -- its bytes; another n meets rule 3
 unfoldable pub longestField : ℕ → Field (List ℕ)

@@ -7,6 +7,9 @@ ghost use Rattle.sheet.specs.Answer.{Answers};
 ghost use Rattle.space.specs.Space.{answer, after};
 ghost use Rattle.longest.specs.Longest.{distance as distanceOf, strip as stripOf, longestSheet, longestField};
 use sheet::Constraint;
+use sheet::Element;
+use sheet::Kind;
+use sheet::Opening;
 use sheet::Sheet;
 use sheet::Size;
 use space::Written;
@@ -45,9 +48,11 @@ fn write_strip(n: usize, out: &mut [u8]) -> Written
     ensures { λ r. ⌜ (r ≡ answer (sheetBytes (longestSheet n)) (now (out .entry)))
         × (now (out .exit) ≡ after (sheetBytes (longestSheet n)) (now (out .entry))) ⌝ }
 {
-    let elements = sheet::elements_of(n, 0);
+    let point = Element { kind: Kind::Point };
+    let elements = [point; 64];
     let constraints = strip(n - 2);
     let facts = Sheet {
+        opening: Opening::Pf01,
         n,
         e: 2 * n - 3,
         elements,

@@ -1,17 +1,17 @@
 -- The engine's plan in arrays: merges that came first, until none is open or enough are made. Assumes nothing.
-use mathlib.Core.Path.{_≡_, refl, sym, ap, _∙_, subst}
+use mathlib.Core.Path.{_≡_, refl, sym, ap, ap₂, _∙_, subst}
 use mathlib.Core.Logic.{_⊎_, inl, inr}
 use mathlib.Core.List.{List, [], _∷_, _++_}
 use mathlib.Core.Option.{none, some}
-use Prim.Native.Nat.{ℕ, _+_, _≤_, _<_}
+use Prim.Native.Nat.{ℕ, zero, suc, _+_, _≤_, _<_}
 use native.Mathlib.Omega.{arith}
 use lib.ListN.{length, take, replicate, List·getD-eq-default}
 use Rattle.theory.specs.Block.{block}
 use Rattle.theory.specs.Block.Laws.{take-block}
 use Rattle.theory.specs.Constraints.{Pairs, NotOver}
 use Rattle.theory.specs.Merge.{slot, Merge, merge, Three, three, OpenAt, put, final, Ended}
-use Rattle.theory.specs.Plan.{firstOf, First, IsPlan}
-use Rattle.theory.specs.Plan.Laws.{ascending-same, some-first, none-ended, plan-of-one}
+use Rattle.theory.specs.Plan.{firstOf, First, planOf, IsPlan}
+use Rattle.theory.specs.Plan.Laws.{ascending-same, first-one, some-first, none-ended, plan-of-is, plan-of-one}
 use Rattle.search.specs.State.{waits, Kept, Ready, Begun, Renewed, Fine}
 use Rattle.search.specs.State.Choice.{kept-todo}
 use Rattle.search.specs.State.Sheet.{all-low, fine-of, fine-same, ready-start, ready-put, ready-same, open-same}
@@ -20,7 +20,7 @@ use Rattle.merges.specs.declared.Run.{Run}
 use Rattle.merges.specs.Run.Laws.{final-snoc, valid-snoc}
 use Rattle.merges.specs.Going.{Slots, Going, Made}
 use Rattle.merges.specs.Going.Laws.{slots-same, used-is, used-few, steps-are, steps-few, going-start, going-fewer, going-next, going-run}
-use Rattle.merges.specs.Search.{Firsts, Running, Stopped, Begins, Ran}
+use Rattle.merges.specs.Search.{Firsts, Running, Stopped, Begins, Ran, RanTo}
 use Rattle.merges.proofs.Finding.{first-of-same}
 
 -- ---- merges that came first
@@ -32,6 +32,25 @@ firsts-snoc (r ∷ p) s m f g = (f .0, firsts-snoc p (put s r) m (f .1) g)
 firsts-plan : (p : List Merge) (s : List ℕ) → Firsts s p → Ended (final s p) → IsPlan s p
 firsts-plan [] s f e = e
 firsts-plan (r ∷ p) s f e = (f .0, firsts-plan p (put s r) (f .1) e)
+
+-- so many merges that came first, or all
+firsts-take : (p q : List Merge) (s : List ℕ) (limit : ℕ) → Firsts s p → IsPlan s q → length p ≤ limit
+    → (length p ≡ limit) ⊎ Ended (final s p) → p ≡ take limit q
+unfolding Ended
+firsts-take [] q s limit f g l (inl e) = rw (← e)
+firsts-take [] [] s zero f g l (inr e) = refl
+firsts-take [] [] s (suc limit) f g l (inr e) = refl
+firsts-take [] (r ∷ q) s limit f g l (inr e) = absurd (e r (g .0 .isopen))
+firsts-take (m ∷ p) q s zero f g l w = absurd (omega arith)
+firsts-take (m ∷ p) [] s (suc limit) f g l w = absurd (g m (f .0 .isopen))
+firsts-take (m ∷ p) (r ∷ q) s (suc limit) f g l w =
+    let same = first-one s m r (f .0) (g .0) in
+    ap₂ (λ (x : Merge) (y : List Merge). x ∷ y) same
+    (firsts-take p q (put s m) limit (f .1) (subst (λ (x : Merge). IsPlan (put s x) q) (sym same) (g .1)) (omega arith) (fewer w))
+  where
+    fewer : (suc (length p) ≡ suc limit) ⊎ Ended (final (put s m) p) → (length p ≡ limit) ⊎ Ended (final (put s m) p)
+    fewer (inl e) = inl (omega arith)
+    fewer (inr e) = inr e
 
 -- ---- before the first merge the rim is full
 
@@ -185,3 +204,21 @@ stopped-ran {cs} {e} {slots} {links} {hold} {todo} {parts} {joints} {steps} w =
     ended : (steps ≡ 64) ⊎ (NotOver cs → Ended (final cs (w .running .p))) → NotOver cs → Ended (final cs (w .running .p))
     ended (inl e) fine = absurd (omega (arith, running-few (w .running)))
     ended (inr h) fine = h fine
+
+-- with one it makes so many steps of the plan, or all
+pub stopped-to : {cs : List ℕ} {e limit : ℕ} {slots links hold todo parts joints : List ℕ} {steps rim : ℕ}
+    → Stopped cs e limit slots links hold todo parts joints steps rim → RanTo cs e limit slots links hold steps rim
+stopped-to {cs} {e} {limit} {todo = todo} {steps = steps} w =
+    let r = w .running in
+    record {
+      p = r .p;
+      clusters = r .going .clusters;
+      plan = λ fine. firsts-take (r .p) (planOf cs) cs limit (r .firsts fine) (plan-of-is cs (r .going .clusters .pairs))
+          (omega (arith, steps-are (r .going), w .within)) (stops (w .stops) fine);
+      ready = λ fine. (todo, r .ready fine);
+    }
+  where
+    stops : (steps ≡ limit) ⊎ (NotOver cs → Ended (final cs (w .running .p))) → NotOver cs
+        → (length (w .running .p) ≡ limit) ⊎ Ended (final cs (w .running .p))
+    stops (inl e) fine = inl (sym (steps-are (w .running .going)) ∙ e)
+    stops (inr h) fine = inr (h fine)

@@ -11,7 +11,7 @@ ghost use Rattle.theory.specs.Merge.{Merge, merge as numbers, Three, joint, fin
 ghost use Rattle.theory.specs.Plan.{openTest, firstOf, isSome};
 ghost use Rattle.merges.specs.Run.{mostConstraints, mostSteps, places, runOf, Start, Planned};
 ghost use Rattle.merges.specs.Going.{Slots, Made};
-ghost use Rattle.merges.specs.Search.{hitOf, Tested, Running, Stopped, Begins, Ran};
+ghost use Rattle.merges.specs.Search.{hitOf, Tested, Running, Stopped, Begins, Ran, RanTo};
 ghost use Rattle.search.specs.State.{Ready, Kept};
 
 // Places for the clusters of 125 constraints and 62 steps, and for three parts a step.
@@ -77,7 +77,7 @@ pub fn open3(a: u64, b: u64, c: u64) -> bool
 }
 
 // Its joint.
-fn joint3(a: u64, b: u64, c: u64) -> u64
+pub fn joint3(a: u64, b: u64, c: u64) -> u64
     ensures { λ r. ⌜ ((t : Three) → t .a ≡ a → t .b ≡ b → t .c ≡ c → r ≡ joint t) ⌝ }
 {
     sets::shared(a, b) | sets::shared(b, c) | sets::shared(a, c)
@@ -263,6 +263,24 @@ pub fn merge_on(
     search::join_all(slots, e, links, hold);
     let mut todo = search::todo_all(e);
     advance(slots, parts, joints, links, hold, &mut todo, e, NO_LIMIT)
+}
+
+// The same for at most `limit` steps.
+pub fn merge_some(
+    slots: &mut [u64; PLACES],
+    parts: &mut [u16; PLACES],
+    joints: &mut [u64; ELEMENTS],
+    links: &mut [u64; ELEMENTS],
+    hold: &mut [u64; PLACES],
+    e: usize,
+    limit: usize,
+) -> Halt
+    requires { ⌜ Begins (now slots) (now parts) (now joints) (now links) (now hold) e ⌝ }
+    ensures { λ r. ⌜ RanTo (take e (now (slots .entry))) e limit (now (slots .exit)) (now (links .exit)) (now (hold .exit)) (r .steps) (r .rim) ⌝ }
+{
+    search::join_all(slots, e, links, hold);
+    let mut todo = search::todo_all(e);
+    advance(slots, parts, joints, links, hold, &mut todo, e, limit)
 }
 
 // The engine's plan for the constraints that are the first e of `start`. Of constraints that are over, a list of merges.

@@ -15,6 +15,7 @@ use Rattle.steps.specs.Records.{numbersField}
 use Rattle.records.specs.Record.{placeField, writtenField, sheetField}
 use Rattle.pattern.specs.Entries.{itemsField, rewriteField, overNumbers, initialClusters, checkField, stepsField, savedStepsField, holdField}
 use Rattle.pattern.specs.Entries.{partOf, partField, missingField}
+use Rattle.pattern.specs.Entries.{openMergesField}
 pub mod Proof
 
 abbrev pub AtMost : {A : Type 0} → ℕ → Field (List A) → Type 0
@@ -39,3 +40,4 @@ pub record Counts : Type 0 where
   pub held-in : (lent : List ℕ) → Bytes lent → AtMost 889 (sheetField lent)
   pub part : (bytes : List ℕ) (c : ℕ) → Bytes bytes → AtMost 3534 (partField bytes c)
   pub part-steps : (bytes : List ℕ) (c : ℕ) → Bytes bytes → AtMost 62 (partOf bytes c)
+  pub open-merges : (bytes : List ℕ) (steps : ℕ) → Bytes bytes → AtMost 186 (openMergesField bytes steps)

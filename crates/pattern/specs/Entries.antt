@@ -21,6 +21,7 @@ use Rattle.account.specs.Account.{savedField}
 use Rattle.part.specs.Part.{clusterField, linesField}
 use Rattle.steps.specs.Records.{planSteps, savedRecords}
 use Rattle.chain.specs.Answer.{asked}
+use Rattle.opens.specs.Opens.{openField}
 use Rattle.records.specs.Record.{writtenField}
 pub mod Reading
 pub mod Parts
@@ -96,3 +97,7 @@ chainField bytes start end = next (heldSheet bytes) (λ f rest. asked (graphOf f
 -- its cheapest missing dimensions (document 02, 2026-02): 21 to 23
 abbrev pub missingField : List ℕ → List ℕ → Field (List ℕ)
 missingField bytes prices = next (heldSheet bytes) (λ f rest. cheapestField (graphOf f) prices)
+
+-- its merges that are open after so many of the engine's steps, three numbers each (document 02, 2026-07)
+abbrev pub openMergesField : List ℕ → ℕ → Field (List ℕ)
+openMergesField bytes steps = next (heldSheet bytes) (λ f rest. openField (graphOf f) steps)

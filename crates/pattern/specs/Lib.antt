@@ -5,3 +5,4 @@ pub mod Promises
 pub mod Counts
 pub mod Parts
 pub mod Untagged
+pub mod Opens

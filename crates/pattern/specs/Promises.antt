@@ -1,6 +1,6 @@
 -- The page a buyer reads: what is promised of every list of bytes that `readSheet` accepts, with its facts f. Document 01, "Verdict names", "Every
--- order of merging", "Clusters and merges" and "The report"; document 02, 2026-04. Shown by `promises` of Promises/Proof.antt; the contracts of the entry points cite the
--- same fields (Entries).
+-- order of merging", "Clusters and merges" and "The report"; document 02, 2026-04 and 2026-13. Shown by `promises` of Promises/Proof.antt; the
+-- contracts of the entry points cite the same fields (Entries).
 use Prim.Native.Nat.{ℕ, _+_, _*_, _%_, _≤_, _<_}
 use mathlib.Core.Path.{_≡_}
 use mathlib.Core.Logic.{_≢_, _↔_}
@@ -8,6 +8,7 @@ use mathlib.Core.Bool.{true}
 use mathlib.Core.List.{List, [], _∷_, map}
 use lib.Count.{ones}
 use lib.ListN.{length}
+use Rattle.theory.specs.Set.{_⊑_}
 use Rattle.theory.specs.Constraints.{Among, Perm}
 use Rattle.theory.specs.Over.{IsOver, FirstOver}
 use Rattle.theory.specs.Merge.{Merge, Valid, Maximal, final, joints, live, left}
@@ -18,8 +19,9 @@ use Rattle.theory.specs.Demand.{Agree, Demand3}
 use Rattle.theory.specs.declared.Step.{Step}
 use Rattle.theory.specs.declared.Verdict.the-variants.{Over, Stuck, Under}
 use Rattle.sheet.specs.declared.Constraint.{Constraint}
-use Rattle.sheet.specs.Facts.{Facts, sheetOf}
-use Rattle.sheet.specs.Field.{value, refused}
+use Rattle.sheet.specs.Facts.{Facts, sheetOf, factsOf}
+use Rattle.sheet.specs.Field.{Bytes, value, refused}
+use Rattle.sheet.specs.Decode.{readSheet}
 use Rattle.sheet.specs.Accepted.{Accepted}
 use Rattle.sheet.specs.Answer.{afterTo}
 use Rattle.sheet.specs.Graph.{graphOf, reordered}
@@ -28,12 +30,15 @@ use Rattle.plans.specs.Check.{savedSteps}
 use Rattle.rests.specs.Rests.{restsOn, Rests}
 use Rattle.report.specs.Report.{overReport}
 use Rattle.sketch.specs.Runs.{Event, answersTo, afterAll, Run}
+use Rattle.records.specs.Record.{recordSheet}
 use Rattle.records.specs.Runs.{answersIn, allIn, SameFacts}
+use Rattle.growth.specs.Sheets.{Grown, NeverSmaller}
 use Rattle.account.specs.Account.{listReport, reportOf}
 use Rattle.account.specs.Resting.{wordsOf, restNumbers}
 use Rattle.greedy.specs.Choice.{pricesAllowed}
 use Rattle.missing.specs.Missing.{pairsOf, Told}
 use Rattle.pattern.specs.Entries.{itemsField, verdictField, overNumbers, heldSheet, checkField, holdField, missingField}
+pub mod Growth
 pub mod Proof
 
 -- ---- over (demand 2): some set of m ≥ 2 elements carries more than 2m-3 constraints if and only if
@@ -101,6 +106,21 @@ pub record HeldRuns (bytes : List ℕ) (f : Facts) : Type 0 where
       → (answersIn (afterTo (holdField bytes) lent) events ≡ answersTo (sheetOf f) events)
       × SameFacts (allIn (afterTo (holdField bytes) lent) events) (afterAll (sheetOf f) events)
 
+-- ---- more dimensions, never a smaller part (document 02, 2026-13): the new bytes are a sheet with the same elements, the same constraints and more
+
+pub record GrownTold (bytes new : List ℕ) (f g : Facts) : Type 0 where
+  -- the old sheet isn't over either, and its parts stay whole for each order of merging on either side
+  pub parts : NeverSmaller f g
+  -- each of the sets that `clusters` answers of the old lies inside exactly one of those that it answers of the new
+  pub clusters : (olds news : List ℕ) → itemsField finalClusters bytes ≡ value olds [] → itemsField finalClusters new ≡ value news []
+      → (x : ℕ) → Among x olds → (y : ℕ) × Among y news × (x ⊑ y) × ((z : ℕ) → Among z news → x ⊑ z → z ≡ y)
+
+-- placed dimensions: the sketch held from the bytes, by value and in lent bytes, after any run of asks and placings
+pub record PlacedTold (bytes : List ℕ) (f : Facts) (events : List Event) : Type 0 where
+  pub by-value : NeverSmaller f (factsOf (afterAll (sheetOf f) events))
+  pub lent : (space : List ℕ) → 891 ≤ length space
+      → (g : Facts) × (recordSheet (allIn (afterTo (holdField bytes) space) events) ≡ value g []) × NeverSmaller f g
+
 -- ---- the page
 
 pub record Promises (bytes : List ℕ) (f : Facts) : Type 0 where
@@ -122,3 +142,7 @@ pub record Promises (bytes : List ℕ) (f : Facts) : Type 0 where
   pub words : verdictOf (graphOf f) ≢ Over → itemsField restNumbers bytes
       ≡ value (wordsOf (final (graphOf f .clusters) (planOf (graphOf f .clusters)))
       (restsOn (length (graphOf f .clusters)) (planOf (graphOf f .clusters)))) []
+  -- another accepted sheet with more dimensions that isn't over, and the sketch held from this one with what was placed (document 02, 2026-13)
+  pub grown : (new rest : List ℕ) (g : Facts) → Bytes new → readSheet new ≡ value g rest → Grown f g → verdictOf (graphOf g) ≢ Over
+      → GrownTold bytes new f g
+  pub placed : verdictOf (graphOf f) ≢ Over → (events : List Event) → PlacedTold bytes f events

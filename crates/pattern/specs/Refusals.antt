@@ -26,6 +26,7 @@ use Rattle.steps.specs.Records.{filledTo}
 use Rattle.pattern.specs.Entries.{itemsField, rewriteField, verdictField, heldSheet, checkField, stepsField, savedStepsField, holdField}
 use Rattle.pattern.specs.Entries.{partOf, partField, missingField}
 use Rattle.pattern.specs.Entries.{chainField}
+use Rattle.pattern.specs.Entries.{openMergesField}
 pub mod Proof
 
 -- the items are more than the space takes
@@ -83,6 +84,8 @@ pub record Refusals : Type 0 where
   -- the chain from one element to another; over lent space it is refused by that rule too, or by 17
   pub chain : (bytes : List ℕ) (start end : ℕ) → By (λ k. Rule 1 11 k ⊎ (k ≡ 25)) (chainField bytes start end)
   pub run : (x : Field Graph) (start end : ℕ) (space left : List ℕ) (k : ℕ) → ChainAnswers x start end space (No k) left → (x ≡ refused k) ⊎ (k ≡ 17)
+  -- the merges that are open
+  pub open-merges : (bytes : List ℕ) (steps : ℕ) → By (Rule 1 11) (openMergesField bytes steps)
   -- the report program lends 4,667 bytes, so it never prints "refused 17"
   pub program : (bytes space : List ℕ) (k : ℕ) → Bytes bytes → 4667 ≤ length space → answerTo (itemsField reportOf bytes) space ≡ Refused k
       → Rule 1 10 k

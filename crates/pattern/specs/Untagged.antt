@@ -8,6 +8,7 @@ use Rattle.sheet.specs.Field.{value, Bytes}
 use Rattle.sheet.specs.Decode.{readSheet}
 use Rattle.sheet.specs.WithoutTags.{withoutTags}
 use Rattle.pattern.specs.Entries.{itemsField, rewriteField, verdictField, heldSheet, checkField, stepsField, savedStepsField, holdField, missingField}
+use Rattle.pattern.specs.Entries.{openMergesField}
 pub mod Proof
 
 -- two sheets that no entry point tells apart, whatever else it is given: a call's answer, and what it leaves in lent space, go by its field alone
@@ -23,6 +24,7 @@ pub record SameAnswers (a b : List ℕ) : Type 0 where
   pub hold : heldSheet a ≡ heldSheet b
   pub missing : (prices : List ℕ) → missingField a prices ≡ missingField b prices
   pub hold-in : holdField a ≡ holdField b
+  pub open-merges : (steps : ℕ) → openMergesField a steps ≡ openMergesField b steps
 
 pub record Untagged : Type 0 where
   -- an accepted sheet is answered as the sheet without its tags

@@ -24,6 +24,7 @@ ghost use Rattle.pattern.specs.Entries.{heldSheet, checkField, stepsFiel
 ghost use Rattle.part.specs.Tallies.{measureOf};
 ghost use Rattle.pattern.specs.Entries.{partOf, partField, countOf};
 ghost use Rattle.pattern.specs.Entries.{chainField};
+ghost use Rattle.pattern.specs.Entries.{openMergesField};
 use chain::Answer;
 use part::Measured;
 use reader::GraphRead;
@@ -471,4 +472,21 @@ pub fn longest(n: usize, out: &mut [u8]) -> Written
     ensures { λ r. ⌜ Answers (longestField n) (now (out .entry)) r (now (out .exit)) ⌝ }
 {
     longest::write(n, out)
+}
+
+// ---- the merges that are open
+
+// The merges that are open after `count` of the engine's steps, or after all if there are fewer: three numbers each, ascending, by the lowest element of
+// the joint, then place by place; or the rule of 1 to 11 and 17 that refuses.
+pub fn open_merges(bytes: &[u8], count: usize, out: &mut [u16]) -> Written
+    ensures { λ r. ⌜ Answers (openMergesField (now (bytes .entry)) count) (now (out .entry)) r (now (out .exit)) ⌝ }
+{
+    let mut near = [0u64; 64];
+    let mut start = [0u64; 200];
+    let mut sizes = [0i32; 200];
+    let got = reader::read_graph(bytes, &mut near, &mut start, &mut sizes);
+    let GraphRead::Value(head) = got else {
+        return Written::Refused(got.refusal());
+    };
+    opens::open_of(head, &near, &start, count, out)
 }

@@ -19,6 +19,7 @@ ghost use Rattle.sketch.specs.declared.Judgement.the-variants.{Is};
 ghost use Rattle.pattern_c.specs.Numbers.{asCount, asNumber, AnswersCount, PlacedCount, asItems, ChainCount};
 ghost use Rattle.pattern_c.specs.Columns.{constraintFrom, constraintIn, constraintsIn, sheetIn};
 ghost use Rattle.pattern.specs.Entries.{partOf, partField, countOf, missingField};
+ghost use Rattle.pattern.specs.Entries.{openMergesField};
 use chain::Answer;
 use sheet::Constraint;
 use sheet::Sheet;
@@ -360,4 +361,13 @@ pub extern "C" fn pattern_longest(n: usize, out: &mut [u8]) -> i32
     ensures { λ r. ⌜ AnswersCount (longestField n) (now (out .entry)) r (now (out .exit)) ⌝ }
 {
     count(pattern::longest(n, out))
+}
+
+// The merges that are open after `steps` of the engine's steps, or after all if there are fewer: three numbers each, ascending; or the rule of 1 to 11
+// and 17 that refuses.
+#[no_mangle]
+pub extern "C" fn pattern_open(sheet: &[u8], steps: usize, out: &mut [u16]) -> i32
+    ensures { λ r. ⌜ AnswersCount (openMergesField (now (sheet .entry)) steps) (now (out .entry)) r (now (out .exit)) ⌝ }
+{
+    count(pattern::open_merges(sheet, steps, out))
 }

@@ -11,7 +11,6 @@ use Rattle.theory.specs.Constraints.{Below, carried, NotOver}
 use Rattle.theory.specs.Merge.{joints}
 use Rattle.theory.specs.Plan.{planOf}
 use Rattle.theory.specs.Verdict.{angled}
-pub mod Laws
 pub mod Neighbours
 pub mod Peeling
 pub mod Merging

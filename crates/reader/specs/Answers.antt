@@ -1,33 +1,38 @@
 -- What each answer of the reader says, over the bytes s that it reads: the value with the bytes from the next cursor on, or the refusal
 -- (document 01, "Where each form goes": each field read answers a value with the next cursor or a refusal number).
-use Prim.Native.Nat.{ℕ, _^_, _≤_, _<_}
+use Prim.Native.Nat.{ℕ, _/_, _%_, _≤_, _<_}
 use mathlib.Core.Path.{_≡_}
+use mathlib.Core.Bool.{Bool, true, false}
 use mathlib.Core.List.{List, []}
-use lib.IntN.{ℤ}
-use lib.ListN.{drop}
+use lib.Dec.{eqb}
+use lib.IntN.{ℤ, pos}
+use lib.ListN.{length, drop}
+use Rattle.sheet.specs.declared.Opening.{Opening}
+use Rattle.sheet.specs.declared.Opening.the-variants.{Pf01}
+use Rattle.sheet.specs.declared.Kind.{Kind}
 use Rattle.sheet.specs.declared.Element.{Element}
 use Rattle.sheet.specs.declared.Size.{Size}
+use Rattle.sheet.specs.declared.Size.the-variants.{Given, Missing}
 use Rattle.sheet.specs.declared.Constraint.{Constraint}
-use Rattle.sheet.specs.Facts.{Facts, elementsOf, sheetOf}
-use Rattle.sheet.specs.Field.{Field, value, refused, next}
-use Rattle.sheet.specs.Rules.{pairAt}
-use Rattle.sheet.specs.Decode.{dimension, constraints}
-use Rattle.sheet.specs.Graph.{sizeOf}
+use Rattle.sheet.specs.Facts.{Facts, kindAt, sheetOf}
+use Rattle.sheet.specs.Facts.Kinds.{KindsIn}
+use Rattle.sheet.specs.Field.{Field, value, refused, next, demand}
+use Rattle.sheet.specs.Rules.{pairOf, sizeBy, mapAllowed, radiiDiffer}
+use Rattle.sheet.specs.Decode.{size, tag, dimension, constraints}
+use Rattle.fields.specs.declared.Cursor.{Cursor}
+use Rattle.graph.specs.declared.Front.{Front}
 use Rattle.graph.specs.declared.Head.{Head}
-use Rattle.graph.specs.Lent.{headOf, InArrays}
-use Rattle.reader.specs.declared.Cursor.{Cursor}
-use Rattle.reader.specs.declared.PlaceRead.{PlaceRead}
-use Rattle.reader.specs.declared.PlaceRead.the-variants as place
-use Rattle.reader.specs.declared.ByteRead.{ByteRead}
-use Rattle.reader.specs.declared.ByteRead.the-variants as byte
-use Rattle.reader.specs.declared.NumberRead.{NumberRead}
-use Rattle.reader.specs.declared.NumberRead.the-variants as number
+use Rattle.graph.specs.Lent.{headOf, codeOf, InArrays, SheetIn, Stands, sizesOf}
+use Rattle.reader.specs.declared.OpeningRead.{OpeningRead}
+use Rattle.reader.specs.declared.OpeningRead.the-variants as opening
 use Rattle.reader.specs.declared.EndsRead.{EndsRead}
 use Rattle.reader.specs.declared.EndsRead.the-variants as ends
 use Rattle.reader.specs.declared.SizeRead.{SizeRead}
 use Rattle.reader.specs.declared.SizeRead.the-variants as size
-use Rattle.reader.specs.declared.HeadRead.{HeadRead}
-use Rattle.reader.specs.declared.HeadRead.the-variants as head
+use Rattle.reader.specs.declared.FrontRead.{FrontRead}
+use Rattle.reader.specs.declared.FrontRead.the-variants as front
+use Rattle.reader.specs.declared.CodesRead.{CodesRead}
+use Rattle.reader.specs.declared.CodesRead.the-variants as codes
 use Rattle.reader.specs.declared.GraphRead.{GraphRead}
 use Rattle.reader.specs.declared.GraphRead.the-variants as graph
 use Rattle.reader.specs.declared.Outcome.{Outcome}
@@ -35,22 +40,15 @@ use Rattle.reader.specs.declared.Outcome.the-variants as outcome
 use Rattle.reader.specs.declared.Reading.{Reading}
 pub mod Laws
 
-abbrev pub asPlace : List ℕ → PlaceRead → Field (Unit {0})
-asPlace s (place.Value c) = value tt (drop (c .at) s)
-asPlace s (place.Refused k) = refused k
+abbrev pub asOpening : List ℕ → OpeningRead → Field Opening
+asOpening s (opening.Value o c) = value o (drop (c .at) s)
+asOpening s (opening.Refused k) = refused k
 
-abbrev pub asByte : List ℕ → ByteRead → Field ℕ
-asByte s (byte.Value v c) = value v (drop (c .at) s)
-asByte s (byte.Refused k) = refused k
+abbrev pub openingRule : OpeningRead → ℕ
+openingRule (opening.Value o c) = 0
+openingRule (opening.Refused k) = k
 
-abbrev pub asNumber : List ℕ → NumberRead → Field ℕ
-asNumber s (number.Value v c) = value v (drop (c .at) s)
-asNumber s (number.Refused k) = refused k
-
--- the kinds of n elements as one number
-abbrev pub asKinds : ℕ → List ℕ → NumberRead → Field (List Element)
-asKinds n s (number.Value m c) = value (elementsOf n m) (drop (c .at) s)
-asKinds n s (number.Refused k) = refused k
+-- ---- one constraint
 
 -- a constraint of these ends
 abbrev pub between : ℕ → ℕ → Field Size → Field Constraint
@@ -58,7 +56,7 @@ between a b f = next f (λ z s. value (record { first = a; second = b; size = z 
 
 -- the two ends: the rest of the constraint follows them
 abbrev pub asEnds : List Element → List ℕ → EndsRead → Field Constraint
-asEnds es s (ends.Value a b c) = between a b (dimension (pairAt es a b) (drop (c .at) s))
+asEnds es s (ends.Value a b c) = between a b (dimension (kindAt es a) (kindAt es b) (drop (c .at) s))
 asEnds es s (ends.Refused k) = refused k
 
 abbrev pub endsRule : EndsRead → ℕ
@@ -69,63 +67,80 @@ endsRule (ends.Refused k) = k
 pub record Ascending (n : ℕ) (r : EndsRead) : Type 0 where
   pub ascend : (a b : ℕ) (c : Cursor) → r ≡ ends.Value a b c → (a < b) × (b < n)
 
+-- what follows the map
+unfoldable pub dimensionBy : Kind → Kind → ℕ → List ℕ → Field Size
+dimensionBy j k map s =
+    demand (mapAllowed j k map) 8 (demand (radiiDiffer j k (sizeBy map (pos 0))) 20
+    (next (size (pairOf j k) (sizeBy map (pos 0)) s) (λ z s1. next (tag (eqb (map / 2 % 2) 1) s1) (λ t s2. value z s2))))
+
+-- what a map without a contact announces, by its bit 0
+abbrev pub announced : Bool → Size
+announced true = Given (pos 0)
+announced false = Missing
+
 -- a size as a number
-abbrev pub sizeIn : Field Size → Field ℤ
-sizeIn f = next f (λ z s. value (sizeOf z) s)
+abbrev pub codeIn : Field Size → Field ℤ
+codeIn f = next f (λ z s. value (codeOf z) s)
 
 abbrev pub asSize : List ℕ → SizeRead → Field ℤ
 asSize s (size.Value z c) = value z (drop (c .at) s)
 asSize s (size.Refused k) = refused k
 
--- the number of the rule that refuses, 0 of a value
-abbrev pub ruleOf : {A : Type 0} → Field A → ℕ
-ruleOf (value a s) = 0
-ruleOf (refused k) = k
+abbrev pub sizeRule : SizeRead → ℕ
+sizeRule (size.Value z c) = 0
+sizeRule (size.Refused k) = k
 
--- a number that was read is below the bound
-pub record Below (bound : ℕ) (r : NumberRead) : Type 0 where
-  pub below : (v : ℕ) (c : Cursor) → r ≡ number.Value v c → v < bound
+-- ---- all before the constraints, and the constraints
 
--- ---- the head and the constraints
+-- the facts of this opening, these elements and of the constraints that are read
+abbrev pub factsWith : Opening → List Element → Field (List Constraint) → Field Facts
+factsWith o es f = next f (λ cs s. value (record { opening = o; elements = es; constraints = cs }) s)
 
--- the facts of these elements and of the constraints that are read
-abbrev pub factsWith : List Element → Field (List Constraint) → Field Facts
-factsWith es f = next f (λ cs s. value (record { elements = es; constraints = cs }) s)
+abbrev pub frontRule : FrontRead → ℕ
+frontRule (front.Value h c) = 0
+frontRule (front.Refused k) = k
 
--- a head: the constraints follow it
-abbrev pub asHead : List ℕ → HeadRead → Field Facts
-asHead s (head.Value h c) = factsWith (elementsOf (h .n) (h .lines)) (constraints (elementsOf (h .n) (h .lines)) (h .e) [] (drop (c .at) s))
-asHead s (head.Refused k) = refused k
+-- what is read of a front: the constraints follow it, and the rules 3 to 5 take its counts
+pub record Follows (x : Field Facts) (s radii : List ℕ) (h : Front) (c : Cursor) : Type 0 where
+  pub elements : List Element
+  pub rest : x ≡ factsWith (h .opening) elements (constraints elements (h .e) [] (drop (c .at) s))
+  pub count : length elements ≡ h .n
+  pub kinds-in : KindsIn elements (h .kinds) radii
+  pub most : h .n ≤ 64
+  pub few : h .e ≤ 200
 
-abbrev pub headRule : HeadRead → ℕ
-headRule (head.Value h c) = 0
-headRule (head.Refused k) = k
-
--- the counts that were read are those that rules 3 to 5 take
-pub record Within (r : HeadRead) : Type 0 where
-  pub within : (h : Head) (c : Cursor) → r ≡ head.Value h c → (h .n ≤ 64) × (h .lines < 2 ^ h .n) × (h .e ≤ 200)
+abbrev pub Fronted : Field Facts → List ℕ → List ℕ → FrontRead → Type 0
+Fronted x s radii (front.Value h c) = Follows x s radii h c
+Fronted x s radii (front.Refused k) = x ≡ refused k
 
 -- the constraints that are read stand in the arrays, or the rule that refuses them is answered
 abbrev pub asOutcome : Field (List Constraint) → Outcome
 asOutcome (value cs s) = outcome.Accepted
 asOutcome (refused k) = outcome.Refused k
 
-pub record ListRead (x : Field (List Constraint)) (r : Outcome) (near start : List ℕ) (sizes : List ℤ) : Type 0 where
+pub record ListRead (x : Field (List Constraint)) (r : Outcome) (near start : List ℕ) (codes : List ℤ) : Type 0 where
   pub answers : r ≡ asOutcome x
-  pub holds : (cs : List Constraint) (t : List ℕ) → x ≡ value cs t → InArrays cs near start sizes
+  pub holds : (cs : List Constraint) (t : List ℕ) → x ≡ value cs t → InArrays cs near start codes
 
--- so of a sheet
-abbrev pub asGraph : Field Facts → GraphRead
-asGraph (value f s) = graph.Value (headOf f)
-asGraph (refused k) = graph.Refused k
+-- ---- a sheet in arrays: its facts, or the rule that refuses it
+
+abbrev pub codesRule : CodesRead → ℕ
+codesRule (codes.Value h) = 0
+codesRule (codes.Refused k) = k
+
+abbrev pub SheetRead : Field Facts → CodesRead → List ℕ → List ℕ → List ℤ → List ℕ → Type 0
+SheetRead x (codes.Value h) near start codes radii =
+    (f : Facts) × (rest : List ℕ) × (x ≡ value f rest) × SheetIn f h near start codes radii
+SheetRead x (codes.Refused k) near start codes radii = x ≡ refused k
 
 abbrev pub graphRule : GraphRead → ℕ
 graphRule (graph.Value h) = 0
 graphRule (graph.Refused k) = k
 
-pub record SheetRead (x : Field Facts) (r : GraphRead) (near start : List ℕ) (sizes : List ℤ) : Type 0 where
-  pub answers : r ≡ asGraph x
-  pub holds : (f : Facts) (t : List ℕ) → x ≡ value f t → InArrays (f .constraints) near start sizes
+abbrev pub GraphIs : Field Facts → GraphRead → List ℕ → List ℕ → List ℤ → Type 0
+GraphIs x (graph.Value h) near start sizes =
+    (f : Facts) × (rest : List ℕ) × (x ≡ value f rest) × Stands f h near start × (sizes ≡ sizesOf f)
+GraphIs x (graph.Refused k) near start sizes = x ≡ refused k
 
 -- ---- a sheet by value
 
@@ -136,7 +151,7 @@ outcomeNumber (outcome.Refused k) = k
 
 -- a refusal carries the blank sheet
 abbrev pub noFacts : Facts
-noFacts = record { elements = []; constraints = [] }
+noFacts = record { opening = Pf01; elements = []; constraints = [] }
 
 abbrev pub asReading : Field Facts → Reading
 asReading (value f s) = record { outcome = outcome.Accepted; sheet = sheetOf f }

@@ -1,46 +1,41 @@
-// The reader of a sheet: document 01, "The sheet in bytes" and "Refused", rules 1 to 10.
+// The reader of a sheet: document 01, "The sheet in bytes" and "Refused", rules 1 to 10; document 02, 2026-01, rules 18 to 20.
 // Each field read answers a value with the next cursor or the number of the rule that refuses it. Contracts cite the decoding of
 // the crate `sheet` and, for what an answer says, specs/Answers.antt.
 ghost use mathlib.Core.Path.{_≡_};
-ghost use mathlib.Core.List.{List, []};
-ghost use Prim.Native.Nat.{_+_, _≤_, _<_, _-_, _^_};
-ghost use lib.Dec.{eqb, leb};
+ghost use mathlib.Core.Bool.{_||_};
+ghost use mathlib.Core.List.{List};
+ghost use Prim.Native.Nat.{_≤_, _<_, _-_, _^_};
+ghost use lib.Dec.{eqb};
 ghost use lib.IntN.{pos};
 ghost use lib.ListN.{length, drop, replicate};
-ghost use Rattle.sheet.specs.Facts.{linesOf};
-ghost use Rattle.sheet.specs.Field.{refused, byte, byteBy, field, signed32, openingBytes, begins};
-ghost use Rattle.sheet.specs.Rules.{pairAt, mapAllowed};
-ghost use Rattle.sheet.specs.Decode.{opening, size, tag, dimension, constraint, constraints, readKinds, readSheet};
+ghost use Rattle.sheet.specs.Facts.{kindAt};
+ghost use Rattle.sheet.specs.Facts.Kinds.{KindsIn};
+ghost use Rattle.sheet.specs.Field.{refused, signed32, begins};
+ghost use Rattle.sheet.specs.Rules.{pairOf, sizeOptional};
+ghost use Rattle.sheet.specs.Decode.{opening, size, tag, dimension, constraint, constraints, readSheet};
 ghost use Rattle.sheet.specs.Noted.{Noted};
 ghost use Rattle.graph.specs.Lent.{InArrays};
-ghost use Rattle.reader.specs.Answers.{ruleOf, asPlace, asByte, asNumber, asKinds, Below, asEnds, endsRule, Ascending, sizeIn, asSize};
-ghost use Rattle.reader.specs.Answers.{headRule, graphRule, asHead, Within, ListRead, SheetRead, asReading, outcomeNumber};
+ghost use Rattle.fields.specs.Answers.{asPlace};
+ghost use Rattle.reader.specs.Answers.{openingRule, asOpening, asEnds, endsRule, Ascending, codeIn, sizeRule, asSize, announced, dimensionBy};
+ghost use Rattle.reader.specs.Answers.{frontRule, Fronted, codesRule, SheetRead, graphRule, GraphIs, ListRead, asReading, outcomeNumber};
+use elements::KindsRead;
+use fields::ByteRead;
+use fields::Cursor;
+use fields::NumberRead;
+use fields::PlaceRead;
+use graph::Front;
 use graph::Head;
 use sheet::Constraint;
 use sheet::Element;
 use sheet::Kind;
+use sheet::Kinds;
+use sheet::Opening;
 use sheet::PairKind;
 use sheet::Sheet;
 use sheet::Size;
 
-// The place of the next byte.
-pub struct Cursor {
-    pub at: usize,
-}
-
-// A field whose bytes are not kept: the place after it.
-enum PlaceRead {
-    Value(Cursor),
-    Refused(u8),
-}
-
-enum ByteRead {
-    Value(u8, Cursor),
-    Refused(u8),
-}
-
-enum NumberRead {
-    Value(u64, Cursor),
+enum OpeningRead {
+    Value(Opening, Cursor),
     Refused(u8),
 }
 
@@ -50,14 +45,21 @@ enum EndsRead {
     Refused(u8),
 }
 
-// A size, 0 for a missing one.
+// A size as one number, 0 for a missing one.
 enum SizeRead {
     Value(i32, Cursor),
     Refused(u8),
 }
 
-enum HeadRead {
-    Value(Head, Cursor),
+// All before the constraints.
+enum FrontRead {
+    Value(Front, Cursor),
+    Refused(u8),
+}
+
+// A sheet in arrays: what is not in them.
+pub enum CodesRead {
+    Value(Front),
     Refused(u8),
 }
 
@@ -78,38 +80,14 @@ pub struct Reading {
     pub sheet: Sheet,
 }
 
-impl PlaceRead {
-    // The rule that refuses the field, 0 of one that was read.
+impl OpeningRead {
+    // The rule that refuses the opening, 0 of one that was read.
     fn refusal(self) -> u8
-        ensures { λ k. ⌜ k ≡ ruleOf (asPlace [] self) ⌝ }
+        ensures { λ k. ⌜ k ≡ openingRule self ⌝ }
     {
         match self {
-            PlaceRead::Value(_) => 0,
-            PlaceRead::Refused(k) => k,
-        }
-    }
-}
-
-impl ByteRead {
-    // The rule that refuses the byte, 0 of one that was read.
-    fn refusal(self) -> u8
-        ensures { λ k. ⌜ k ≡ ruleOf (asByte [] self) ⌝ }
-    {
-        match self {
-            ByteRead::Value(_, _) => 0,
-            ByteRead::Refused(k) => k,
-        }
-    }
-}
-
-impl NumberRead {
-    // The rule that refuses the number, 0 of one that was read.
-    fn refusal(self) -> u8
-        ensures { λ k. ⌜ k ≡ ruleOf (asNumber [] self) ⌝ }
-    {
-        match self {
-            NumberRead::Value(_, _) => 0,
-            NumberRead::Refused(k) => k,
+            OpeningRead::Value(_, _) => 0,
+            OpeningRead::Refused(k) => k,
         }
     }
 }
@@ -129,7 +107,7 @@ impl EndsRead {
 impl SizeRead {
     // The rule that refuses the size, 0 of one that was read.
     fn refusal(self) -> u8
-        ensures { λ k. ⌜ k ≡ ruleOf (asSize [] self) ⌝ }
+        ensures { λ k. ⌜ k ≡ sizeRule self ⌝ }
     {
         match self {
             SizeRead::Value(_, _) => 0,
@@ -138,14 +116,26 @@ impl SizeRead {
     }
 }
 
-impl HeadRead {
-    // The rule that refuses the head, 0 of one that was read.
+impl FrontRead {
+    // The rule that refuses the front, 0 of one that was read.
     fn refusal(self) -> u8
-        ensures { λ k. ⌜ k ≡ headRule self ⌝ }
+        ensures { λ k. ⌜ k ≡ frontRule self ⌝ }
     {
         match self {
-            HeadRead::Value(_, _) => 0,
-            HeadRead::Refused(k) => k,
+            FrontRead::Value(_, _) => 0,
+            FrontRead::Refused(k) => k,
+        }
+    }
+}
+
+impl CodesRead {
+    // The rule that refuses the sheet, 0 of one that was read.
+    pub fn refusal(self) -> u8
+        ensures { λ k. ⌜ k ≡ codesRule self ⌝ }
+    {
+        match self {
+            CodesRead::Value(_) => 0,
+            CodesRead::Refused(k) => k,
         }
     }
 }
@@ -162,16 +152,17 @@ impl GraphRead {
     }
 }
 
-// Whether the bytes begin with the opening.
-fn opens(s: &[u8]) -> bool
-    ensures { λ r. ⌜ r ≡ begins openingBytes (now (s .entry)) ⌝ }
+// Whether the bytes begin with an opening.
+fn opens(s: &[u8], opening: &[u8; 4]) -> bool
+    requires { ⌜ length (now opening) ≡ 4 ⌝ }
+    ensures { λ r. ⌜ r ≡ begins (now (opening .entry)) (now (s .entry)) ⌝ }
 {
     let mut i: usize = 0;
     while i < 4 {
         if s.len() <= i {
             return false;
         }
-        if s[i] != sheet::OPENING[i] {
+        if s[i] != opening[i] {
             return false;
         }
         i += 1;
@@ -180,51 +171,18 @@ fn opens(s: &[u8]) -> bool
 }
 
 // The opening: rule 1.
-fn read_opening(s: &[u8]) -> PlaceRead
-    ensures { λ r. ⌜ asPlace (now (s .entry)) r ≡ opening (now (s .entry)) ⌝ }
+fn read_opening(s: &[u8]) -> OpeningRead
+    ensures { λ r. ⌜ asOpening (now (s .entry)) r ≡ opening (now (s .entry)) ⌝ }
 {
-    if !opens(s) {
-        return PlaceRead::Refused(1);
+    let first = sheet::OPENING;
+    if opens(s, &first) {
+        return OpeningRead::Value(Opening::Pf01, Cursor { at: 4 });
     }
-    PlaceRead::Value(Cursor { at: 4 })
-}
-
-// One byte: rule 2 where none is left.
-fn read_byte(s: &[u8], c: Cursor) -> ByteRead
-    ensures { λ r. ⌜ asByte (now (s .entry)) r ≡ byte (drop (c .at) (now (s .entry))) ⌝ }
-{
-    let at = c.at;
-    if at < s.len() {
-        ByteRead::Value(s[at], Cursor { at: at + 1 })
-    } else {
-        ByteRead::Refused(2)
+    let round = sheet::ROUND_OPENING;
+    if opens(s, &round) {
+        return OpeningRead::Value(Opening::Pf02, Cursor { at: 4 });
     }
-}
-
-// Whether k bytes stand from a place on. In a loop the first test is the same at each turn.
-fn enough(len: usize, at: usize, k: usize) -> bool
-    ensures { λ r. ⌜ r ≡ leb (at + k) len ⌝ }
-{
-    if len < k { false } else { at <= len - k }
-}
-
-// A number of k bytes, lowest first: rule 2 where they are not all there.
-fn read_number(s: &[u8], c: Cursor, k: usize) -> NumberRead
-    requires { ⌜ (0 < k) × (k ≤ 8) ⌝ }
-    ensures { λ r. ⌜ asNumber (now (s .entry)) r ≡ field k (drop (c .at) (now (s .entry))) ⌝ }
-    ensures { λ r. ⌜ Below (256 ^ k) r ⌝ }
-{
-    let at = c.at;
-    if !enough(s.len(), at, k) {
-        return NumberRead::Refused(2);
-    }
-    let mut u: u64 = 0;
-    let mut i = k;
-    while 0 < i {
-        i -= 1;
-        u = 256 * u + wide(s[at + i]);
-    }
-    NumberRead::Value(u, Cursor { at: at + k })
+    OpeningRead::Refused(1)
 }
 
 // What is left of so many bytes from a place on.
@@ -232,13 +190,6 @@ fn bytes_left(len: usize, at: usize) -> usize
     ensures { λ r. ⌜ r ≡ len - at ⌝ }
 {
     if at < len { len - at } else { 0 }
-}
-
-// A byte as a number of 64 bits.
-fn wide(b: u8) -> u64
-    ensures { λ r. ⌜ r ≡ b ⌝ }
-{
-    b as u64
 }
 
 // Two's complement of 32 bits.
@@ -260,11 +211,11 @@ fn read_ends(s: &[u8], c: Cursor, near: &[u64; 64], n: usize) -> EndsRead
         → asEnds es (now (s .entry)) r ≡ constraint es cs (drop (c .at) (now (s .entry)))) ⌝ }
     ensures { λ r. ⌜ Ascending n r ⌝ }
 {
-    let start = read_byte(s, c);
+    let start = fields::read_byte(s, c);
     let ByteRead::Value(a, c1) = start else {
         return EndsRead::Refused(start.refusal());
     };
-    let end = read_byte(s, c1);
+    let end = fields::read_byte(s, c1);
     let ByteRead::Value(b, c2) = end else {
         return EndsRead::Refused(end.refusal());
     };
@@ -277,28 +228,21 @@ fn read_ends(s: &[u8], c: Cursor, near: &[u64; 64], n: usize) -> EndsRead
     EndsRead::Value(a, b, c2)
 }
 
-// The bit map: rule 8.
-fn read_map(s: &[u8], c: Cursor, p: PairKind) -> ByteRead
-    ensures { λ r. ⌜ asByte (now (s .entry)) r ≡ byteBy (mapAllowed p) 8 (drop (c .at) (now (s .entry))) ⌝ }
+// Whether a map without a contact may stand: rule 8.
+fn bare_allowed(p: PairKind, stands: bool) -> bool
+    ensures { λ r. ⌜ r ≡ stands || sizeOptional p ⌝ }
 {
-    let third = read_byte(s, c);
-    let ByteRead::Value(map, after) = third else {
-        return third;
-    };
-    if !sheet::map_allowed(p, map) {
-        return ByteRead::Refused(8);
-    }
-    ByteRead::Value(map, after)
+    if stands { true } else { sheet::size_optional(p) }
 }
 
 // The size, where bit 0 of the map stands: rule 9.
 fn read_size(s: &[u8], c: Cursor, p: PairKind, stands: bool) -> SizeRead
-    ensures { λ r. ⌜ asSize (now (s .entry)) r ≡ sizeIn (size p stands (drop (c .at) (now (s .entry)))) ⌝ }
+    ensures { λ r. ⌜ asSize (now (s .entry)) r ≡ codeIn (size p (announced stands) (drop (c .at) (now (s .entry)))) ⌝ }
 {
     if !stands {
         return SizeRead::Value(0, c);
     }
-    let number = read_number(s, c, 4);
+    let number = fields::read_number(s, c, 4);
     let NumberRead::Value(u, after) = number else {
         return SizeRead::Refused(number.refusal());
     };
@@ -322,18 +266,35 @@ fn skip_tag(s: &[u8], c: Cursor, bit: u8) -> PlaceRead
     PlaceRead::Value(Cursor { at: at + width })
 }
 
-// What follows the two ends: the bit map and the fields whose bit stands, by the number of the kinds.
-fn read_dimension(s: &[u8], c: Cursor, lines: u64, a: u8, b: u8) -> SizeRead
-    requires { ⌜ (a < 64) × (b < 64) ⌝ }
-    ensures { λ r. ⌜ ((es : List Element) → lines ≡ linesOf es
-        → asSize (now (s .entry)) r ≡ sizeIn (dimension (pairAt es a b) (drop (c .at) (now (s .entry))))) ⌝ }
+// What follows a map with a contact, or with a bit that no pair takes: rules 8 and 20, and then the tag.
+fn read_contact(s: &[u8], c: Cursor, j: Kind, k: Kind, map: u8) -> SizeRead
+    requires { ⌜ 4 ≤ map ⌝ }
+    ensures { λ r. ⌜ asSize (now (s .entry)) r ≡ codeIn (dimensionBy j k map (drop (c .at) (now (s .entry)))) ⌝ }
 {
-    let p = sheet::pair_of(sheet::kind_at(lines, a), sheet::kind_at(lines, b));
-    let third = read_map(s, c, p);
-    let ByteRead::Value(map, c1) = third else {
-        return SizeRead::Refused(third.refusal());
+    let size = sheet::size_by(map, 0);
+    if !sheet::size_allowed(j, k, size) {
+        return SizeRead::Refused(8);
+    }
+    if !sheet::radii_differ(j, k, size) {
+        return SizeRead::Refused(20);
+    }
+    let tagged = skip_tag(s, c, map / 2 % 2);
+    let PlaceRead::Value(after) = tagged else {
+        return SizeRead::Refused(tagged.refusal());
     };
-    let sized = read_size(s, c1, p, map % 2 == 1);
+    SizeRead::Value(graph::code_of(size), after)
+}
+
+// What follows a map without a contact: rule 8, the size by rule 9, and the tag.
+fn read_bare(s: &[u8], c: Cursor, p: PairKind, map: u8) -> SizeRead
+    requires { ⌜ map < 4 ⌝ }
+    ensures { λ r. ⌜ ((j k : Kind) → pairOf j k ≡ p → asSize (now (s .entry)) r ≡ codeIn (dimensionBy j k map (drop (c .at) (now (s .entry))))) ⌝ }
+{
+    let stands = map % 2 == 1;
+    if !bare_allowed(p, stands) {
+        return SizeRead::Refused(8);
+    }
+    let sized = read_size(s, c, p, stands);
     let SizeRead::Value(z, c2) = sized else {
         return sized;
     };
@@ -344,22 +305,42 @@ fn read_dimension(s: &[u8], c: Cursor, lines: u64, a: u8, b: u8) -> SizeRead
     SizeRead::Value(z, c3)
 }
 
-// Constraints i0 to e - 1 after those in the arrays, and then the end of the bytes: rules 6 to 10.
-pub fn read_constraints(
+// What follows the two ends: the bit map and the fields whose bit stands, by the kinds of the elements.
+fn read_dimension(s: &[u8], c: Cursor, kinds: Kinds, radii: &[u32; 64], a: u8, b: u8) -> SizeRead
+    requires { ⌜ (a < 64) × (b < 64) ⌝ }
+    ensures { λ r. ⌜ ((es : List Element) → KindsIn es kinds (now (radii .entry))
+        → asSize (now (s .entry)) r ≡ codeIn (dimension (kindAt es a) (kindAt es b) (drop (c .at) (now (s .entry))))) ⌝ }
+{
+    let third = fields::read_byte(s, c);
+    let ByteRead::Value(map, c1) = third else {
+        return SizeRead::Refused(third.refusal());
+    };
+    if map < 4 {
+        let p = sheet::pair_by(sheet::has(kinds.lines, a), sheet::has(kinds.lines, b));
+        return read_bare(s, c1, p, map);
+    }
+    let j = sheet::kind_at(kinds, radii, a);
+    let k = sheet::kind_at(kinds, radii, b);
+    read_contact(s, c1, j, k, map)
+}
+
+// Constraints i0 to e - 1 after those in the arrays, and then the end of the bytes: rules 6 to 10 and 20.
+fn read_constraints(
     s: &[u8],
     from: Cursor,
     n: usize,
-    lines: u64,
+    kinds: Kinds,
+    radii: &[u32; 64],
     i0: usize,
     e: usize,
     near: &mut [u64; 64],
     start: &mut [u64; 200],
-    sizes: &mut [i32; 200],
+    codes: &mut [i32; 200],
 ) -> Outcome
     requires { ⌜ (n ≤ 64) × (i0 ≤ e) × (e ≤ 200) ⌝ }
-    ensures { λ r. ⌜ ((es : List Element) (done : List Constraint) → n ≡ length es → lines ≡ linesOf es → length done ≡ i0
-        → InArrays done (now (near .entry)) (now (start .entry)) (now (sizes .entry))
-        → ListRead (constraints es (e - i0) done (drop (from .at) (now (s .entry)))) r (now (near .exit)) (now (start .exit)) (now (sizes .exit))) ⌝ }
+    ensures { λ r. ⌜ ((es : List Element) (done : List Constraint) → n ≡ length es → KindsIn es kinds (now (radii .entry)) → length done ≡ i0
+        → InArrays done (now (near .entry)) (now (start .entry)) (now (codes .entry))
+        → ListRead (constraints es (e - i0) done (drop (from .at) (now (s .entry)))) r (now (near .exit)) (now (start .exit)) (now (codes .exit))) ⌝ }
 {
     let mut c = from;
     let mut i = i0;
@@ -368,11 +349,11 @@ pub fn read_constraints(
         let EndsRead::Value(a, b, c1) = ends else {
             return Outcome::Refused(ends.refusal());
         };
-        let sized = read_dimension(s, c1, lines, a, b);
+        let sized = read_dimension(s, c1, kinds, radii, a, b);
         let SizeRead::Value(z, c2) = sized else {
             return Outcome::Refused(sized.refusal());
         };
-        graph::note(near, start, sizes, i, a, b, z);
+        graph::note(near, start, codes, i, a, b, z);
         c = c2;
         i += 1;
     }
@@ -398,98 +379,12 @@ pub fn refuse(k: u8) -> Reading
     Reading {
         outcome: Outcome::Refused(k),
         sheet: Sheet {
+            opening: Opening::Pf01,
             n: 0,
             e: 0,
             elements,
             constraints,
         },
-    }
-}
-
-// The kinds of n elements as one number: rule 4.
-fn read_kinds(s: &[u8], c: Cursor, n: usize) -> NumberRead
-    requires { ⌜ (0 < n) × (n ≤ 64) ⌝ }
-    ensures { λ r. ⌜ asKinds n (now (s .entry)) r ≡ readKinds n (drop (c .at) (now (s .entry))) ⌝ }
-    ensures { λ r. ⌜ Below (2 ^ n) r ⌝ }
-{
-    let number = read_number(s, c, (n + 7) / 8);
-    let NumberRead::Value(m, after) = number else {
-        return number;
-    };
-    if !sheet::kind_bits_used(n, m) {
-        return NumberRead::Refused(4);
-    }
-    NumberRead::Value(m, after)
-}
-
-// All before the constraints: rules 1 to 5.
-fn read_head(s: &[u8]) -> HeadRead
-    ensures { λ r. ⌜ asHead (now (s .entry)) r ≡ readSheet (now (s .entry)) ⌝ }
-    ensures { λ r. ⌜ Within r ⌝ }
-{
-    let front = read_opening(s);
-    let PlaceRead::Value(c1) = front else {
-        return HeadRead::Refused(front.refusal());
-    };
-    let count = read_byte(s, c1);
-    let ByteRead::Value(b, c2) = count else {
-        return HeadRead::Refused(count.refusal());
-    };
-    let n = b as usize;
-    if !sheet::elements_in_range(n) {
-        return HeadRead::Refused(3);
-    }
-    let kinds = read_kinds(s, c2, n);
-    let NumberRead::Value(lines, c3) = kinds else {
-        return HeadRead::Refused(kinds.refusal());
-    };
-    let listed = read_byte(s, c3);
-    let ByteRead::Value(k, c4) = listed else {
-        return HeadRead::Refused(listed.refusal());
-    };
-    let e = k as usize;
-    if !sheet::constraints_in_range(e) {
-        return HeadRead::Refused(5);
-    }
-    HeadRead::Value(Head { n, e, lines }, c4)
-}
-
-// The constraint graph of the sheet that any bytes stand for, in arrays that were blank, or the rule that refuses them.
-pub fn read_graph(
-    s: &[u8],
-    near: &mut [u64; 64],
-    start: &mut [u64; 200],
-    sizes: &mut [i32; 200],
-) -> GraphRead
-    requires { ⌜ (now near ≡ replicate 64 0) × (now start ≡ replicate 200 0) × (now sizes ≡ replicate 200 (pos 0)) ⌝ }
-    ensures { λ r. ⌜ SheetRead (readSheet (now (s .entry))) r (now (near .exit)) (now (start .exit)) (now (sizes .exit)) ⌝ }
-{
-    let front = read_head(s);
-    let HeadRead::Value(head, c) = front else {
-        return GraphRead::Refused(front.refusal());
-    };
-    let rest = read_constraints(s, c, head.n, head.lines, 0, head.e, near, start, sizes);
-    let Outcome::Accepted = rest else {
-        return GraphRead::Refused(refusal(rest));
-    };
-    GraphRead::Value(head)
-}
-
-// The sheet that any bytes stand for, or the rule that refuses them.
-pub fn read_sheet(s: &[u8]) -> Reading
-    ensures { λ r. ⌜ r ≡ asReading (readSheet (now (s .entry))) ⌝ }
-{
-    let mut near = [0u64; 64];
-    let mut start = [0u64; 200];
-    let mut sizes = [0i32; 200];
-    let got = read_graph(s, &mut near, &mut start, &mut sizes);
-    let GraphRead::Value(head) = got else {
-        return refuse(got.refusal());
-    };
-    let sheet = graph::sheet_of(head, &start, &sizes);
-    Reading {
-        outcome: Outcome::Accepted,
-        sheet,
     }
 }
 
@@ -500,5 +395,107 @@ pub fn refusal(o: Outcome) -> u8
     match o {
         Outcome::Accepted => 0,
         Outcome::Refused(k) => k,
+    }
+}
+
+// All before the constraints: rules 1 to 5, 18 and 19.
+fn read_front(s: &[u8], radii: &mut [u32; 64]) -> FrontRead
+    requires { ⌜ length (now radii) ≡ 64 ⌝ }
+    ensures { λ r. ⌜ Fronted (readSheet (now (s .entry))) (now (s .entry)) (now (radii .exit)) r ⌝ }
+{
+    let first = read_opening(s);
+    let OpeningRead::Value(opening, c1) = first else {
+        return FrontRead::Refused(first.refusal());
+    };
+    let count = fields::read_byte(s, c1);
+    let ByteRead::Value(b, c2) = count else {
+        return FrontRead::Refused(count.refusal());
+    };
+    let n = b as usize;
+    if !sheet::elements_in_range(n) {
+        return FrontRead::Refused(3);
+    }
+    let got = elements::read_elements(s, c2, opening, n, radii);
+    let KindsRead::Value(kinds, c3) = got else {
+        return FrontRead::Refused(got.refusal());
+    };
+    let listed = fields::read_byte(s, c3);
+    let ByteRead::Value(k, c4) = listed else {
+        return FrontRead::Refused(listed.refusal());
+    };
+    let e = k as usize;
+    if !sheet::constraints_in_range(e) {
+        return FrontRead::Refused(5);
+    }
+    let front = Front {
+        opening,
+        n,
+        e,
+        kinds,
+    };
+    FrontRead::Value(front, c4)
+}
+
+// The sheet that any bytes stand for, in arrays that were blank and in the radii, or the rule that refuses them.
+pub fn read_codes(
+    s: &[u8],
+    near: &mut [u64; 64],
+    start: &mut [u64; 200],
+    codes: &mut [i32; 200],
+    radii: &mut [u32; 64],
+) -> CodesRead
+    requires { ⌜ (now near ≡ replicate 64 0) × (now start ≡ replicate 200 0) × (now codes ≡ replicate 200 (pos 0)) × (length (now radii) ≡ 64) ⌝ }
+    ensures { λ r. ⌜ SheetRead (readSheet (now (s .entry))) r (now (near .exit)) (now (start .exit)) (now (codes .exit)) (now (radii .exit)) ⌝ }
+{
+    let front = read_front(s, radii);
+    let FrontRead::Value(h, c) = front else {
+        return CodesRead::Refused(front.refusal());
+    };
+    let kinds = h.kinds;
+    let rest = read_constraints(s, c, h.n, kinds, radii, 0, h.e, near, start, codes);
+    let Outcome::Accepted = rest else {
+        return CodesRead::Refused(refusal(rest));
+    };
+    CodesRead::Value(h)
+}
+
+// The constraint graph of the sheet that any bytes stand for, in arrays that were blank, or the rule that refuses them.
+pub fn read_graph(
+    s: &[u8],
+    near: &mut [u64; 64],
+    start: &mut [u64; 200],
+    sizes: &mut [i32; 200],
+) -> GraphRead
+    requires { ⌜ (now near ≡ replicate 64 0) × (now start ≡ replicate 200 0) × (now sizes ≡ replicate 200 (pos 0)) ⌝ }
+    ensures { λ r. ⌜ GraphIs (readSheet (now (s .entry))) r (now (near .exit)) (now (start .exit)) (now (sizes .exit)) ⌝ }
+{
+    let mut radii = [0u32; 64];
+    let got = read_codes(s, near, start, sizes, &mut radii);
+    let CodesRead::Value(h) = got else {
+        return GraphRead::Refused(got.refusal());
+    };
+    let kinds = h.kinds;
+    if kinds.circles != 0 {
+        graph::measure(h, start, sizes, &radii);
+    }
+    GraphRead::Value(graph::head_of(h))
+}
+
+// The sheet that any bytes stand for, or the rule that refuses them.
+pub fn read_sheet(s: &[u8]) -> Reading
+    ensures { λ r. ⌜ r ≡ asReading (readSheet (now (s .entry))) ⌝ }
+{
+    let mut near = [0u64; 64];
+    let mut start = [0u64; 200];
+    let mut codes = [0i32; 200];
+    let mut radii = [0u32; 64];
+    let got = read_codes(s, &mut near, &mut start, &mut codes, &mut radii);
+    let CodesRead::Value(h) = got else {
+        return refuse(got.refusal());
+    };
+    let sheet = graph::sheet_of(h, &start, &codes, &radii);
+    Reading {
+        outcome: Outcome::Accepted,
+        sheet,
     }
 }

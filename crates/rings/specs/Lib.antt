@@ -1,2 +1,3 @@
 -- What the loops of the test for a ring have done so far.
 pub mod Turns
+pub mod Rows

@@ -18,7 +18,7 @@ pub const ELEMENTS: usize = 64;
 // ---- what a cluster reaches
 
 // The elements outside x that are linked to two elements of edge.
-fn outs(links: &[u64; ELEMENTS], x: u64, edge: u64) -> u64
+pub fn outs(links: &[u64; ELEMENTS], x: u64, edge: u64) -> u64
     ensures { λ r. ⌜ Outs (now (links .entry)) x edge r ⌝ }
 {
     let mut rest = edge;
@@ -154,7 +154,7 @@ fn met(hold: &[u64; PLACES], p: usize, q: usize, z: usize) -> usize
 }
 
 // The key of the clusters that join z to the two elements of x that it is linked with; a high number if it is linked with fewer.
-fn joined(links: &[u64; ELEMENTS], hold: &[u64; PLACES], x: u64, z: usize) -> usize
+pub fn joined(links: &[u64; ELEMENTS], hold: &[u64; PLACES], x: u64, z: usize) -> usize
     requires { ⌜ z < 64 ⌝ }
     ensures { λ r. ⌜ Joined (now (hold .entry)) (linked (now (links .entry)) z ∩ x) z r × (r < 65536) ⌝ }
 {

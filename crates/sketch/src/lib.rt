@@ -4,8 +4,6 @@ ghost use mathlib.Core.Path.{_≡_};
 ghost use mathlib.Core.List.{List};
 ghost use Prim.Native.Nat.{_+_, _*_, _<_, _≤_};
 ghost use lib.IntN.{ℤ};
-ghost use Rattle.theory.specs.Graph.{findingOf, verdictOf};
-ghost use Rattle.theory.specs.declared.Finding.the-variants.{Fine};
 ghost use Rattle.sheet.specs.Facts.{Facts};
 ghost use Rattle.sheet.specs.Rules.{or-else};
 ghost use Rattle.sheet.specs.Graph.{overFault};
@@ -53,20 +51,6 @@ fn unless_over(h: Head, near: &[u64; 64], start: &[u64; 200], rule: u8) -> u8
     if verdict.number() == 0 { 27 } else { rule }
 }
 
-// The verdict of a graph that is not over, with fewer than 2n-3 constraints.
-fn fine_verdict(h: Head, near: &[u64; 64], start: &[u64; 200]) -> Verdict
-    requires { ⌜ Drawn h (now near) (now start) × (h .e + 3 < 2 * h .n) × ((z : List ℤ) → findingOf (graphIn h (now start) z) ≡ Fine) ⌝ }
-    ensures { λ r. ⌜ ((z : List ℤ) → r ≡ verdictOf (graphIn h (now (start .entry)) z)) ⌝ }
-{
-    if u64::count_ones(h.lines) <= 2 {
-        return Verdict::Under;
-    }
-    let run = merges::merge_all(start, h.e);
-    let joints = run.joints;
-    let slots = run.slots;
-    engine::settle(&joints, &slots, run.steps, h.n, h.e, h.lines)
-}
-
 // The rule that refuses the last of e constraints, by the first that makes them over.
 fn last_rule(first: usize, e: usize) -> u8
     requires { ⌜ first < e ⌝ }
@@ -75,19 +59,17 @@ fn last_rule(first: usize, e: usize) -> u8
     if first + 1 == e { 11 } else { 27 }
 }
 
-// What the last constraint of a graph with 2n-3 constraints is answered: most that are not over have a verdict without a search for the first.
+// What the last constraint of a graph with 2n-3 constraints is answered: what is told of it has the first that makes it over.
 fn judge_full_last(h: Head, near: &[u64; 64], start: &[u64; 200]) -> Judgement
-    requires { ⌜ Drawn h (now near) (now start) ⌝ }
+    requires { ⌜ Drawn h (now near) (now start) × (h .e + 3 ≡ 2 * h .n) ⌝ }
     ensures { λ r. ⌜ ((z : List ℤ) → r ≡ lastAnswer (graphIn h (now (start .entry)) z)) ⌝ }
 {
-    let verdict = judge::verdict_of(h, near, start);
+    let told = judge::full_told(h, near, start);
+    let verdict = told.verdict;
     if verdict.number() != 0 {
         return Judgement::Is(verdict);
     }
-    match judge::over_of(h, near, start) {
-        Finding::First { constraint, .. } => { Judgement::Refused(last_rule(constraint, h.e)) }
-        Finding::Fine => Judgement::Is(verdict),
-    }
+    Judgement::Refused(last_rule(told.first, h.e))
 }
 
 // What the last constraint of a graph is answered, by the first that makes it over: it is looked for once.
@@ -100,7 +82,7 @@ fn judge_last(h: Head, near: &[u64; 64], start: &[u64; 200]) -> Judgement
     }
     match judge::over_of(h, near, start) {
         Finding::First { constraint, .. } => { Judgement::Refused(last_rule(constraint, h.e)) }
-        Finding::Fine => Judgement::Is(fine_verdict(h, near, start)),
+        Finding::Fine => Judgement::Is(judge::fine_verdict(h, near, start)),
     }
 }
 

@@ -4,12 +4,11 @@ use mathlib.Core.Logic.{_≢_}
 use mathlib.Core.List.{List}
 use Prim.Native.Nat.{ℕ, _+_, _*_, _^_, _≤_, _<_}
 use lib.Count.{ones}
-use lib.ListN.{length, take, getD}
-use Rattle.theory.specs.Set.{_∩_, _⊑_, at}
+use lib.ListN.{getD}
+use Rattle.theory.specs.Set.{_∩_, _⊑_}
 use Rattle.theory.specs.Constraints.{pair, has, carried, NotOver}
 use Rattle.theory.specs.Over.{IsOver, Smallest}
-use Rattle.sparsity.specs.Freedoms.{Table, Balanced, Closed}
-use Rattle.peeling.specs.Core.{Few}
+use Rattle.sparsity.specs.Freedoms.{free, Table, Balanced, Closed}
 pub mod Laws
 
 -- a and b are the two elements of constraint c
@@ -26,6 +25,11 @@ pub record Using (cs : List ℕ) (u : ℕ) (own : List (List ℕ)) : Type 0 wher
   pub balanced : Balanced cs u own
   pub fine : NotOver cs
 
+-- and a and b have as many free entries as are needed
+pub record Ready (cs : List ℕ) (u need a b : ℕ) (own : List (List ℕ)) : Type 0 where
+  pub uses : Using cs u own
+  pub enough : need ≤ free own a + free own b
+
 -- a list and one constraint m more, which lies in u, where the sets within u tell whether it is over and which set is tight
 pub record More (old new : List ℕ) (m u : ℕ) : Type 0 where
   pub small : u < 2 ^ 64
@@ -39,11 +43,3 @@ pub record More (old new : List ℕ) (m u : ℕ) : Type 0 where
 pub record Took (old new : List ℕ) (m u : ℕ) (own : List (List ℕ)) (over : ℕ) : Type 0 where
   pub taken : over ≡ 0 → Using new u own
   pub refused : over ≢ 0 → Using old u own × IsOver new × Smallest old m over
-
--- the constraints before c that lie in u use freedoms, and those before c are not over; once and twice hold every element of u that has one and two
--- of them
-pub record Kept (cs : List ℕ) (u c : ℕ) (own : List (List ℕ)) (once twice : ℕ) : Type 0 where
-  pub below : c ≤ length cs
-  pub uses : Using (take c cs) u own
-  pub never : (x : ℕ) → at x once ≡ 0 → Few (take c cs) u x 0
-  pub lone : (x : ℕ) → at x twice ≡ 0 → Few (take c cs) u x 1

@@ -5,7 +5,7 @@ use mathlib.Core.List.{List}
 use Prim.Native.Nat.{ℕ, _+_, _^_, _≤_, _<_}
 use lib.Count.{ones}
 use lib.ListN.{length, getD, set}
-use Rattle.theory.specs.Set.{_∈_, _∪_, at}
+use Rattle.theory.specs.Set.{_∈_, _∪_, _⊑_, at}
 use Rattle.sparsity.specs.Freedoms.{entry, stored, free, Table, Balanced, Closed}
 pub mod Visits
 pub mod Laws
@@ -47,17 +47,19 @@ pub record Longer (queue : List ℕ) (seen count : ℕ) (queue′ : List ℕ) (s
   pub places : (i : ℕ) → i < count → item queue′ i ≡ item queue i
   pub marks : (x : ℕ) → x ∈ seen → x ∈ seen′
 
--- the elements at the first p places use freedoms towards reached elements only, and none of them but the first two has a free entry
+-- the elements at the first p places use freedoms towards reached elements only
 pub record Scanned (own : List (List ℕ)) (queue : List ℕ) (seen p : ℕ) : Type 0 where
   pub stays : (i s : ℕ) → i < p → s < 2 → entry own (item queue i) s ∈ seen
-  pub none : (i : ℕ) → 2 ≤ i → i < p → free own (item queue i) ≡ 0
+
+-- none of the reached elements but the first two has a free entry
+pub record Shut (own : List (List ℕ)) (queue : List ℕ) (count : ℕ) : Type 0 where
+  pub none : (i : ℕ) → 2 ≤ i → i < count → free own (item queue i) ≡ 0
 
 -- the whole search: an element with a free entry at a place below the count, or all is reached
 pub record Found (own : List (List ℕ)) (a b : ℕ) (queue from : List ℕ) (seen count place : ℕ) : Type 0 where
   pub reached : Reached own a b queue from seen count
-  pub scanned : Scanned own queue seen place
-  pub below : place ≤ count
   pub open-at : place < count → (2 ≤ place) × (0 < free own (item queue place))
+  pub all : count ≤ place → Scanned own queue seen count × Shut own queue count
 
 -- another use of the same freedoms for the same constraints, within every closed set that holds a and b
 pub record Rebalanced (own : List (List ℕ)) (a b : ℕ) (new : List (List ℕ)) : Type 0 where
@@ -89,19 +91,19 @@ pub record Gained (own : List (List ℕ)) (a b : ℕ) (new : List (List ℕ)) : 
   pub again : Rebalanced own a b new
   pub gain : free new a + free new b ≡ free own a + free own b + 1
 
--- no more can be had: a closed set that holds a and b, and no free entry but theirs
-pub record Stuck (own : List (List ℕ)) (a b : ℕ) : Type 0 where
-  pub set : ℕ
-  pub small : set < 2 ^ 64
+-- no more can be had: the smallest closed set that holds a and b, and no free entry but theirs
+pub record Stuck (own : List (List ℕ)) (a b set : ℕ) : Type 0 where
   pub first : a ∈ set
   pub second : b ∈ set
   pub closed : Closed own set
   pub none : (x : ℕ) → x ∈ set → x ≢ a → x ≢ b → free own x ≡ 0
+  pub least : (w : ℕ) → a ∈ w → b ∈ w → Closed own w → set ⊑ w
 
--- four free entries on a and b, or as many as can be had
-pub record Gathered (own : List (List ℕ)) (a b : ℕ) (new : List (List ℕ)) : Type 0 where
+-- need free entries on a and b, and over is 0; or fewer, and over is the set where no more can be had
+pub record Gathered (own : List (List ℕ)) (need a b : ℕ) (new : List (List ℕ)) (over : ℕ) : Type 0 where
   pub again : Rebalanced own a b new
-  pub most : (4 ≤ free new a + free new b) ⊎ Stuck new a b
+  pub enough : over ≡ 0 → need ≤ free new a + free new b
+  pub stuck : over ≢ 0 → (free new a + free new b < need) × Stuck new a b over
 
 -- a free entry of one of a and b is used towards the other
 pub record Placed (own : List (List ℕ)) (a b : ℕ) (new : List (List ℕ)) : Type 0 where

@@ -6,15 +6,15 @@ ghost use mathlib.Core.Logic.{_≢_};
 ghost use mathlib.Core.List.{List};
 ghost use Prim.Native.Nat.{ℕ, _+_, _≤_, _<_};
 ghost use lib.Count.{ones};
-ghost use lib.ListN.{take};
-ghost use Rattle.theory.specs.Set.{_∈_};
+ghost use lib.ListN.{take, getD};
 ghost use Rattle.theory.specs.Constraints.{pair, Below};
 ghost use Rattle.theory.specs.Near.{Standing, Near};
 ghost use Rattle.theory.specs.Over.{overOf};
-ghost use Rattle.sparsity.specs.Freedoms.{same, free, Table, FreeBelow};
-ghost use Rattle.sparsity.specs.Reach.{item, Visit, Lent, Found, Way, Gained, Gathered, Placed};
+ghost use Rattle.sparsity.specs.Freedoms.{entry, stored, same, free, Table, FreeBelow};
+ghost use Rattle.sparsity.specs.Reach.{Visit, Lent, Found, Gathered, Placed};
 ghost use Rattle.sparsity.specs.Answer.{Using, More, Took};
 ghost use Rattle.peeling.specs.Core.{Core};
+ghost use Rattle.peeling.specs.Hard.{Noted};
 use theory::Finding;
 
 // 1 where y is x, else 0.
@@ -38,16 +38,11 @@ pub fn all_free() -> [[u8; 2]; 64]
     own
 }
 
-// The free entries of the elements a and b.
-fn free_ends(own: [[u8; 2]; 64], a: u8, b: u8) -> usize
-    requires { ⌜ (a < 64) × (b < 64) ⌝ }
-    ensures { λ r. ⌜ r ≡ free own a + free own b ⌝ }
+// How many entries of x, y and z, are free.
+fn free_of(y: u8, z: u8, x: u8) -> usize
+    ensures { λ r. ⌜ (r ≡ same y x + same z x) × (r ≤ 2) ⌝ }
 {
-    let i = peeling::wide(a);
-    let j = peeling::wide(b);
-    one_if_same(own[i][0], a)
-        + one_if_same(own[i][1], a)
-        + (one_if_same(own[j][0], b) + one_if_same(own[j][1], b))
+    one_if_same(y, x) + one_if_same(z, x)
 }
 
 // The set of the elements reached, and how many there are.
@@ -75,24 +70,24 @@ fn visit(queue: &mut [u8; 64], from: &mut [u8; 64], f: Front, y: u8, p: u8) -> F
     }
 }
 
-// How many entries of x, y and z, are free, for an x that does not stand at the first two places.
-fn opens(y: u8, z: u8, x: u8, p: usize) -> usize
-    ensures { λ r. ⌜ ((2 ≤ p) → r ≡ same y x + same z x) × ((p < 2) → r ≡ 0) ⌝ }
+// How many entries of x, y and z, are free, for an x that made the count of elements reached grow.
+fn opens(y: u8, z: u8, x: u8, before: usize, after: usize) -> usize
+    ensures { λ r. ⌜ ((before < after) → r ≡ same y x + same z x) × ((after ≤ before) → r ≡ 0) ⌝ }
 {
-    if p < 2 {
+    if after <= before {
         return 0;
     }
-    one_if_same(y, x) + one_if_same(z, x)
+    free_of(y, z, x)
 }
 
-// What a search has found: the set of the elements reached, how many there are, and the place of the first that has a free entry, or the count.
+// What a search has found: the set of the elements reached, how many there are, and the place of one that has a free entry, or the count.
 pub struct Sought {
     pub seen: u64,
     pub count: usize,
     pub place: usize,
 }
 
-// The search from a and b along the freedoms in use, for another element with a free entry.
+// The search from a and b along the freedoms in use, for another element with a free entry: it ends where it meets one.
 fn seek(own: [[u8; 2]; 64], queue: &mut [u8; 64], from: &mut [u8; 64], a: u8, b: u8) -> Sought
     requires { ⌜ Table own × (a < 64) × (b < 64) × (a ≢ b) × Lent (now queue) (now from) ⌝ }
     ensures { λ r. ⌜ Found own a b (now (queue .exit)) (now (from .exit)) (r .seen) (r .count) (r .place) ⌝ }
@@ -109,15 +104,24 @@ fn seek(own: [[u8; 2]; 64], queue: &mut [u8; 64], from: &mut [u8; 64], a: u8, b:
         let i = peeling::wide(x);
         let y = own[i][0];
         let z = own[i][1];
-        if opens(y, z, x, p) != 0 {
+        let g = visit(queue, from, f, y, p as u8);
+        let j = peeling::wide(y);
+        if opens(own[j][0], own[j][1], y, f.count, g.count) != 0 {
             return Sought {
-                seen: f.seen,
-                count: f.count,
-                place: p,
+                seen: g.seen,
+                count: g.count,
+                place: f.count,
             };
         }
-        let g = visit(queue, from, f, y, p as u8);
         let h = visit(queue, from, g, z, p as u8);
+        let k = peeling::wide(z);
+        if opens(own[k][0], own[k][1], z, g.count, h.count) != 0 {
+            return Sought {
+                seen: h.seen,
+                count: h.count,
+                place: g.count,
+            };
+        }
         f = h;
         p = p + 1;
     }
@@ -128,70 +132,89 @@ fn seek(own: [[u8; 2]; 64], queue: &mut [u8; 64], from: &mut [u8; 64], a: u8, b:
     }
 }
 
-// Freedoms are turned along the way from place p back to one of the first two, which gets a free entry.
-fn release(own: [[u8; 2]; 64], queue: &[u8; 64], from: &[u8; 64], p: usize) -> [[u8; 2]; 64]
-    requires { ⌜ Way own (now queue) (now from) p ⌝ }
-    ensures { λ r. ⌜ Gained own (item (now (queue .entry)) 0) (item (now (queue .entry)) 1) r ⌝ }
-{
-    let mut t = own;
-    let mut i = p;
-    while 2 <= i {
-        let j = peeling::wide(from[i]);
-        let bx = queue[j];
-        let by = queue[i];
-        let x = peeling::wide(bx);
-        let y = peeling::wide(by);
-        let s = one_if_same(t[x][1], by);
-        let r = one_if_same(t[y][1], by);
-        t[x][s] = bx;
-        t[y][r] = bx;
-        i = j;
-    }
-    t
-}
-
-// As many free entries on a and b as can be had.
+// Need free entries on a and b, and over is 0; or as many as can be had, and over is the set that was reached. Along the way back from an element
+// with a free entry the freedoms are turned, so that a or b gets one.
 fn gather(
     own: [[u8; 2]; 64],
+    need: usize,
     queue: &mut [u8; 64],
     from: &mut [u8; 64],
     a: u8,
     b: u8,
+    over: &mut u64,
 ) -> [[u8; 2]; 64]
     requires { ⌜ Table own × (a < 64) × (b < 64) × (a ≢ b) × Lent (now queue) (now from) ⌝ }
-    ensures { λ r. ⌜ Gathered own a b r × Lent (now (queue .exit)) (now (from .exit)) ⌝ }
-{
-    let mut t = own;
-    while free_ends(t, a, b) < 4 {
-        let s = seek(t, queue, from, a, b);
-        let p = s.place;
-        if s.count <= p {
-            return t;
-        }
-        let next = release(t, queue, from, p);
-        t = next;
-    }
-    t
-}
-
-// A free entry of a or b is used for the constraint between them.
-fn place(own: [[u8; 2]; 64], a: u8, b: u8) -> [[u8; 2]; 64]
-    requires { ⌜ Table own × (a < 64) × (b < 64) × (0 < free own a + free own b) ⌝ }
-    ensures { λ r. ⌜ Placed own a b r ⌝ }
+    ensures { λ r. ⌜ Gathered own need a b r (now (over .exit)) × Lent (now (queue .exit)) (now (from .exit)) ⌝ }
 {
     let mut t = own;
     let i = peeling::wide(a);
     let j = peeling::wide(b);
-    if t[i][0] == a {
-        t[i][0] = b;
-    } else if t[i][1] == a {
-        t[i][1] = b;
-    } else if t[j][0] == b {
-        t[j][0] = a;
-    } else {
-        t[j][1] = a;
+    while free_of(t[i][0], t[i][1], a) + free_of(t[j][0], t[j][1], b) < need {
+        let found = seek(t, queue, from, a, b);
+        let p = found.place;
+        if found.count <= p {
+            *over = found.seen;
+            return t;
+        }
+        let mut to = p;
+        while 2 <= to {
+            let back = peeling::wide(from[to]);
+            let bx = queue[back];
+            let by = queue[to];
+            let x = peeling::wide(bx);
+            let y = peeling::wide(by);
+            let s = one_if_same(t[x][1], by);
+            let r = one_if_same(t[y][1], by);
+            t[x][s] = bx;
+            t[y][r] = bx;
+            to = back;
+        }
     }
+    *over = 0;
     t
+}
+
+// Where a constraint uses a freedom: an entry of an element, and the other end that it is to hold.
+pub struct Spot {
+    pub element: usize,
+    pub entry: usize,
+    pub other: u8,
+}
+
+// A free entry for the constraint between a and b: of a, whose entries are p and q, or of b, whose first is r.
+fn place(p: u8, q: u8, r: u8, a: u8, b: u8) -> Spot
+    requires { ⌜ (a < 64) × (b < 64) ⌝ }
+    ensures { λ k. ⌜ ((own : List (List ℕ)) → entry own a 0 ≡ p → entry own a 1 ≡ q → entry own b 0 ≡ r → 0 < free own a + free own b
+        → Placed own a b (stored own (k .element) (k .entry) (k .other))) × (k .element < 64) × (k .entry < 2) ⌝ }
+{
+    let i = peeling::wide(a);
+    if p == a {
+        return Spot {
+            element: i,
+            entry: 0,
+            other: b,
+        };
+    }
+    if q == a {
+        return Spot {
+            element: i,
+            entry: 1,
+            other: b,
+        };
+    }
+    let j = peeling::wide(b);
+    if r == b {
+        return Spot {
+            element: j,
+            entry: 0,
+            other: a,
+        };
+    }
+    Spot {
+        element: j,
+        entry: 1,
+        other: a,
+    }
 }
 
 // One more constraint, between a and b: the table with it, and over is 0; or the table without it, and over is the smallest set that it makes over.
@@ -207,44 +230,41 @@ pub fn take_pair(
     ensures { λ r. ⌜ ((old new : List ℕ) (u : ℕ) → Using old u own → More old new (pair a b) u → Took old new (pair a b) u r (now (over .exit)))
         × Lent (now (queue .exit)) (now (from .exit)) ⌝ }
 {
-    let t = gather(own, queue, from, a, b);
-    if free_ends(t, a, b) < 4 {
-        let s = seek(t, queue, from, a, b);
-        *over = s.seen;
+    let mut t = gather(own, 4, queue, from, a, b, over);
+    if *over != 0 {
         return t;
     }
-    *over = 0;
-    place(t, a, b)
+    let i = peeling::wide(a);
+    let j = peeling::wide(b);
+    let k = place(t[i][0], t[i][1], t[j][0], a, b);
+    let x = k.element;
+    let s = k.entry;
+    t[x][s] = k.other;
+    t
 }
 
-// The other element of a set of two.
-pub fn other_end(pair: u64, a: u8) -> u8
-    requires { ⌜ (ones pair ≡ 2) × (a < 64) × (a ∈ pair) ⌝ }
-    ensures { λ r. ⌜ (r < 64) × (r ∈ pair) × (a ≢ r) ⌝ }
-{
-    sets::lowest(pair - sets::single(a))
-}
-
-// The first of e constraints that makes those up to it over, with the smallest set, where the sets within core tell. An end that has one constraint
-// at most takes the next without a search: once and twice are the elements with one and with two.
-fn search(start: &[u64; 200], e: usize, core: u64) -> Finding
-    requires { ⌜ Standing (now start) e × Core (take e (now start)) core ⌝ }
+// The first of e constraints that makes those up to it over, with the smallest set, where the sets within core tell. Each needs as many free entries
+// on its ends as are noted: four, or one where it closes no over set.
+fn search(start: &[u64; 200], e: usize, core: u64, needs: &[u8; 200]) -> Finding
+    requires { ⌜ Standing (now start) e × Core (take e (now start)) core
+        × ((c : ℕ) → c < e → Noted (take e (now start)) c 1 (getD (now needs) c 0)) ⌝ }
     ensures { λ r. ⌜ ((n : ℕ) → Below n (take e (now (start .entry))) → r ≡ overOf n (take e (now (start .entry)))) ⌝ }
 {
     let mut own = all_free();
     let mut queue = [0u8; 64];
     let mut from = [0u8; 64];
-    let mut once: u64 = 0;
-    let mut twice: u64 = 0;
+    let mut over: u64 = 0;
     let mut c: usize = 0;
     while c < e {
         let pair = start[c];
         if pair & core == pair {
             let a = sets::lowest(pair);
-            let b = other_end(pair, a);
-            if pair & twice == pair {
-                let mut over: u64 = 0;
-                let t = take_pair(own, &mut queue, &mut from, a, b, &mut over);
+            let b = peeling::other_end(pair, a);
+            let i = peeling::wide(a);
+            let j = peeling::wide(b);
+            let need = peeling::wide(needs[c]);
+            if free_of(own[i][0], own[i][1], a) + free_of(own[j][0], own[j][1], b) < need {
+                let t = gather(own, need, &mut queue, &mut from, a, b, &mut over);
                 if over != 0 {
                     return Finding::First {
                         constraint: c,
@@ -252,12 +272,11 @@ fn search(start: &[u64; 200], e: usize, core: u64) -> Finding
                     };
                 }
                 own = t;
-            } else {
-                let next = place(own, a, b);
-                own = next;
             }
-            twice = twice | (once & pair);
-            once = once | pair;
+            let k = place(own[i][0], own[i][1], own[j][0], a, b);
+            let x = k.element;
+            let s = k.entry;
+            own[x][s] = k.other;
         }
         c = c + 1;
     }
@@ -274,5 +293,7 @@ pub fn find_over(near: &[u64; 64], start: &[u64; 200], e: usize) -> Finding
     if core == 0 {
         return Finding::Fine;
     }
-    search(start, e, core)
+    let mut needs = [1u8; 200];
+    peeling::mark_hard(near, start, e, core, &mut needs);
+    search(start, e, core, &needs)
 }

@@ -5,12 +5,21 @@ use native.Mathlib.Nat.{sub-zero, sub-self}
 use native.Mathlib.Decide.{decLt}
 use native.Mathlib.Omega.{arith}
 use mathlib.Core.Path.{_≡_, refl, sym, _∙_}
+use mathlib.Core.Bool.{Bool, true, false}
 use mathlib.Core.List.{List, [], _∷_, _++_, append-nil, append-assoc}
-use lib.ListN.{length, take, drop, getD, length-append, length-take, length-drop, take-append-drop, drop-of-length-le}
+use lib.Dec.{eqb}
+use lib.ListN.{length, take, drop, getD, length-append, length-take, length-drop, take-append-drop}
 use lib.Seq.{drop-cons, drop-drop, take-add, take-all}
-use Rattle.sheet.specs.WithoutTags.{sizeLength, tagLength, withoutBit1, dropTags, before, listed, withoutTags}
+use Rattle.sheet.specs.Rules.{withoutBit1}
+use Rattle.sheet.specs.declared.Opening.{Opening}
+use Rattle.sheet.specs.declared.Opening.the-variants.{Pf01, Pf02}
+use Rattle.sheet.specs.Facts.{bitOf}
+use Rattle.sheet.specs.Facts.Laws.{kindsOf-length}
+use Rattle.sheet.specs.Field.{number, kindBytes}
+use Rattle.sheet.specs.WithoutTags.{sizeLength, tagLength, dropTags, openingIn, kindsIn, circlesAmong, beforeBy, before, listed, withoutTags}
 use Rattle.space.specs.Space.{Put}
 use Rattle.space.specs.Space.Laws.{put-none, put-as, _then_}
+use Rattle.writer.proofs.Spread.{drop-least}
 
 -- ---- one constraint
 
@@ -58,19 +67,10 @@ module _ (s : List ℕ) (at : ℕ) (room : at + 3 ≤ length s) where
       let long : at + 3 + (sizeLength map + tagLength map) ≡ at + 5 + sizeLength map = omega arith in
       rw (front, fields, less, drop-drop, long)
 
--- ---- a place cut to the end
+-- ---- a piece cut to the end
 
-drop-least : (s : List ℕ) (k : ℕ) → drop (min (length s) k) s ≡ drop k s
-drop-least s k = by (decLt k (length s))
-  where
-    by : Dec (k < length s) → drop (min (length s) k) s ≡ drop k s
-    by (yes l) = let e : min (length s) k ≡ k = omega arith in rw e
-    by (no n) =
-        let e : min (length s) k ≡ length s = omega arith in
-        rw (e, drop-of-length-le s {i = k} (omega arith)) (drop-of-length-le s {i = length s} (omega arith))
-
-pub take-least : (s : List ℕ) (k w : ℕ) → k ≤ length s → take (min (length s) (k + w) - k) (drop k s) ≡ take w (drop k s)
-take-least s k w l = by (decLt (k + w) (length s))
+pub cut-least : (s : List ℕ) (k w : ℕ) → k ≤ length s → take (min (length s) (k + w) - k) (drop k s) ≡ take w (drop k s)
+cut-least s k w l = by (decLt (k + w) (length s))
   where
     by : Dec (k + w < length s) → take (min (length s) (k + w) - k) (drop k s) ≡ take w (drop k s)
     by (yes m) = let e : min (length s) (k + w) - k ≡ w = omega arith in rw e
@@ -98,6 +98,37 @@ unfolding withoutTags
 withoutTags-length s =
     rw (length-append, length-take) (omega (arith, dropTags-length (listed s) (drop (before s) s), length-drop (before s) s))
 
+-- ---- what precedes the constraints, of a count that is a byte
+
+circles-most : (ks : List ℕ) → circlesAmong ks ≤ length ks
+unfolding circlesAmong
+circles-most [] = omega arith
+circles-most (k ∷ ks) = omega (arith, bit-le (eqb k 2), circles-most ks)
+  where
+    bit-le : (b : Bool) → bitOf b ≤ 1
+    bit-le true = omega arith
+    bit-le false = omega arith
+
+before-most : (s : List ℕ) → getD s 4 0 < 256 → before s ≤ 1090
+unfolding before
+before-most s b = by (openingIn s) (getD s 4 0) b
+  where
+    kinds-most : (o : Opening) (n : ℕ) → n < 256 → kindBytes o n ≤ 64
+    kinds-most Pf01 n b = omega arith
+    kinds-most Pf02 n b = omega arith
+
+    by : (o : Opening) (n : ℕ) → n < 256 → beforeBy o n s ≤ 1090
+    by o n b = omega (
+      arith,
+      kinds-most o n b,
+      circles-most (kindsIn o n s),
+      kindsOf-length o n (number (take (kindBytes o n) (drop 5 s))),
+    )
+
+pub before-some : (s : List ℕ) → 1 ≤ before s
+unfolding before
+before-some s = omega arith
+
 -- ---- the walk
 
 pub record Walk (space s : List ℕ) (e at from to i : ℕ) (out : List ℕ) : Type 0 where
@@ -107,7 +138,7 @@ pub record Walk (space s : List ℕ) (e at from to i : ℕ) (out : List ℕ) : T
   pub passed : from ≤ at
   pub from-in : from ≤ length s
   pub to-in : to ≤ from
-  pub at-in : at ≤ length s + 38
+  pub at-in : at ≤ length s + 1090
   pub whole : withoutTags s ≡ done ++ take (at - from) (drop from s) ++ dropTags (e - i) (drop at s)
 
 pub walk-none : (space s : List ℕ) → getD s 4 0 < 256 → Walk space s (listed s) (before s) 0 0 0 space
@@ -119,7 +150,7 @@ walk-none space s b = record {
   passed = omega arith;
   from-in = omega arith;
   to-in = omega arith;
-  at-in = omega arith;
+  at-in = omega (arith, before-most s b);
   whole = rw (sub-zero, sub-zero);
 }
 

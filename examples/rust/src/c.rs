@@ -64,4 +64,5 @@ unsafe extern "C" {
     pub fn pattern_card(number: usize) -> i32;
     pub fn pattern_chain(sheet: *const u8, len: usize, from: usize, to: usize, out: *mut u16, room: usize) -> i32;
     pub fn pattern_longest(n: usize, out: *mut u8, room: usize) -> i32;
+    pub fn pattern_open(sheet: *const u8, len: usize, steps: usize, out: *mut u16, room: usize) -> i32;
 }

@@ -49,6 +49,8 @@ pub const MOST_CLUSTERS: usize = 125;
 pub const MOST_RESTS: usize = 250;
 /// The most clusters of a chain.
 pub const MOST_CHAIN: usize = 63;
+/// The most numbers of the open merges, three each.
+pub const MOST_OPEN: usize = 186;
 
 /// What `pattern_chain` answers where no run leads from the one element to the other.
 const NO_RUN: i32 = -100;
@@ -468,6 +470,29 @@ pub fn chain<'a>(sheet: &[u8], from: usize, to: usize, out: &'a mut [u16]) -> Re
 pub fn plan<'a>(sheet: &[u8], out: &'a mut [u16]) -> Result<&'a [u16], Rule> {
     // SAFETY: each list is a live slice of its length, and `out` is borrowed alone.
     let answer = unsafe { c::pattern_plan(sheet.as_ptr(), sheet.len(), out.as_mut_ptr(), out.len()) };
+    written(answer, out)
+}
+
+/// The merges that are open after so many steps of a sheet's plan, or after all: three cluster numbers each, ascending, by
+/// the lowest element that their clusters share, then by the numbers.
+///
+/// ```
+/// # let mut space = [0; pattern::MOST_BYTES];
+/// # let pairs = [(1, 2), (1, 3), (2, 3), (0, 1), (0, 2)];
+/// # let constraints = pairs.map(|(a, b)| pattern::Constraint::sized(a, b, 300));
+/// # let facts = pattern::Facts::pf01(&[pattern::Kind::Point; 4], &constraints);
+/// # let sheet = pattern::write(&facts, &mut space)?;
+/// // two triangles on the side between 1 and 2: that with point 0 comes first
+/// let mut space = [0; pattern::MOST_OPEN];
+/// assert_eq!(pattern::open(sheet, 0, &mut space)?, [0, 3, 4, 0, 1, 2]);
+/// // the plan makes 0 1 2 the cluster 5
+/// assert_eq!(pattern::open(sheet, 1, &mut space)?, [3, 4, 5]);
+/// assert_eq!(pattern::open(sheet, 2, &mut space)?, []);
+/// # Ok::<(), pattern::Rule>(())
+/// ```
+pub fn open<'a>(sheet: &[u8], steps: usize, out: &'a mut [u16]) -> Result<&'a [u16], Rule> {
+    // SAFETY: each list is a live slice of its length, and `out` is borrowed alone.
+    let answer = unsafe { c::pattern_open(sheet.as_ptr(), sheet.len(), steps, out.as_mut_ptr(), out.len()) };
     written(answer, out)
 }
 

@@ -23,6 +23,8 @@ fn main() -> ExitCode {
         let (from, to) = (end(&mut run.random), end(&mut run.random));
         let _ = calls::chain(&mut run, &bytes, &found, from, to);
         let saved = found.plan().unwrap_or_default();
+        let count = number(saved.len() / 9, &mut run.random);
+        let _ = calls::open(&mut run, &bytes, &found, count);
         let number = number(saved.len() / 3, &mut run.random);
         calls::part(&mut run, &bytes, &found, number);
         let plan = plan(&saved, &mut run.random);

@@ -8,7 +8,7 @@ use Rattle.theory.specs.Plan.{openTest, thirdOf, secondOf, firstOf, plan, planO
 use Rattle.theory.specs.Ring.{ringed, stripped}
 use Rattle.theory.specs.Verdict.{angled, judged}
 use Rattle.theory.specs.Graph.{listVerdict, verdictOf}
-use Rattle.sheet.specs.Facts.{elementsOf, linesOf}
+use Rattle.sheet.specs.Facts.{setOf}
 use Rattle.card.specs.Card.{withEach, eachTwo, standing, pointsSheet, setVerdict, allRight}
 use Rattle.card.proofs.card.Statement.{statement}
 use Rattle.card.proofs.card.Tie as tie
@@ -17,7 +17,7 @@ returns : tie.Need-returns
 unfolding allRight setVerdict pointsSheet standing eachTwo withEach verdictOf listVerdict judged angled ringed stripped planOf plan firstOf
     secondOf thirdOf
     openTest put cleared union joint joints left total overOf overUpTo next isOver anyBelow heavy isTight smaller fewestBelow smallestSet
-    has carried pair elementsOf linesOf ones _∩_ _∪_
+    has carried pair setOf ones _∩_ _∪_
 returns c = tt
 
 pub card-spec : {M : Type 1} → statement M

@@ -8,7 +8,7 @@ use Prim.Native.Nat.{ℕ, zero, suc, _+_, _/_, _%_, _^_, _≤_, _<_}
 use native.Mathlib.Omega.{arith}
 use lib.Count.{ones}
 use lib.Dec.{eqb}
-use lib.ListN.{length}
+use lib.ListN.{length, replicate, length-replicate}
 use Rattle.theory.specs.Constraints.{Among, Pairs, Below, Perm}
 use Rattle.theory.specs.Constraints.Laws.{pairs-perm, below-perm, fine-perm, carried-perm, size-pair, pair-below}
 use Rattle.theory.specs.Over.Laws.{overOf-fine, overOf-over}
@@ -19,8 +19,7 @@ use Rattle.theory.specs.Graph.Laws.{first-verdict, fine-verdict, fine-finding, 
 use Rattle.theory.specs.declared.Finding.{Finding}
 use Rattle.theory.specs.declared.Finding.the-variants.{Fine, First}
 use Rattle.sheet.specs.declared.Constraint.{Constraint}
-use Rattle.sheet.specs.Facts.{Facts, elementsOf, linesOf}
-use Rattle.sheet.specs.Facts.Laws.{elementsOf-length}
+use Rattle.sheet.specs.Facts.{Facts, linesOf, blankElement}
 use Rattle.sheet.specs.Graph.{clusterOf, graphOf}
 use Rattle.card.specs.Card.{withEach, eachTwo, standing, pointsSheet, setVerdict}
 
@@ -90,10 +89,10 @@ set-sound n i x j = each-two n 0 n (omega arith) x (standing-among i (eachTwo 0 
 
 -- ---- every sheet of n points with the pairs of a set
 
-pub every-sheet : (n i : ℕ) (f : Facts) → f .elements ≡ elementsOf n 0
+pub every-sheet : (n i : ℕ) (f : Facts) → f .elements ≡ replicate n blankElement
     → Perm (map clusterOf (standing i (eachTwo 0 n))) (map clusterOf (f .constraints)) → verdictOf (graphOf f) ≡ setVerdict n i
 unfolding setVerdict pointsSheet Pairs Below
 every-sheet n i f points order =
     same-judgement (graphOf (pointsSheet n i)) (graphOf f) (ap length points) (ap linesOf points) order
     (λ x j. set-sound n i x j .0)
-    (λ x j. rw elementsOf-length (set-sound n i x j .1))
+    (λ x j. rw length-replicate (set-sound n i x j .1))

@@ -13,7 +13,7 @@ use Rattle.theory.specs.Plan.{openTest, thirdOf, secondOf, firstOf, plan, planO
 use Rattle.theory.specs.Ring.{ringed, stripped}
 use Rattle.theory.specs.Verdict.{angled, judged}
 use Rattle.theory.specs.Graph.{listVerdict, verdictOf}
-use Rattle.sheet.specs.Facts.{elementsOf, linesOf}
+use Rattle.sheet.specs.Facts.{setOf}
 use Rattle.card.specs.Card.{withEach, eachTwo, standing, pointsSheet, setVerdict, sets}
 use Rattle.card_counts.specs.Counts.{Counts, counts, countsBelow, countsOf, Counted}
 
@@ -42,7 +42,7 @@ pub counted : Counted
 unfolding countsOf countsBelow sets setVerdict pointsSheet standing eachTwo withEach verdictOf listVerdict judged angled ringed stripped planOf
     plan firstOf
     secondOf thirdOf openTest put cleared union joint joints left total overOf overUpTo next isOver anyBelow heavy isTight smaller fewestBelow
-    smallestSet has carried pair elementsOf linesOf ones _∩_ _∪_
+    smallestSet has carried pair setOf ones _∩_ _∪_
 counted = record {
   two = test 2 (counts 0 1 0 1) tt;
   three = test 3 (counts 0 1 0 7) tt;

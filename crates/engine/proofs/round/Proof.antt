@@ -4,7 +4,7 @@ use Prim.Native.Nat.{ℕ, _+_, _-_}
 use lib.ListN.{take}
 use native.Mathlib.Omega.{arith}
 use Rattle.theory.specs.Ring.{ringed}
-use Rattle.rings.specs.Turns.Laws.{lone-ringed}
+use Rattle.rings.specs.Rows.Laws.{lone-ringed}
 use borrow.Author.Needs.{needs}
 use Rattle.engine.proofs.round.Statement.{statement}
 use Rattle.engine.proofs.round.Tie as tie

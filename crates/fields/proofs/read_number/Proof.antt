@@ -8,7 +8,7 @@ use borrow.Author.Tests.{leb-true, leb-false, not-true, not-false}
 use lib.ListN.{length, take, drop}
 use Rattle.sheet.specs.Field.{value, number}
 use Rattle.fields.specs.Answers.Laws.{no-number}
-use Rattle.fields.proofs.Numbers.{field-short, field-whole, number-none, number-more, below-more, below-most}
+use Rattle.fields.specs.Answers.Numbers.{field-short, field-whole, number-none, number-more, below-more, below-most}
 use Rattle.fields.proofs.read_number.Statement.{statement}
 use Rattle.fields.proofs.read_number.Tie as tie
 

@@ -1,24 +1,10 @@
--- `judge::full_verdict` meets its contract: what peels off to the last element is well, or angle where three lines went so. Assumes nothing.
+-- `judge::full_verdict` meets its contract: it is the verdict told. Assumes nothing.
 use borrow.Author.Needs.{needs}
-use native.Mathlib.Omega.{arith}
-use mathlib.Core.Path.{sym}
-use Rattle.graph.specs.Lent.Sheets.{counted}
-use Rattle.judge.specs.Judged.Short.{angle-peeled, well-peeled}
 use Rattle.judge.proofs.full_verdict.Statement.{statement}
 use Rattle.judge.proofs.full_verdict.Tie as tie
 
-returns-2 : tie.Need-returns-2
-returns-2 c =
-    let s = c .before .before .before .before .pre in
-    let t = c .before .before .before .peel-of .ensures _ (s .0 .sound .simple) (s .0 .near-is) .0 in
-    λ z. sym (angle-peeled _ (s .0 .sound) (omega (arith, s .1, counted (s .0))) t (omega (arith, c .before .if1 .left)) (c .if2 .taken))
-
-returns-3 : tie.Need-returns-3
-returns-3 c =
-    let s = c .before .before .before .before .pre in
-    let t = c .before .before .before .peel-of .ensures _ (s .0 .sound .simple) (s .0 .near-is) .0 in
-    λ z. sym (well-peeled _ (s .0 .sound) (omega (arith, s .1, counted (s .0))) t (omega (arith, c .before .if1 .left)) (c .if2 .left))
+returns : tie.Need-returns
+returns c = λ z. c .full-told .ensures z .verdict-is
 
 pub full-verdict-spec : {M : Type 1} → statement M
-full-verdict-spec =
-    tie.close (tie.spec (λ c κs. search needs) (λ c κs. search needs) (λ c. search needs) returns-2 returns-3)
+full-verdict-spec = tie.close (tie.spec (λ c κs. search needs) returns)

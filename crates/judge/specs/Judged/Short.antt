@@ -1,9 +1,10 @@
 -- What counts and peeling decide of a graph without a plan, and what the judgement says of the verdict. Assumes nothing.
 use Prim.Native.Nat.{ℕ, _+_, _*_, _≤_, _<_}
 use native.Mathlib.Omega.{arith}
-use mathlib.Core.Path.{_≡_, sym, ap, _∙_, subst}
+use mathlib.Core.Path.{_≡_, sym, ap, ap₂, _∙_, subst}
+use mathlib.Core.Logic.{_≢_}
 use mathlib.Core.Bool.{Bool, true, false}
-use mathlib.Core.List.{List}
+use mathlib.Core.List.{List, []}
 use lib.Count.{ones}
 use lib.ListN.{length}
 use Rattle.theory.specs.Constraints.{NotOver}
@@ -15,7 +16,11 @@ use Rattle.theory.specs.Verdict.{angled}
 use Rattle.theory.specs.declared.Finding.the-variants.{Fine, First}
 use Rattle.theory.specs.declared.Verdict.the-variants.{Over, Angle, Well, Under}
 use Rattle.theory.specs.Graph.{Graph, findingOf, verdictOf}
-use Rattle.theory.specs.Graph.Laws.{fine-finding}
+use Rattle.theory.specs.Graph.Laws.{fine-finding, fine-verdict}
+use Rattle.theory.specs.Near.{Near}
+use Rattle.theory.specs.declared.Verdict.{Verdict}
+use Rattle.cycles.specs.Cycle.{HoldsBelow}
+use Rattle.cycles.specs.Cycle.Free.{no-plan, forest-under}
 use Rattle.theory.specs.Graph.Short.{not-angled, verdict-more, verdict-angle, verdict-fewer, verdict-one}
 use Rattle.graph.specs.Lent.{Sound}
 use Rattle.peeling.specs.Core.{Core, Told}
@@ -23,10 +28,11 @@ use Rattle.peeling.specs.Core.Peeling.{core-none}
 use Rattle.theory.specs.Over.Laws.{overOf-fine}
 use Rattle.theory.specs.Ring.Laws.{few-ringed, one-ringed}
 use Rattle.peeling.specs.Core.Merging.{loose-one}
-use Rattle.merges.specs.Run.{Merged, Planned}
+use Rattle.merges.specs.Run.{runOf, Merged, Planned}
 use Rattle.merges.specs.declared.Run.{Run}
 use Rattle.judge.specs.declared.Judged.{Judged}
 use Rattle.judge.specs.Judged.{listed, overFound, judgedBy, judgedOf}
+use Rattle.judge.specs.Telling.{Tells}
 use Rattle.judge.specs.Judged.Laws.{steps-are}
 use Rattle.judge.specs.Judged.Lists.{judged-held}
 
@@ -50,8 +56,15 @@ module _ (g : Graph) (sound : Sound (g .n) (g .clusters)) where
   pub one-left : {run : Run} → Merged cs run → 2 * run .steps + 1 ≡ length cs → NotOver cs
   one-left m one = one-fine cs (sound .simple .pairs) (m .p) (m .valid) (omega (arith, steps-are cs (sound .simple .pairs) m, one))
 
-  pub judged-verdict : {j : Judged} → j ≡ judgedOf g → j .verdict ≡ verdictOf g
-  judged-verdict e = judged-held g sound e .verdict-is
+  pub judged-tells : {j : Judged} → j ≡ judgedOf g → Tells g (j .verdict) (j .first)
+  judged-tells e = record {
+    verdict-is = judged-held g sound e .verdict-is;
+    first-is = λ c x q. ap (λ (j : Judged). j .first) (e ∙ first-judged q);
+  }
+
+  -- of a sheet that is not over any number
+  fine-tells : {v : Verdict} {first : ℕ} → findingOf g ≡ Fine → v ≡ verdictOf g → Tells g v first
+  fine-tells q v = record { verdict-is = v; first-is = λ c x o. let z : _≡_ {A = ℕ} 0 1 = cc (q, o) in absurd (omega (arith, z)) }
 
   -- ---- verdicts without a plan
 
@@ -66,6 +79,22 @@ module _ (g : Graph) (sound : Sound (g .n) (g .clusters)) where
       verdict-fewer g fine (not-angled (g .lines) few cs (planOf cs) (m .valid))
       (few-ringed cs pairs (overOf-fine (g .n) cs pairs (sound .below) fine) (planOf cs) m (g .lines) (omega arith)) (λ e. omega (arith, e))
 
+  -- no constraints run round
+  module _ (near : List ℕ) (is-near : Near cs near) (none : HoldsBelow near (g .n) 0) (found : findingOf g ≡ Fine)
+      (ne : length cs + 3 ≢ 2 * g .n) where
+    fine-forest : NotOver cs
+    fine-forest = overOf-fine (g .n) cs (sound .simple .pairs) (sound .below) found
+
+    pub forest-is : verdictOf g ≡ Under
+    forest-is = forest-under g near (sound .simple) (sound .below) (sound .most) is-near none fine-forest found ne
+
+    pub forest-judged : {run : Run} → run ≡ runOf cs [] → record { verdict = Under; first = 0; set = 0; run = run } ≡ judgedOf g
+    unfolding judgedOf listed
+    forest-judged {run} e =
+        ap₂ {C = Judged} (λ (v : Verdict) (r : Run). record { verdict = v; first = 0; set = 0; run = r }) (sym forest-is ∙ fine-verdict g found)
+        (e ∙ ap (runOf cs) (sym (no-plan cs near (g .n) (sound .simple) (sound .below) (sound .most) is-near none)))
+        ∙ sym (ap (judgedBy g) found)
+
   -- 2n-3 constraints that peel off to the last element
   module _ {left : ℕ} {angle : Bool} (full : length cs + 3 ≡ 2 * g .n) (t : Told cs (g .lines) left angle) (none : left ≡ 0) where
     fine : NotOver cs
@@ -77,12 +106,13 @@ module _ (g : Graph) (sound : Sound (g .n) (g .clusters)) where
     angle-is : angle ≡ angled (g .lines) (joints cs (planOf cs))
     angle-is = t .angle-is none (g .n) (sound .two) (sound .most) (sound .below) full
 
-    pub angle-peeled : angle ≡ true → verdictOf g ≡ Angle
-    angle-peeled e = verdict-angle g none-found (sym angle-is ∙ e)
+    pub angle-peeled : angle ≡ true → {first : ℕ} → Tells g Angle first
+    angle-peeled e = fine-tells none-found (sym (verdict-angle g none-found (sym angle-is ∙ e)))
 
-    pub well-peeled : angle ≡ false → verdictOf g ≡ Well
+    pub well-peeled : angle ≡ false → {first : ℕ} → Tells g Well first
     well-peeled e =
         let m = plan-of-maximal cs (sound .simple .pairs) in
         let one =
         loose-one (g .n) cs (sound .two) (sound .most) (sound .simple .pairs) (sound .below) fine (t .core .loose none) full (planOf cs) m in
-        verdict-one g none-found (sym angle-is ∙ e) (one-ringed cs (sound .simple .pairs) fine (planOf cs) m (g .lines) one) full one
+        fine-tells none-found
+        (sym (verdict-one g none-found (sym angle-is ∙ e) (one-ringed cs (sound .simple .pairs) fine (planOf cs) m (g .lines) one) full one))

@@ -5,23 +5,24 @@ use native.Mathlib.Omega.{arith}
 use denote.Ref.{now}
 use borrow.Author.Needs.{needs}
 use Rattle.space.specs.Space.{answer, after}
+use Rattle.sheet.specs.declared.Opening.the-variants.{Pf01}
 use Rattle.sheet.specs.Facts.{Facts}
 use Rattle.sheet.specs.Encode.{sheetBytes}
+use Rattle.longest.specs.Longest.{points}
 use Rattle.longest.specs.Longest.Block.{facts-are, no-fault}
 use Rattle.longest.proofs.write_strip.Statement.{statement}
 use Rattle.longest.proofs.write_strip.Tie as tie
 
 write-accepted-requires : tie.Need-write-accepted-requires
-write-accepted-requires c κs = no-fault _ (search needs) (search needs) refl (c .before .before .elements-of .ensures) (c .before .strip .ensures)
+write-accepted-requires c κs = no-fault _ (search needs) (search needs) refl refl refl (c .before .strip .ensures)
 
 returns : tie.Need-returns
 returns c =
-    let elements = c .before .before .before .before .before .elements-of in
     let strip = c .before .before .before .before .strip in
-    let args = c .before .before .before .before .before .before .before .args in
+    let args = c .before .before .before .before .before .before .args in
     let h = c .before .before .write-accepted .ensures in
-    let e = facts-are (record { n = args .n; e = 2 * args .n - 3; elements = elements .result; constraints = strip .result })
-    (omega arith) (omega arith) refl (elements .ensures) (strip .ensures) in (
+    let e = facts-are (record { opening = Pf01; n = args .n; e = 2 * args .n - 3; elements = points 64; constraints = strip .result })
+    (omega arith) (omega arith) refl refl refl (strip .ensures) in (
       h .0 ∙ ap (λ (f : Facts). answer (sheetBytes f) (now (args .out))) e,
       h .1 ∙ ap (λ (f : Facts). after (sheetBytes f) (now (args .out))) e,
     )
@@ -29,5 +30,5 @@ returns c =
 pub write-strip-spec : {M : Type 1} → statement M
 write-strip-spec =
     tie.close
-    (tie.spec (λ c κs. search needs) (λ c. search needs) (λ c κs. search needs) (λ c. search needs) (λ c. search needs) write-accepted-requires
+    (tie.spec (λ c. search needs) (λ c κs. search needs) (λ c. search needs) (λ c. search needs) write-accepted-requires
     (λ c. search needs) returns)

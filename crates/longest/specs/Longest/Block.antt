@@ -1,22 +1,20 @@
 -- The strip in a block of constraints, and the sheet in blocks. Assumes nothing.
-use mathlib.Core.Path.{_≡_, sym, ap, ap₂, _∙_}
+use mathlib.Core.Path.{_≡_, refl, sym, ap, _∙_}
 use mathlib.Core.Bool.{true}
 use mathlib.Core.List.{List, [], _∷_, _++_}
-use Prim.Native.Nat.{ℕ, suc, _+_, _*_, _-_, _≤_, _<_}
+use Prim.Native.Nat.{ℕ, zero, suc, _+_, _*_, _-_, _≤_, _<_}
 use native.Mathlib.Omega.{arith}
 use borrow.Author.Tests.{le-leb}
 use lib.ListN.{length, take, set, length-set}
 use lib.Seq.{take-suc-set}
-use Rattle.theory.specs.Block.{block}
-use Rattle.theory.specs.Block.Laws.{take-block}
+use Rattle.sheet.specs.declared.Opening.the-variants.{Pf01}
 use Rattle.sheet.specs.declared.Element.{Element}
 use Rattle.sheet.specs.declared.Constraint.{Constraint}
 use Rattle.sheet.specs.declared.Sheet.{Sheet}
-use Rattle.sheet.specs.Facts.{Facts, factsOf, elementsOf, blankElement}
-use Rattle.sheet.specs.Facts.Laws.{elementsOf-length}
-use Rattle.sheet.specs.Rules.{elementsInRange, constraintsInRange, constraintsFault, sheetFault}
-use Rattle.longest.specs.Longest.{distance, strip, longestSheet}
-use Rattle.longest.specs.Longest.Rules.{strip-more, strip-accepted}
+use Rattle.sheet.specs.Facts.{factsOf, blankElement}
+use Rattle.sheet.specs.Rules.{elementsInRange, constraintsInRange, sheetFault}
+use Rattle.longest.specs.Longest.{distance, strip, points, longestSheet}
+use Rattle.longest.specs.Longest.Rules.{strip-more, points-allowed, strip-accepted}
 
 -- two constraints more
 pub strip-next : (cs : List Constraint) (j : ℕ) → 2 * j + 2 < length cs → take (2 * j + 1) cs ≡ strip j
@@ -34,21 +32,27 @@ strip-next cs j room e =
     (ap (λ (m : ℕ). take m (set cs (2 * j + 1) c)) t ∙ take-suc-set cs (2 * j + 1) c (omega arith) ∙ ap (λ (l : List Constraint). l ++ c ∷ []) e)
     ∙ sym (strip-more j))
 
+-- the first n of more points
+points-front : (n m : ℕ) → n ≤ m → take n (points m) ≡ points n
+points-front zero m h = refl
+points-front (suc n) zero h = absurd (omega arith)
+points-front (suc n) (suc m) h = ap (λ (l : List Element). blankElement ∷ l) (points-front n m (omega arith))
+
 -- the sheet in its blocks
-module _ (s : Sheet) (two : 2 ≤ s .n) (most : s .n ≤ 64) (e-is : s .e ≡ 2 * s .n - 3)
-    (elements-are : s .elements ≡ block 64 blankElement (elementsOf (s .n) 0))
-    (front : take (2 * (s .n - 2) + 1) (s .constraints) ≡ strip (s .n - 2)) where
+module _ (s : Sheet) (two : 2 ≤ s .n) (most : s .n ≤ 64) (e-is : s .e ≡ 2 * s .n - 3) (opening-is : s .opening ≡ Pf01)
+    (elements-are : s .elements ≡ points 64) (front : take (2 * (s .n - 2) + 1) (s .constraints) ≡ strip (s .n - 2)) where
+  elements-front : take (s .n) (s .elements) ≡ points (s .n)
+  elements-front = ap (take (s .n)) elements-are ∙ points-front (s .n) 64 most
+
+  constraints-front : take (s .e) (s .constraints) ≡ strip (s .n - 2)
+  constraints-front = let count : s .e ≡ 2 * (s .n - 2) + 1 = omega arith in ap (λ (m : ℕ). take m (s .constraints)) count ∙ front
+
   pub facts-are : factsOf s ≡ longestSheet (s .n)
-  facts-are =
-      let count : s .e ≡ 2 * (s .n - 2) + 1 = omega arith in
-      ap₂ (λ (es : List Element) (cs : List Constraint). record { elements = es; constraints = cs })
-      (ap (take (s .n)) elements-are ∙ take-block 64 blankElement (elementsOf (s .n) 0) (s .n) (sym (elementsOf-length (s .n) 0)))
-      (ap (λ (m : ℕ). take m (s .constraints)) count ∙ front)
+  facts-are = rw (opening-is, elements-front, constraints-front)
 
   pub no-fault : sheetFault s ≡ 0
   unfolding sheetFault
   no-fault =
       let taken : elementsInRange (s .n) ≡ true = rw (le-leb 2 (s .n) two, le-leb (s .n) 64 most) in
       let count : constraintsInRange (s .e) ≡ true = le-leb (s .e) 200 (omega arith) in
-      rw (taken, count)
-      (ap (λ (f : Facts). constraintsFault (f .elements) [] (f .constraints)) facts-are ∙ strip-accepted (s .n) taken .no-fault)
+      rw (taken, count, opening-is, elements-front, constraints-front, points-allowed (s .n)) (strip-accepted (s .n) taken .no-fault)

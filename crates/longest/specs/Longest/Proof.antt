@@ -1,13 +1,12 @@
 -- What is promised of the sheet with the longest plan. Every maximal list of merges of it leaves one cluster, since it peels off to its last element;
 -- so it has (e - 1) / 2 = n - 2 steps, and no list of a sheet that isn't over has more. Assumes nothing.
-use mathlib.Core.Path.{_≡_, sym, ap, subst}
+use mathlib.Core.Path.{_≡_, refl, sym, ap, subst}
 use mathlib.Core.Bool.{true}
 use mathlib.Core.List.{List}
-use Prim.Native.Nat.{ℕ, _+_, _*_, _-_, _≤_}
+use Prim.Native.Nat.{ℕ, zero, suc, _+_, _*_, _-_, _≤_}
 use native.Mathlib.Omega.{arith}
 use lib.Count.{ones}
-use lib.Pow.{pow-pos}
-use lib.ListN.{length, length-map}
+use lib.ListN.{length, length-map, length-replicate}
 use Rattle.theory.specs.Set.Laws.{size-zero}
 use Rattle.theory.specs.Constraints.{Below}
 use Rattle.theory.specs.Merge.{final, left, Maximal}
@@ -17,16 +16,21 @@ use Rattle.theory.specs.Plan.Laws.{plan-of-maximal}
 use Rattle.theory.specs.Graph.Laws.{fine-finding}
 use Rattle.theory.specs.Ring.Laws.{one-ringed}
 use Rattle.theory.specs.Graph.Short.{not-angled, verdict-one}
-use Rattle.sheet.specs.Facts.Laws.{elementsOf-length, linesOf-elementsOf}
+use Rattle.sheet.specs.Facts.{linesOf, setOf, blankElement}
 use Rattle.sheet.specs.Rules.{elementsInRange}
 use Rattle.sheet.specs.Rules.Laws.{elements-range}
 use Rattle.sheet.specs.RoundTrip.{read-written}
 use Rattle.sheet.specs.Graph.{graphOf, reordered}
 use Rattle.sheet.specs.Graph.Laws.{sheet-demand3}
 use Rattle.peeling.specs.Core.Merging.{loose-one}
-use Rattle.longest.specs.Longest.{longestSheet, Longest}
+use Rattle.longest.specs.Longest.{points, longestSheet, Longest}
 use Rattle.longest.specs.Longest.Rules.{strip-length, strip-accepted}
 use Rattle.longest.specs.Longest.Sparse.{clusters, strip-pairs, strip-below, strip-fine, strip-loose}
+
+no-lines : (n : ℕ) → linesOf (points n) ≡ 0
+unfolding setOf
+no-lines zero = refl
+no-lines (suc n) = omega (arith, no-lines n)
 
 module _ (n : ℕ) (taken : elementsInRange n ≡ true) where
   two : 2 ≤ n
@@ -59,14 +63,14 @@ module _ (n : ℕ) (taken : elementsInRange n ≡ true) where
   pub longest : Longest n
   longest =
       let g = graphOf (longestSheet n) in
-      let count : g .n ≡ n = elementsOf-length n 0 in
+      let count : g .n ≡ n = length-replicate n blankElement in
       let fine = fine-finding g (strip-pairs j) (subst (λ (m : ℕ). Below m cs) (sym count) below) (strip-fine j) in
       record {
         accepted = strip-accepted n taken;
         reads = read-written (longestSheet n) (strip-accepted n taken);
         well =
             verdict-one g fine
-            (not-angled (g .lines) (omega (arith, ap ones (linesOf-elementsOf n 0 (pow-pos n)), size-zero)) cs (planOf cs) (plan-maximal .valid))
+            (not-angled (g .lines) (omega (arith, ap ones (no-lines n), size-zero)) cs (planOf cs) (plan-maximal .valid))
             (one-ringed cs (strip-pairs j) (strip-fine j) (planOf cs) plan-maximal (g .lines) one-left) (omega (arith, full-count, count)) one-left;
         steps = plan-steps;
         most = λ f accepted size fine-sheet ds order p valid.

@@ -7,16 +7,16 @@ use Prim.Native.Nat.{ℕ, zero, suc, _+_, _*_, _-_, _<_}
 use native.Mathlib.Omega.{arith}
 use borrow.Author.Tests.{lt-ltb, le-leb, ne-eqb}
 use lib.Dec.{eqb}
-use lib.ListN.{length, getD, length-append}
+use lib.ListN.{length, getD, length-append, length-replicate}
 use Rattle.sheet.specs.declared.Element.{Element}
 use Rattle.sheet.specs.declared.Constraint.{Constraint}
-use Rattle.sheet.specs.Facts.{elementsOf, blankElement}
-use Rattle.sheet.specs.Facts.Laws.{elementsOf-length}
-use Rattle.sheet.specs.Rules.{elementsInRange, stands, constraintFault, constraintsFault}
+use Rattle.sheet.specs.declared.Opening.the-variants.{Pf01}
+use Rattle.sheet.specs.Facts.{blankElement}
+use Rattle.sheet.specs.Rules.{elementsInRange, kindsAllowed, radiiInRange, stands, constraintFault, constraintsFault, elementsFault}
 use Rattle.sheet.specs.Rules.Laws.{elements-range, stands-more, none-else}
 use Rattle.sheet.specs.Accepted.{Accepted}
 use Rattle.sheet.specs.Accepted.Laws.{not-refused}
-use Rattle.longest.specs.Longest.{distance, strip, longestSheet}
+use Rattle.longest.specs.Longest.{distance, strip, points, longestSheet}
 
 -- one constraint after another
 pub strip-more : (j : ℕ) → strip (suc j) ≡ (strip j ++ distance j (suc (suc j)) ∷ []) ++ distance (suc j) (suc (suc j)) ∷ []
@@ -30,11 +30,24 @@ strip-length (suc j) = simp length-append (omega (arith, strip-length j))
 
 -- ---- points alone
 
-pub points-at : (n a : ℕ) → getD (elementsOf n 0) a blankElement ≡ blankElement
-unfolding elementsOf
+pub points-at : (n a : ℕ) → getD (points n) a blankElement ≡ blankElement
 points-at zero a = refl
 points-at (suc n) zero = refl
 points-at (suc n) (suc a) = points-at n a
+
+straight : (n : ℕ) → kindsAllowed Pf01 (points n) ≡ true
+unfolding kindsAllowed
+straight zero = refl
+straight (suc n) = straight n
+
+no-radii : (n : ℕ) → radiiInRange (points n) ≡ true
+unfolding radiiInRange
+no-radii zero = refl
+no-radii (suc n) = no-radii n
+
+pub points-allowed : (n : ℕ) → elementsFault Pf01 (points n) ≡ 0
+unfolding elementsFault
+points-allowed n = rw (straight n, no-radii n)
 
 -- ---- rules 6 to 9
 
@@ -66,12 +79,12 @@ stands-none (suc j) a b l =
 
 module _ (n : ℕ) where
   abbrev es : List Element
-  es = elementsOf n 0
+  es = points n
 
   -- a new pair of points
   new-pair : (done : List Constraint) (a b : ℕ) → a < b → b < n → stands done a b ≡ false → constraintFault es done (distance a b) ≡ 0
   new-pair done a b l m s = not-refused es done (distance a b) (record {
-    ends-ascend = rw (elementsOf-length, lt-ltb a b, lt-ltb b n);
+    ends-ascend = rw (length-replicate, lt-ltb a b, lt-ltb b n);
     is-new = s;
     size-fits = rw (points-at n a, points-at n b);
   })
@@ -97,7 +110,8 @@ pub strip-accepted : (n : ℕ) → elementsInRange n ≡ true → Accepted (long
 strip-accepted n e =
     let h = elements-range n e in
     record {
-      elements-in-range = rw elementsOf-length e;
+      elements-in-range = rw length-replicate e;
+      elements-allowed = points-allowed n;
       constraints-in-range = rw strip-length (le-leb (2 * (n - 2) + 1) 200 (omega (arith, h .1)));
       no-fault = strip-taken n (n - 2) (omega (arith, h .0));
     }

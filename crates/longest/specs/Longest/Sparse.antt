@@ -7,6 +7,7 @@ use Prim.Native.Nat.{ℕ, zero, suc, _+_, _*_, _-_, _^_, _≤_, _<_}
 use native.Mathlib.Omega.{arith}
 use native.Mathlib.Decide.{decLe}
 use lib.Count.{ones}
+use lib.ListN.{length-replicate}
 use lib.Pow.{pow-lt}
 use Rattle.theory.specs.Set.{_∈_, _∩_, _⊑_, at, full}
 use Rattle.theory.specs.Set.Laws.{at-le, bit, ⊑⇒size≤, some, two-in, both, counted, a∩b⊑a, at-same, below-full, cut-below, out}
@@ -14,25 +15,24 @@ use Rattle.theory.specs.Set.Less.{at-below, size-less, sub-less}
 use Rattle.theory.specs.Constraints.{pair, Pairs, Below, has, carried, NotOver}
 use Rattle.theory.specs.Constraints.Laws.{has-le, has-pair, carried-mono, carried-small, carried-cut}
 use Rattle.theory.specs.Over.Laws.{carried-append}
-use Rattle.sheet.specs.Facts.{elementsOf}
-use Rattle.sheet.specs.Facts.Laws.{elementsOf-length}
+use Rattle.sheet.specs.declared.Opening.the-variants.{Pf01}
 use Rattle.sheet.specs.Noted.Laws.{clusters-more}
 use Rattle.sheet.specs.Graph.{clusterOf}
 use Rattle.sheet.specs.Graph.Laws.{clusters-pairs, clusters-below}
 use Rattle.peeling.specs.Core.{Loose}
-use Rattle.longest.specs.Longest.{distance, strip}
+use Rattle.longest.specs.Longest.{distance, strip, points}
 use Rattle.longest.specs.Longest.Rules.{strip-more, strip-taken}
 
 abbrev pub clusters : ℕ → List ℕ
 clusters j = map clusterOf (strip j)
 
 pub strip-pairs : (j : ℕ) → Pairs (clusters j)
-strip-pairs j = clusters-pairs (record { elements = elementsOf (suc (suc j)) 0; constraints = strip j }) (strip-taken (suc (suc j)) j (omega arith))
+strip-pairs j = clusters-pairs (record { opening = Pf01; elements = points (suc (suc j)); constraints = strip j }) (strip-taken (suc (suc j)) j (omega arith))
 
 pub strip-below : (j : ℕ) → Below (suc (suc j)) (clusters j)
 strip-below j =
-    rw elementsOf-length at
-    (clusters-below (record { elements = elementsOf (suc (suc j)) 0; constraints = strip j }) (strip-taken (suc (suc j)) j (omega arith)))
+    rw length-replicate at
+    (clusters-below (record { opening = Pf01; elements = points (suc (suc j)); constraints = strip j }) (strip-taken (suc (suc j)) j (omega arith)))
 
 -- ---- one element more, constrained with the two before it
 

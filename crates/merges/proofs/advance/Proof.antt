@@ -53,6 +53,7 @@ returns c =
     let f = c .before .before .first-open .ensures .1 in
     record {
       running = running-kept w (f .1 .0) (f .1 .1);
+      within = c .before .before .before .before .before .before .before .before .loop .inv .1;
       stops = inr (running-ended w (λ ready. ap hitOf (sym (c .enum-told .given .1)) ∙ f .0 ready));
     }
 
@@ -91,4 +92,4 @@ advance-spec =
     (λ c. omega (arith, in-use (c .before .before .before .before .before .before))) renew-requires step-requires
     (λ c. omega (arith, room (c .before .before .before .before .before .before .before .before .before .before .before .before))) (λ c. search needs)
     loop-again
-    (λ c. record { running = c .before .loop .inv .0; stops = inl (omega (arith, c .before .loop .inv .1, c .loop-test .left)) }))
+    (λ c. record { running = c .before .loop .inv .0; within = c .before .loop .inv .1; stops = inl (omega (arith, c .before .loop .inv .1, c .loop-test .left)) }))

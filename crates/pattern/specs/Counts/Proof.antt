@@ -53,6 +53,7 @@ use Rattle.pattern.specs.Entries.{partOf, missingField}
 use Rattle.pattern.specs.Entries.Parts.{part-short}
 use Rattle.pattern.specs.Entries.Sketches.{held-accepted, check-saved}
 use Rattle.missing.specs.Missing.Laws.{listed-most}
+use Rattle.pattern.specs.Opens.Proof.{open-short}
 use Rattle.pattern.specs.Counts.{AtMost, Counts}
 
 -- items after a value, or a rule and then items
@@ -195,4 +196,5 @@ counts = record {
   held-in = λ lent all. held-short lent all;
   part = λ bytes c all. after-value (partOf bytes c) stepLines (λ l t e. part-short bytes c all e .1);
   part-steps = λ bytes c all l t e. part-short bytes c all e .0;
+  open-merges = λ bytes steps all l t e. open-short bytes steps all e;
 }

@@ -57,6 +57,7 @@ use Rattle.missing.specs.Missing.{cheapestField, Told}
 use Rattle.missing.specs.Missing.Laws.{told}
 use Rattle.pattern.specs.Entries.{itemsField, verdictField, overItems, overNumbers, heldSheet, checkField}
 use Rattle.pattern.specs.Entries.Sketches.{check-saved}
+use Rattle.pattern.specs.Promises.Growth.{grown-told, placed-told}
 use Rattle.pattern.specs.Promises.{OverTold, SameInOrders, NameSays, OwnList, HeldRuns, Promises}
 
 -- a report that is not the over report: the ninth byte is the first of the verdict's name
@@ -350,4 +351,6 @@ module _ (bytes : List ℕ) (f : Facts) (rest : List ℕ) (all : Bytes bytes) (r
     runs = held-runs;
     rests = λ v p w. rests-hold (g .clusters) pairs (fine v) p w;
     words = words-are;
+    grown = λ new left h b e w v. grown-told bytes rest f accepted reads new left h (written-read new h left b e .2) e w v;
+    placed = λ v events. placed-told bytes rest f accepted reads v (held-runs v) events;
   }

@@ -257,5 +257,6 @@ refusals = record {
   longest = by-count;
   chain = λ bytes start end. by-next (by-wider (λ k h. inl h) (by-sketch bytes)) (λ f rest. by-ends (graphOf f) start end);
   run = ran;
+  open-merges = λ bytes steps. by-next (by-sketch bytes) (λ f rest. given);
   program = printed;
 }

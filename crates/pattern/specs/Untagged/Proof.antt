@@ -22,6 +22,7 @@ same-answers a b reads same = record {
   hold = rw reads;
   missing = λ prices. rw reads;
   hold-in = rw reads;
+  open-merges = λ steps. rw reads;
 }
 
 pub untagged : Untagged

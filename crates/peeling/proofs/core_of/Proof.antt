@@ -1,10 +1,20 @@
 -- `core_of` meets its contract. Assumes nothing.
+use Rattle.peeling.specs.Core.Peeling.{core-peeled, peeled-largest}
 use borrow.Author.Needs.{needs}
 use Rattle.peeling.proofs.core_of.Statement.{statement}
 use Rattle.peeling.proofs.core_of.Tie as tie
 
 returns : tie.Need-returns
-returns c = λ cs simple near. let t = c .peel-of .ensures cs simple near in (t .0 .core, t .1)
+returns c =
+    let near = c .before .before .args .near .now in
+    let t = c .peel .ensures in
+    let left = c .peel .result .left in (
+      t .0 .peeled,
+      λ cs simple is-near. (
+        core-peeled cs near simple is-near left (t .0 .peeled),
+        peeled-largest cs near simple is-near left (t .0 .peeled) (t .1),
+      ),
+    )
 
 pub core-of-spec : {M : Type 1} → statement M
-core-of-spec = tie.close (tie.spec (λ c κs. search needs) returns)
+core-of-spec = tie.close (tie.spec (λ c κs. search needs) (λ c κs. search needs) returns)

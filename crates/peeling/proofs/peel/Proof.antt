@@ -5,7 +5,7 @@ use native.Mathlib.Omega.{arith}
 use lib.ListN.{getD}
 use Rattle.peeling.specs.Core.{Light, Heavy, Mutual, whole, corners, Taken}
 use Rattle.peeling.specs.Core.Neighbours.{heavy-start}
-use Rattle.peeling.specs.Core.Peeling.{peel-room, todo-room, peel-less, light-next, heavy-left}
+use Rattle.peeling.specs.Core.Peeling.{peeled-small, peel-room, todo-room, peel-less, light-next, heavy-left}
 use Rattle.peeling.specs.Core.Angle.{taken-next}
 use Rattle.theory.specs.Set.{_∩_, _∪_, at, full}
 use Rattle.theory.specs.Set.Laws.{at-zero, a∩b⊑b}
@@ -40,7 +40,7 @@ sub-left c =
     let l = c .before .before .before .before .before .before .before .loop in
     let x = c .before .before .before .before .before .lowest in
     let b = c .before .before .before .single in
-    peel-room (s .args .near .now) (l .left) (l .todo) (x .result) (b .result) (l .inv .0 .peeled) (l .inv .1) (x .ensures .1) (b .ensures)
+    peel-room (s .args .near .now) (l .left) (l .todo) (x .result) (b .result) (l .inv .1) (x .ensures .1) (b .ensures)
 
 sub-todo : tie.Need-sub-todo Inv-loop μ-loop
 sub-todo c =
@@ -48,7 +48,7 @@ sub-todo c =
     let l = c .before .before .before .before .before .before .before .loop in
     let x = c .before .before .before .before .before .lowest in
     let b = c .before .before .before .single in
-    todo-room (s .args .near .now) (l .left) (l .todo) (x .result) (b .result) (l .inv .0 .peeled) (l .inv .1) (x .ensures .1) (b .ensures)
+    todo-room (s .args .near .now) (l .left) (l .todo) (x .result) (b .result) (l .inv .1) (x .ensures .1) (b .ensures)
 
 mul-light-of : tie.Need-mul-light-of Inv-loop μ-loop
 mul-light-of c = omega (arith, c .before .before .before .before .wide .ensures, c .before .before .before .before .before .lowest .ensures .0)
@@ -71,7 +71,7 @@ loop-less c =
     let l = c .before .before .before .before .before .before .before .before .before .loop in
     let x = c .before .before .before .before .before .before .before .lowest in
     let b = c .before .before .before .before .before .single in
-    peel-less (s .args .near .now) (l .left) (l .todo) (x .result) (b .result) (l .inv .0 .peeled) (l .inv .1) (x .ensures .1) (b .ensures)
+    peel-less (s .args .near .now) (l .left) (l .todo) (x .result) (b .result) (l .inv .1) (x .ensures .1) (b .ensures)
 
 loop-again : tie.Need-loop-again Inv-loop μ-loop
 unfolding _∩_ _∪_
@@ -86,11 +86,11 @@ loop-again c =
       taken-next (s .args .near .now) (s .args .lines) (l .left) (l .todo) (l .angle) (l .inv .0) (l .inv .1) (x .result) (b .result) (i .result)
           (x .ensures .1) (b .ensures)
           (i .ensures) (t .result) (n .result) (t .ensures) (n .ensures),
-      light-next (s .args .near .now) (l .left) (l .todo) (x .result) (b .result) (l .inv .0 .peeled) (l .inv .1)
+      light-next (s .args .near .now) (l .left) (l .todo) (x .result) (b .result) (l .inv .1)
           (x .ensures .1) (b .ensures) (c .light-of .result)
           (c .light-of .ensures .0),
-      heavy-left (s .args .near .now) (l .left) (l .todo) (x .result) (b .result) (l .inv .0 .peeled) (l .inv .1) (x .ensures .1) (b .ensures)
-          (c .light-of .result) (i .result) (i .ensures) (l .inv .2) (c .light-of .ensures .1),
+      heavy-left (s .args .near .now) (l .left) (l .todo) (x .result) (b .result) (l .inv .1) (x .ensures .1) (b .ensures)
+          (peeled-small (l .left) (l .inv .0 .peeled)) (c .light-of .result) (i .result) (i .ensures) (l .inv .2) (c .light-of .ensures .1),
     )
 
 returns : tie.Need-returns Inv-loop μ-loop

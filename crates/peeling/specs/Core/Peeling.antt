@@ -29,7 +29,7 @@ unfolding full
 peeled-small u whole = omega (arith, pow-pos 64)
 peeled-small u (less {u = v} x p q h) = omega (arith, peeled-small v p)
 
-module _ (near : List ℕ) (left todo x s : ℕ) (p : Peeled near left) (t : Light near left todo) (e : x ∈ todo) (es : s ≡ 2 ^ x) where
+module _ (near : List ℕ) (left todo x s : ℕ) (t : Light near left todo) (e : x ∈ todo) (es : s ≡ 2 ^ x) where
   in-left : x ∈ left
   in-left = t .light x e .0
 
@@ -48,11 +48,12 @@ module _ (near : List ℕ) (left todo x s : ℕ) (p : Peeled near left) (t : Lig
       light-or near (left - s) (todo - s) r
       (subst (λ (z : ℕ). Light near (left - z) (todo - z)) (sym es) (light-rest near left todo x t in-left e)) g
 
-  pub heavy-left : (r i : ℕ) → i ≡ x → (Mutual near → Heavy near left left todo) → Heavy near (left - s) (bitAnd (getD near i 0) (left - s)) r
+  pub heavy-left : left < 2 ^ 64 → (r i : ℕ) → i ≡ x → (Mutual near → Heavy near left left todo) → Heavy near (left - s) (bitAnd (getD near i 0)
+      (left - s)) r
       → Mutual near → Heavy near (left - s) (left - s) (bitOr (todo - s) r)
   unfolding _∪_ _∩_
-  heavy-left r i ei h g m =
-      rw es (heavy-next near left todo x r (peeled-small left p) m (h m) in-left e (rw (es, ei) at g))
+  heavy-left small r i ei h g m =
+      rw es (heavy-next near left todo x r small m (h m) in-left e (rw (es, ei) at g))
 
 -- ---- the core
 

@@ -4,43 +4,49 @@ use native.Mathlib.Omega.{arith}
 use mathlib.Core.Path.{_≡_, refl, _∙_}
 use borrow.Author.Needs.{needs}
 use lib.ListN.{drop}
-use Rattle.sheet.specs.Field.{begins, openingBytes}
+use Rattle.sheet.specs.Field.{begins}
 use Rattle.reader.proofs.Opening.{begins-short, begins-differs, begins-agrees, begins-all}
 use Rattle.reader.proofs.opens.Statement.{statement}
 use Rattle.reader.proofs.opens.Tie as tie
 
 abbrev Inv-loop : tie.InvT-loop
-Inv-loop s i₀ i = (i ≤ 4) × (begins openingBytes s ≡ begins (drop i openingBytes) (drop i s))
+Inv-loop s opening i₀ i = (i ≤ 4) × (begins opening s ≡ begins (drop i opening) (drop i s))
 
 abbrev μ-loop : tie.MeasureT-loop
-μ-loop s i₀ i = 4 - i
+μ-loop s opening i₀ i = 4 - i
 
 returns : tie.Need-returns Inv-loop μ-loop
 returns c =
+    let s = c .before .before .before in
     rw (
       c .before .before .loop .inv .1,
-      begins-short openingBytes (c .before .before .before .args .s .now) (c .before .before .loop .i) (c .before .loop-test .taken) (c .if1 .taken),
+      begins-short (s .args .opening .now) (s .args .s .now) (c .before .before .loop .i) (rw (s .pre) (c .before .loop-test .taken)) (c .if1 .taken),
     )
 
 returns-2 : tie.Need-returns-2 Inv-loop μ-loop
 returns-2 c =
+    let l = c .before .before .before .before .before .loop in
+    let s = c .before .before .before .before .before .before in
     rw (
-      c .before .before .before .before .loop .inv .1,
-      begins-differs openingBytes (c .before .before .before .before .before .args .s .now) (c .before .before .before .before .loop .i)
-          (c .before .before .before .loop-test .taken) (c .before .before .if1 .left) (c .if2 .taken),
+      l .inv .1,
+      begins-differs (s .args .opening .now) (s .args .s .now) (l .i) (rw (s .pre) (c .before .before .before .before .loop-test .taken))
+          (c .before .before .before .if1 .left) (c .if2 .taken),
     )
 
 loop-again : tie.Need-loop-again Inv-loop μ-loop
-loop-again c = (
-  omega arith,
-  c .before .before .before .before .loop .inv .1
-      ∙ begins-agrees openingBytes (c .before .before .before .before .before .args .s .now) (c .before .before .before .before .loop .i)
-      (c .before .before .before .loop-test .taken) (c .before .before .if1 .left) (c .if2 .left),
-)
+loop-again c =
+    let l = c .before .before .before .before .before .loop in
+    let s = c .before .before .before .before .before .before in (
+      omega (arith, c .before .before .before .before .loop-test .taken),
+      l .inv .1
+          ∙ begins-agrees (s .args .opening .now) (s .args .s .now) (l .i) (rw (s .pre) (c .before .before .before .before .loop-test .taken))
+          (c .before .before .before .if1 .left) (c .if2 .left),
+    )
 
 returns-3 : tie.Need-returns-3 Inv-loop μ-loop
 returns-3 c =
-    rw (c .before .loop .inv .1, begins-all openingBytes (c .before .before .args .s .now) (c .before .loop .i) (c .loop-test .left))
+    let s = c .before .before in
+    rw (c .before .loop .inv .1, begins-all (s .args .opening .now) (s .args .s .now) (c .before .loop .i) (rw (s .pre) (c .loop-test .left)))
 
 pub opens-spec : {M : Type 1} → statement M
 opens-spec =

@@ -2,7 +2,7 @@
 -- Assumes nothing.
 use Prim.Native.Nat.{_-_, _<_, _≤_}
 use native.Mathlib.Omega.{arith}
-use mathlib.Core.List.{List, []}
+use mathlib.Core.List.{List}
 use mathlib.Core.Path.{_≡_, refl, sym, ap, _∙_}
 use borrow.Author.Needs.{needs}
 use lib.ListN.{length, drop}
@@ -11,40 +11,39 @@ use mir.Syntax.{w32}
 use Rattle.sheet.specs.declared.Element.{Element}
 use Rattle.sheet.specs.declared.Size.{Size}
 use Rattle.sheet.specs.declared.Constraint.{Constraint}
-use Rattle.sheet.specs.Facts.{linesOf}
+use Rattle.sheet.specs.Facts.{kindAt}
+use Rattle.sheet.specs.Facts.Kinds.{KindsIn}
 use Rattle.sheet.specs.Field.{Field}
-use Rattle.sheet.specs.Rules.{pairAt}
 use Rattle.sheet.specs.Decode.{dimension, constraint}
 use Rattle.graph.specs.Lent.{InArrays}
-use Rattle.reader.specs.declared.SizeRead.{SizeRead}
-use Rattle.reader.specs.Answers.{ruleOf, between, asEnds, endsRule, asSize}
+use Rattle.reader.specs.Answers.{between, asEnds, endsRule, sizeRule, asSize}
 use Rattle.reader.proofs.Constraints.{Turn, stopped, one-more, at-end, bytes-follow, no-size, sized}
 use Rattle.reader.proofs.read_constraints.Statement.{statement}
 use Rattle.reader.proofs.read_constraints.Tie as tie
 
 abbrev Inv-loop : tie.InvT-loop
-Inv-loop s n lines i0 e near₀ start₀ sizes₀ c₀ i₀ near start sizes c i =
+Inv-loop s n kinds radii i0 e near₀ start₀ codes₀ c₀ i₀ near start codes c i =
     (i ≤ e)
-    × ((es : List Element) (done : List Constraint) → n ≡ length es → lines ≡ linesOf es → length done ≡ i0 → InArrays done near₀ start₀ sizes₀
-    → Turn s es done i0 e (c₀ .at) near start sizes (c .at) i)
+    × ((es : List Element) (done : List Constraint) → n ≡ length es → KindsIn es kinds radii → length done ≡ i0 → InArrays done near₀ start₀ codes₀
+    → Turn s es done i0 e (c₀ .at) near start codes (c .at) i)
 
 abbrev μ-loop : tie.MeasureT-loop
-μ-loop s n lines i0 e near₀ start₀ sizes₀ c₀ i₀ near start sizes c i = e - i
+μ-loop s n kinds radii i0 e near₀ start₀ codes₀ c₀ i₀ near start codes c i = e - i
 
 -- the elements, and the constraints in the arrays before
 record Given (a : tie.At-loop Inv-loop μ-loop) : Type 0 where
   es : List Element
   done : List Constraint
   n-is : a .before .before .args .n ≡ length es
-  lines-are : a .before .before .args .lines ≡ linesOf es
+  kinds-in : KindsIn es (a .before .before .args .kinds) (a .before .before .args .radii .now)
   count : length done ≡ a .before .before .args .i0
-  holds : InArrays done (a .before .before .args .near .now) (a .before .before .args .start .now) (a .before .before .args .sizes .now)
+  holds : InArrays done (a .before .before .args .near .now) (a .before .before .args .start .now) (a .before .before .args .codes .now)
 
 module _ (a : tie.At-loop Inv-loop μ-loop) (g : Given a) where
   turn : Turn (a .before .before .args .s .now) (g .es) (g .done) (a .before .before .args .i0) (a .before .before .args .e)
-      (a .before .before .args .from .at) (a .loop .near) (a .loop .start) (a .loop .sizes)
+      (a .before .before .args .from .at) (a .loop .near) (a .loop .start) (a .loop .codes)
       (a .loop .c .at) (a .loop .i)
-  turn = a .loop .inv .1 (g .es) (g .done) (g .n-is) (g .lines-are) (g .count) (g .holds)
+  turn = a .loop .inv .1 (g .es) (g .done) (g .n-is) (g .kinds-in) (g .count) (g .holds)
 
   -- the constraint that is read in this turn
   abbrev this : Field Constraint
@@ -57,7 +56,7 @@ ends-are c g = sym (c .read-ends .ensures .0 (g .es) _ (g .n-is) (turn (c .befor
 returns : tie.Need-returns Inv-loop μ-loop
 returns c = λ es done en el n h.
     let a = c .before .before .before .before .before .before in
-    let g : Given a = record { es = es; done = done; n-is = en; lines-are = el; count = n; holds = h } in
+    let g : Given a = record { es = es; done = done; n-is = en; kinds-in = el; count = n; holds = h } in
     let t = c .before .enum-told .given in
     rw (c .refusal .ensures ∙ ap endsRule (t .1))
     (stopped (turn a g) (c .before .before .before .before .before .loop-test .taken)
@@ -76,17 +75,17 @@ from-ends c = c .before .before .before .before .before .before
 
 abbrev rest : tie.After-known-told Inv-loop μ-loop → List Element → Field Size
 rest c es =
-    dimension (pairAt es (c .before .ends .given .0 .0) (c .before .ends .given .0 .1 .0))
+    dimension (kindAt es (c .before .ends .given .0 .0)) (kindAt es (c .before .ends .given .0 .1 .0))
     (drop (c .before .ends .given .0 .1 .1 .0 .at) (from-ends c .before .before .args .s .now))
 
 returns-2 : tie.Need-returns-2 Inv-loop μ-loop
 returns-2 c = λ es done en el n h.
     let k = c .before .before .before .before in
     let a = from-ends k in
-    let g : Given a = record { es = es; done = done; n-is = en; lines-are = el; count = n; holds = h } in
+    let g : Given a = record { es = es; done = done; n-is = en; kinds-in = el; count = n; holds = h } in
     let s = a .before .before .args .s .now in
     let t = c .before .enum-told2 .given in
-    rw (c .refusal2 .ensures ∙ ap (λ (r : SizeRead). ruleOf (asSize [] r)) (t .1))
+    rw (c .refusal2 .ensures ∙ ap sizeRule (t .1))
     (stopped (turn a g) (k .before .before .before .before .before .loop-test .taken)
     (ends-are (k .before .before .before) g ∙ ap (asEnds es s) (k .before .ends .given .1)
     ∙ rw (no-size (rest k es) (sym (c .before .before .before .read-dimension .ensures es el) ∙ ap (asSize s) (t .1)))))
@@ -99,7 +98,7 @@ loop-again c =
     let more = k .before .before .before .before .before .loop-test .taken in (
       omega arith,
       λ es done en el n h.
-          let g : Given a = record { es = es; done = done; n-is = en; lines-are = el; count = n; holds = h } in
+          let g : Given a = record { es = es; done = done; n-is = en; kinds-in = el; count = n; holds = h } in
           let s = a .before .before .args .s .now in
           let y = sized (rest k es) (sym (z .before .before .before .read-dimension .ensures es el) ∙ ap (asSize s) (z .before .sized .given .1)) in
           one-more (turn a g) more (ends-are (k .before .before .before) g ∙ ap (asEnds es s) (k .before .ends .given .1)
@@ -109,19 +108,19 @@ loop-again c =
           (record {
             first-is = refl;
             second-is = refl;
-            size-is = y .is ∙ sym (toZ-ofZ {w = w32} {z = z .before .sized .given .0 .0} (search needs));
+            code-is = y .is ∙ sym (toZ-ofZ {w = w32} {z = z .before .sized .given .0 .0} (search needs));
           })
           (turn a g .holds)),
     )
 
 returns-3 : tie.Need-returns-3 Inv-loop μ-loop
 returns-3 c = λ es done en el n h.
-    let g : Given (c .before .before) = record { es = es; done = done; n-is = en; lines-are = el; count = n; holds = h } in
+    let g : Given (c .before .before) = record { es = es; done = done; n-is = en; kinds-in = el; count = n; holds = h } in
     bytes-follow (turn (c .before .before) g) (c .before .loop-test .left) (c .if1 .taken)
 
 returns-4 : tie.Need-returns-4 Inv-loop μ-loop
 returns-4 c = λ es done en el n h.
-    let g : Given (c .before .before) = record { es = es; done = done; n-is = en; lines-are = el; count = n; holds = h } in
+    let g : Given (c .before .before) = record { es = es; done = done; n-is = en; kinds-in = el; count = n; holds = h } in
     at-end (turn (c .before .before) g) (c .before .loop-test .left) (c .if1 .left)
 
 pub read-constraints-spec : {M : Type 1} → statement M

@@ -9,7 +9,7 @@ use lib.ListN.{drop}
 use Rattle.sheet.specs.Field.{value, field, signed32}
 use Rattle.sheet.specs.Rules.{sizeInRange}
 use Rattle.sheet.specs.Decode.{size}
-use Rattle.reader.specs.Answers.{asNumber}
+use Rattle.fields.specs.Answers.{asNumber}
 use Rattle.reader.proofs.read_size.Statement.{statement}
 use Rattle.reader.proofs.read_size.Tie as tie
 

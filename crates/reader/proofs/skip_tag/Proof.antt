@@ -9,7 +9,7 @@ use lib.Dec.{eqb}
 use lib.ListN.{length, drop}
 use Rattle.sheet.specs.Field.{value, refused}
 use Rattle.sheet.specs.Decode.{tag}
-use Rattle.reader.proofs.Numbers.{field-short, field-whole}
+use Rattle.fields.specs.Answers.Numbers.{field-short, field-whole}
 use Rattle.reader.proofs.skip_tag.Statement.{statement}
 use Rattle.reader.proofs.skip_tag.Tie as tie
 

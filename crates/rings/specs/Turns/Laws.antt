@@ -1,23 +1,21 @@
 -- One turn of each loop. Assumes nothing.
 use mathlib.Core.Path.{_≡_, refl, sym, ap, ap₂, _∙_, subst}
 use mathlib.Core.Logic.{_≢_}
-use mathlib.Core.Bool.{Bool, true, false, cond, not}
-use mathlib.Core.List.{List, [], _∷_}
-use Prim.Native.Nat.{ℕ, zero, suc, _-_, _*_, _≤_, _<_}
+use mathlib.Core.Bool.{Bool, true, false, cond}
+use mathlib.Core.List.{List, _∷_}
+use Prim.Native.Nat.{ℕ, zero, suc, _-_, _≤_, _<_}
 use native.Mathlib.Omega.{arith}
-use native.Mathlib.Decide.{decLe, ℕ-discrete}
+use native.Mathlib.Decide.{decLe}
 use lib.Bits.{bitAnd, bitOr}
 use lib.Count.{ones}
-use lib.Dec.{T, leb, eqb, leb→le, le→leb}
+use lib.Dec.{T, leb, leb→le, le→leb}
 use lib.ListN.{length, drop, getD}
 use lib.Seq.{drop-cons, drop-length}
-use Rattle.theory.specs.Tests.{eq-test, ne-test}
-use Rattle.theory.specs.Set.{_∩_, _∪_, at}
-use Rattle.theory.specs.Set.Laws.{ext, at-zero, at-le, at-∪, at-∩, a∩b⊑a, ⊑⇒size≤, ⊑-size-≡, size-none, size-zero}
-use Rattle.theory.specs.Merge.{living, total, left}
-use Rattle.theory.specs.Ring.{linked, once, strip, stripped, ringed}
-use Rattle.theory.specs.Ring.Strip.{strip-sub, stripped-same}
-use Rattle.rings.specs.Turns.{Swept, Left}
+use Rattle.theory.specs.Set.{_∩_, _∪_}
+use Rattle.theory.specs.Set.Laws.{⊑-size-≡, size-none, size-zero}
+use Rattle.theory.specs.Ring.{linked, once, strip}
+use Rattle.theory.specs.Ring.Strip.{strip-sub}
+use Rattle.rings.specs.Turns.{Swept}
 
 -- ---- a cluster that holds two lines or more, and one that does not
 
@@ -81,9 +79,6 @@ sweep-end l s (suc i) some two w h = absurd (omega arith)
 
 -- ---- stripping
 
-pub left-start : (lines : ℕ) (s : List ℕ) → Left lines s lines
-left-start lines s = record { turns = ones lines; enough = omega arith; same = refl }
-
 -- fewer lines are left after a turn that takes one off
 pub strip-fewer : (s : List ℕ) (l : ℕ) → strip l s ≢ l → ones (strip l s) < ones l
 strip-fewer s l ne = by (decLe (ones l) (ones (strip l s)))
@@ -91,65 +86,3 @@ strip-fewer s l ne = by (decLe (ones l) (ones (strip l s)))
     by : Dec (ones l ≤ ones (strip l s)) → ones (strip l s) < ones l
     by (yes h) = absurd (ne (⊑-size-≡ l (strip l s) (strip-sub l s) h))
     by (no n) = omega arith
-
-pub left-turn : (lines : ℕ) (s : List ℕ) (l : ℕ) → Left lines s l → strip l s ≢ l → Left lines s (strip l s)
-unfolding stripped
-left-turn lines s l w ne = by (w .turns) (w .enough) (w .same)
-  where
-    by : (k : ℕ) → ones l ≤ k → stripped (ones lines) s lines ≡ stripped k s l → Left lines s (strip l s)
-    by zero h e = absurd (omega (arith, strip-fewer s l ne))
-    by (suc k) h e = record { turns = k; enough = omega (arith, strip-fewer s l ne); same = e }
-
--- what is left and stays is what is left in the end
-left-is : (lines : ℕ) (s : List ℕ) (l : ℕ) → Left lines s l → strip l s ≡ l → stripped (ones lines) s lines ≡ l
-left-is lines s l w e = w .same ∙ stripped-same (w .turns) s l e
-
-pub left-some : (lines : ℕ) (s : List ℕ) (l : ℕ) → Left lines s l → l ≢ 0 → strip l s ≡ l → true ≡ ringed lines s
-unfolding ringed
-left-some lines s l w ne e =
-    by (eqb (stripped (ones lines) s lines) 0) (ne-test (stripped (ones lines) s lines) 0 (λ z. ne (sym (left-is lines s l w e) ∙ z)))
-  where
-    by : (b : Bool) → T (not b) → true ≡ not b
-    by true t = absurd t
-    by false t = refl
-
-pub left-none : (lines : ℕ) (s : List ℕ) (l : ℕ) → Left lines s l → l ≡ 0 → false ≡ ringed lines s
-unfolding ringed
-left-none lines s l w z =
-    by (eqb (stripped (ones lines) s lines) 0) (eq-test (stripped (ones lines) s lines) 0 (left-is lines s 0 (subst (Left lines s) z w) none))
-  where
-    none : strip 0 s ≡ 0
-    none = size-none (strip 0 s) (omega (arith, ⊑⇒size≤ 0 (strip 0 s) (strip-sub 0 s), size-zero))
-
-    by : (b : Bool) → T b → false ≡ not b
-    by true t = refl
-    by false t = absurd t
-
--- ---- one cluster
-
-linked-lives : (l c x : ℕ) → at x (linked l c) ≤ living c
-unfolding _∩_
-linked-lives l zero x = omega (arith, ap (at x) (few l 0 (omega (arith, ⊑⇒size≤ 0 (0 ∩ l) (a∩b⊑a 0 l), size-zero))), at-zero x)
-linked-lives l (suc c) x = at-le x (linked l (suc c))
-
--- a line that lies in some, or in two, takes as many living clusters
-held : (l x : ℕ) (s : List ℕ) → (at x (once l s) ≤ left s) × (2 * at x (strip l s) ≤ left s)
-unfolding once strip left total
-held l x [] = (omega (arith, at-zero x), omega (arith, at-zero x))
-held l x (c ∷ s) =
-    let here = linked-lives l c x in
-    let (some, two) = held l x s in (
-      omega (arith, at-∪ x (linked l c) (once l s)),
-      omega (arith, at-∪ x (linked l c ∩ once l s) (strip l s), at-∩ x (linked l c) (once l s), at-le x (once l s), at-le x (strip l s)),
-    )
-
--- so one cluster makes no ring
-pub lone-ringed : (lines : ℕ) (s : List ℕ) → left s ≡ 1 → false ≡ ringed lines s
-lone-ringed lines s one = by (ℕ-discrete lines 0)
-  where
-    none : strip lines s ≡ 0
-    none = ext (strip lines s) 0 (λ x. omega (arith, held lines x s .1, at-zero x))
-
-    by : Dec (lines ≡ 0) → false ≡ ringed lines s
-    by (yes z) = left-none lines s lines (left-start lines s) z
-    by (no n) = left-none lines s (strip lines s) (left-turn lines s lines (left-start lines s) (λ e. n (sym e ∙ none))) none

@@ -1,33 +1,29 @@
--- `sketch::judge_full_last` meets its contract: what is found decides. Assumes nothing.
+-- `sketch::judge_full_last` meets its contract: what is told decides. Assumes nothing.
 use borrow.Author.Needs.{needs}
-use mathlib.Core.Path.{sym, ap, _∙_}
+use native.Mathlib.Omega.{arith}
+use mathlib.Core.Path.{_≡_, sym, ap, _∙_}
 use mathlib.Core.List.{[]}
 use Rattle.theory.specs.Verdict.{verdictNumber}
-use Rattle.sketch.specs.Placing.Laws.{last-not-over, last-fine, last-first, first-listed}
+use Rattle.theory.specs.declared.Verdict.the-variants.{Over}
+use Rattle.sketch.specs.Placing.Laws.{number-over, last-not-over, told-listed, last-told}
 use Rattle.sketch.proofs.judge_full_last.Statement.{statement}
 use Rattle.sketch.proofs.judge_full_last.Tie as tie
 
 returns : tie.Need-returns
 returns c = λ z.
-    let v = c .before .before .verdict-of .ensures z in
-    last-not-over _ v (λ o. c .if1 .taken (c .before .number .ensures ∙ ap verdictNumber o))
+    last-not-over _ (c .before .before .full-told .ensures z .verdict-is) (λ o. c .if1 .taken (c .before .number .ensures ∙ ap verdictNumber o))
+
+over : (c : tie.Else1) → c .before .before .full-told .result .verdict ≡ Over
+over c = number-over _ (sym (c .before .number .ensures) ∙ omega (arith, c .if1 .left))
 
 last-rule-requires : tie.Need-last-rule-requires
-last-rule-requires c κs =
-    let s = c .before .before .before .before .before .before .before in
-    first-listed (s .pre) [] (sym (c .before .before .before .over-of .ensures []) ∙ c .before .constraint .given .1)
+last-rule-requires c κs = told-listed (c .before .before .before .pre .0) [] (c .before .before .full-told .ensures []) (over c)
 
 returns-2 : tie.Need-returns-2
 returns-2 c = λ z.
-    let s = c .before .before .before .before .before .before .before .before in
-    last-first (s .pre) z (c .last-rule .ensures) (sym (c .before .before .before .before .over-of .ensures z) ∙ c .before .before .constraint .given .1)
-
-returns-3 : tie.Need-returns-3
-returns-3 c = λ z.
-    last-fine _ (c .before .before .before .before .before .verdict-of .ensures z) (sym (c .before .before .over-of .ensures z) ∙ c .enum-told .given .1)
+    let k = c .before in
+    last-told (k .before .before .before .pre .0) z (k .before .before .full-told .ensures z) (over k) (c .last-rule .ensures)
 
 pub judge-full-last-spec : {M : Type 1} → statement M
 judge-full-last-spec =
-    tie.close
-    (tie.spec (λ c κs. search needs) (λ c κs. search needs) returns (λ c κs. search needs) (λ c. search needs) last-rule-requires
-    (λ c. search needs) returns-2 returns-3)
+    tie.close (tie.spec (λ c κs. search needs) (λ c κs. search needs) returns last-rule-requires returns-2)

@@ -29,6 +29,7 @@ use Rattle.sheet.specs.Graph.Laws.{fine-fault, first-fault, length-clusters}
 use Rattle.graph.specs.declared.Head.{Head}
 use Rattle.graph.specs.Lent.{graphIn, SheetIn, Sound, Drawn}
 use Rattle.graph.specs.Lent.Sheets.{accepted-sound, found-fine, graph-is, counted}
+use Rattle.judge.specs.Telling.{Tells}
 use Rattle.sketch.specs.declared.Judgement.the-variants.{Is, Refused}
 use Rattle.sketch.specs.Sketch.{extended, nextFault, by27, askFault, placeFault, asJudged}
 use Rattle.sketch.specs.Sketch.Laws.{extended-accepted, judged-refused, ask-place}
@@ -136,6 +137,27 @@ module _ {h : Head} {near start : List ℕ} (d : Drawn h near start) (z : List �
   pub last-first : {r : ℕ} → r ≡ lastRule k (h .e) → findingOf (graphIn h start z) ≡ First k x → Refused r ≡ lastAnswer (graphIn h start z)
   unfolding lastAnswer
   last-first e q = ap Refused (e ∙ ap (lastRule k) (sym (counted d))) ∙ sym (ap (lastBy (graphIn h start z)) q)
+
+-- of a graph whose verdict is over, what is told
+module _ {h : Head} {near start : List ℕ} (d : Drawn h near start) (z : List ℤ) {v : Verdict} {first : ℕ}
+    (t : Tells (graphIn h start z) v first) (over : v ≡ Over) where
+  abbrev g : Graph
+  g = graphIn h start z
+
+  -- by the first that is found
+  by-first : (A : Type 0) → ((k x : ℕ) → findingOf g ≡ First k x → A) → A
+  by-first A f = go (findingOf g) refl
+    where
+      go : (o : Finding) → findingOf g ≡ o → A
+      go Fine q = absurd (fine-not-over g q (sym (t .verdict-is) ∙ over))
+      go (First k x) q = f k x q
+
+  pub told-listed : first < h .e
+  told-listed = by-first (first < h .e) (λ k x q. omega (arith, t .first-is k x q, first-listed d z q))
+
+  pub last-told : {r : ℕ} → r ≡ lastRule first (h .e) → Refused r ≡ lastAnswer g
+  last-told {r} e =
+      by-first (Refused r ≡ lastAnswer g) (λ k x q. last-first d z (e ∙ ap (λ (i : ℕ). lastRule i (h .e)) (t .first-is k x q)) q)
 
 -- ---- the rules in their order
 

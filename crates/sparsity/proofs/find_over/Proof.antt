@@ -1,8 +1,12 @@
 -- `find_over` meets its contract. Assumes nothing.
 use mathlib.Core.Path.{subst}
-use lib.ListN.{take}
+use Prim.Native.Nat.{ℕ}
+use native.Mathlib.Omega.{arith}
+use lib.ListN.{take, getD, getD-replicate}
 use Rattle.peeling.specs.Core.{Core}
 use Rattle.peeling.specs.Core.Peeling.{core-none}
+use Rattle.peeling.specs.Hard.{Noted}
+use Rattle.peeling.specs.Hard.Laws.{in-list}
 use Rattle.sparsity.specs.Answer.Laws.{answer-not}
 use borrow.Author.Needs.{needs}
 use Rattle.sparsity.proofs.find_over.Statement.{statement}
@@ -14,12 +18,18 @@ returns c =
     let cs = take (s .args .e) (s .args .start .now) in
     λ n below.
     answer-not (s .pre .0 .simple) n below
-    (core-none cs (subst (Core cs) (c .if1 .taken) (c .before .core-of .ensures cs (s .pre .0 .simple) (s .pre .1) .0)))
+    (core-none cs (subst (Core cs) (c .if1 .taken) (c .before .core-of .ensures .1 cs (s .pre .0 .simple) (s .pre .1) .0)))
 
 search-requires : tie.Need-search-requires
 search-requires c κs =
-    let s = c .before .before in
-    (s .pre .0, c .before .core-of .ensures (take (s .args .e) (s .args .start .now)) (s .pre .0 .simple) (s .pre .1) .0)
+    let s = c .before .before .before .before .before in
+    let cs = take (s .args .e) (s .args .start .now) in
+    let needs = c .before .mark-hard .last .1 .1 .1 .1 .0 in (
+      s .pre .0,
+      c .before .before .before .before .core-of .ensures .1 cs (s .pre .0 .simple) (s .pre .1) .0,
+      λ k h. subst (λ (old : ℕ). Noted cs k old (getD needs k 0)) (getD-replicate 200 k 1 0 (omega (arith, h, s .pre .0 .few)))
+          (c .before .mark-hard .ensures .noted k (omega arith) (in-list (s .pre .0) h)),
+    )
 
 pub find-over-spec : {M : Type 1} → statement M
-find-over-spec = tie.close (tie.spec (λ c κs. search needs) returns search-requires (λ c. search needs))
+find-over-spec = tie.close (tie.spec (λ c κs. search needs) returns (λ c κs. search needs) search-requires (λ c. search needs))

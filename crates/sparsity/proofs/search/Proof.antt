@@ -1,30 +1,35 @@
 -- `search` meets its contract. The loop's invariant: the constraints before c use freedoms and are not over. Assumes nothing.
-use mathlib.Core.Path.{refl, sym, _∙_, subst}
+use mathlib.Core.Path.{refl, sym, ap, _∙_, subst}
 use mathlib.Core.Logic.{⊎-elim}
-use Prim.Native.Nat.{suc, _-_}
-use borrow.Author.Needs.{needs}
+use Prim.Native.Nat.{ℕ, suc, _-_, _≤_}
+use native.Mathlib.Numerals.{add-one}
 use native.Mathlib.Omega.{arith}
 use lib.ListN.{take, getD}
 use lib.Seq.{take-all}
-use Rattle.theory.specs.Near.Laws.{standing-count, standing-item}
 use Rattle.theory.specs.Constraints.{NotOver}
+use Rattle.theory.specs.Near.Laws.{standing-count, standing-item}
+use Rattle.peeling.specs.Hard.{Noted}
+use Rattle.peeling.specs.Hard.Laws.{two-pos, in-list, told-in, told-out}
+use Rattle.sparsity.specs.Freedoms.{entry}
 use Rattle.sparsity.specs.Reach.{Lent}
 use Rattle.sparsity.specs.Reach.Visits.{lent-by}
-use Rattle.sparsity.specs.Answer.{Kept, Using}
-use Rattle.sparsity.specs.Answer.Laws.{kept-start, told-in, told-out, more-at, lone-open, using-lone, first-at, kept-by, kept-marks, kept-skip}
-use Rattle.sparsity.specs.Answer.Laws.{in-list, two-ends, two-pos, ends-at, answer-not, answer-first}
+use Rattle.sparsity.specs.Answer.{Using, Ready}
+use Rattle.sparsity.specs.Answer.Laws.{free-using, two-ends, ends-at, using-skip, ready-now, ready-gathered, ready-some, using-next, first-at}
+use Rattle.sparsity.specs.Answer.Laws.{answer-not, answer-first}
+use borrow.Author.Needs.{needs}
 use Rattle.sparsity.proofs.search.Statement.{statement}
 use Rattle.sparsity.proofs.search.Tie as tie
 
 abbrev Inv-loop : tie.InvT-loop
-Inv-loop start e core own₀ queue₀ from₀ once₀ twice₀ c₀ own queue from once twice c = Kept (take e start) core c own once twice × Lent queue from
+Inv-loop start e core needs own₀ queue₀ from₀ over₀ c₀ own queue from over c = (c ≤ e) × Using (take c (take e start)) core own × Lent queue from
 
 abbrev μ-loop : tie.MeasureT-loop
-μ-loop start e core own₀ queue₀ from₀ once₀ twice₀ c₀ own queue from once twice c = e - c
+μ-loop start e core needs own₀ queue₀ from₀ over₀ c₀ own queue from over c = e - c
 
 loop-holds : tie.Need-loop-holds Inv-loop μ-loop
 loop-holds c = let s = c .before in (
-  kept-start (take (s .args .e) (s .args .start .now)) (s .args .core) (c .all-free .result) (s .pre .1 .small) (c .all-free .ensures),
+  omega arith,
+  free-using (s .args .core) (c .all-free .result) (s .pre .1 .small) (c .all-free .ensures),
   record { places = refl; places′ = refl },
 )
 
@@ -40,51 +45,101 @@ lowest-requires c κs =
     two-pos (getD (s .args .start .now) (c .before .before .before .loop .c) 0) (two-ends (s .pre .0) (c .before .before .loop-test .taken) refl)
 
 other-end-requires : tie.Need-other-end-requires Inv-loop μ-loop
-other-end-requires c κs =
-    let h = c .before .before .before .loop-test .taken in
-    (two-ends (c .before .before .before .before .before .before .pre .0) h refl, c .lowest .ensures .0, c .lowest .ensures .1)
+other-end-requires c κs = (
+  two-ends (c .before .before .before .before .before .before .pre .0) (c .before .before .before .loop-test .taken) refl,
+  c .lowest .ensures .0,
+  c .lowest .ensures .1,
+)
 
-take-pair-requires : tie.Need-take-pair-requires Inv-loop μ-loop
-take-pair-requires c κs =
-    let l = c .before .before .before .before .before .before .before .before .before .loop in
-    let b = c .before .before .before .before .other-end .ensures in
-    (l .inv .0 .uses .table, c .before .before .before .before .before .lowest .ensures .0, b .0, b .2, l .inv .1)
+element-copy-out-wide : tie.Need-element-copy-out-wide Inv-loop μ-loop
+element-copy-out-wide c = element-copy-out-pair (c .before .before .before .before .before .before)
+
+index-1-free-of : tie.Need-index-1-free-of Inv-loop μ-loop
+index-1-free-of c = omega (arith, c .before .before .before .wide .ensures, c .before .before .before .before .before .lowest .ensures .0)
+
+mul-free-of : tie.Need-mul-free-of Inv-loop μ-loop
+mul-free-of c = omega (arith, index-1-free-of c)
+
+index-1-free-of-3 : tie.Need-index-1-free-of-3 Inv-loop μ-loop
+index-1-free-of-3 c = omega (
+  arith,
+  c .before .before .before .before .before .wide2 .ensures,
+  c .before .before .before .before .before .before
+      .before .other-end .ensures .0,
+)
+
+mul-free-of-3 : tie.Need-mul-free-of-3 Inv-loop μ-loop
+mul-free-of-3 c = omega (arith, index-1-free-of-3 c)
+
+add-if2 : tie.Need-add-if2 Inv-loop μ-loop
+add-if2 c = omega (arith, c .before .before .before .free-of .ensures .1, c .free-of2 .ensures .1)
+
+gather-requires : tie.Need-gather-requires Inv-loop μ-loop
+gather-requires c κs =
+    let l = c .before .before .before .before .before .before .before .before .before .before .before .before .before .before .before .before
+    .before .before .before .loop in
+    let b = c .before .before .before .before .before .before .before .before .before .before .before .before .before .before .other-end .ensures in (
+      l .inv .1 .table,
+      c .before .before .before .before .before .before .before .before .before .before .before .before .before .before .before
+          .lowest .ensures .0,
+      b .0,
+      b .2,
+      l .inv .2,
+    )
 
 returns : tie.Need-returns Inv-loop μ-loop
 returns c =
-    let s = c .before .before .before .before .before .before .before .before .before .before .before .before .before in
-    let l = c .before .before .before .before .before .before .before .before .before .before .before .loop in
-    let h = c .before .before .before .before .before .before .before .before .before .before .loop-test .taken in
+    let s = c .before .before .before .before .before .before .before .before .before .before .before .before .before .before .before .before
+    .before .before .before .before .before .before .before in
+    let l = c .before .before .before .before .before .before .before .before .before .before .before .before .before .before .before .before
+    .before .before .before .before .before .loop in
+    let h = c .before .before .before .before .before .before .before .before .before .before .before .before .before .before .before .before
+    .before .before .before .before .loop-test .taken in
     let lc = in-list (s .pre .0) h in
-    let a = c .before .before .before .before .before .before .before .lowest in
-    let b = c .before .before .before .before .before .before .other-end in
-    let ends = ends-at (s .pre .0) h refl (a .ensures .0, a .ensures .1) (b .ensures) in
-    let i =
-    told-in (s .pre .1) (l .c) lc (standing-item (s .pre .0) (l .c) h) (c .before .before .before .before .before .before .before .before .if1 .taken) in
-    let more = more-at (s .pre .0 .simple) (s .pre .1) (l .c) lc ends i in
-    let cs = take (s .args .e) (s .args .start .now) in
+    let a = c .before .before .before .before .before .before .before .before .before .before .before .before .before .before .before .before
+    .before .lowest .ensures in
+    let i = told-in (standing-item (s .pre .0) (l .c) h) (c .before .before .before .before .before .before .before .before .before .before .before
+    .before .before .before .before .before .before .before .if1 .taken) in
+    let w = subst (Noted (take (s .args .e) (s .args .start .now)) (l .c) 1) (sym (c .before .before .before .before .before .before .before .before
+    .before .before .before .before .wide3 .ensures)) (s .pre .2 (l .c) h) in
     λ n below.
     answer-first (s .pre .0 .simple) n below
-    (first-at (s .pre .0 .simple) (s .pre .1) (l .c) lc ends i (l .inv .0)
-    (c .before .take-pair .ensures .0 (take (l .c) cs) (take (suc (l .c)) cs) (s .args .core) (l .inv .0 .uses) more) (c .if3 .taken))
+    (first-at (s .pre .1) (l .c) lc (ends-at (s .pre .0) h refl (a .0, a .1) (c .before .before .before .before .before .before .before .before
+    .before .before .before .before .before .before .before .before .other-end .ensures)) i (l .inv .1) w (c .before .gather .ensures .0)
+    (c .if3 .taken))
+
+index-1-place : tie.Need-index-1-place Inv-loop μ-loop
+index-1-place c = omega (
+  arith,
+  c .before .before .before .before .before .before .before .before .before .before .wide .ensures,
+  c .before .before
+      .before .before .before .before .before .before .before .before .before .before .lowest .ensures .0,
+)
+
+mul-place : tie.Need-mul-place Inv-loop μ-loop
+mul-place c = omega (arith, index-1-place c)
+
+index-1-place-3 : tie.Need-index-1-place-3 Inv-loop μ-loop
+index-1-place-3 c = omega (
+  arith,
+  c .before .before .before .before .before .before .before .before .before .before .before .wide2 .ensures,
+  c
+      .before .before .before .before .before .before .before .before .before .before .before .before .before .other-end .ensures .0,
+)
+
+mul-place-3 : tie.Need-mul-place-3 Inv-loop μ-loop
+mul-place-3 c = omega (arith, index-1-place-3 c)
 
 place-requires : tie.Need-place-requires Inv-loop μ-loop
-place-requires c κs =
-    let s = c .before .before .before .before .before .before .before .before in
-    let l = c .before .before .before .before .before .before .loop in
-    let h = c .before .before .before .before .before .loop-test .taken in
-    let lc = in-list (s .pre .0) h in
-    let a = c .before .before .lowest in
-    let b = c .before .other-end in
-    let ends = ends-at (s .pre .0) h refl (a .ensures .0, a .ensures .1) (b .ensures) in
-    let q = standing-item (s .pre .0) (l .c) h in
-    let i = told-in (s .pre .1) (l .c) lc q (c .before .before .before .if1 .taken) in (
-      l .inv .0 .uses .table,
-      a .ensures .0,
-      b .ensures .0,
-      lone-open (s .pre .0 .simple) (s .pre .1) (l .c) lc ends i (l .inv .0)
-          (told-out (s .pre .1) (l .c) lc q (c .if2 .left)),
-    )
+place-requires c κs = (
+  c .before .before .before .before .before .before .before .before .before .before .before .before .before .before .before
+      .lowest .ensures .0,
+  c .before .before .before .before .before .before .before .before .before .before .before .before .before .before
+      .other-end .ensures .0,
+)
+
+mul-own : tie.Need-mul-own Inv-loop μ-loop
+mul-own c = omega (arith, c .place .ensures .1)
 
 add-c : tie.Need-add-c Inv-loop μ-loop
 add-c c = omega (arith, c .before .before .loop-test .taken)
@@ -100,28 +155,33 @@ loop-again c =
     let lc = in-list (s .pre .0) h in
     let q = standing-item (s .pre .0) (l .c) h in
     let cs = take (s .args .e) (s .args .start .now) in
+    let u = s .args .core in
     ⊎-elim
     (λ v.
+    let a = v .1 .result in
+    let b = v .2 .result in
     let ends = ends-at (s .pre .0) h refl (v .1 .ensures .0, v .1 .ensures .1) (v .2 .ensures) in
-    let i = told-in (s .pre .1) (l .c) lc q (v .0 .taken) in
-    let more = more-at (s .pre .0 .simple) (s .pre .1) (l .c) lc ends i in
-    let r : Using (take (suc (l .c)) cs) (s .args .core) (v .3 .own) =
+    let i = told-in q (v .0 .taken) in
+    let need = v .6 .result in
+    let w : Noted cs (l .c) 1 need = subst (Noted cs (l .c) 1) (sym (v .6 .ensures)) (s .pre .2 (l .c) h) in
+    let own = v .13 .own in
+    let k : Ready (take (l .c) cs) u need a b own =
     ⊎-elim
-    (λ w.
-    subst (Using (take (suc (l .c)) cs) (s .args .core)) (sym (w .6))
-    (w .4 .ensures .0 (take (l .c) cs) (take (suc (l .c)) cs) (s .args .core) (l .inv .0 .uses) more .taken (w .5 .left)))
-    (λ w.
-    subst (Using (take (suc (l .c)) cs) (s .args .core)) (sym (w .2))
-    (using-lone (s .pre .0 .simple) (s .pre .1) (l .c) lc ends i (l .inv .0) (told-out (s .pre .1) (l .c) lc q (w .0 .left)) (w .1 .ensures)))
-    (v .3 .came) in (
-      kept-marks (s .pre .0 .simple) (s .pre .1) (l .c) lc ends i (l .inv .0) (subst (Using (take (suc (l .c)) cs) (s .args .core)) (sym (v .4)) r) q
-          (v .7) (v .8),
-      ⊎-elim (λ w. lent-by (v .5 ∙ w .7) (v .6 ∙ w .8) (w .4 .ensures .1)) (λ w. lent-by (v .5 ∙ w .3) (v .6 ∙ w .4) (l .inv .1)) (v .3 .came),
+    (λ o. subst (Ready (take (l .c) cs) u need a b) (sym (o .6)) (ready-gathered (s .pre .1) (l .c) lc ends i (l .inv .1) (o .4 .ensures .0) (o .5
+    .left)))
+    (λ o. subst (Ready (take (l .c) cs) u need a b) (sym (o .1))
+    (ready-now (l .inv .1) (v .3 .ensures) (v .4 .ensures) (v .9 .ensures .0) (v .12 .ensures .0) (omega (arith, o .0 .left))))
+    (v .13 .came) in
+    let p = v .17 .ensures .0 own (ap (λ (x : ℕ). entry own x 0) (sym (v .3 .ensures))) (ap (λ (x : ℕ). entry own x 1) (sym (v .3 .ensures)))
+    (ap (λ (x : ℕ). entry own x 0) (sym (v .4 .ensures))) (ready-some w k) in (
+      omega arith,
+      rw add-one (subst (Using (take (suc (l .c)) cs) u) (sym (v .18)) (using-next (s .pre .1) (l .c) lc ends i k w p)),
+      ⊎-elim (λ o. lent-by (v .19 ∙ o .7) (v .20 ∙ o .8) (o .4 .ensures .1)) (λ o. lent-by (v .19 ∙ o .2) (v .20 ∙ o .3) (l .inv .2)) (v .13 .came),
     ))
     (λ v. (
-      kept-by (s .pre .1) (l .c) lc (v .1) (v .4) (v .5)
-          (kept-skip (s .pre .1) (l .c) lc (told-out (s .pre .1) (l .c) lc q (v .0 .left)) (l .inv .0)),
-      lent-by (v .2) (v .3) (l .inv .1),
+      omega arith,
+      rw add-one (subst (Using (take (suc (l .c)) cs) u) (sym (v .1)) (using-skip (s .pre .1) (l .c) lc (told-out q (v .0 .left)) (l .inv .1))),
+      lent-by (v .2) (v .3) (l .inv .2),
     ))
     (c .if1 .came)
 
@@ -132,11 +192,16 @@ returns-2 c =
     let cs = take (s .args .e) (s .args .start .now) in
     λ n below.
     answer-not (s .pre .0 .simple) n below
-    (subst NotOver (take-all (l .c) cs (omega (arith, standing-count (s .pre .0), c .loop-test .left))) (l .inv .0 .uses .fine))
+    (subst NotOver (take-all (l .c) cs (omega (arith, standing-count (s .pre .0), c .loop-test .left))) (l .inv .1 .fine))
 
 pub search-spec : {M : Type 1} → statement M
 search-spec =
     tie.close
-    (tie.spec Inv-loop μ-loop (λ c κs. search needs) loop-holds mul-pair element-copy-out-pair lowest-requires
-    other-end-requires take-pair-requires returns place-requires add-c loop-less
-    loop-again returns-2)
+    (tie.spec Inv-loop μ-loop (λ c κs. search needs) loop-holds mul-pair element-copy-out-pair lowest-requires other-end-requires
+    (λ c κs. search needs) (λ c κs. search needs) element-copy-out-wide (λ c κs. search needs) mul-free-of index-1-free-of (λ c. omega arith)
+    (λ c. mul-free-of (c .before)) (λ c. index-1-free-of (c .before)) (λ c. omega arith) (λ c κs. search needs) mul-free-of-3 index-1-free-of-3
+    (λ c. omega arith) (λ c. mul-free-of-3 (c .before)) (λ c. index-1-free-of-3 (c .before)) (λ c. omega arith) (λ c κs. search needs) add-if2
+    gather-requires returns mul-place index-1-place (λ c. omega arith) (λ c. mul-place (c .before)) (λ c. index-1-place (c .before)) (λ c. omega
+    arith)
+    mul-place-3 index-1-place-3 (λ c. omega arith) place-requires mul-own (λ c. c .place .ensures .1) (λ c. c .place .ensures .2) add-c
+    loop-less loop-again returns-2)

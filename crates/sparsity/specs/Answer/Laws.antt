@@ -1,34 +1,32 @@
 -- Laws of the answer: the search from its start, one constraint more that uses a freedom or finds none, a constraint that does not lie in u.
 -- Assumes nothing.
-use mathlib.Core.Path.{_≡_, refl, sym, ap, ap₂, _∙_, subst}
-use mathlib.Core.Logic.{_≢_, _⊎_, inl, inr, ⊎-elim}
+use mathlib.Core.Path.{_≡_, sym, ap, ap₂, _∙_, subst}
+use mathlib.Core.Logic.{_≢_, inl, inr}
 use mathlib.Core.List.{List, []}
-use Prim.Native.Nat.{ℕ, zero, suc, _+_, _*_, _-_, _^_, _≤_, _<_}
-use native.Mathlib.Decide.{decLe}
-use native.Mathlib.Numerals.{add-one}
+use Prim.Native.Nat.{ℕ, suc, _+_, _*_, _^_, _≤_, _<_}
+use native.Mathlib.Nat.{le-refl}
 use native.Mathlib.Omega.{arith}
-use lib.Bits.{bitAnd, bitOr}
 use lib.Count.{ones}
 use lib.ListN.{length, take, getD}
-use Rattle.theory.specs.Set.{_∈_, _∩_, _∪_, _⊑_, at}
-use Rattle.theory.specs.Set.Laws.{at-∩, at-∪, at-le, bit, size-zero, filled, ⊑-refl, ⊑-trans, a∩b⊑a, a∩b⊑b, ∩≡⇒⊑, ⊑⇒∩≡, two-in}
+use Rattle.theory.specs.Set.{_∈_, _∩_, _⊑_, at}
+use Rattle.theory.specs.Set.Laws.{at-∩, ⊑-trans, a∩b⊑a, a∩b⊑b, two-in}
 use Rattle.theory.specs.Constraints.{pair, has, carried, NotOver, Below}
-use Rattle.theory.specs.Constraints.Laws.{Has, inside, outside, has-dec, at-end, pair-in, pair-ends, has-pair, pair-comm}
+use Rattle.theory.specs.Constraints.Laws.{inside, outside, has-dec, pair-in, pair-ends, has-pair, pair-comm}
 use Rattle.theory.specs.Over.{IsOver, Tight, Smallest, FirstOver, overOf}
 use Rattle.theory.specs.Over.Laws.{carried-next, tight-over, within-smallest, finds-overOf}
-use Rattle.theory.specs.Set.Less.{sub-below, less-sub, size-less}
+use Rattle.theory.specs.Set.Less.{sub-below}
 use Rattle.theory.specs.Near.{Simple, Standing}
-use Rattle.theory.specs.Near.Laws.{simple-take, standing-count, standing-item, standing-two, pair-is, carried-one}
+use Rattle.theory.specs.Near.Laws.{standing-item, standing-two, pair-is}
 use Rattle.theory.specs.declared.Finding.the-variants.{Fine, First}
-use Rattle.sparsity.specs.Freedoms.{free, frees, Table, Balanced, Closed, FreeBelow}
-use Rattle.sparsity.specs.Freedoms.Laws.{free-table, free-closed, free-balanced, kept-le, closed-kept, kept-closed, frees-two, frees-less}
+use Rattle.sparsity.specs.Freedoms.{entry, same, free, frees, Table, Balanced, Closed, FreeBelow}
+use Rattle.sparsity.specs.Freedoms.Sums.{free-count}
+use Rattle.sparsity.specs.Freedoms.Laws.{free-table, free-closed, free-balanced, kept-le, closed-kept, kept-closed, frees-two}
 use Rattle.sparsity.specs.Freedoms.Laws.{frees-only}
 use Rattle.sparsity.specs.Freedoms.Stores.{balanced-outside, balanced-placed, stored-table, stored-closed}
-use Rattle.sparsity.specs.Reach.{Found, Gathered, Placed}
-use Rattle.sparsity.specs.Reach.Laws.{found-first, found-second, found-closed, found-none, stuck-none, seen-within}
-use Rattle.peeling.specs.Core.{Few, Core}
-use Rattle.peeling.specs.Core.Laws.{few-none, few-other, few-outside, few-more}
-use Rattle.sparsity.specs.Answer.{EndsAt, Using, More, Took, Kept}
+use Rattle.sparsity.specs.Reach.{Gathered, Placed}
+use Rattle.peeling.specs.Core.{Core}
+use Rattle.peeling.specs.Hard.{Noted, hard, easy}
+use Rattle.sparsity.specs.Answer.{EndsAt, Using, Ready, More, Took}
 
 -- ---- the start
 
@@ -41,14 +39,24 @@ free-using u own l f = record {
   fine = λ x b. omega arith;
 }
 
-pub kept-start : (cs : List ℕ) (u : ℕ) (own : List (List ℕ)) → u < 2 ^ 64 → FreeBelow 64 own → Kept cs u 0 own 0 0
-unfolding carried
-kept-start cs u own l f = record {
-  below = omega arith;
-  uses = free-using u own l f;
-  never = λ x z. few-none u x;
-  lone = λ x z. record { few = λ a h q. omega arith };
-}
+-- what is needed is 1 or 4
+noted-most : {cs : List ℕ} {c need : ℕ} → Noted cs c 1 need → need ≤ 4
+noted-most hard = le-refl 4
+noted-most (easy h) = omega arith
+
+noted-some : {cs : List ℕ} {c need : ℕ} → Noted cs c 1 need → 0 < need
+noted-some hard = omega arith
+noted-some (easy h) = omega arith
+
+pub ready-some : {cs old : List ℕ} {u c need a b : ℕ} {own : List (List ℕ)} → Noted cs c 1 need → Ready old u need a b own
+    → 0 < free own a + free own b
+ready-some w k = omega (arith, noted-some w, k .enough)
+
+-- a and b, which are i and j, have as many as are needed, as the code counts them
+pub ready-now : {old : List ℕ} {own : List (List ℕ)} {u need a b i j p q : ℕ} → Using old u own → i ≡ a → j ≡ b
+    → p ≡ same (entry own i 0) a + same (entry own i 1) a → q ≡ same (entry own j 0) b + same (entry own j 1) b → need ≤ p + q
+    → Ready old u need a b own
+ready-now {own = own} uses ei ej ep eq l = record { uses = uses; enough = omega (arith, free-count own ei ep, free-count own ej eq) }
 
 -- ---- one constraint more, between a and b
 
@@ -107,32 +115,6 @@ module _ {old new : List ℕ} {u a b : ℕ} (ends : (a < 64) × (b < 64) × (a �
       | inside i q ↦ let o = pair-ends a b x i in omega (arith, more .carries x, bound x h, frees-two own x (low x h) a b (ends .2) (o .0) (o .1))
     ])
 
-    -- an end with one constraint at most
-    module _ (x0 : ℕ) (end : x0 ∈ m) (few : Few old u x0 1) where
-      pub lone-fine : ((x : ℕ) → ones x ≡ 2 → carried new x ≤ 1) → NotOver new
-      unfolding NotOver
-      lone-fine one = more .fine (λ x h two. go x h two (has-dec m x))
-        where
-          go : (x : ℕ) → x ⊑ u → 2 ≤ ones x → Has m x → carried new x + 3 ≤ 2 * ones x
-          go x h two (outside n q) = omega (arith, more .carries x, uses .fine x two)
-          go x h two (inside i q) = let there : x0 ∈ x = omega (arith, i .le x0, at-le x0 x) in elim (decLe 3 (ones x)) [
-            | yes k ↦ let s = size-less x0 x there in omega (arith, more .carries x, few .few x h there, uses .fine (x - 2 ^ x0) (omega arith))
-            | no k ↦ omega (arith, one x (omega arith))
-          ]
-
-      pub lone-free : 0 < free own x0
-      lone-free =
-          let there : x0 ∈ u = omega (arith, more .inside .le x0, at-le x0 u) in
-          omega (
-            arith,
-            uses .balanced .all u (⊑-refl u),
-            closed-kept own u (more .small) (uses .closed),
-            bound (u - 2 ^ x0) (less-sub x0 u there),
-            size-less x0 u there,
-            frees-less own u (more .small) x0 there,
-            few .few u (⊑-refl u) there,
-          )
-
     -- fewer, and no more can be had: the list with it is over, and what is reached is the smallest set
     module _ (few : free own a + free own b ≤ 3) (r : ℕ) (ra : a ∈ r) (rb : b ∈ r) (rc : Closed own r)
         (none : (x : ℕ) → x ∈ r → x ≢ a → x ≢ b → free own x ≡ 0)
@@ -180,8 +162,8 @@ module _ {old new : List ℕ} {u a b : ℕ} (ends : (a < 64) × (b < 64) × (a �
 
   -- ---- the same, of what the code has
 
-  module _ {own t : List (List ℕ)} (uses : Using old u own) (g : Gathered own a b t) where
-    using-gathered : Using old u t
+  module _ {own t : List (List ℕ)} {need over : ℕ} (uses : Using old u own) (g : Gathered own need a b t over) where
+    pub using-gathered : Using old u t
     using-gathered = let o = pair-ends a b u (more .inside) in record {
       table = g .again .table;
       closed = g .again .closed u (o .0) (o .1) (uses .closed);
@@ -189,77 +171,53 @@ module _ {old new : List ℕ} {u a b : ℕ} (ends : (a < 64) × (b < 64) × (a �
       fine = uses .fine;
     }
 
-    -- four free entries
-    pub took-four : {fresh : List (List ℕ)} → 4 ≤ free t a + free t b → Placed t a b fresh → Took old new m u fresh 0
-    took-four h p = let k = using-gathered in record {
-      taken = λ z. using-placed (k .table) (k .closed) (k .balanced) p (four-fine k h);
-      refused = λ z. absurd (z refl);
+    -- four free entries are not to be had
+    pub gathered-over : need ≤ 4 → over ≢ 0 → IsOver new × Smallest old m over
+    gathered-over l z =
+        let s = g .stuck z in
+        reached-over using-gathered (omega (arith, s .0)) over (s .1 .first) (s .1 .second) (s .1 .closed) (s .1 .none) (s .1 .least)
+
+  module _ {own t : List (List ℕ)} {over : ℕ} (uses : Using old u own) (g : Gathered own 4 a b t over) where
+    pub took-four : {fresh : List (List ℕ)} → over ≡ 0 → Placed t a b fresh → Took old new m u fresh over
+    took-four z p = let k = using-gathered uses g in record {
+      taken = λ e. using-placed (k .table) (k .closed) (k .balanced) p (four-fine k (g .enough z));
+      refused = λ n. absurd (n z);
     }
 
-    -- fewer
-    pub took-over : free t a + free t b < 4 → {queue from : List ℕ} {seen count place : ℕ} → Found t a b queue from seen count place
-        → Took old new m u t seen
-    took-over h {queue} {from} {seen} {count} {place} f =
-        let done : count ≤ place = stuck-none f (⊎-elim (λ (q : 4 ≤ free t a + free t b). absurd (omega arith)) (λ s. s) (g .most)) in
-        record {
-          taken = λ z. absurd (filled seen a (found-first f done) z);
-          refused = λ z.
-              let r =
-              reached-over using-gathered (omega arith) seen (found-first f done) (found-second f done) (found-closed f done)
-              (found-none f done) (λ w wa wb wc. seen-within (f .reached) w wa wb wc) in
-              (using-gathered, r .0, r .1);
-        }
+    pub took-over : over ≢ 0 → Took old new m u t over
+    took-over n = record {
+      taken = λ z. absurd (n z);
+      refused = λ z. let r = gathered-over uses g (le-refl 4) z in (using-gathered uses g, r .0, r .1);
+    }
 
-module _ {cs : List ℕ} {u : ℕ} (core : Core cs u) (c : ℕ) (lc : c < length cs) where
-  -- the constraint as the code has it, r, and a set w
-  pub told-in : {r w : ℕ} → r ≡ getD cs c 0 → bitAnd r w ≡ r → getD cs c 0 ⊑ w
-  unfolding _∩_
-  told-in {r} {w} q t = subst (λ (z : ℕ). z ⊑ w) q (∩≡⇒⊑ r w t)
+-- ---- constraint c
 
-  pub told-out : {r w : ℕ} → r ≡ getD cs c 0 → (bitAnd r w ≡ r → ⊥) → getD cs c 0 ⊑ w → ⊥
-  unfolding _∩_
-  told-out {r} {w} q t h = t (subst (λ (z : ℕ). bitAnd z w ≡ z) (sym q) (⊑⇒∩≡ (getD cs c 0) w h))
-
-  -- one more constraint, of what the code has
-  pub kept-by : {t new : List (List ℕ)} {one two p q : ℕ} → t ≡ new → one ≡ p → two ≡ q → Kept cs u (suc c) new p q → Kept cs u (c + 1) t one two
-  kept-by {t} {new} {one} {two} {p} {q} et e1 e2 k = rw (add-one, et, e1, e2) k
-
-  -- ---- a constraint that does not lie in u
-
-  module _ (out : getD cs c 0 ⊑ u → ⊥) where
+-- one that does not lie in u
+pub using-skip : {cs : List ℕ} {u : ℕ} (core : Core cs u) (c : ℕ) → c < length cs → (getD cs c 0 ⊑ u → ⊥) → {own : List (List ℕ)} → Using (take c
+    cs) u own
+    → Using (take (suc c) cs) u own
+unfolding NotOver
+using-skip {cs} {u} core c lc out {own} k =
+    let more : (x : ℕ) → carried (take (suc c) cs) x ≡ carried (take c cs) x + has (getD cs c 0) x = λ x. carried-next cs c x lc in
+    record {
+      table = k .table;
+      closed = k .closed;
+      balanced = balanced-outside (take c cs) (take (suc c) cs) (getD cs c 0) u own (k .balanced) more none;
+      fine = core .fine (suc c) (λ x h two. omega (arith, more x, none x h, k .fine x two));
+    }
+  where
     none : (x : ℕ) → x ⊑ u → has (getD cs c 0) x ≡ 0
     none x h = elim (has-dec (getD cs c 0) x) [ inside i q ↦ absurd (out (⊑-trans i h)) | outside n q ↦ q ]
 
-    pub kept-skip : {own : List (List ℕ)} {once twice : ℕ} → Kept cs u c own once twice → Kept cs u (suc c) own once twice
-    unfolding NotOver
-    kept-skip {own} k =
-        let old = take c cs in
-        let new = take (suc c) cs in
-        let m = getD cs c 0 in
-        let more : (x : ℕ) → carried new x ≡ carried old x + has m x = λ x. carried-next cs c x lc in
-        record {
-          below = lc;
-          uses = record {
-            table = k .uses .table;
-            closed = k .uses .closed;
-            balanced = balanced-outside old new m u own (k .uses .balanced) more none;
-            fine = core .fine (suc c) (λ x h two. omega (arith, more x, none x h, k .uses .fine x two));
-          };
-          never = λ x z. few-outside old new m more u x 0 (k .never x z) none;
-          lone = λ x z. few-outside old new m more u x 1 (k .lone x z) none;
-        }
-
--- ---- constraint c, between a and b
-
-module _ {cs : List ℕ} {u : ℕ} (simple : Simple cs) (core : Core cs u) (c : ℕ) (lc : c < length cs) {a b : ℕ} (ends : EndsAt cs c a b)
-    (here : getD cs c 0 ⊑ u) where
+-- one between a and b that does
+module _ {cs : List ℕ} {u : ℕ} (core : Core cs u) (c : ℕ) (lc : c < length cs) {a b : ℕ} (ends : EndsAt cs c a b) (here : getD cs c 0 ⊑ u) where
   abbrev step : ℕ
   step = pair a b
 
   apart : (a < 64) × (b < 64) × (a ≢ b)
   apart = (ends .low, ends .high, ends .apart)
 
-  pub more-at : More (take c cs) (take (suc c) cs) step u
+  more-at : More (take c cs) (take (suc c) cs) step u
   more-at = record {
     small = core .small;
     inside = subst (λ (z : ℕ). z ⊑ u) (ends .is) here;
@@ -268,69 +226,29 @@ module _ {cs : List ℕ} {u : ℕ} (simple : Simple cs) (core : Core cs u) (c : 
     cut = core .cut c;
   }
 
-  -- the marks with the constraint that the code has as r
-  pub kept-marks : {own t : List (List ℕ)} {once twice one two r : ℕ} → Kept cs u c own once twice → Using (take (suc c) cs) u t → r ≡ getD cs c 0
-      → one ≡ bitOr once r → two ≡ bitOr twice (bitAnd once r) → Kept cs u (c + 1) t one two
-  unfolding _∪_ _∩_
-  kept-marks {own} {t} {once} {twice} k n q e1 e2 =
-      kept-by core c lc refl (e1 ∙ ap (bitOr once) (q ∙ ends .is)) (e2 ∙ ap (λ (z : ℕ). bitOr twice (bitAnd once z)) (q ∙ ends .is)) marked
+  -- as many free entries as are needed could be had
+  pub ready-gathered : {own t : List (List ℕ)} {need over : ℕ} → Using (take c cs) u own → Gathered own need a b t over → over ≡ 0
+      → Ready (take c cs) u need a b t
+  ready-gathered uses g z = record { uses = using-gathered apart more-at uses g; enough = g .enough z }
+
+  -- it uses one, and the list with it is not over
+  pub using-next : {own fresh : List (List ℕ)} {need : ℕ} → Ready (take c cs) u need a b own → Noted cs c 1 need → Placed own a b fresh
+      → Using (take (suc c) cs) u fresh
+  using-next {own} {fresh} {need} k w p = using-placed apart more-at (k .uses .table) (k .uses .closed) (k .uses .balanced) p (fine need w (k
+      .enough))
     where
-      old : List ℕ
-      old = take c cs
+      fine : (need : ℕ) → Noted cs c 1 need → need ≤ free own a + free own b → NotOver (take (suc c) cs)
+      fine need hard l = four-fine apart more-at (k .uses) l
+      fine need (easy h) l = h .fine (k .uses .fine)
 
-      new : List ℕ
-      new = take (suc c) cs
-
-      marked : Kept cs u (suc c) t (once ∪ step) (twice ∪ (once ∩ step))
-      marked = record {
-        below = lc;
-        uses = n;
-        never =
-            λ x z. few-other old new step (more-at .carries) u x 0 (k .never x (omega (arith, at-∪ x once step, at-le x step)))
-            (omega (arith, at-∪ x once step, at-le x once));
-        lone = λ x z. elim (bit (at x step) (at-le x step)) [
-          | inl q ↦ few-other old new step (more-at .carries) u x 1 (k .lone x (omega (arith, at-∪ x twice (once ∩ step)))) q
-          | inr q ↦ few-more old new step (more-at .carries) u x 0
-              (k .never x (omega (arith, at-∪ x twice (once ∩ step), at-∩ x once step, at-le x once)))
-        ];
-      }
-
-  -- an end that is not in twice: there is a free entry, and the list with it is not over
-  module _ {own : List (List ℕ)} {once twice : ℕ} (k : Kept cs u c own once twice) (out : getD cs c 0 ⊑ twice → ⊥) where
-    lone-end : (0 < free own a + free own b) × NotOver (take (suc c) cs)
-    lone-end = go (bit (at a twice) (at-le a twice)) (bit (at b twice) (at-le b twice))
-      where
-        lone : (x : ℕ) → x ∈ step → at x twice ≡ 0 → (0 < free own x → 0 < free own a + free own b)
-            → (0 < free own a + free own b) × NotOver (take (suc c) cs)
-        lone x i z o = (
-          o (lone-free apart more-at (k .uses) x i (k .lone x z)),
-          lone-fine apart more-at (k .uses) x i (k .lone x z) (λ y e. carried-one (take (suc c) cs) (simple-take (suc c) cs simple) y e),
-        )
-
-        go : (at a twice ≡ 0) ⊎ (a ∈ twice) → (at b twice ≡ 0) ⊎ (b ∈ twice) → (0 < free own a + free own b) × NotOver (take (suc c) cs)
-        go (inl z) q = lone a (at-end a b .0) z (λ h. omega arith)
-        go (inr p) (inl z) = lone b (at-end a b .1) z (λ h. omega arith)
-        go (inr p) (inr q) = absurd (out (subst (λ (z : ℕ). z ⊑ twice) (sym (ends .is)) (pair-in a b twice p q)))
-
-    pub lone-open : 0 < free own a + free own b
-    lone-open = lone-end .0
-
-    pub using-lone : {fresh : List (List ℕ)} → Placed own a b fresh → Using (take (suc c) cs) u fresh
-    using-lone p = using-placed apart more-at (k .uses .table) (k .uses .closed) (k .uses .balanced) p (lone-end .1)
-
-  -- c is the first that makes the list over
-  pub first-at : {own t : List (List ℕ)} {once twice over : ℕ} → Kept cs u c own once twice → Took (take c cs) (take (suc c) cs) step u t over → over ≢ 0
+  -- fewer: c is the first that makes the list over
+  pub first-at : {own t : List (List ℕ)} {need over : ℕ} → Using (take c cs) u own → Noted cs c 1 need → Gathered own need a b t over → over ≢ 0
       → FirstOver cs c over
-  first-at k r z = record { listed = lc; earlier = k .uses .fine; over = r .refused z .1; smallest = rw (ends .is) (r .refused z .2) }
+  first-at k w g z =
+      let r = gathered-over apart more-at k g (noted-most w) z in
+      record { listed = lc; earlier = k .fine; over = r .0; smallest = rw (ends .is) (r .1) }
 
 -- ---- constraint c of those that stand in an array, as the code has it, with two elements that the code has found in it
-
-pub two-pos : (m : ℕ) → ones m ≡ 2 → 0 < m
-two-pos zero two = absurd (omega (arith, size-zero))
-two-pos (suc m) two = omega arith
-
-pub in-list : {start : List ℕ} {e c : ℕ} → Standing start e → c < e → c < length (take e start)
-in-list s h = omega (arith, standing-count s)
 
 module _ {start : List ℕ} {e c : ℕ} (s : Standing start e) (h : c < e) {m : ℕ} (q : m ≡ getD start c 0) where
   pub two-ends : ones m ≡ 2

@@ -1,5 +1,5 @@
 -- Sums over a set's elements. Assumes nothing.
-use mathlib.Core.Path.{_≡_, refl, sym, ap, ap₂, _∙_}
+use mathlib.Core.Path.{_≡_, refl, sym, ap, _∙_}
 use mathlib.Core.Logic.{_≢_, inl, inr, ⊎-elim}
 use mathlib.Core.List.{List}
 use Prim.Native.Nat.{ℕ, _+_, _*_, _-_, _^_, _≤_, _<_}
@@ -33,10 +33,10 @@ pub same-eq : (y x : ℕ) → 0 < same y x → y ≡ x
 unfolding same
 same-eq y x h = omega arith
 
--- the free entries of x, one by one
-pub free-sum : (own : List (List ℕ)) (x i p q : ℕ) → i ≡ x → p ≡ same (entry own i 0) x → q ≡ same (entry own i 1) x → p + q ≡ free own x
+-- the free entries of x, which is k, as the code counts them
+pub free-count : (own : List (List ℕ)) {x k r : ℕ} → k ≡ x → r ≡ same (entry own k 0) x + same (entry own k 1) x → r ≡ free own x
 unfolding free
-free-sum own x i p q e ep eq = ap₂ _+_ (ep ∙ ap (λ (j : ℕ). same (entry own j 0) x) e) (eq ∙ ap (λ (j : ℕ). same (entry own j 1) x) e)
+free-count own {x} e er = er ∙ ap (λ (j : ℕ). same (entry own j 0) x + same (entry own j 1) x) e
 
 -- ---- sums over a set's elements
 

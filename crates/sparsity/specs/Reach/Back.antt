@@ -111,7 +111,7 @@ module _ {own : List (List ℕ)} {queue from : List ℕ} {p : ℕ} (way : Way ow
         subst (λ (z : ℕ). free new z ≡ free t z + 1) ex
         (turned-gains t (w .again .table) x y (x-fits ex) x≢y (y-fits ey) s r (holds .0) (opens .0) (holds .1) (opens .1))
 
-    pub walk-step : Walked own queue p j (stored (stored t x s x) y r x)
+    walk-step : Walked own queue p j (stored (stored t x s x) y r x)
     walk-step = record {
       inside = omega (arith, j-less, w .inside);
       again = record {
@@ -154,6 +154,10 @@ module _ {own : List (List ℕ)} {queue from : List ℕ} {p : ℕ} (way : Way ow
             ))
             (bit j (le-of-suc-le-suc l))
 
+    -- the same of what the code stores, z
+    pub walk-stored : {z : ℕ} → x ≡ z → Walked own queue p j (stored (stored t x s z) y r z)
+    walk-stored e = subst (λ (z : ℕ). Walked own queue p j (stored (stored t x s z) y r z)) e walk-step
+
 pub walk-end : {own : List (List ℕ)} {queue : List ℕ} {p i : ℕ} {t : List (List ℕ)} → Walked own queue p i t → i < 2
     → Gained own (item queue 0) (item queue 1) t
 walk-end w l = record { again = w .again; gain = w .gain l }
@@ -176,23 +180,18 @@ gained-ends {own} {new} {a} {b} {x} {y} ex ey g = subst (λ (z : ℕ). Gained ow
 
 -- ---- placing
 
-pub placed-first : (own : List (List ℕ)) {a i : ℕ} (b s : ℕ) → i ≡ a → s < 2 → entry own i s ≡ a → Placed own a b (stored own i s b)
-placed-first own {a} {i} b s ei l e = record { from = i; to = b; slot = s; ends = inl (ei, refl); two = l; was-free = e ∙ sym ei; stores = refl }
+-- an entry of a, or of b, that is free: the one for a constraint between them
+pub placed-first : {own : List (List ℕ)} {a i : ℕ} (b s : ℕ) → i ≡ a → s < 2 → entry own a s ≡ a → Placed own a b (stored own i s b)
+placed-first {own} {a} b s ei l e =
+    record { from = _; to = b; slot = s; ends = inl (ei, refl); two = l; was-free = ap (λ (x : ℕ). entry own x s) ei ∙ e ∙ sym ei; stores = refl }
 
-pub placed-second : (own : List (List ℕ)) (a : ℕ) {b j : ℕ} (s : ℕ) → j ≡ b → s < 2 → entry own j s ≡ b → Placed own a b (stored own j s a)
-placed-second own a {b} {j} s ej l e = record { from = j; to = a; slot = s; ends = inr (ej, refl); two = l; was-free = e ∙ sym ej; stores = refl }
+pub placed-second : {own : List (List ℕ)} (a : ℕ) {b j : ℕ} (s : ℕ) → j ≡ b → s < 2 → entry own b s ≡ b → Placed own a b (stored own j s a)
+placed-second {own} a {b} s ej l e =
+    record { from = _; to = a; slot = s; ends = inr (ej, refl); two = l; was-free = ap (λ (x : ℕ). entry own x s) ej ∙ e ∙ sym ej; stores = refl }
 
 -- the last of four entries, where the others are in use
-pub last-free : (own : List (List ℕ)) {a b i j : ℕ} → 0 < free own a + free own b → i ≡ a → j ≡ b
-    → entry own i 0 ≢ a → entry own i 1 ≢ a → entry own j 0 ≢ b
-    → entry own j 1 ≡ b
+pub last-free : (own : List (List ℕ)) {a b : ℕ} → 0 < free own a + free own b → entry own a 0 ≢ a → entry own a 1 ≢ a → entry own b 0 ≢ b
+    → entry own b 1 ≡ b
 unfolding free
-last-free own {a} {b} {i} {j} h ei ej n0 n1 m0 =
-    ap (λ (x : ℕ). entry own x 1) ej
-    ∙ same-eq (entry own b 1) b
-    (omega (
-      arith,
-      same-ne (entry own a 0) a (λ e. n0 (ap (λ (x : ℕ). entry own x 0) ei ∙ e)),
-      same-ne (entry own a 1) a (λ e. n1 (ap (λ (x : ℕ). entry own x 1) ei ∙ e)),
-      same-ne (entry own b 0) b (λ e. m0 (ap (λ (x : ℕ). entry own x 0) ej ∙ e)),
-    ))
+last-free own {a} {b} h n0 n1 m0 =
+    same-eq (entry own b 1) b (omega (arith, same-ne (entry own a 0) a n0, same-ne (entry own a 1) a n1, same-ne (entry own b 0) b m0))

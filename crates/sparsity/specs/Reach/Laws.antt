@@ -14,8 +14,9 @@ use lib.Seq.{getD-set-same, getD-set-other}
 use Rattle.theory.specs.Set.{_∈_, _∪_, _⊑_, at}
 use Rattle.theory.specs.Set.Laws.{at-∪, at-le, at-same, at-other, bit, size-add, size-pow}
 use Rattle.sparsity.specs.Freedoms.{entry, free, same, Table, Closed}
-use Rattle.sparsity.specs.Reach.{item, Visit, Lent, Reached, Longer, Scanned, Found, Stuck}
-use Rattle.sparsity.specs.Reach.Visits.{visit-reached, visit-longer, visit-seen}
+use Rattle.sparsity.specs.Reach.{item, Visit, Lent, Reached, Longer, Scanned, Shut, Found, Stuck}
+use Rattle.sparsity.specs.Reach.Visits.{visit-reached, visit-longer, visit-seen, visit-found, visit-shut}
+use Rattle.sparsity.specs.Freedoms.Sums.{free-count}
 
 -- ---- the search
 
@@ -70,28 +71,21 @@ module _ (own : List (List ℕ)) (a b : ℕ) (la : a < 64) (lb : b < 64) (n : a 
   begun-with p q ep eq = subst (λ (v : ℕ). Reached own a b two from v 2) (ap₂ bitOr (sym ep) (sym eq)) begun
 
 pub scanned-none : (own : List (List ℕ)) (queue : List ℕ) (seen : ℕ) → Scanned own queue seen 0
-scanned-none own queue seen = record { stays = λ i s l h. absurd (not-suc-le-zero l); none = λ i h l. absurd (not-suc-le-zero l) }
+scanned-none own queue seen = record { stays = λ i s l h. absurd (not-suc-le-zero l) }
+
+pub shut-two : (own : List (List ℕ)) (queue : List ℕ) → Shut own queue 2
+shut-two own queue = record { none = λ i h l. absurd (omega arith) }
 
 -- one more place is scanned: both entries of its element are visited
 pub scanned-next : (own : List (List ℕ)) (queue : List ℕ) (seen count p : ℕ) → p < count → Scanned own queue seen p
-    → (2 ≤ p → free own (item queue p) ≡ 0) → (queue′ : List ℕ) (seen′ count′ : ℕ) → Longer queue seen count queue′ seen′ count′
+    → (queue′ : List ℕ) (seen′ count′ : ℕ) → Longer queue seen count queue′ seen′ count′
     → ((s : ℕ) → s < 2 → entry own (item queue p) s ∈ seen′) → Scanned own queue′ seen′ (p + 1)
-scanned-next own queue seen count p lp sc shut queue′ seen′ count′ g here = record { stays = stays; none = none }
-  where
-    same-at : (i : ℕ) → i ≤ p → item queue′ i ≡ item queue i
-    same-at i l = g .places i (omega arith)
-
-    stays : (i s : ℕ) → i < p + 1 → s < 2 → entry own (item queue′ i) s ∈ seen′
-    stays i s l h =
-        ap (λ (x : ℕ). at (entry own x s) seen′) (same-at i (omega arith))
-        ∙ ⊎-elim (λ (e : i ≡ p). ap (λ (j : ℕ). at (entry own (item queue j) s) seen′) e ∙ here s h)
-        (λ (m : i < p). g .marks (entry own (item queue i) s) (sc .stays i s m h)) (eq-or-lt-of-le (omega arith))
-
-    none : (i : ℕ) → 2 ≤ i → i < p + 1 → free own (item queue′ i) ≡ 0
-    none i h l =
-        ap (free own) (same-at i (omega arith))
-        ∙ ⊎-elim (λ (e : i ≡ p). ap (λ (j : ℕ). free own (item queue j)) e ∙ shut (omega arith)) (λ (m : i < p). sc .none i h m)
-        (eq-or-lt-of-le (omega arith))
+scanned-next own queue seen count p lp sc queue′ seen′ count′ g here = record {
+  stays = λ i s l h.
+      ap (λ (x : ℕ). at (entry own x s) seen′) (g .places i (omega arith))
+      ∙ ⊎-elim (λ (e : i ≡ p). ap (λ (j : ℕ). at (entry own (item queue j) s) seen′) e ∙ here s h)
+      (λ (m : i < p). g .marks (entry own (item queue i) s) (sc .stays i s m h)) (eq-or-lt-of-le (omega arith));
+}
 
 pub longer-trans : (q : List ℕ) (v n : ℕ) (q′ : List ℕ) (v′ n′ : ℕ) (q″ : List ℕ) (v″ n″ : ℕ) → Longer q v n q′ v′ n′
     → Longer q′ v′ n′ q″ v″ n″ → Longer q v n q″ v″ n″
@@ -103,6 +97,16 @@ longer-trans q v n q′ v′ n′ q″ v″ n″ g h = record {
 
 pub reached-most : {own : List (List ℕ)} {a b : ℕ} {queue from : List ℕ} {seen count : ℕ} → Reached own a b queue from seen count → count ≤ 64
 reached-most {seen = seen} r = omega (arith, r .size, ones-le 64 seen (r .small))
+
+-- the free entries of y, as the code counts them where y is new
+module _ (own : List (List ℕ)) {k y h count n : ℕ} (ek : k ≡ y)
+    (o : ((count < n) → h ≡ same (entry own k 0) y + same (entry own k 1) y) × ((n ≤ count) → h ≡ 0)) where
+  pub opens-some : h ≢ 0 → (count < n) × (0 < free own y)
+  opens-some z = let l : count < n = elim (decLt count n) [ yes l ↦ l | no l ↦ absurd (z (o .1 (omega arith))) ] in
+      (l, omega (arith, z, free-count own ek (o .0 l)))
+
+  pub opens-none : h ≡ 0 → count < n → free own y ≡ 0
+  opens-none z l = omega (arith, free-count own ek (o .0 l))
 
 -- the element at place p, which is i, is scanned by two visits
 module _ {own : List (List ℕ)} {a b : ℕ} {queue from : List ℕ} {seen count : ℕ} (t : Table own) (r : Reached own a b queue from seen count)
@@ -132,6 +136,10 @@ module _ {own : List (List ℕ)} {a b : ℕ} {queue from : List ℕ} {seen count
     pub mid-size : ones v ≡ n
     mid-size = mid .size
 
+    -- the first is new and has a free entry
+    pub found-first-visit : (count < n) × (0 < free own (entry own i 0)) → Found own a b q f v n count
+    found-first-visit o = visit-found own t a b queue from seen count r p 0 (entry own i 0) lp (zero-lt-suc 1) (entry-is 0) q f v n one (o .0) (o .1)
+
     module _ {q′ f′ : List ℕ} {v′ n′ : ℕ} (two : Visit q f v n (entry own i 1) p q′ f′ v′ n′) where
       pub scan-reached : Reached own a b q′ f′ v′ n′
       scan-reached = visit-reached own t a b q f v n mid p 1 (entry own i 1) lp′ (le-refl 2) entry-is′ q′ f′ v′ n′ two
@@ -139,16 +147,21 @@ module _ {own : List (List ℕ)} {a b : ℕ} {queue from : List ℕ} {seen count
       longer′ : Longer q v n q′ v′ n′
       longer′ = visit-longer own t a b q f v n mid p 1 (entry own i 1) lp′ (le-refl 2) entry-is′ q′ f′ v′ n′ two
 
+      -- the second is
+      pub found-second-visit : (n < n′) × (0 < free own (entry own i 1)) → Found own a b q′ f′ v′ n′ n
+      found-second-visit o = visit-found own t a b q f v n mid p 1 (entry own i 1) lp′ (le-refl 2) entry-is′ q′ f′ v′ n′ two (o .0) (o .1)
+
       pub scan-below : p + 1 ≤ n′
       scan-below = omega (arith, lp′, longer′ .more)
 
-      pub scan-next : Scanned own queue seen p → (2 ≤ p → 0 ≡ same (entry own i 0) (item queue p) + same (entry own i 1) (item queue p))
-          → Scanned own q′ v′ (p + 1)
-      unfolding free
-      scan-next sc shut =
-          scanned-next own queue seen count p lp sc
-          (λ h. ap₂ (λ (y z : ℕ). same y (item queue p) + same z (item queue p)) (sym (entry-is 0)) (sym (entry-is 1)) ∙ sym (shut h)) q′ v′ n′
-          (longer-trans queue seen count q v n q′ v′ n′ longer longer′)
+      pub scan-shut : Shut own queue count → (count < n → free own (entry own i 0) ≡ 0) → (n < n′ → free own (entry own i 1) ≡ 0) → Shut own q′ n′
+      scan-shut w g h =
+          visit-shut own t a b q f v n mid p 1 (entry own i 1) lp′ (le-refl 2) entry-is′ q′ f′ v′ n′ two h
+          (visit-shut own t a b queue from seen count r p 0 (entry own i 0) lp (zero-lt-suc 1) (entry-is 0) q f v n one g w)
+
+      pub scan-next : Scanned own queue seen p → Scanned own q′ v′ (p + 1)
+      scan-next sc =
+          scanned-next own queue seen count p lp sc q′ v′ n′ (longer-trans queue seen count q v n q′ v′ n′ longer longer′)
           (λ s l. ⊎-elim
           (λ (e : s ≡ 0). ap (λ (k : ℕ). at (entry own (item queue p) k) v′) e ∙ ap (λ (y : ℕ). at y v′) (sym (entry-is 0))
           ∙ longer′ .marks (entry own i 0)
@@ -157,23 +170,14 @@ module _ {own : List (List ℕ)} {a b : ℕ} {queue from : List ℕ} {seen count
           ∙ visit-seen own t a b q f v n mid p 1 (entry own i 1) lp′ (le-refl 2) entry-is′ q′ f′ v′ n′ two)
           (bit s (le-of-suc-le-suc l)))
 
-  -- a free entry there, not at the first two places
-  pub found-here : Scanned own queue seen p → (h : ℕ) → h ≢ 0
-      → ((2 ≤ p → h ≡ same (entry own i 0) (item queue p) + same (entry own i 1) (item queue p)) × (p < 2 → h ≡ 0))
-      → Found own a b queue from seen count p
-  unfolding free
-  found-here sc h n o =
-      let far : 2 ≤ p = elim (decLt p 2) [ yes l ↦ absurd (n (o .1 l)) | no l ↦ omega arith ] in
-      record { reached = r; scanned = sc; below = omega arith; open-at = λ l. (far, positive (o .0 far)) }
-    where
-      positive : h ≡ same (entry own i 0) (item queue p) + same (entry own i 1) (item queue p)
-          → 0 < same (entry own (item queue p) 0) (item queue p) + same (entry own (item queue p) 1) (item queue p)
-      positive e = omega (arith, n, e, ap (λ (y : ℕ). same y (item queue p)) (entry-is 0), ap (λ (y : ℕ). same y (item queue p)) (entry-is 1))
-
 -- every place is scanned
 pub found-all : {own : List (List ℕ)} {a b : ℕ} {queue from : List ℕ} {seen count : ℕ} (p : ℕ) → Reached own a b queue from seen count
-    → Scanned own queue seen p → p ≤ count → count ≤ p → Found own a b queue from seen count p
-found-all p r sc l h = record { reached = r; scanned = sc; below = l; open-at = λ k. absurd (omega arith) }
+    → Scanned own queue seen p → Shut own queue count → p ≤ count → count ≤ p → Found own a b queue from seen count p
+found-all {own} {a} {b} {queue} {from} {seen} {count} p r sc w l h = record {
+  reached = r;
+  open-at = λ k. absurd (omega arith);
+  all = λ k. (subst (Scanned own queue seen) (omega arith) sc, w);
+}
 
 -- what is linked to the first two lies in every closed set that holds them
 pub linked-within : (own : List (List ℕ)) (queue from : List ℕ) (count : ℕ) → ((i : ℕ) → 2 ≤ i → i < count → item from i < i)
@@ -226,7 +230,7 @@ module _ {own : List (List ℕ)} {a b : ℕ} {queue from : List ℕ} {seen count
   found-closed = record {
     stays = λ x s e h.
         let o = r .queued x e in
-        subst (λ (z : ℕ). entry own z s ∈ seen) (o .2) (f .scanned .stays (o .0) s (lt-of-lt-of-le (o .1) done) h);
+        subst (λ (z : ℕ). entry own z s ∈ seen) (o .2) (f .all done .0 .stays (o .0) s (o .1) h);
   }
 
   pub found-none : (x : ℕ) → x ∈ seen → x ≢ a → x ≢ b → free own x ≡ 0
@@ -239,24 +243,13 @@ module _ {own : List (List ℕ)} {a b : ℕ} {queue from : List ℕ} {seen count
           pick (yes k) = ⊎-elim
               (λ (z : o .0 ≡ 0). absurd (na (sym (o .2) ∙ ap (item queue) z ∙ r .start)))
               (λ (z : o .0 ≡ 1). absurd (nb (sym (o .2) ∙ ap (item queue) z ∙ r .start′))) (bit (o .0) (le-of-suc-le-suc k))
-          pick (no k) = ap (free own) (sym (o .2)) ∙ f .scanned .none (o .0) (omega arith) (lt-of-lt-of-le (o .1) done)
+          pick (no k) = ap (free own) (sym (o .2)) ∙ f .all done .1 .none (o .0) (omega arith) (o .1)
 
-  pub found-stuck : Stuck own a b
-  found-stuck = record { set = seen; small = r .small; first = found-first; second = found-second; closed = found-closed; none = found-none }
-
--- where no more can be had, the search finds none
-pub stuck-none : {own : List (List ℕ)} {a b : ℕ} {queue from : List ℕ} {seen count place : ℕ} → Found own a b queue from seen count place
-    → Stuck own a b → count ≤ place
-stuck-none {own} {a} {b} {queue} {from} {seen} {count} {place} f s = elim (decLt place count) [
-  | no n ↦ omega arith
-  | yes l ↦ let r = f .reached in
-      let o = f .open-at l in
-      absurd
-      (omega (
-        arith,
-        o .1,
-        s .none (item queue place) (reached-within own a b queue from seen count r (s .set) (s .first) (s .second) (s .closed) place l)
-            (λ e. r .apart 0 place (omega (arith, o .0)) l (r .start ∙ sym e))
-            (λ e. r .apart 1 place (o .0) l (r .start′ ∙ sym e)),
-      ))
-]
+  pub found-stuck : Stuck own a b seen
+  found-stuck = record {
+    first = found-first;
+    second = found-second;
+    closed = found-closed;
+    none = found-none;
+    least = λ w wa wb wc. seen-within r w wa wb wc;
+  }

@@ -13,8 +13,8 @@ use lib.Pow.{pow-lt}
 use lib.Seq.{getD-set-same, getD-set-other}
 use Rattle.theory.specs.Set.{_∈_, _∪_, at}
 use Rattle.theory.specs.Set.Laws.{at-∪, at-le, at-same, at-other, size-add, ∪-comm}
-use Rattle.sparsity.specs.Freedoms.{entry, Table}
-use Rattle.sparsity.specs.Reach.{item, Visit, known, fresh, Lent, Reached, Longer}
+use Rattle.sparsity.specs.Freedoms.{entry, free, Table}
+use Rattle.sparsity.specs.Reach.{item, Visit, known, fresh, Lent, Reached, Longer, Shut, Found}
 
 -- ---- a visit
 
@@ -120,6 +120,29 @@ module _ (own : List (List ℕ)) (t : Table own) (a b : ℕ) (queue from : List 
   pub visit-seen : (q f : List ℕ) (v n : ℕ) → Visit queue from seen count y p q f v n → y ∈ v
   visit-seen q f v n (known e) = e
   visit-seen q f v n (fresh e) = v-new e
+
+  -- the element met is the last of the queue where it is new
+  visit-last : (q f : List ℕ) (v n : ℕ) → Visit queue from seen count y p q f v n → count < n → item q count ≡ y
+  visit-last q f v n (known e) l = absurd (omega arith)
+  visit-last q f v n (fresh e) l = q-new e
+
+  -- with a free entry: the search ends there
+  pub visit-found : (q f : List ℕ) (v n : ℕ) → Visit queue from seen count y p q f v n → count < n → 0 < free own y
+      → Found own a b q f v n count
+  visit-found q f v n w l o = record {
+    reached = visit-reached q f v n w;
+    open-at = λ m. (r .low, subst (λ (z : ℕ). 0 < free own z) (sym (visit-last q f v n w l)) o);
+    all = λ m. absurd (omega arith);
+  }
+
+  -- without one
+  pub visit-shut : (q f : List ℕ) (v n : ℕ) → Visit queue from seen count y p q f v n → (count < n → free own y ≡ 0) → Shut own queue count
+      → Shut own q n
+  visit-shut q f v n (known e) o w = w
+  visit-shut q f v n (fresh e) o w = record {
+    none = λ i h l. split e (λ i. 2 ≤ i → free own (item (set queue count y) i) ≡ 0)
+        (λ h. ap (free own) (q-new e) ∙ o (omega arith)) (λ i l h. ap (free own) (q-old e i l) ∙ w .none i h l) i l h;
+  }
 
 pub lent-by : {q f queue from : List ℕ} → queue ≡ q → from ≡ f → Lent q f → Lent queue from
 lent-by eq ef l = record { places = ap length eq ∙ l .places; places′ = ap length ef ∙ l .places′ }

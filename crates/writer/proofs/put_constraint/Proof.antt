@@ -9,7 +9,7 @@ returns : tie.Need-returns
 unfolding constraintBytes
 returns c =
     let h = c .before .before .before .before .before .before in
-    put-as (rw (h .before .size-bit .ensures)) (h .put-head .ensures then c .before .before .put-size .ensures)
+    put-as (rw (h .before .map-of .ensures)) (h .put-head .ensures then c .before .before .put-size .ensures)
 
 pub put-constraint-spec : {M : Type 1} → statement M
 put-constraint-spec =

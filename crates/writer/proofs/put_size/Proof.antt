@@ -18,8 +18,20 @@ returns-2 : tie.Need-returns-2
 unfolding sizeBytes
 returns-2 c = rw (ap sizeBytes (c .enum-told .given .1)) (put-none _ _)
 
+returns-3 : tie.Need-returns-3
+unfolding sizeBytes
+returns-3 c = rw (ap sizeBytes (c .enum-told2 .given .1)) (put-none _ _)
+
+returns-4 : tie.Need-returns-4
+unfolding sizeBytes
+returns-4 c = rw (ap sizeBytes (c .enum-told3 .given .1)) (put-none _ _)
+
+returns-5 : tie.Need-returns-5
+unfolding sizeBytes
+returns-5 c = rw (ap sizeBytes (c .enum-told4 .given .1)) (put-none _ _)
+
 pub put-size-spec : {M : Type 1} → statement M
 put-size-spec =
     tie.close
     (tie.spec (λ c. search needs) (λ c κs. search needs) (λ c. search needs) (λ c κs. search needs) (λ c. search needs)
-    (λ c. search needs) returns returns-2)
+    (λ c. search needs) (λ c. search needs) (λ c. search needs) (λ c. search needs) returns returns-2 returns-3 returns-4 returns-5)

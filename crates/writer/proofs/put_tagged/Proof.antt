@@ -4,7 +4,7 @@ use Prim.Native.Nat.{_+_}
 use native.Mathlib.Omega.{arith}
 use mathlib.Core.List.{append-assoc}
 use Rattle.space.specs.Space.Laws.{put-as, _then_}
-use Rattle.writer.proofs.Untagged.{take-least}
+use Rattle.writer.proofs.Untagged.{cut-least}
 use Rattle.writer.proofs.put_tagged.Statement.{statement}
 use Rattle.writer.proofs.put_tagged.Tie as tie
 
@@ -15,7 +15,7 @@ returns c =
     let s =
     c .before .before .before .before .before .before .before .before .before .before .before .before .before .before .before .before .before .before
     in
-    put-as (rw (least, take-least (s .args .s .now) (s .args .at + 3) (s .args .size) (omega (arith, s .pre .2))) (rw append-assoc))
+    put-as (rw (least, cut-least (s .args .s .now) (s .args .at + 3) (s .args .size) (omega (arith, s .pre .2))) (rw append-assoc))
     (c .before .before .before .before .before .before .before .before .before .before .before .before .put-text .ensures
     then c .before .before .before .before .before .before .before .put-byte .ensures then c .before .before .put-text2 .ensures)
 

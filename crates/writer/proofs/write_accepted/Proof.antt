@@ -5,28 +5,34 @@ use Prim.Native.Nat.{_<_, _≤_}
 use native.Mathlib.Nat.{zero-add, le-trans}
 use native.Mathlib.Omega.{arith}
 use mathlib.Core.Path.{_≡_}
+use mathlib.Core.Bool.{true}
 use mathlib.Core.List.{[]}
 use lib.ListN.{length, length-take}
 use Rattle.sheet.specs.Facts.{factsOf}
 use Rattle.sheet.specs.Encode.{sheetBytes}
 use Rattle.sheet.specs.Accepted.Laws.{sheetFault-none}
 use Rattle.sheet.specs.Encode.Laws.{sheet-length}
-use Rattle.sheet.specs.Rules.Laws.{elements-most, constraints-most}
+use Rattle.sheet.specs.Rules.{kindsAllowed}
+use Rattle.sheet.specs.Rules.Laws.{elements-most, constraints-most, elements-taken}
 use Rattle.space.specs.Space.Laws.{none-left, put-refused, put-done}
 use Rattle.writer.proofs.write_accepted.Statement.{statement}
 use Rattle.writer.proofs.write_accepted.Tie as tie
 
 few-elements : (c : tie.Start) → c .args .s .n ≤ 64
-few-elements c = elements-most (c .args .s .n) (sheetFault-none (c .args .s) (c .pre) .0)
+few-elements c = elements-most (c .args .s .n) (sheetFault-none (c .args .s) (c .pre) .elements-in-range)
 
 few-constraints : (c : tie.Start) → c .args .s .e ≤ 200
-few-constraints c = constraints-most (c .args .s .e) (sheetFault-none (c .args .s) (c .pre) .1)
+few-constraints c = constraints-most (c .args .s .e) (sheetFault-none (c .args .s) (c .pre) .constraints-in-range)
+
+allowed : (c : tie.Start) → kindsAllowed (c .args .s .opening) (factsOf (c .args .s) .elements) ≡ true
+allowed c = elements-taken (c .args .s .opening) _ (sheetFault-none (c .args .s) (c .pre) .elements-allowed) .0
 
 put-sheet-requires : tie.Need-put-sheet-requires
 put-sheet-requires c κs = (
   few-elements (c .before .before .before .before .before),
   few-constraints (c .before .before .before .before .before),
-  c .before .before .lines-of .ensures,
+  allowed (c .before .before .before .before .before),
+  c .before .before .kind-numbers .ensures,
 )
 
 returns : tie.Need-returns
@@ -41,7 +47,8 @@ put-sheet-requires-2 : tie.Need-put-sheet-requires-2
 put-sheet-requires-2 c κs = (
   few-elements (c .before .before .before .before .before),
   few-constraints (c .before .before .before .before .before),
-  c .before .before .lines-of .ensures,
+  allowed (c .before .before .before .before .before),
+  c .before .before .kind-numbers .ensures,
 )
 
 -- the run that measures leaves no space
@@ -59,7 +66,8 @@ put-sheet-requires-3 : tie.Need-put-sheet-requires-3
 put-sheet-requires-3 c κs = (
   few-elements (c .before .before .before .before .before .before .before .before .before .before),
   few-constraints (c .before .before .before .before .before .before .before .before .before .before),
-  c .before .before .before .before .before .before .before .lines-of .ensures,
+  allowed (c .before .before .before .before .before .before .before .before .before .before),
+  c .before .before .before .before .before .before .before .kind-numbers .ensures,
 )
 
 returns-3 : tie.Need-returns-3
@@ -73,5 +81,5 @@ returns-3 c =
 pub write-accepted-spec : {M : Type 1} → statement M
 write-accepted-spec =
     tie.close
-    (tie.spec (λ c κs. few-elements (c .before .before)) put-sheet-requires (λ c. search needs) returns (λ c. search needs) (λ c. search needs)
+    (tie.spec (λ c κs. (few-elements (c .before .before), allowed (c .before .before))) put-sheet-requires (λ c. search needs) returns (λ c. search needs) (λ c. search needs)
     put-sheet-requires-2 (λ c. search needs) returns-2 put-sheet-requires-3 (λ c. search needs) returns-3)

@@ -1,0 +1,2 @@
+-- The definitions and laws of the crate `cycles`.
+pub mod Cycle

@@ -1,0 +1,60 @@
+// Constraints that run round: elements with one neighbour at most are taken away, one after another, and where none is left the constraint graph is a
+// forest. Contracts cite this crate's Cycle.
+ghost use mathlib.Core.Path.{_≡_};
+ghost use Prim.Native.Nat.{_≤_, _<_};
+ghost use Rattle.theory.specs.Set.{_∈_, full};
+ghost use Rattle.cycles.specs.Cycle.{Holds, HoldsBelow};
+
+// Takes an element away if it has one neighbour at most among the others of all, then that neighbour if it has one at most, and so on.
+fn without_run(near: &[u64; 64], all: u64, first: u8) -> u64
+    requires { ⌜ (first < 64) × (first ∈ all) ⌝ }
+    ensures { λ r. ⌜ Holds (now (near .entry)) all r ⌝ }
+{
+    let mut left = all;
+    let mut x = first;
+    loop {
+        let rest = left - sets::single(x);
+        let i = x as usize;
+        let others = near[i] & rest;
+        if sets::without_lowest(others) != 0 {
+            return left;
+        }
+        left = rest;
+        if others == 0 {
+            return left;
+        }
+        x = sets::lowest(others);
+    }
+}
+
+// The elements below n.
+fn below(n: usize) -> u64
+    requires { ⌜ (1 ≤ n) × (n ≤ 64) ⌝ }
+    ensures { λ r. ⌜ r ≡ full n ⌝ }
+{
+    let top = sets::single((n - 1) as u8);
+    top - 1 + top
+}
+
+// What is left of a set when elements with one neighbour at most in it are taken away: it holds all that runs round there.
+pub fn rounds_in(near: &[u64; 64], all: u64) -> u64
+    ensures { λ r. ⌜ Holds (now (near .entry)) all r ⌝ }
+{
+    let mut left = all;
+    let mut todo = all;
+    while todo != 0 {
+        let x = sets::lowest(todo);
+        let bit = sets::single(x);
+        left = without_run(near, left, x);
+        todo = (todo - bit) & left;
+    }
+    left
+}
+
+// The same of all elements below n.
+pub fn rounds(near: &[u64; 64], n: usize) -> u64
+    requires { ⌜ (1 ≤ n) × (n ≤ 64) ⌝ }
+    ensures { λ r. ⌜ HoldsBelow (now (near .entry)) n r ⌝ }
+{
+    rounds_in(near, below(n))
+}

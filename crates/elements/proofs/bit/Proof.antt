@@ -1,0 +1,9 @@
+-- `elements::bit` meets its contract. Assumes nothing.
+use mathlib.Core.Path.{sym, ap}
+use borrow.Author.Tests.{eq-eqb, ne-eqb}
+use Rattle.sheet.specs.Facts.{bitOf}
+use Rattle.elements.proofs.bit.Statement.{statement}
+use Rattle.elements.proofs.bit.Tie as tie
+
+pub bit-spec : {M : Type 1} → statement M
+bit-spec = tie.close (tie.spec (λ c. sym (ap bitOf (eq-eqb _ _ (c .if1 .taken)))) (λ c. sym (ap bitOf (ne-eqb _ _ (c .if1 .left)))))

@@ -1,0 +1,26 @@
+-- `judge::full_told` meets its contract: what peels off to the last element is well, or angle where three lines went so; else the judgement tells.
+-- Assumes nothing.
+use borrow.Author.Needs.{needs}
+use native.Mathlib.Omega.{arith}
+use Rattle.graph.specs.Lent.Sheets.{counted}
+use Rattle.judge.specs.Judged.Short.{judged-tells, angle-peeled, well-peeled}
+use Rattle.judge.proofs.full_told.Statement.{statement}
+use Rattle.judge.proofs.full_told.Tie as tie
+
+returns : tie.Need-returns
+returns c = λ z. judged-tells _ (c .before .before .before .before .pre .0 .sound) (c .judge .ensures z)
+
+returns-2 : tie.Need-returns-2
+returns-2 c =
+    let s = c .before .before .before .before .pre in
+    let t = c .before .before .before .peel-of .ensures _ (s .0 .sound .simple) (s .0 .near-is) .0 in
+    λ z. angle-peeled _ (s .0 .sound) (omega (arith, s .1, counted (s .0))) t (omega (arith, c .before .if1 .left)) (c .if2 .taken)
+
+returns-3 : tie.Need-returns-3
+returns-3 c =
+    let s = c .before .before .before .before .pre in
+    let t = c .before .before .before .peel-of .ensures _ (s .0 .sound .simple) (s .0 .near-is) .0 in
+    λ z. well-peeled _ (s .0 .sound) (omega (arith, s .1, counted (s .0))) t (omega (arith, c .before .if1 .left)) (c .if2 .left)
+
+pub full-told-spec : {M : Type 1} → statement M
+full-told-spec = tie.close (tie.spec (λ c κs. search needs) (λ c κs. search needs) returns returns-2 returns-3)

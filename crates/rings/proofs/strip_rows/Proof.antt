@@ -1,0 +1,43 @@
+-- `rings::strip_rows` meets its contract: what runs round through the clusters stays. Assumes nothing.
+use mathlib.Core.Path.{refl}
+use Prim.Native.Nat.{_-_, _≤_}
+use native.Mathlib.Omega.{arith}
+use borrow.Author.Needs.{needs}
+use lib.ListN.{length}
+use Rattle.rings.specs.Rows.{Noted}
+use Rattle.rings.specs.Rows.Laws.{note-start, note-turn, rows-keep, all-kept}
+use Rattle.rings.proofs.strip_rows.Statement.{statement}
+use Rattle.rings.proofs.strip_rows.Tie as tie
+
+abbrev Inv-loop : tie.InvT-loop
+Inv-loop clusters l near₀ twice₀ i₀ near twice i = (i ≤ length clusters) × Noted l clusters near twice i
+
+abbrev μ-loop : tie.MeasureT-loop
+μ-loop clusters l near₀ twice₀ i₀ near twice i = length clusters - i
+
+loop-holds : tie.Need-loop-holds Inv-loop μ-loop
+loop-holds c = (omega arith, note-start _ _ _ refl)
+
+join-requires : tie.Need-join-requires Inv-loop μ-loop
+join-requires c κs = c .before .before .before .before .loop .inv .1 .places
+
+loop-again : tie.Need-loop-again Inv-loop μ-loop
+loop-again c =
+    let l = c .before .before .before .before .before .loop in
+    let m = c .before .before .linked in (
+      search needs,
+      note-turn _ _ (l .near) (l .twice) (l .i) (m .result) _ (c .join .result) (l .inv .1) (m .ensures) (c .join .ensures),
+    )
+
+returns-3 : tie.Need-returns-3 Inv-loop μ-loop
+returns-3 c =
+    let l = c .before .before .before .before .loop in
+    rows-keep _ _ (l .near) (l .twice) (l .i) (c .rounds-in .result) (l .inv .1) (omega (arith, c .before .before .before .loop-test .left))
+    (omega (arith, c .before .before .if2 .left)) (c .rounds-in .ensures)
+
+pub strip-rows-spec : {M : Type 1} → statement M
+strip-rows-spec =
+    tie.close
+    (tie.spec Inv-loop μ-loop (λ c. all-kept _ _) loop-holds (λ c. search needs) (λ c. search needs) (λ c κs. search needs) join-requires
+    (λ c. search needs) (λ c. search needs)
+    loop-again (λ c. all-kept _ _) (λ c κs. search needs) returns-3)

@@ -1,0 +1,15 @@
+-- `free_of` meets its contract. Assumes nothing.
+use native.Mathlib.Omega.{arith}
+use Rattle.sparsity.specs.Freedoms.Sums.{same-bit}
+use borrow.Author.Needs.{needs}
+use Rattle.sparsity.proofs.free_of.Statement.{statement}
+use Rattle.sparsity.proofs.free_of.Tie as tie
+
+add-result : tie.Need-add-result
+add-result c = omega (arith, same-bit _ _ _ (c .before .one-if-same .ensures), same-bit _ _ _ (c .one-if-same2 .ensures))
+
+returns : tie.Need-returns
+returns c = (search needs, omega (arith, same-bit _ _ _ (c .before .one-if-same .ensures), same-bit _ _ _ (c .one-if-same2 .ensures)))
+
+pub free-of-spec : {M : Type 1} → statement M
+free-of-spec = tie.close (tie.spec (λ c κs. search needs) (λ c κs. search needs) add-result returns)
