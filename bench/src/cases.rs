@@ -247,7 +247,9 @@ fn lined(name: &str, mixed: bool, graph: &Graph, line: fn(usize) -> bool) -> Cas
         for element in (0..graph.n).filter(|&element| line(element)) {
             kinds[names[element]] = Kind::Line;
         }
-        let constraint = |&(a, b): &(usize, usize)| Constraint::sized(names[a].min(names[b]) as u8, names[a].max(names[b]) as u8, 300);
+        let constraint = |&(a, b): &(usize, usize)| {
+            Constraint::sized(names[a].min(names[b]) as u8, names[a].max(names[b]) as u8, 300)
+        };
         writer::bytes(&Sheet::first(kinds, pairs.iter().map(constraint).collect()))
     };
     let pool = (0..POOL).map(|_| sheet()).collect();

@@ -24,6 +24,7 @@ pub struct Answers {
     part: Answer<u8>,
     chain: Answer<u16>,
     missing: Answer<u16>,
+    open: [Answer<u16>; 2],
 }
 
 impl Answers {
@@ -45,6 +46,7 @@ impl Answers {
             part: lent(|out| ffi::part(sheet, number, out)),
             chain: lent(|out| ffi::chain(sheet, 0, last, out)),
             missing: lent(|out| ffi::missing(sheet, prices, out)),
+            open: [0, 1].map(|steps| lent(|out| ffi::open(sheet, steps, out))),
         }
     }
 }

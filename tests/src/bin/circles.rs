@@ -76,6 +76,8 @@ fn every_call(run: &mut Run, sheet: &Sheet) {
         (run.random.below(sheet.n()), run.random.below(sheet.n()), run.random.below(2 * sheet.n()));
     let _ = calls::chain(run, &bytes, &found, from, to);
     calls::part(run, &bytes, &found, number);
+    let steps = run.random.below(4);
+    let _ = calls::open(run, &bytes, &found, steps);
     let plan = another_plan(run, &found);
     calls::check_plan(run, &bytes, &plan);
     calls::saved_steps(run, &bytes, &plan);
