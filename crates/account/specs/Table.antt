@@ -3,18 +3,22 @@ use Prim.Native.Nat.{ℕ}
 use mathlib.Core.Path.{_≡_}
 use mathlib.Core.List.{List, [], _∷_, _++_, map}
 use lib.IntN.{pos}
+use lib.ListN.{replicate}
 use Rattle.space.specs.Text.{ascii}
+use Rattle.sheet.specs.declared.Opening.the-variants.{Pf01}
+use Rattle.sheet.specs.declared.Kind.the-variants.{Line}
 use Rattle.sheet.specs.declared.Size.the-variants.{Given, Missing}
 use Rattle.sheet.specs.declared.Constraint.{Constraint}
-use Rattle.sheet.specs.Facts.{Facts, sheetOf, elementsOf}
+use Rattle.sheet.specs.Facts.{Facts, sheetOf, blankElement}
 use Rattle.sheet.specs.Rules.{sheetFault}
 use Rattle.sheet.specs.Graph.{graphOf}
 use Rattle.account.specs.Account.{reportOf}
 pub mod Proof
 
--- n elements, those of the set `lines` lines
+-- so many lines, then so many points
 abbrev pub of : ℕ → ℕ → List Constraint → Facts
-of n lines cs = record { elements = elementsOf n lines; constraints = cs }
+of lines points cs =
+    record { opening = Pf01; elements = replicate lines (record { kind = Line }) ++ replicate points blankElement; constraints = cs }
 
 -- a distance or an angle, and a point on a line
 abbrev pub sized : ℕ → ℕ → ℕ → Constraint
@@ -36,11 +40,11 @@ reports more = sized 0 1 300 ∷ sized 0 2 300 ∷ sized 1 2 300 ∷ sized 1 3 3
 
 -- three points with these distances
 abbrev pub triangle : ℕ → ℕ → ℕ → Facts
-triangle a b c = of 3 0 (sized 0 1 a ∷ sized 0 2 b ∷ sized 1 2 c ∷ [])
+triangle a b c = of 0 3 (sized 0 1 a ∷ sized 0 2 b ∷ sized 1 2 c ∷ [])
 
 -- line 0 and points 1 and 2, point 1 on the line, point 2 at 300 from it
 abbrev pub foot : ℕ → Facts
-foot d = of 3 1 (on 0 1 ∷ sized 0 2 300 ∷ sized 1 2 d ∷ [])
+foot d = of 1 2 (on 0 1 ∷ sized 0 2 300 ∷ sized 1 2 d ∷ [])
 
 -- each with the next
 abbrev pub round4 : List Constraint
@@ -60,24 +64,24 @@ corner a b p more = sized a b 6000 ∷ on a p ∷ on b p ∷ more
 abbrev pub table : List Row
 table =
     -- n 2, no constraint: under, no cluster
-    row (of 2 0 []) (ascii "verdict under\nelements 2 constraints 0\n")
+    row (of 0 2 []) (ascii "verdict under\nelements 2 constraints 0\n")
     -- one constraint: well, no step
-    ∷ row (of 2 0 (sized 0 1 300 ∷ [])) (ascii "verdict well\nelements 2 constraints 1\ncluster 0 holds 0 1 rests on 0\n")
+    ∷ row (of 0 2 (sized 0 1 300 ∷ [])) (ascii "verdict well\nelements 2 constraints 1\ncluster 0 holds 0 1 rests on 0\n")
     -- pairs (0,1), (0,2), (0,3): under, three clusters, since all share one point
-    ∷ row (of 4 0 (sized 0 1 300 ∷ sized 0 2 300 ∷ sized 0 3 300 ∷ []))
+    ∷ row (of 0 4 (sized 0 1 300 ∷ sized 0 2 300 ∷ sized 0 3 300 ∷ []))
     (ascii "verdict under\nelements 4 constraints 3\ncluster 0 holds 0 1 rests on 0\ncluster 1 holds 0 2 rests on 1\ncluster 2 holds 0 3 rests on 2\n")
     -- three lines, three angles: angle
-    ∷ row (of 3 7 (sized 0 1 6000 ∷ sized 0 2 6000 ∷ sized 1 2 6000 ∷ []))
+    ∷ row (of 3 0 (sized 0 1 6000 ∷ sized 0 2 6000 ∷ sized 1 2 6000 ∷ []))
     (ascii "verdict angle\nelements 3 constraints 3\nstep 3 from 0 1 2 joint 0 1 2 kind lll ways ?\ncluster 3 holds 0 1 2 rests on 0 1 2\n")
     -- the report's sheet
-    ∷ row (of 4 0 (reports []))
+    ∷ row (of 0 4 (reports []))
     (ascii "verdict well\nelements 4 constraints 5\nstep 5 from 0 1 2 joint 0 1 2 kind ppp ways 2\nstep 6 from 3 4 5 joint 1 2 3 kind ppp ways ?\ncluster 6 holds 0 1 2 3 rests on 0 1 2 3 4\n")
     -- the same with (0,3) added last: over, first 5, set 0 1 2 3
-    ∷ row (of 4 0 (reports (sized 0 3 300 ∷ []))) (ascii "verdict over\nelements 4 constraints 6\nfirst 5\nset 0 1 2 3\n")
+    ∷ row (of 0 4 (reports (sized 0 3 300 ∷ []))) (ascii "verdict over\nelements 4 constraints 6\nfirst 5\nset 0 1 2 3\n")
     -- that with a fifth, unconstrained point: still over, though 6 is below 7
-    ∷ row (of 5 0 (reports (sized 0 3 300 ∷ []))) (ascii "verdict over\nelements 5 constraints 6\nfirst 5\nset 0 1 2 3\n")
+    ∷ row (of 0 5 (reports (sized 0 3 300 ∷ []))) (ascii "verdict over\nelements 5 constraints 6\nfirst 5\nset 0 1 2 3\n")
     -- each of 0, 1, 2 with each of 3, 4, 5: stuck, no step
-    ∷ row (of 6 0 crossed) (ascii "verdict stuck\nelements 6 constraints 9\n" ++ crossedLines)
+    ∷ row (of 0 6 crossed) (ascii "verdict stuck\nelements 6 constraints 9\n" ++ crossedLines)
     -- line 0, points 1 and 2; (0,1) without size, (0,2) 300, (1,2) 300: ways 1; (1,2) 299: ways 0
     ∷ row (foot 300) (ascii "verdict well\nelements 3 constraints 3\nstep 3 from 0 1 2 joint 0 1 2 kind ppl ways 1\ncluster 3 holds 0 1 2 rests on 0 1 2\n")
     ∷ row (foot 299) (ascii "verdict well\nelements 3 constraints 3\nstep 3 from 0 1 2 joint 0 1 2 kind ppl ways 0\ncluster 3 holds 0 1 2 rests on 0 1 2\n")
@@ -87,22 +91,22 @@ table =
     ∷ row (triangle 100 200 301)
     (ascii "verdict well\nelements 3 constraints 3\nstep 3 from 0 1 2 joint 0 1 2 kind ppp ways 0\ncluster 3 holds 0 1 2 rests on 0 1 2\n")
     -- rings (2026-03): the hipped frame, four lines and four angles, each line to the next: angle; one angle less: under
-    ∷ row (of 4 15 round4)
+    ∷ row (of 4 0 round4)
     (ascii "verdict angle\nelements 4 constraints 4\ncluster 0 holds 0 1 rests on 0\ncluster 1 holds 1 2 rests on 1\ncluster 2 holds 2 3 rests on 2\ncluster 3 holds 0 3 rests on 3\n")
-    ∷ row (of 4 15 (sized 0 1 6000 ∷ sized 1 2 6000 ∷ sized 2 3 6000 ∷ []))
+    ∷ row (of 4 0 (sized 0 1 6000 ∷ sized 1 2 6000 ∷ sized 2 3 6000 ∷ []))
     (ascii "verdict under\nelements 4 constraints 3\ncluster 0 holds 0 1 rests on 0\ncluster 1 holds 1 2 rests on 1\ncluster 2 holds 2 3 rests on 2\n")
     -- five lines in a ring: angle; a ring through points only: under
-    ∷ row (of 5 31 (sized 0 1 6000 ∷ sized 1 2 6000 ∷ sized 2 3 6000 ∷ sized 3 4 6000 ∷ sized 0 4 6000 ∷ []))
+    ∷ row (of 5 0 (sized 0 1 6000 ∷ sized 1 2 6000 ∷ sized 2 3 6000 ∷ sized 3 4 6000 ∷ sized 0 4 6000 ∷ []))
     (ascii "verdict angle\nelements 5 constraints 5\ncluster 0 holds 0 1 rests on 0\ncluster 1 holds 1 2 rests on 1\ncluster 2 holds 2 3 rests on 2\ncluster 3 holds 3 4 rests on 3\ncluster 4 holds 0 4 rests on 4\n")
-    ∷ row (of 4 0 round4)
+    ∷ row (of 0 4 round4)
     (ascii "verdict under\nelements 4 constraints 4\ncluster 0 holds 0 1 rests on 0\ncluster 1 holds 1 2 rests on 1\ncluster 2 holds 2 3 rests on 2\ncluster 3 holds 0 3 rests on 3\n")
     -- four parts, two lines and a point each, that share lines in a ring: angle
-    ∷ row (of 8 15 (corner 0 1 4 (corner 1 2 5 (corner 2 3 6 (corner 0 3 7 [])))))
+    ∷ row (of 4 4 (corner 0 1 4 (corner 1 2 5 (corner 2 3 6 (corner 0 3 7 [])))))
     (ascii "verdict angle\nelements 8 constraints 12\nstep 12 from 0 1 2 joint 0 1 4 kind pll ways 1\nstep 13 from 3 4 5 joint 1 2 5 kind pll ways 1\n"
     ++ ascii "step 14 from 6 7 8 joint 2 3 6 kind pll ways 1\nstep 15 from 9 10 11 joint 0 3 7 kind pll ways 1\n"
     ++ ascii "cluster 12 holds 0 1 4 rests on 0 1 2\ncluster 13 holds 1 2 5 rests on 3 4 5\ncluster 14 holds 2 3 6 rests on 6 7 8\ncluster 15 holds 0 3 7 rests on 9 10 11\n")
     -- each of 0, 1, 2 with each of 3, 4, 5, all of them lines: angle, where points are stuck
-    ∷ row (of 6 63 crossed) (ascii "verdict angle\nelements 6 constraints 9\n" ++ crossedLines)
+    ∷ row (of 6 0 crossed) (ascii "verdict angle\nelements 6 constraints 9\n" ++ crossedLines)
     ∷ []
 
 -- no rule refuses any of them, and each prints its report

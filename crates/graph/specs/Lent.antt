@@ -22,6 +22,7 @@ use Rattle.graph.specs.declared.Head.{Head}
 use Rattle.graph.specs.declared.Front.{Front}
 pub mod Laws
 pub mod Sheets
+pub mod Plain
 
 -- the graph that a head and the arrays hold
 abbrev pub graphIn : Head → List ℕ → List ℤ → Graph

@@ -14,6 +14,7 @@ pub mod Proof
 
 -- all that precedes the constraints is the same
 pub record SameElements (f g : Facts) : Type 0 where
+  pub opening : g .opening ≡ f .opening
   pub elements : g .elements ≡ f .elements
 
 -- "constraints are added to a sheet", anywhere in the list and in any order: f is the old sheet, g the new

@@ -2,3 +2,4 @@
 pub mod Opening
 pub mod Constraints
 pub mod Dimension
+pub mod Sheets

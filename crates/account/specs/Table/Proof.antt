@@ -13,8 +13,8 @@ use Rattle.theory.specs.Verdict.{angled, judged}
 use Rattle.theory.specs.Placement.{jointKind, against, triangle, strip, stripOf, placed, ways}
 use Rattle.theory.specs.Graph.{listVerdict, stepOf, stepsFrom}
 use Rattle.space.specs.Text.{decimal}
-use Rattle.sheet.specs.Facts.{sheetOf, elementsOf, linesOf}
-use Rattle.sheet.specs.Rules.{sheetFault, constraintFault, constraintsFault, stands}
+use Rattle.sheet.specs.Facts.{sheetOf, setOf}
+use Rattle.sheet.specs.Rules.{sheetFault, elementsFault, kindsAllowed, radiiInRange, constraintFault, constraintsFault, sizeFault, stands}
 use Rattle.sheet.specs.Graph.{graphOf}
 use Rattle.rests.specs.Rests.{aloneFrom, restsOn}
 use Rattle.report.specs.Elements.{among, elements, constraintsOf}
@@ -25,12 +25,12 @@ use Rattle.account.specs.Table.{Row, table, Printed}
 printed : map (λ (r : Row). reportOf (graphOf (r .facts))) table ≡ map (λ (r : Row). r .prints) table
 unfolding reportOf listReport report overReport stepLines stepLine clusterLines slotLine clusterLine decimal elements constraintsOf among restsOn aloneFrom at stepsFrom
     stepOf ascending ways placed triangle strip stripOf against jointKind listVerdict judged angled ringed stripped ring.strip once linked planOf plan firstOf secondOf thirdOf
-    openTest put cleared union joint joints left total has carried ones _∩_ _∪_ elementsOf linesOf pair isOver anyBelow heavy isTight smaller
+    openTest put cleared union joint joints left total has carried ones _∩_ _∪_ setOf pair isOver anyBelow heavy isTight smaller
     fewestBelow smallestSet next overUpTo overOf
 printed = refl
 
 fine : map (λ (r : Row). sheetFault (sheetOf (r .facts))) table ≡ map (λ (r : Row). 0) table
-unfolding sheetFault sheetOf elementsOf constraintsFault constraintFault stands
+unfolding sheetFault sheetOf elementsFault kindsAllowed radiiInRange constraintsFault constraintFault sizeFault stands
 fine = refl
 
 pub sheets-to-try : Printed

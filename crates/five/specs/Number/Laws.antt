@@ -18,7 +18,7 @@ use Rattle.theory.specs.Constraints.Laws.{among-perm}
 use Rattle.theory.specs.Near.{Once, Near}
 use Rattle.theory.specs.Graph.{verdictOf}
 use Rattle.sheet.specs.declared.Constraint.{Constraint}
-use Rattle.sheet.specs.Facts as facts
+use Rattle.sheet.specs.Facts.{setOf}
 use Rattle.sheet.specs.Graph.{clusterOf, graphOf}
 use Rattle.graph.specs.declared.Head.{Head}
 use Rattle.graph.specs.Lent.{graphIn, Drawn}
@@ -179,7 +179,7 @@ module _ {h : Head} {near start : List ℕ} (d : Drawn h near start) (five : h .
   order = same-items ps cs (once-standing i (eachTwo 0 5) (is-once (map clusterOf (eachTwo 0 5)) tt)) (d .sound .simple .once) items
 
   pub five-verdict : (z : List ℤ) → setVerdict 5 i ≡ verdictOf (graphIn h start z)
-  unfolding setVerdict pointsSheet Pairs Below facts.elementsOf facts.linesOf
+  unfolding setVerdict pointsSheet Pairs Below setOf
   five-verdict z =
       sym (same-judgement (graphOf (pointsSheet 5 i)) (graphIn h start z) five points order (λ x a. d .sound .simple .pairs x (items x .0 a))
       (λ x a. rw five at (d .sound .below x (items x .0 a))))

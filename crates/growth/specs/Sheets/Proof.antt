@@ -54,7 +54,7 @@ module _ (s : Sheet) (h : Held s) (events : List Event) where
   placed-grown =
       let r = runs .run s h events in
       record {
-        same = record { elements = r .elements };
+        same = record { opening = r .opening; elements = r .elements };
         more = record { added = _; order = subst (Perm _) (sym (r .constraints)) same };
       }
 

@@ -1,6 +1,6 @@
 -- No rule refuses the facts of the strip: each constraint joins the next element to one of the two before it, as none before it does.
 -- Assumes nothing.
-use mathlib.Core.Path.{_≡_, refl, sym, ap, _∙_, subst}
+use mathlib.Core.Path.{_≡_, refl, sym, ap, ap₂, _∙_, subst}
 use mathlib.Core.Bool.{Bool, true, false, _&&_}
 use mathlib.Core.List.{List, [], _∷_, _++_, append-assoc, append-nil}
 use Prim.Native.Nat.{ℕ, zero, suc, _+_, _*_, _-_, _<_}
@@ -12,7 +12,7 @@ use Rattle.sheet.specs.declared.Element.{Element}
 use Rattle.sheet.specs.declared.Constraint.{Constraint}
 use Rattle.sheet.specs.declared.Opening.the-variants.{Pf01}
 use Rattle.sheet.specs.Facts.{blankElement}
-use Rattle.sheet.specs.Rules.{elementsInRange, kindsAllowed, radiiInRange, stands, constraintFault, constraintsFault, elementsFault}
+use Rattle.sheet.specs.Rules.{elementsInRange, kindsAllowed, radiiInRange, stands, sizeFault, constraintFault, constraintsFault, elementsFault}
 use Rattle.sheet.specs.Rules.Laws.{elements-range, stands-more, none-else}
 use Rattle.sheet.specs.Accepted.{Accepted}
 use Rattle.sheet.specs.Accepted.Laws.{not-refused}
@@ -83,10 +83,11 @@ module _ (n : ℕ) where
 
   -- a new pair of points
   new-pair : (done : List Constraint) (a b : ℕ) → a < b → b < n → stands done a b ≡ false → constraintFault es done (distance a b) ≡ 0
+  unfolding sizeFault
   new-pair done a b l m s = not-refused es done (distance a b) (record {
     ends-ascend = rw (length-replicate, lt-ltb a b, lt-ltb b n);
     is-new = s;
-    size-fits = rw (points-at n a, points-at n b);
+    size-fits = ap₂ (λ (x y : Element). sizeFault (x .kind) (y .kind) (distance a b .size)) (points-at n a) (points-at n b);
   })
 
   pub strip-taken : (j : ℕ) → suc j < n → constraintsFault es [] (strip j) ≡ 0
