@@ -22,8 +22,8 @@ fn main() -> ExitCode {
             mixed(&mut run, n, shape);
         }
     }
-    for rule in rules((1..=11).chain([17])) {
-        run.must("pattern_open", &rule, 50);
+    for rule in rules((1..=11).chain(17..=20)) {
+        run.must("pattern_open", &rule, 20);
     }
     for (open, least) in [("0", 1_000), ("1", 1_000), ("2", 500), ("10", 50), ("40", 3), ("62", 2)] {
         run.must("open", open, least);
