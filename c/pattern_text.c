@@ -17,7 +17,7 @@ static const char *const rules[] = {
     [5] = "the constraint count is above 200",
     [6] = "the ends are not first below second below the element count",
     [7] = "the pair stands in an earlier constraint",
-    [8] = "the map has an unknown bit, or lacks the size of two points or two lines",
+    [8] = "the dimension is none that the two kinds may have, or it is missing where one must stand",
     [9] = "the size is outside its range",
     [10] = "bytes follow the last constraint",
     [11] = "the sheet is over, or one more constraint would make it so",
@@ -26,6 +26,9 @@ static const char *const rules[] = {
     [15] = "the clusters of a step do not make an open merge",
     [16] = "after the last step a merge is still open",
     [17] = "the lent space is shorter than the answer",
+    [18] = "an element has a kind that the sheet's opening does not know",
+    [19] = "a radius is outside 1 to 40,000",
+    [20] = "two circles of equal radii have no other contact",
     [21] = "the price list does not have one price for each pair",
     [22] = "a price is between 1,001 and 65,534",
     [23] = "no set of pairs that may be measured will do",
@@ -72,7 +75,7 @@ int32_t pattern_read(const uint8_t *sheet, size_t len, struct pattern_columns *o
     at += (out->n * bits + 7) / 8;
     for (size_t i = 0; i < out->n; i++) {
         out->kinds[i] = kinds[i * bits / 8] >> (i * bits % 8) & ((1 << bits) - 1);
-        out->radii[i] = out->kinds[i] == 2 ? number(&at) : 0;
+        out->radii[i] = out->kinds[i] == PATTERN_CIRCLE ? number(&at) : 0;
     }
     out->e = *at++;
     for (size_t k = 0; k < out->e; k++) {

@@ -35,7 +35,7 @@ __all__ = [
 
 MOST_ELEMENTS = 64
 MOST_CONSTRAINTS = 200
-MOST_WRITTEN = 1414
+MOST_WRITTEN = 1678
 MOST_REPORT = 4667
 MOST_PLAN = 186
 MOST_OPEN = 186
@@ -43,7 +43,7 @@ MOST_STEPS = 62
 MOST_CLUSTERS = 125
 MOST_RESTS = 250
 MOST_CHAIN = 63
-MOST_RECORD = 891
+MOST_RECORD = 1155
 MOST_MISSING = 125
 
 #: The price of a pair that can't be measured.
@@ -291,14 +291,15 @@ def write(facts: Facts) -> bytes:
     constraints = facts.constraints[: MOST_CONSTRAINTS + 1]
     elements = facts.elements[: MOST_ELEMENTS + 1]
     columns = [
+        *_column(ctypes.c_uint8, [element.kind for element in elements]),
+        *_column(ctypes.c_uint32, [element.radius for element in elements]),
         *_column(ctypes.c_uint8, [c.first for c in constraints]),
         *_column(ctypes.c_uint8, [c.second for c in constraints]),
         *_column(ctypes.c_uint8, [c._map() for c in constraints]),
         *_column(ctypes.c_int32, [c.size or 0 for c in constraints]),
     ]
-    n, e = ctypes.c_size_t(len(elements)), ctypes.c_size_t(len(constraints))
-    lines = ctypes.c_uint64(sum(1 << i for i, element in enumerate(elements) if element.kind == Kind.LINE))
-    return _out("pattern_write", MOST_WRITTEN, n, e, lines, *columns)
+    counts = map(ctypes.c_size_t, (facts.opening, len(elements), len(constraints)))
+    return _out("pattern_write", MOST_WRITTEN, *counts, *columns)
 
 
 class _Columns(ctypes.Structure):

@@ -67,7 +67,8 @@ class Calls(unittest.TestCase):
         chance = random.Random(11)
         for _ in range(300):
             n = chance.randrange(2, 65)
-            elements = [chance.choice([POINT, LINE]) for _ in range(n)]
+            opening = chance.choice([1, 2])
+            elements = [chance.choice([POINT, LINE, CIRCLE(chance.randrange(1, 40_001))][: opening + 1]) for _ in range(n)]
             constraints = []
             for first in range(n):
                 for second in range(first + 1, n):
@@ -75,8 +76,27 @@ class Calls(unittest.TestCase):
                         lines = [elements[first], elements[second]].count(LINE)
                         size = chance.randrange(1, [40_001, 40_001, 18_000][lines]) * (chance.choice([1, -1]) if lines else 1)
                         constraints.append(Constraint(first, second, None if lines == 1 and chance.random() < 0.3 else size))
-            facts = Facts(elements, constraints)
+            facts = Facts(elements, constraints, opening)
             self.assertEqual(pattern.read(pattern.write(facts)), facts)
+
+    def test_circles(self):
+        touch, other = (lambda a, b: Constraint(a, b, tangent=True)), (lambda a, b: Constraint(a, b, tangent=True, other=True))
+        light = Facts([LINE, LINE, CIRCLE(2500), CIRCLE(800), POINT], [touch(0, 2), other(1, 2), other(2, 3), Constraint(1, 3), touch(2, 4)], 2)
+        sheet = pattern.write(light)
+        self.assertEqual(sheet[:4], b"PF02")
+        self.assertEqual(pattern.read(sheet), light)
+        self.assertEqual(pattern.verdict(sheet), Verdict.UNDER)
+        self.assertEqual(pattern.read(pattern.write(Facts([POINT] * 2, opening=2))).opening, 2)
+        self.refused(18, pattern.write, Facts(light.elements, light.constraints, 1))
+        self.refused(19, pattern.write, Facts([POINT, CIRCLE(0)], opening=2))
+        self.refused(19, pattern.write, Facts([POINT, CIRCLE(40_001)], opening=2))
+        self.refused(20, pattern.write, Facts([CIRCLE(5), CIRCLE(5)], [other(0, 1)], 2))
+        self.refused(8, pattern.write, Facts([POINT, CIRCLE(5)], [other(0, 1)], 2))
+        self.refused(1, pattern.write, Facts([POINT] * 2, opening=3))
+        sketch = pattern.Sketch(sheet)
+        self.assertEqual((sketch.ask(Constraint(0, 1, 9000)), sketch.count()), (Verdict.UNDER, 5))
+        self.assertEqual((sketch.place(touch(3, 4), 5), sketch.count()), (Verdict.UNDER, 6))
+        self.assertEqual(pattern.read(sketch.sheet()).constraints[5], touch(3, 4))
 
     def test_damaged_sheets(self):
         chance = random.Random(12)

@@ -26,12 +26,18 @@ int main(int argc, char **argv)
         printf("refused by rule %d: %s\n", (int)-answer, pattern_rule_text(answer));
         return 2;
     }
-    for (size_t i = 0; i < facts.n; i++)
-        printf("element %zu is a %s\n", i, kinds[facts.kinds[i]]);
+    for (size_t i = 0; i < facts.n; i++) {
+        printf("element %zu is a %s", i, kinds[facts.kinds[i]]);
+        if (facts.kinds[i] == PATTERN_CIRCLE)
+            printf(" of radius %u", (unsigned)facts.radii[i]);
+        printf("\n");
+    }
     for (size_t k = 0; k < facts.e; k++) {
         printf("constraint %zu holds %d and %d", k, facts.firsts[k], facts.seconds[k]);
         if (facts.maps[k] & PATTERN_SIZED)
             printf(" by %d", (int)facts.sizes[k]);
+        if (facts.maps[k] & PATTERN_TANGENT)
+            printf(facts.maps[k] & PATTERN_OTHER ? " by their other contact" : " by a contact");
         printf("\n");
     }
     int32_t verdict = pattern_verdict(sheet, len);

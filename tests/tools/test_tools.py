@@ -152,7 +152,7 @@ class Many(unittest.TestCase):
 class Pictures(unittest.TestCase):
     """Pictures are well-formed, show every element and constraint, and are to scale."""
 
-    NAMES = ("gable", "frame", "braced", "lattice", "triangle", "hipped", "rails", "open")
+    NAMES = ("gable", "frame", "braced", "lattice", "triangle", "hipped", "rails", "open", "light")
 
     def facts(self, name):
         return json.loads(pattern("show", "--json", text(name))[1])

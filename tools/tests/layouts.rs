@@ -131,6 +131,7 @@ fn every_example_has_the_layout_that_it_is_known_for() {
     };
     assert_eq!(how(include_str!("../../examples/text/gable.txt")), How::Plan);
     assert_eq!(how(include_str!("../../examples/text/rails.txt")), How::Plan);
+    assert_eq!(how(include_str!("../../examples/text/light.txt")), How::Plan);
     assert_eq!(how(include_str!("../../examples/text/frame.txt")), How::Search);
     assert_eq!(how(include_str!("../../examples/text/lattice.txt")), How::Search);
     assert_eq!(how(include_str!("../../examples/text/hipped.txt")), How::Search);
@@ -146,12 +147,14 @@ fn every_sheet_is_drawn() {
     let mut random = Random(77);
     for round in 0..300 {
         let n = if round % 50 == 0 { 64 } else { 2 + random.below(12) };
-        let lines: Vec<bool> = (0..n).map(|_| random.below(3) == 0).collect();
-        let mut text: String = lines
-            .iter()
-            .enumerate()
-            .map(|(i, line)| format!("{} E{i}\n", if *line { "line" } else { "point" }))
-            .collect();
+        let kinds: Vec<usize> = (0..n).map(|_| random.below(4)).collect();
+        let lines: Vec<bool> = kinds.iter().map(|kind| *kind == 0).collect();
+        let element = |(i, kind): (usize, &usize)| match kind {
+            0 => format!("line E{i}\n"),
+            1 => format!("circle E{i} {}\n", 10 + i),
+            _ => format!("point E{i}\n"),
+        };
+        let mut text: String = kinds.iter().enumerate().map(element).collect();
         let mut pairs: Vec<(usize, usize)> = Vec::new();
         for _ in 0..random.below(2 * n + 2).min(200) {
             let (a, b) = (random.below(n), random.below(n));
@@ -160,6 +163,7 @@ fn every_sheet_is_drawn() {
                 let size = 1 + random.below(150);
                 text += &match (lines[a], lines[b]) {
                     (true, true) => format!("angle E{a} E{b} {size}\n"),
+                    _ if kinds[a] == 1 && size < 60 => format!("tangent E{a} E{b}\n"),
                     (false, false) => format!("distance E{a} E{b} {size}\n"),
                     _ if size < 40 => format!("on E{a} E{b}\n"),
                     _ => format!("distance E{a} E{b} -{size}\n"),

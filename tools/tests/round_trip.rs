@@ -147,7 +147,7 @@ fn a_refused_byte_is_where_the_reader_begins_to_refuse() {
             assert!((byte..=end).any(|end| engine::refusal(&bytes[..end]) == Some(rule)), "{found:?} of {bytes:02x?}");
         }
     }
-    for rule in [1, 2, 3, 4, 5, 6, 7, 8, 9, 10] {
+    for rule in [1, 2, 3, 4, 5, 6, 7, 8, 9, 10, 18, 19] {
         assert!(rules[rule] > 0, "no sheet was refused by {rule}");
     }
 }
