@@ -24,12 +24,13 @@ use Rattle.chain.specs.Answer.{asked}
 use Rattle.opens.specs.Opens.{openField}
 use Rattle.records.specs.Record.{writtenField}
 pub mod Reading
+pub mod Rewriting
 pub mod Parts
 pub mod Sketches
 pub mod Steps
 pub mod Chains
 
--- ---- an accepted sheet (document 01, "Refused": 1 to 10)
+-- ---- an accepted sheet (document 01, "Refused": 1 to 10; document 02, 2026-01: 18 to 20)
 
 -- the items that its graph gives
 abbrev pub itemsField : (Graph → List ℕ) → List ℕ → Field (List ℕ)

@@ -5,4 +5,5 @@ pub mod Promises
 pub mod Counts
 pub mod Parts
 pub mod Untagged
+pub mod Circles
 pub mod Opens

@@ -102,7 +102,7 @@ pub record HeldRuns (bytes : List ℕ) (f : Facts) : Type 0 where
   pub hold : heldSheet bytes ≡ value f []
   pub value-runs : (events : List Event) → Run (sheetOf f) events
   -- in lent bytes with room for every held sketch: the same answers, and the same facts after them
-  pub lent-runs : (lent : List ℕ) → 891 ≤ length lent → (events : List Event)
+  pub lent-runs : (lent : List ℕ) → 1155 ≤ length lent → (events : List Event)
       → (answersIn (afterTo (holdField bytes) lent) events ≡ answersTo (sheetOf f) events)
       × SameFacts (allIn (afterTo (holdField bytes) lent) events) (afterAll (sheetOf f) events)
 
@@ -118,7 +118,7 @@ pub record GrownTold (bytes new : List ℕ) (f g : Facts) : Type 0 where
 -- placed dimensions: the sketch held from the bytes, by value and in lent bytes, after any run of asks and placings
 pub record PlacedTold (bytes : List ℕ) (f : Facts) (events : List Event) : Type 0 where
   pub by-value : NeverSmaller f (factsOf (afterAll (sheetOf f) events))
-  pub lent : (space : List ℕ) → 891 ≤ length space
+  pub lent : (space : List ℕ) → 1155 ≤ length space
       → (g : Facts) × (recordSheet (allIn (afterTo (holdField bytes) space) events) ≡ value g []) × NeverSmaller f g
 
 -- ---- the page

@@ -12,7 +12,8 @@ use Rattle.sheet.specs.declared.Sheet.{Sheet}
 use Rattle.sheet.specs.Field.{Field, value, refused, Bytes}
 use Rattle.sheet.specs.Decode.{readSheet}
 use Rattle.sheet.specs.Answer.{answerTo}
-use Rattle.sheet.specs.Refusals.{Rule, But, By}
+use Rattle.sheet.specs.Refusals.{Rule, OfSheet, But, By}
+use Rattle.sheet.specs.Refusals.Laws.{OfFacts}
 use Rattle.writer.specs.Write.{writeField}
 use Rattle.sketch.specs.declared.Judgement.the-variants.{Refused as Not}
 use Rattle.sketch.specs.Sketch.{askAnswer, placeAnswer}
@@ -44,35 +45,43 @@ pub record ShortList (x : Field (List Step)) (list : List Step) : Type 0 where
 
 -- the rules that refuse an ask
 abbrev pub Asking : List ℕ
-Asking = 27 ∷ 6 ∷ 7 ∷ 8 ∷ 9 ∷ 11 ∷ []
+Asking = 27 ∷ 6 ∷ 7 ∷ 8 ∷ 20 ∷ 9 ∷ 11 ∷ []
 
--- 1 to 11, and 26
+-- those of a sheet that is held: 11 too
+abbrev pub Holding : ℕ → Type 0
+Holding k = Rule 1 11 k ⊎ Rule 18 20 k
+
+-- those of a saved plan too; 14 is not used (request 2026-06)
+abbrev pub Checking : ℕ → Type 0
+Checking k = But 14 (Rule 1 16) k ⊎ Rule 18 20 k
+
+-- 26 too
 abbrev pub Numbered : ℕ → Type 0
-Numbered k = Rule 1 11 k ⊎ (k ≡ 26)
+Numbered k = Holding k ⊎ (k ≡ 26)
 
 pub record Refusals : Type 0 where
   -- over lent space a call is refused by the rule that refuses its items, or by 17 where the space is shorter than they are
   pub lent : (x : Field (List ℕ)) (space : List ℕ) (k : ℕ) → answerTo x space ≡ Refused k → (x ≡ refused k) ⊎ ((k ≡ 17) × Short x space)
-  pub read : (bytes : List ℕ) → By (Rule 1 10) (readSheet bytes)
-  pub verdict : (bytes : List ℕ) → By (Rule 1 10) (verdictField bytes)
-  pub rewrite : (bytes : List ℕ) → By (Rule 1 10) (rewriteField bytes)
+  pub read : (bytes : List ℕ) → By OfSheet (readSheet bytes)
+  pub verdict : (bytes : List ℕ) → By OfSheet (verdictField bytes)
+  pub rewrite : (bytes : List ℕ) → By OfSheet (rewriteField bytes)
   -- over, plan, initial and final clusters, what these rest on, report
-  pub items : (what : Graph → List ℕ) (bytes : List ℕ) → By (Rule 1 10) (itemsField what bytes)
+  pub items : (what : Graph → List ℕ) (bytes : List ℕ) → By OfSheet (itemsField what bytes)
   -- the writer: no bytes, so not 4
-  pub write : (s : Sheet) → By (But 4 (Rule 3 9)) (writeField s)
-  -- the plan check; 14 is not used (request 2026-06)
-  pub check : (bytes plan : List ℕ) → By (But 14 (Rule 1 16)) (checkField bytes plan)
+  pub write : (s : Sheet) → By OfFacts (writeField s)
+  -- the plan check
+  pub check : (bytes plan : List ℕ) → By Checking (checkField bytes plan)
   -- step records, of the engine's plan and of a saved one; over a lent list of records a call is refused so, or by 17 where the list is shorter
-  pub steps : (bytes : List ℕ) → By (Rule 1 11) (stepsField bytes)
-  pub saved-steps : (bytes plan : List ℕ) → By (But 14 (Rule 1 16)) (savedStepsField bytes plan)
+  pub steps : (bytes : List ℕ) → By Holding (stepsField bytes)
+  pub saved-steps : (bytes plan : List ℕ) → By Checking (savedStepsField bytes plan)
   pub records : (x : Field (List Step)) (list : List Step) (k : ℕ) → filledTo x list ≡ Refused k → (x ≡ refused k) ⊎ ((k ≡ 17) × ShortList x list)
-  pub hold : (bytes : List ℕ) → By (Rule 1 11) (heldSheet bytes)
+  pub hold : (bytes : List ℕ) → By Holding (heldSheet bytes)
   -- the cheapest missing dimensions
-  pub missing : (bytes prices : List ℕ) → By (λ k. Rule 1 11 k ⊎ Rule 21 23 k) (missingField bytes prices)
+  pub missing : (bytes prices : List ℕ) → By (λ k. Holding k ⊎ Rule 21 23 k) (missingField bytes prices)
   -- a held sketch, by value and in lent bytes; placing in those by 17 too
   pub ask : (s : Sheet) (c : Constraint) (k : ℕ) → askAnswer s c ≡ Not k → Among k Asking
   pub place : (s : Sheet) (c : Constraint) (held k : ℕ) → placeAnswer s c held ≡ Not k → Among k (24 ∷ Asking)
-  pub hold-in : (bytes : List ℕ) → By (Rule 1 11) (holdField bytes)
+  pub hold-in : (bytes : List ℕ) → By Holding (holdField bytes)
   pub ask-in : (lent : List ℕ) (c : Constraint) → By (λ k. Among k Asking) (askField lent c)
   pub place-in : (lent : List ℕ) (c : Constraint) (held : ℕ) → By (λ k. Among k (24 ∷ Asking)) (placeField lent c held)
   pub held-in : (lent : List ℕ) → By (Rule 27 27) (sheetField lent)
@@ -82,10 +91,10 @@ pub record Refusals : Type 0 where
   -- the sheet with the longest plan
   pub longest : (n : ℕ) → By (Rule 3 3) (longestField n)
   -- the chain from one element to another; over lent space it is refused by that rule too, or by 17
-  pub chain : (bytes : List ℕ) (start end : ℕ) → By (λ k. Rule 1 11 k ⊎ (k ≡ 25)) (chainField bytes start end)
+  pub chain : (bytes : List ℕ) (start end : ℕ) → By (λ k. Holding k ⊎ (k ≡ 25)) (chainField bytes start end)
   pub run : (x : Field Graph) (start end : ℕ) (space left : List ℕ) (k : ℕ) → ChainAnswers x start end space (No k) left → (x ≡ refused k) ⊎ (k ≡ 17)
   -- the merges that are open
-  pub open-merges : (bytes : List ℕ) (steps : ℕ) → By (Rule 1 11) (openMergesField bytes steps)
+  pub open-merges : (bytes : List ℕ) (steps : ℕ) → By Holding (openMergesField bytes steps)
   -- the report program lends 4,667 bytes, so it never prints "refused 17"
   pub program : (bytes space : List ℕ) (k : ℕ) → Bytes bytes → 4667 ≤ length space → answerTo (itemsField reportOf bytes) space ≡ Refused k
-      → Rule 1 10 k
+      → OfSheet k

@@ -1,7 +1,7 @@
 // The public crate: every entry point that a user calls, each with its whole contract and no precondition. specs/ says what each answers.
 ghost use mathlib.Core.Path.{_≡_};
 ghost use mathlib.Core.List.{[], _∷_};
-ghost use Prim.Native.Nat.{_%_, _≤_};
+ghost use Prim.Native.Nat.{_+_, _*_, _%_, _≤_};
 ghost use lib.ListN.{length, take};
 ghost use Rattle.theory.specs.Set.{_∩_};
 ghost use Rattle.space.specs.Space.{answer, after};
@@ -25,12 +25,17 @@ ghost use Rattle.part.specs.Tallies.{measureOf};
 ghost use Rattle.pattern.specs.Entries.{partOf, partField, countOf};
 ghost use Rattle.pattern.specs.Entries.{chainField};
 ghost use Rattle.pattern.specs.Entries.{openMergesField};
+ghost use lib.Count.{ones};
+ghost use Rattle.sheet.specs.Field.{kindBytes};
 use chain::Answer;
+use graph::Front;
 use part::Measured;
+use reader::CodesRead;
 use reader::GraphRead;
 use reader::Outcome;
 use reader::Reading;
 use sheet::Constraint;
+use sheet::Opening;
 use sheet::Sheet;
 use sketch::Judgement;
 use space::Written;
@@ -39,32 +44,47 @@ use theory::Finding;
 use theory::Step;
 use theory::Verdict;
 
-// The sheet that some bytes stand for, or the rule of 1 to 10 that refuses them.
+// The sheet that some bytes stand for, or the rule of 1 to 10 and 18 to 20 that refuses them.
 pub fn read(bytes: &[u8]) -> Reading
     ensures { λ r. ⌜ r ≡ asReading (readSheet (now (bytes .entry))) ⌝ }
 {
     reader::read_sheet(bytes)
 }
 
-// A sheet's facts as bytes in lent space, or the rule of 3, 5 to 9 and 17 that refuses them.
+// A sheet's facts as bytes in lent space, or the rule of 3, 5 to 9 and 17 to 20 that refuses them.
 pub fn write(sheet: Sheet, out: &mut [u8]) -> Written
     ensures { λ r. ⌜ Answers (writeField sheet) (now (out .entry)) r (now (out .exit)) ⌝ }
 {
     writer::write_sheet(sheet, out)
 }
 
-// A sheet read and written again: the same sheet without its tags, or the rule of 1 to 10 and 17 that refuses it.
+// How many bytes precede the constraints of a sheet.
+fn length_before(h: Front) -> usize
+    requires { ⌜ h .n ≤ 64 ⌝ }
+    ensures { λ r. ⌜ r ≡ 6 + kindBytes (h .opening) (h .n) + 4 * ones (h .kinds .circles) ⌝ }
+{
+    let kinds = h.kinds;
+    let radii = 4 * (u64::count_ones(kinds.circles) as usize);
+    let o = h.opening;
+    match o {
+        Opening::Pf01 => 6 + (h.n + 7) / 8 + radii,
+        Opening::Pf02 => 6 + (h.n + 3) / 4 + radii,
+    }
+}
+
+// A sheet read and written again: the same sheet without its tags, or the rule of 1 to 10 and 17 to 20 that refuses it.
 pub fn rewrite(bytes: &[u8], out: &mut [u8]) -> Written
     ensures { λ r. ⌜ Answers (rewriteField (now (bytes .entry))) (now (out .entry)) r (now (out .exit)) ⌝ }
 {
     let mut near = [0u64; 64];
     let mut start = [0u64; 200];
-    let mut sizes = [0i32; 200];
-    let got = reader::read_graph(bytes, &mut near, &mut start, &mut sizes);
-    let GraphRead::Value(_) = got else {
+    let mut codes = [0i32; 200];
+    let mut radii = [0u32; 64];
+    let got = reader::read_codes(bytes, &mut near, &mut start, &mut codes, &mut radii);
+    let CodesRead::Value(front) = got else {
         return Written::Refused(got.refusal());
     };
-    writer::write_untagged(bytes, out)
+    writer::write_untagged(bytes, length_before(front), out)
 }
 
 // Two numbers into lent space, or 17.
@@ -210,7 +230,7 @@ pub fn report(bytes: &[u8], out: &mut [u8]) -> Written
     account::report(head, &near, &start, &sizes, out)
 }
 
-// The check of a saved plan, three numbers a step, against a sheet; the report for that plan, or the rule of 1 to 17 that refuses.
+// The check of a saved plan, three numbers a step, against a sheet; the report for that plan, or the rule of 1 to 20 that refuses.
 pub fn check_plan(bytes: &[u8], plan: &[u16], out: &mut [u8]) -> Written
     ensures { λ r. ⌜ Answers (checkField (now (bytes .entry)) (now (plan .entry))) (now (out .entry)) r (now (out .exit)) ⌝ }
 {
@@ -226,7 +246,7 @@ pub fn check_plan(bytes: &[u8], plan: &[u16], out: &mut [u8]) -> Written
 
 // ---- the plan as a list of step records
 
-// The steps of the engine's plan by value, or the rule of 1 to 11 that refuses.
+// The steps of the engine's plan by value, or the rule of 1 to 11 and 18 to 20 that refuses.
 fn plan_listing(bytes: &[u8]) -> Listing
     ensures { λ r. ⌜ Listed (stepsField (now (bytes .entry))) r ⌝ }
 {
@@ -240,7 +260,7 @@ fn plan_listing(bytes: &[u8]) -> Listing
     steps::plan_steps(head, &near, &start, &sizes)
 }
 
-// The steps of a saved plan by value, or the rule of 1 to 16 that refuses.
+// The steps of a saved plan by value, or the rule of 1 to 16 and 18 to 20 that refuses.
 fn saved_listing(bytes: &[u8], plan: &[u16]) -> Listing
     ensures { λ r. ⌜ Listed (savedStepsField (now (bytes .entry)) (now (plan .entry))) r ⌝ }
 {
@@ -254,7 +274,7 @@ fn saved_listing(bytes: &[u8], plan: &[u16]) -> Listing
     steps::saved_steps(head, &near, &start, &sizes, plan)
 }
 
-// The engine's plan as records in a list that the caller lends, one for each step, or the rule of 1 to 11 and 17 that refuses.
+// The engine's plan as records in a list that the caller lends, one for each step, or the rule of 1 to 11 and 17 to 20 that refuses.
 pub fn steps(bytes: &[u8], out: &mut [Step]) -> Written
     ensures { λ r. ⌜ Fills (stepsField (now (bytes .entry))) (now (out .entry)) r (now (out .exit)) ⌝ }
 {
@@ -262,7 +282,7 @@ pub fn steps(bytes: &[u8], out: &mut [Step]) -> Written
     steps::fill(out, l)
 }
 
-// A saved plan's steps, in the saved order, as records in a list that the caller lends, or the rule of 1 to 17 that refuses.
+// A saved plan's steps, in the saved order, as records in a list that the caller lends, or the rule of 1 to 20 that refuses.
 pub fn saved_steps(bytes: &[u8], plan: &[u16], out: &mut [Step]) -> Written
     ensures { λ r. ⌜ Fills (savedStepsField (now (bytes .entry)) (now (plan .entry))) (now (out .entry)) r (now (out .exit)) ⌝ }
 {
@@ -270,7 +290,7 @@ pub fn saved_steps(bytes: &[u8], plan: &[u16], out: &mut [Step]) -> Written
     steps::fill(out, l)
 }
 
-// The records of the engine's plan as numbers, seven a step, in lent space, or the rule of 1 to 11 and 17 that refuses.
+// The records of the engine's plan as numbers, seven a step, in lent space, or the rule of 1 to 11 and 17 to 20 that refuses.
 pub fn step_numbers(bytes: &[u8], out: &mut [u64]) -> Written
     ensures { λ r. ⌜ Answers (numbersField (stepsField (now (bytes .entry)))) (now (out .entry)) r (now (out .exit)) ⌝ }
 {
@@ -280,7 +300,7 @@ pub fn step_numbers(bytes: &[u8], out: &mut [u64]) -> Written
     steps::put_numbers(filled, out)
 }
 
-// The records of a saved plan as numbers, seven a step, in lent space, or the rule of 1 to 17 that refuses.
+// The records of a saved plan as numbers, seven a step, in lent space, or the rule of 1 to 20 that refuses.
 pub fn saved_step_numbers(bytes: &[u8], plan: &[u16], out: &mut [u64]) -> Written
     ensures { λ r. ⌜ Answers (numbersField (savedStepsField (now (bytes .entry)) (now (plan .entry)))) (now (out .entry)) r (now (out .exit)) ⌝ }
 {
@@ -292,7 +312,7 @@ pub fn saved_step_numbers(bytes: &[u8], plan: &[u16], out: &mut [u64]) -> Writte
 
 // ---- the steps of one cluster
 
-// The steps of one cluster of the plan, by its number, measured; or the rule of 1 to 11 and 26 that refuses.
+// The steps of one cluster of the plan, by its number, measured; or the rule of 1 to 11, 18 to 20 and 26 that refuses.
 fn part_size(bytes: &[u8], number: usize) -> Measured
     ensures { λ r. ⌜ r ≡ measureOf (partOf (now (bytes .entry)) number) ⌝ }
 {
@@ -306,7 +326,7 @@ fn part_size(bytes: &[u8], number: usize) -> Measured
     part::measure(head, &near, &start, &sizes, number)
 }
 
-// How many steps one cluster of the plan has, without writing any; or the rule of 1 to 11 and 26 that refuses.
+// How many steps one cluster of the plan has, without writing any; or the rule of 1 to 11, 18 to 20 and 26 that refuses.
 pub fn part_steps(bytes: &[u8], number: usize) -> Written
     ensures { λ r. ⌜ r ≡ countOf (partOf (now (bytes .entry)) number) ⌝ }
 {
@@ -316,7 +336,7 @@ pub fn part_steps(bytes: &[u8], number: usize) -> Written
     }
 }
 
-// How many bytes the lines of those steps have, without writing any; or the rule of 1 to 11 and 26 that refuses.
+// How many bytes the lines of those steps have, without writing any; or the rule of 1 to 11, 18 to 20 and 26 that refuses.
 pub fn part_bytes(bytes: &[u8], number: usize) -> Written
     ensures { λ r. ⌜ r ≡ countOf (partField (now (bytes .entry)) number) ⌝ }
 {
@@ -326,7 +346,7 @@ pub fn part_bytes(bytes: &[u8], number: usize) -> Written
     }
 }
 
-// The steps of one cluster of the plan as the report's lines, as bytes in lent space; or the rule of 1 to 11, 26 and 17 that refuses.
+// The steps of one cluster of the plan as the report's lines, as bytes in lent space; or the rule of 1 to 11, 17 to 20 and 26 that refuses.
 pub fn part(bytes: &[u8], number: usize, out: &mut [u8]) -> Written
     ensures { λ r. ⌜ Answers (partField (now (bytes .entry)) number) (now (out .entry)) r (now (out .exit)) ⌝ }
 {
@@ -341,7 +361,7 @@ pub fn part(bytes: &[u8], number: usize, out: &mut [u8]) -> Written
 }
 
 // The cheapest missing dimensions of a sheet, for a price for each pair: one number a pair, its first end times 256 plus its second, by price, then
-// pair; or the rule of 1 to 11, 17 and 21 to 23 that refuses.
+// pair; or the rule of 1 to 11 and 17 to 23 that refuses.
 pub fn missing(bytes: &[u8], prices: &[u16], out: &mut [u16]) -> Written
     ensures { λ r. ⌜ Answers (missingField (now (bytes .entry)) (now (prices .entry))) (now (out .entry)) r (now (out .exit)) ⌝ }
 {
@@ -357,36 +377,37 @@ pub fn missing(bytes: &[u8], prices: &[u16], out: &mut [u16]) -> Written
 
 // ---- a held sketch
 
-// The sketch held from a sheet, or the rule of 1 to 11 that refuses it.
+// The sketch held from a sheet, or the rule of 1 to 11 and 18 to 20 that refuses it.
 pub fn hold(bytes: &[u8]) -> Reading
     ensures { λ r. ⌜ r ≡ asReading (heldSheet (now (bytes .entry))) ⌝ }
 {
     let mut near = [0u64; 64];
     let mut start = [0u64; 200];
-    let mut sizes = [0i32; 200];
-    let got = reader::read_graph(bytes, &mut near, &mut start, &mut sizes);
-    let GraphRead::Value(head) = got else {
+    let mut codes = [0i32; 200];
+    let mut radii = [0u32; 64];
+    let got = reader::read_codes(bytes, &mut near, &mut start, &mut codes, &mut radii);
+    let CodesRead::Value(front) = got else {
         return reader::refuse(got.refusal());
     };
-    let over = judge::over_fault(head, &near, &start);
+    let over = judge::over_fault(graph::head_of(front), &near, &start);
     if over != 0 {
         return reader::refuse(over);
     }
-    let sheet = graph::sheet_of(head, &start, &sizes);
+    let sheet = graph::sheet_of(front, &start, &codes, &radii);
     Reading {
         outcome: Outcome::Accepted,
         sheet,
     }
 }
 
-// Asking: the verdict of a held sketch with one more constraint, or the rule of 27, 6 to 9 and 11 that refuses it.
+// Asking: the verdict of a held sketch with one more constraint, or the rule of 27, 6 to 9, 11 and 20 that refuses it.
 pub fn ask(s: &Sheet, c: Constraint) -> Judgement
     ensures { λ r. ⌜ r ≡ askAnswer (now (s .entry)) c ⌝ }
 {
     sketch::asking(*s, c)
 }
 
-// Placing: a held sketch takes one more constraint, and answers as asking would; or the rule of 27, 24, 6 to 9 and 11 refuses it.
+// Placing: a held sketch takes one more constraint, and answers as asking would; or the rule of 27, 24, 6 to 9, 11 and 20 refuses it.
 pub fn place(s: &mut Sheet, c: Constraint, held: usize) -> Judgement
     ensures { λ r. ⌜ (r ≡ placedOf (now (s .entry)) c held .answer) × (now (s .exit) ≡ placedOf (now (s .entry)) c held .sketch) ⌝ }
 {
@@ -397,22 +418,23 @@ pub fn place(s: &mut Sheet, c: Constraint, held: usize) -> Judgement
 
 // ---- a held sketch in lent bytes
 
-// The sketch held from a sheet, as a record in lent bytes, or the rule of 1 to 11 and 17 that refuses it.
+// The sketch held from a sheet, as a record in lent bytes, or the rule of 1 to 11 and 17 to 20 that refuses it.
 pub fn hold_in(bytes: &[u8], lent: &mut [u8]) -> Written
     ensures { λ r. ⌜ Answers (holdField (now (bytes .entry))) (now (lent .entry)) r (now (lent .exit)) ⌝ }
 {
     let mut near = [0u64; 64];
     let mut start = [0u64; 200];
-    let mut sizes = [0i32; 200];
-    let got = reader::read_graph(bytes, &mut near, &mut start, &mut sizes);
-    let GraphRead::Value(head) = got else {
+    let mut codes = [0i32; 200];
+    let mut radii = [0u32; 64];
+    let got = reader::read_codes(bytes, &mut near, &mut start, &mut codes, &mut radii);
+    let CodesRead::Value(front) = got else {
         return Written::Refused(got.refusal());
     };
-    let fault = judge::over_fault(head, &near, &start);
+    let fault = judge::over_fault(graph::head_of(front), &near, &start);
     if fault != 0 {
         return Written::Refused(fault);
     }
-    let sheet = graph::sheet_of(head, &start, &sizes);
+    let sheet = graph::sheet_of(front, &start, &codes, &radii);
     records::write(sheet, lent)
 }
 
@@ -441,7 +463,7 @@ pub fn held_in(lent: &[u8], out: &mut [u8]) -> Written
 // ---- the chain from one element to another
 
 // The numbers of the shortest run of final clusters from one element to another, into lent space; "none" where the two are not connected; or the rule of
-// 1 to 11, 25 and 17 that refuses.
+// 1 to 11, 17 to 20 and 25 that refuses.
 pub fn chain(bytes: &[u8], from: usize, to: usize, out: &mut [u16]) -> Answer
     ensures { λ r. ⌜ ChainAnswers (chainField (now (bytes .entry)) from to) from to (now (out .entry)) r (now (out .exit)) ⌝ }
 {
@@ -477,7 +499,7 @@ pub fn longest(n: usize, out: &mut [u8]) -> Written
 // ---- the merges that are open
 
 // The merges that are open after `count` of the engine's steps, or after all if there are fewer: three numbers each, ascending, by the lowest element of
-// the joint, then place by place; or the rule of 1 to 11 and 17 that refuses.
+// the joint, then place by place; or the rule of 1 to 11 and 17 to 20 that refuses.
 pub fn open_merges(bytes: &[u8], count: usize, out: &mut [u16]) -> Written
     ensures { λ r. ⌜ Answers (openMergesField (now (bytes .entry)) count) (now (out .entry)) r (now (out .exit)) ⌝ }
 {

@@ -2,7 +2,6 @@
 // items written, or minus the number of the rule that refuses; specs/ says it.
 ghost use mathlib.Core.Path.{_≡_};
 ghost use Rattle.theory.specs.Set.{_∩_};
-ghost use Rattle.writer.specs.Write.{writeField};
 ghost use Rattle.judge.specs.Judged.{planNumbers, finalClusters};
 ghost use Rattle.account.specs.Account.{reportOf};
 ghost use Rattle.account.specs.Resting.{restNumbers};
@@ -11,17 +10,23 @@ ghost use Rattle.records.specs.Record.{asJudgement, askField, placeField, sheet
 ghost use Rattle.pattern.specs.Entries.{stepsField, savedStepsField};
 ghost use Rattle.steps.specs.Records.{numbersField};
 ghost use Rattle.pattern.specs.Entries.{chainField};
+ghost use lib.IntN.{pos};
+ghost use lib.ListN.{getD};
 ghost use Rattle.sheet.specs.Facts.{blankConstraint};
 ghost use Prim.Native.Nat.{_%_};
 ghost use Rattle.card.specs.Card.{setVerdict};
 ghost use Rattle.longest.specs.Longest.{longestField};
 ghost use Rattle.sketch.specs.declared.Judgement.the-variants.{Is};
 ghost use Rattle.pattern_c.specs.Numbers.{asCount, asNumber, AnswersCount, PlacedCount, asItems, ChainCount};
-ghost use Rattle.pattern_c.specs.Columns.{constraintFrom, constraintIn, constraintsIn, sheetIn};
+ghost use Rattle.pattern_c.specs.Columns.{placesOf, openingBy, kindFrom, kindsListed, elementIn, constraintFrom, constraintIn};
+ghost use Rattle.pattern_c.specs.Columns.{columnsFault, columnsField};
 ghost use Rattle.pattern.specs.Entries.{partOf, partField, countOf, missingField};
 ghost use Rattle.pattern.specs.Entries.{openMergesField};
 use chain::Answer;
 use sheet::Constraint;
+use sheet::Element;
+use sheet::Kind;
+use sheet::Opening;
 use sheet::Sheet;
 use sheet::Size;
 use sketch::Judgement;
@@ -37,12 +42,26 @@ fn count(w: Written) -> i32
     }
 }
 
-// A sheet read and written again: the same sheet without its tags, or the rule of 1 to 10 and 17 that refuses it.
+// A sheet read and written again: the same sheet without its tags, or the rule of 1 to 10 and 17 to 20 that refuses it.
 #[no_mangle]
 pub extern "C" fn pattern_rewrite(sheet: &[u8], out: &mut [u8]) -> i32
     ensures { λ r. ⌜ AnswersCount (rewriteField (now (sheet .entry))) (now (out .entry)) r (now (out .exit)) ⌝ }
 {
     count(pattern::rewrite(sheet, out))
+}
+
+// ---- a sheet's facts in columns
+
+// A constraint from its numbers.
+fn constraint_from(first: u8, second: u8, map: u8, size: i32) -> Constraint
+    ensures { λ r. ⌜ r ≡ constraintFrom first second map size ⌝ }
+{
+    let size = sheet::size_by(map, size);
+    Constraint {
+        first,
+        second,
+        size,
+    }
 }
 
 // What stands where a list is too short: a constraint that rule 6 refuses.
@@ -54,6 +73,13 @@ fn blank() -> Constraint
         second: 0,
         size: Size::Missing,
     }
+}
+
+// A size, 0 past the end.
+fn size_at(sizes: &[i32], i: usize) -> i32
+    ensures { λ r. ⌜ r ≡ getD (now (sizes .entry)) i (pos 0) ⌝ }
+{
+    if i < sizes.len() { sizes[i] } else { 0 }
 }
 
 // The constraint at a place of the columns; the blank one where the place lies beyond a list that its map needs.
@@ -71,26 +97,20 @@ fn constraint_at(firsts: &[u8], seconds: &[u8], maps: &[u8], sizes: &[i32], i: u
     }
     let first = firsts[i];
     let second = seconds[i];
-    if maps[i] % 2 == 0 {
-        return Constraint {
-            first,
-            second,
-            size: Size::Missing,
-        };
+    let map = maps[i];
+    let size = size_at(sizes, i);
+    if map % 2 == 0 {
+        return constraint_from(first, second, map, size);
     }
     if sizes.len() <= i {
         return blank();
     }
-    Constraint {
-        first,
-        second,
-        size: Size::Given(sizes[i]),
-    }
+    constraint_from(first, second, map, size)
 }
 
 // The block of 200 constraints in the columns.
 fn constraints_in(firsts: &[u8], seconds: &[u8], maps: &[u8], sizes: &[i32]) -> [Constraint; 200]
-    ensures { λ r. ⌜ r ≡ constraintsIn (now (firsts .entry)) (now (seconds .entry)) (now (maps .entry)) (now (sizes .entry)) 200 ⌝ }
+    ensures { λ r. ⌜ r ≡ placesOf (constraintIn (now (firsts .entry)) (now (seconds .entry)) (now (maps .entry)) (now (sizes .entry))) 200 ⌝ }
 {
     let none = blank();
     let mut cs = [none; 200];
@@ -102,12 +122,95 @@ fn constraints_in(firsts: &[u8], seconds: &[u8], maps: &[u8], sizes: &[i32]) -> 
     cs
 }
 
-// A sheet's facts, the constraints in columns, as bytes in lent space, or the rule of 3, 5 to 9 and 17 that refuses them.
+// A kind as a number; past the end 3, which no kind has.
+fn kind_number(kinds: &[u8], i: usize) -> u8
+    ensures { λ r. ⌜ r ≡ getD (now (kinds .entry)) i 3 ⌝ }
+{
+    if i < kinds.len() { kinds[i] } else { 3 }
+}
+
+// A radius, 0 past the end.
+fn radius_at(radii: &[u32], i: usize) -> u32
+    ensures { λ r. ⌜ r ≡ getD (now (radii .entry)) i 0 ⌝ }
+{
+    if i < radii.len() { radii[i] } else { 0 }
+}
+
+// Whether the first n kinds are those of elements.
+fn kinds_listed(kinds: &[u8], n: usize) -> bool
+    ensures { λ r. ⌜ r ≡ kindsListed (now (kinds .entry)) n ⌝ }
+{
+    let mut i: usize = 0;
+    while i < n {
+        if 2 < kind_number(kinds, i) {
+            return false;
+        }
+        i += 1;
+    }
+    true
+}
+
+// A kind by its number: 0 point, 1 line, else a circle.
+fn kind_from(kind: u8, radius: u32) -> Kind
+    ensures { λ r. ⌜ r ≡ kindFrom kind radius ⌝ }
+{
+    match kind {
+        0 => Kind::Point,
+        1 => Kind::Line,
+        _ => Kind::Circle(radius),
+    }
+}
+
+// The block of 64 elements in the columns.
+fn elements_in(kinds: &[u8], radii: &[u32]) -> [Element; 64]
+    ensures { λ r. ⌜ r ≡ placesOf (elementIn (now (kinds .entry)) (now (radii .entry))) 64 ⌝ }
+{
+    let none = Element { kind: Kind::Point };
+    let mut elements = [none; 64];
+    let mut i: usize = 0;
+    while i < 64 {
+        let k = kind_from(kind_number(kinds, i), radius_at(radii, i));
+        elements[i] = Element { kind: k };
+        i += 1;
+    }
+    elements
+}
+
+// An opening by its number: 2 is PF02.
+fn opening_by(opening: usize) -> Opening
+    ensures { λ r. ⌜ r ≡ openingBy opening ⌝ }
+{
+    if opening == 2 {
+        Opening::Pf02
+    } else {
+        Opening::Pf01
+    }
+}
+
+// The rule of 1, 3 and 18 that refuses the columns, 0 where none does.
+fn columns_fault(opening: usize, n: usize, kinds: &[u8]) -> u8
+    ensures { λ r. ⌜ r ≡ columnsFault opening n (now (kinds .entry)) ⌝ }
+{
+    if opening < 1 {
+        return 1;
+    }
+    if 2 < opening {
+        return 1;
+    }
+    if !sheet::elements_in_range(n) {
+        return 3;
+    }
+    if kinds_listed(kinds, n) { 0 } else { 18 }
+}
+
+// A sheet's facts in columns as bytes in lent space, or the rule of 1, 3, 5 to 9 and 17 to 20 that refuses them.
 #[no_mangle]
 pub extern "C" fn pattern_write(
+    opening: usize,
     n: usize,
     e: usize,
-    lines: u64,
+    kinds: &[u8],
+    radii: &[u32],
     firsts: &[u8],
     seconds: &[u8],
     maps: &[u8],
@@ -115,12 +218,17 @@ pub extern "C" fn pattern_write(
     out: &mut [u8],
 ) -> i32
     ensures { λ r. ⌜ AnswersCount
-        (writeField (sheetIn n e lines (now (firsts .entry)) (now (seconds .entry)) (now (maps .entry)) (now (sizes .entry)))) (now (out .entry)) r
-        (now (out .exit)) ⌝ }
+        (columnsField opening n e (now (kinds .entry)) (now (radii .entry)) (now (firsts .entry)) (now (seconds .entry)) (now (maps .entry))
+        (now (sizes .entry))) (now (out .entry)) r (now (out .exit)) ⌝ }
 {
-    let elements = sheet::elements_of(64, lines);
+    let fault = columns_fault(opening, n, kinds);
+    if fault != 0 {
+        return count(Written::Refused(fault));
+    }
+    let elements = elements_in(kinds, radii);
     let constraints = constraints_in(firsts, seconds, maps, sizes);
     let facts = Sheet {
+        opening: opening_by(opening),
         n,
         e,
         elements,
@@ -148,7 +256,7 @@ fn verdict_number(j: Judgement) -> Written
     }
 }
 
-// The verdict of a sheet, 0 over, 1 angle, 2 well, 3 stuck, 4 under; or minus the rule of 1 to 10 that refuses it.
+// The verdict of a sheet, 0 over, 1 angle, 2 well, 3 stuck, 4 under; or minus the rule of 1 to 10 and 18 to 20 that refuses it.
 #[no_mangle]
 pub extern "C" fn pattern_verdict(sheet: &[u8]) -> i32
     ensures { λ r. ⌜ r ≡ asCount (asNumber (asJudgement (verdictField (now (sheet .entry))))) ⌝ }
@@ -197,7 +305,7 @@ pub extern "C" fn pattern_rests(sheet: &[u8], out: &mut [u64]) -> i32
     count(pattern::rests(sheet, out))
 }
 
-// The report of a sheet, as bytes; or the rule of 1 to 10 and 17 that refuses it.
+// The report of a sheet, as bytes; or the rule of 1 to 10 and 17 to 20 that refuses it.
 #[no_mangle]
 pub extern "C" fn pattern_report(sheet: &[u8], out: &mut [u8]) -> i32
     ensures { λ r. ⌜ AnswersCount (itemsField reportOf (now (sheet .entry))) (now (out .entry)) r (now (out .exit)) ⌝ }
@@ -205,7 +313,7 @@ pub extern "C" fn pattern_report(sheet: &[u8], out: &mut [u8]) -> i32
     count(pattern::report(sheet, out))
 }
 
-// The check of a saved plan, three numbers a step: the report for that plan, or the rule of 1 to 17 that refuses.
+// The check of a saved plan, three numbers a step: the report for that plan, or the rule of 1 to 20 that refuses.
 #[no_mangle]
 pub extern "C" fn pattern_check_plan(sheet: &[u8], plan: &[u16], out: &mut [u8]) -> i32
     ensures { λ r. ⌜ AnswersCount (checkField (now (sheet .entry)) (now (plan .entry))) (now (out .entry)) r (now (out .exit)) ⌝ }
@@ -215,7 +323,7 @@ pub extern "C" fn pattern_check_plan(sheet: &[u8], plan: &[u16], out: &mut [u8])
 
 // The steps of the engine's plan, seven numbers each: the cluster made, its three parts, the joint as a set, how many of its elements are lines, and
 // how
-// many placements there are, 256 where that is not known; or the rule of 1 to 11 and 17 that refuses.
+// many placements there are, 256 where that is not known; or the rule of 1 to 11 and 17 to 20 that refuses.
 #[no_mangle]
 pub extern "C" fn pattern_steps(sheet: &[u8], out: &mut [u64]) -> i32
     ensures { λ r. ⌜ AnswersCount (numbersField (stepsField (now (sheet .entry)))) (now (out .entry)) r (now (out .exit)) ⌝ }
@@ -223,7 +331,7 @@ pub extern "C" fn pattern_steps(sheet: &[u8], out: &mut [u64]) -> i32
     count(pattern::step_numbers(sheet, out))
 }
 
-// The steps of a saved plan in the saved order, seven numbers each, or the rule of 1 to 17 that refuses.
+// The steps of a saved plan in the saved order, seven numbers each, or the rule of 1 to 20 that refuses.
 #[no_mangle]
 pub extern "C" fn pattern_saved_steps(sheet: &[u8], plan: &[u16], out: &mut [u64]) -> i32
     ensures { λ r. ⌜ AnswersCount (numbersField (savedStepsField (now (sheet .entry)) (now (plan .entry)))) (now (out .entry)) r (now (out .exit)) ⌝ }
@@ -233,25 +341,7 @@ pub extern "C" fn pattern_saved_steps(sheet: &[u8], plan: &[u16], out: &mut [u64
 
 // ---- a held sketch in a record of lent bytes
 
-// A constraint from its numbers; bit 0 of the map: the size is given.
-fn constraint_from(first: u8, second: u8, map: u8, size: i32) -> Constraint
-    ensures { λ r. ⌜ r ≡ constraintFrom first second map size ⌝ }
-{
-    if map % 2 == 0 {
-        return Constraint {
-            first,
-            second,
-            size: Size::Missing,
-        };
-    }
-    Constraint {
-        first,
-        second,
-        size: Size::Given(size),
-    }
-}
-
-// The sketch held from a sheet, as a record, or the rule of 1 to 11 and 17 that refuses it.
+// The sketch held from a sheet, as a record, or the rule of 1 to 11 and 17 to 20 that refuses it.
 #[no_mangle]
 pub extern "C" fn pattern_hold(sheet: &[u8], lent: &mut [u8]) -> i32
     ensures { λ r. ⌜ AnswersCount (holdField (now (sheet .entry))) (now (lent .entry)) r (now (lent .exit)) ⌝ }
@@ -259,7 +349,7 @@ pub extern "C" fn pattern_hold(sheet: &[u8], lent: &mut [u8]) -> i32
     count(pattern::hold_in(sheet, lent))
 }
 
-// Asking: the verdict of the sketch with that constraint as its number, or minus the rule of 27, 6 to 9 and 11 that refuses it.
+// Asking: the verdict of the sketch with that constraint as its number, or minus the rule of 27, 6 to 9, 11 and 20 that refuses it.
 #[no_mangle]
 pub extern "C" fn pattern_ask(lent: &[u8], first: u8, second: u8, map: u8, size: i32) -> i32
     ensures { λ r. ⌜ r ≡ asCount (asNumber (asJudgement (askField (now (lent .entry)) (constraintFrom first second map size)))) ⌝ }
@@ -293,7 +383,7 @@ pub extern "C" fn pattern_held(lent: &[u8], out: &mut [u8]) -> i32
     count(pattern::held_in(lent, out))
 }
 
-// How many steps one cluster of the plan has, by its number; or minus the rule of 1 to 11 and 26 that refuses.
+// How many steps one cluster of the plan has, by its number; or minus the rule of 1 to 11, 18 to 20 and 26 that refuses.
 #[no_mangle]
 pub extern "C" fn pattern_part_steps(sheet: &[u8], number: usize) -> i32
     ensures { λ r. ⌜ r ≡ asCount (countOf (partOf (now (sheet .entry)) number)) ⌝ }
@@ -301,7 +391,7 @@ pub extern "C" fn pattern_part_steps(sheet: &[u8], number: usize) -> i32
     count(pattern::part_steps(sheet, number))
 }
 
-// How many bytes the lines of those steps have; or minus the rule of 1 to 11 and 26 that refuses.
+// How many bytes the lines of those steps have; or minus the rule of 1 to 11, 18 to 20 and 26 that refuses.
 #[no_mangle]
 pub extern "C" fn pattern_part_bytes(sheet: &[u8], number: usize) -> i32
     ensures { λ r. ⌜ r ≡ asCount (countOf (partField (now (sheet .entry)) number)) ⌝ }
@@ -309,7 +399,7 @@ pub extern "C" fn pattern_part_bytes(sheet: &[u8], number: usize) -> i32
     count(pattern::part_bytes(sheet, number))
 }
 
-// The steps of one cluster of the plan as the report's lines, as bytes in lent space, or the rule of 1 to 11, 26 and 17 that refuses.
+// The steps of one cluster of the plan as the report's lines, as bytes in lent space, or the rule of 1 to 11, 17 to 20 and 26 that refuses.
 #[no_mangle]
 pub extern "C" fn pattern_part(sheet: &[u8], number: usize, out: &mut [u8]) -> i32
     ensures { λ r. ⌜ AnswersCount (partField (now (sheet .entry)) number) (now (out .entry)) r (now (out .exit)) ⌝ }
@@ -328,8 +418,8 @@ fn chain_items(a: Answer) -> Written
     }
 }
 
-// The numbers of the shortest run of final clusters from one element to another; minus 100 where there is none, or minus the rule of 1 to 11, 25 and
-// 17 that refuses.
+// The numbers of the shortest run of final clusters from one element to another; minus 100 where there is none, or minus the rule of 1 to 11, 17 to
+// 20 and 25 that refuses.
 #[no_mangle]
 pub extern "C" fn pattern_chain(sheet: &[u8], from: usize, to: usize, out: &mut [u16]) -> i32
     ensures { λ r. ⌜ ChainCount (chainField (now (sheet .entry)) from to) from to (now (out .entry)) r (now (out .exit)) ⌝ }
@@ -338,7 +428,7 @@ pub extern "C" fn pattern_chain(sheet: &[u8], from: usize, to: usize, out: &mut 
 }
 
 // The cheapest missing dimensions, for a price for each pair in dictionary order: one number a pair, its first end times 256 plus its second; or the
-// rule of 1 to 11, 17 and 21 to 23 that refuses.
+// rule of 1 to 11 and 17 to 23 that refuses.
 #[no_mangle]
 pub extern "C" fn pattern_missing(sheet: &[u8], prices: &[u16], out: &mut [u16]) -> i32
     ensures { λ r. ⌜ AnswersCount (missingField (now (sheet .entry)) (now (prices .entry))) (now (out .entry)) r (now (out .exit)) ⌝ }
@@ -364,7 +454,7 @@ pub extern "C" fn pattern_longest(n: usize, out: &mut [u8]) -> i32
 }
 
 // The merges that are open after `steps` of the engine's steps, or after all if there are fewer: three numbers each, ascending; or the rule of 1 to 11
-// and 17 that refuses.
+// and 17 to 20 that refuses.
 #[no_mangle]
 pub extern "C" fn pattern_open(sheet: &[u8], steps: usize, out: &mut [u16]) -> i32
     ensures { λ r. ⌜ AnswersCount (openMergesField (now (sheet .entry)) steps) (now (out .entry)) r (now (out .exit)) ⌝ }

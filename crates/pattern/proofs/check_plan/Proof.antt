@@ -7,7 +7,7 @@ use Rattle.theory.specs.Graph.{Graph}
 use Rattle.sheet.specs.Answer.{byRule, Answers}
 use Rattle.space.specs.declared.Written.{Written}
 use Rattle.sheet.specs.Graph.{graphOf, overFault}
-use Rattle.sheet.specs.Field.{value, Bytes}
+use Rattle.sheet.specs.Field.{value}
 use Rattle.sheet.specs.Answer.Laws.{next-rule, answers-refused}
 use Rattle.account.specs.Account.{savedField}
 use Rattle.pattern.specs.Entries.{heldSheet}
@@ -18,7 +18,7 @@ use Rattle.pattern.proofs.check_plan.Tie as tie
 returns : tie.Need-returns
 unfolding heldSheet
 returns c =
-    answers-refused (rw (refused-read _ (c .before .before .before .read-graph .ensures) (c .before .enum-told .given .1) (c .refusal .ensures)))
+    answers-refused (rw (refused-read _ _ _ _ _ (c .before .before .before .read-graph .ensures) (c .before .enum-told .given .1) (c .refusal .ensures)))
 
 -- the facts of the sheet
 read : (c : tie.After-check-plan-arg)
@@ -28,9 +28,7 @@ read : (c : tie.After-check-plan-arg)
     (c .before .before .before .before .before .before .before .read-graph .last .1 .1 .0)
     (c .before .before .before .before .before .before .before .read-graph .last .1 .1 .1 .0)
 read c =
-    let all : Bytes _ =
-    record { each = λ i. c .before .before .before .before .before .before .before .before .before .before .before .before .before .shared-slice-known .given i .fits } in
-    facts-read _ (c .before .before .before .before .before .before .before .read-graph .ensures) all
+    facts-read _ _ _ _ _ (c .before .before .before .before .before .before .before .read-graph .ensures)
     (c .before .before .before .before .before .got .given .1)
 
 -- the answer goes by the graph alone

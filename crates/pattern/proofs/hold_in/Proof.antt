@@ -2,34 +2,40 @@
 use borrow.Author.Needs.{needs}
 use mathlib.Core.Path.{_≡_, refl, sym, ap, _∙_}
 use Rattle.sheet.specs.Facts.{factsOf}
-use Rattle.sheet.specs.Field.{value, Bytes}
+use Rattle.sheet.specs.Field.{value}
 use Rattle.sheet.specs.Rules.{sheetFault}
 use Rattle.sheet.specs.Accepted.Laws.{factsOf-sheetOf, sheetOf-fault}
 use Rattle.sheet.specs.Graph.{graphOf, overFault}
 use Rattle.sheet.specs.Answer.Laws.{rule-some, answers-refused, answers-items}
+use Rattle.graph.specs.declared.Head.{Head}
+use Rattle.graph.specs.Lent.{graphIn, sizesOf}
 use Rattle.pattern.specs.Entries.{heldSheet}
-use Rattle.pattern.specs.Entries.Reading.{FactsRead, refused-read, facts-read}
+use Rattle.pattern.specs.Entries.Reading.{SheetFound, refused-sheet, sheet-found}
 use Rattle.pattern.proofs.hold_in.Statement.{statement}
 use Rattle.pattern.proofs.hold_in.Tie as tie
 
 returns : tie.Need-returns
 unfolding heldSheet
 returns c =
-    answers-refused (rw (refused-read _ (c .before .before .before .read-graph .ensures) (c .before .enum-told .given .1) (c .refusal .ensures)))
+    answers-refused (rw (refused-sheet _ _ _ _ _ _ (c .before .before .before .read-codes .ensures) (c .before .enum-told .given .1) (c .refusal .ensures)))
 
 -- the facts of the sheet
 read : (c : tie.After-start2)
-    → FactsRead (c .before .before .before .before .before .before .before .before .before .before .before .args .bytes .now)
-    (c .before .before .before .got .given .0 .0)
-    (c .before .before .before .before .before .read-graph .last .1 .0) (c .before .before .before .before .before .read-graph .last .1 .1 .0)
-    (c .before .before .before .before .before .read-graph .last .1 .1 .1 .0)
-read c =
-    let all : Bytes _ =
-    record { each = λ i. c .before .before .before .before .before .before .before .before .before .before .shared-slice-known .given i .fits } in
-    facts-read _ (c .before .before .before .before .before .read-graph .ensures) all (c .before .before .before .got .given .1)
+    → SheetFound (c .before .before .before .before .before .before .before .before .before .before .before .before .before .args .bytes .now)
+    (c .before .before .before .before .got .given .0 .0)
+    (c .before .before .before .before .before .before .read-codes .last .1 .0) (c .before .before .before .before .before .before .read-codes .last .1 .1 .0)
+    (c .before .before .before .before .before .before .read-codes .last .1 .1 .1 .0) (c .before .before .before .before .before .before .read-codes .last .1 .1 .1 .1 .0)
+read c = sheet-found _ _ _ _ _ _ (c .before .before .before .before .before .before .read-codes .ensures) (c .before .before .before .before .got .given .1)
 
 over-is : (c : tie.After-over-fault) → c .over-fault .result ≡ overFault (graphOf (read (c .before) .facts))
-over-is c = c .over-fault .ensures _ ∙ ap overFault (read (c .before) .graph-read)
+over-is c =
+    let f = read (c .before) in
+    c .over-fault .ensures (sizesOf (f .facts))
+    ∙ ap overFault (ap (λ (h : Head). graphIn h (c .before .before .before .before .before .before .before .read-codes .last .1 .1 .0) (sizesOf (f .facts)))
+    (c .before .before .before .head-of .ensures) ∙ f .graph-read)
+
+over-fault-requires : tie.Need-over-fault-requires
+over-fault-requires c κs = rw (c .before .before .head-of .ensures) (read c .drawn-is)
 
 returns-2 : tie.Need-returns-2
 unfolding heldSheet
@@ -37,9 +43,12 @@ returns-2 c =
     let f = read (c .before .before) in
     answers-refused (rw (f .reads, rule-some (value (f .facts) (f .rest)) _ (over-is (c .before)) (c .if1 .taken)))
 
+sheet-of-requires : tie.Need-sheet-of-requires
+sheet-of-requires c κs = let d = read (c .before .before .before .before .before) .drawn-is in (d .sound .most, d .few)
+
 module _ (c : tie.After-sheet-of) where
   abbrev sheet-read : tie.After-start2
-  sheet-read = c .before .before .before .before .before
+  sheet-read = c .before .before .before .before .before .before
 
   sheet-is : factsOf (c .sheet-of .result) ≡ read sheet-read .facts
   sheet-is = let f = read sheet-read in ap factsOf (c .sheet-of .ensures (f .facts) _ (f .sheet-in)) ∙ factsOf-sheetOf (f .facts)
@@ -54,12 +63,10 @@ returns-3 c =
     let o = c .before .before .before .before in
     let f = read (sheet-read o) in
     answers-items (c .before .before .write .ensures)
-    (rw (f .reads, sym (over-is (o .before .before .before .before)) ∙ o .before .before .before .if1 .left, sheet-is o))
+    (rw (f .reads, sym (over-is (o .before .before .before .before .before)) ∙ o .before .before .before .before .if1 .left, sheet-is o))
 
 pub hold-in-spec : {M : Type 1} → statement M
 hold-in-spec =
     tie.close
-    (tie.spec (λ c κs. (refl, refl, refl)) (λ c. search needs) (λ c. search needs) (λ c κs. search needs) returns
-    (λ c κs. read c .drawn-is) returns-2
-    (λ c κs. let d = read (c .before .before .before .before) .drawn-is in (d .sound .most, d .few)) (λ c κs. no-fault (c .before)) (λ c. search needs)
-    returns-3)
+    (tie.spec (λ c κs. (refl, refl, refl, refl)) (λ c. search needs) (λ c. search needs) (λ c κs. search needs) returns
+    (λ c κs. search needs) over-fault-requires returns-2 sheet-of-requires (λ c κs. no-fault (c .before)) (λ c. search needs) returns-3)

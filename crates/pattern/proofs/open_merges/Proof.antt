@@ -7,7 +7,7 @@ use Rattle.theory.specs.Graph.{Graph}
 use Rattle.sheet.specs.Answer.{Answers}
 use Rattle.space.specs.declared.Written.{Written}
 use Rattle.sheet.specs.Graph.{graphOf, overFault}
-use Rattle.sheet.specs.Field.{value, Bytes}
+use Rattle.sheet.specs.Field.{value}
 use Rattle.sheet.specs.Answer.Laws.{next-rule, answers-refused}
 use Rattle.opens.specs.Opens.{openField, heldField}
 use Rattle.pattern.specs.Entries.{heldSheet}
@@ -18,7 +18,7 @@ use Rattle.pattern.proofs.open_merges.Tie as tie
 returns : tie.Need-returns
 unfolding heldSheet
 returns c =
-    answers-refused (rw (refused-read _ (c .before .before .before .read-graph .ensures) (c .before .enum-told .given .1) (c .refusal .ensures)))
+    answers-refused (rw (refused-read _ _ _ _ _ (c .before .before .before .read-graph .ensures) (c .before .enum-told .given .1) (c .refusal .ensures)))
 
 -- the facts of the sheet
 read : (c : tie.After-start2)
@@ -27,9 +27,7 @@ read : (c : tie.After-start2)
     (c .before .before .before .before .before .read-graph .last .1 .0) (c .before .before .before .before .before .read-graph .last .1 .1 .0)
     (c .before .before .before .before .before .read-graph .last .1 .1 .1 .0)
 read c =
-    let all : Bytes _ =
-    record { each = λ i. c .before .before .before .before .before .before .before .before .before .before .shared-slice-known .given i .fits } in
-    facts-read _ (c .before .before .before .before .before .read-graph .ensures) all (c .before .before .before .got .given .1)
+    facts-read _ _ _ _ _ (c .before .before .before .before .before .read-graph .ensures) (c .before .before .before .got .given .1)
 
 -- the answer goes by the graph alone
 by-graph : (count : ℕ) {g g′ : Graph} {space left : List ℕ} {r : Written} → g ≡ g′ → Answers (heldField g count) space r left

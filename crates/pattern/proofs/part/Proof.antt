@@ -6,7 +6,6 @@ use mathlib.Core.List.{List}
 use Rattle.space.specs.declared.Written.{Written}
 use Rattle.theory.specs.Graph.{Graph}
 use Rattle.sheet.specs.Answer.{Answers}
-use Rattle.sheet.specs.Field.{Bytes}
 use Rattle.sheet.specs.Answer.Laws.{answers-refused}
 use Rattle.part.specs.Part.{heldField, linesField}
 use Rattle.pattern.specs.Entries.{heldSheet}
@@ -18,7 +17,7 @@ use Rattle.pattern.proofs.part.Tie as tie
 returns : tie.Need-returns
 unfolding heldSheet
 returns c =
-    answers-refused (rw (refused-read _ (c .before .before .before .read-graph .ensures) (c .before .enum-told .given .1) (c .refusal .ensures)))
+    answers-refused (rw (refused-read _ _ _ _ _ (c .before .before .before .read-graph .ensures) (c .before .enum-told .given .1) (c .refusal .ensures)))
 
 -- the facts of the sheet
 read : (c : tie.After-list-arg)
@@ -28,9 +27,7 @@ read : (c : tie.After-list-arg)
     (c .before .before .before .before .before .before .before .read-graph .last .1 .1 .0)
     (c .before .before .before .before .before .before .before .read-graph .last .1 .1 .1 .0)
 read c =
-    let all : Bytes _ =
-    record { each = λ i. c .before .before .before .before .before .before .before .before .before .before .before .before .shared-slice-known .given i .fits } in
-    facts-read _ (c .before .before .before .before .before .before .before .read-graph .ensures) all
+    facts-read _ _ _ _ _ (c .before .before .before .before .before .before .before .read-graph .ensures)
     (c .before .before .before .before .before .got .given .1)
 
 -- the answer goes by the graph alone

@@ -2,7 +2,6 @@
 use borrow.Author.Needs.{needs}
 use mathlib.Core.Path.{refl, sym, ap, _∙_}
 use Rattle.theory.specs.Graph.{Graph}
-use Rattle.sheet.specs.Field.{Bytes}
 use Rattle.part.specs.Part.{heldField}
 use Rattle.part.specs.Tallies.{measureOf}
 use Rattle.pattern.specs.Entries.{heldSheet}
@@ -13,7 +12,7 @@ use Rattle.pattern.proofs.part_size.Tie as tie
 
 returns : tie.Need-returns
 unfolding heldSheet
-returns c = rw (refused-read _ (c .before .before .before .read-graph .ensures) (c .before .enum-told .given .1) (c .refusal .ensures))
+returns c = rw (refused-read _ _ _ _ _ (c .before .before .before .read-graph .ensures) (c .before .enum-told .given .1) (c .refusal .ensures))
 
 -- the facts of the sheet
 read : (c : tie.After-sizes2)
@@ -23,9 +22,7 @@ read : (c : tie.After-sizes2)
     (c .before .before .before .before .before .before .read-graph .last .1 .1 .0)
     (c .before .before .before .before .before .before .read-graph .last .1 .1 .1 .0)
 read c =
-    let all : Bytes _ =
-    record { each = λ i. c .before .before .before .before .before .before .before .before .before .before .shared-slice-known .given i .fits } in
-    facts-read _ (c .before .before .before .before .before .before .read-graph .ensures) all (c .before .before .before .before .got .given .1)
+    facts-read _ _ _ _ _ (c .before .before .before .before .before .before .read-graph .ensures) (c .before .before .before .before .got .given .1)
 
 returns-2 : tie.Need-returns-2
 returns-2 c =

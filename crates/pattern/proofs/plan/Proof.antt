@@ -7,7 +7,7 @@ use Rattle.sheet.specs.Graph.{graphOf}
 use Rattle.graph.specs.Lent.Sheets.{accepted-sound}
 use Rattle.judge.specs.Judged.{judgedOf}
 use Rattle.judge.specs.Judged.Lists.{Held, judged-held}
-use Rattle.sheet.specs.Field.{value, Bytes}
+use Rattle.sheet.specs.Field.{value}
 use Rattle.sheet.specs.Answer.Laws.{answers-refused, answers-items}
 use Rattle.pattern.specs.Entries.Reading.{FactsRead, refused-read, facts-read}
 use Rattle.pattern.proofs.plan.Statement.{statement}
@@ -15,7 +15,7 @@ use Rattle.pattern.proofs.plan.Tie as tie
 
 returns : tie.Need-returns
 returns c =
-    answers-refused (rw (refused-read _ (c .before .before .before .read-graph .ensures) (c .before .enum-told .given .1) (c .refusal .ensures)))
+    answers-refused (rw (refused-read _ _ _ _ _ (c .before .before .before .read-graph .ensures) (c .before .enum-told .given .1) (c .refusal .ensures)))
 
 -- the facts of the sheet
 read : (c : tie.After-start2)
@@ -24,14 +24,12 @@ read : (c : tie.After-start2)
     (c .before .before .before .before .before .read-graph .last .1 .0) (c .before .before .before .before .before .read-graph .last .1 .1 .0)
     (c .before .before .before .before .before .read-graph .last .1 .1 .1 .0)
 read c =
-    let all : Bytes _ =
-    record { each = λ i. c .before .before .before .before .before .before .before .before .before .before .shared-slice-known .given i .fits } in
-    facts-read _ (c .before .before .before .before .before .read-graph .ensures) all (c .before .before .before .got .given .1)
+    facts-read _ _ _ _ _ (c .before .before .before .before .before .read-graph .ensures) (c .before .before .before .got .given .1)
 
-judged : (c : tie.After-judge) → Held (graphOf (read (c .before) .facts)) (accepted-sound _ (read (c .before) .sheet-in .accepted)) (c .judge .result)
+judged : (c : tie.After-judge) → Held (graphOf (read (c .before) .facts)) (accepted-sound _ (read (c .before) .stands .accepted)) (c .judge .result)
 judged c =
     let f = read (c .before) in
-    judged-held (graphOf (f .facts)) (accepted-sound _ (f .sheet-in .accepted)) (c .judge .ensures _ ∙ ap judgedOf (f .graph-read))
+    judged-held (graphOf (f .facts)) (accepted-sound _ (f .stands .accepted)) (c .judge .ensures _ ∙ ap judgedOf (f .graph-read))
 
 put-plan-requires : tie.Need-put-plan-requires
 put-plan-requires c κs = let j = judged (c .before .before) in (j .steps-most, j .parts-long)

@@ -2,7 +2,7 @@
 use borrow.Author.Needs.{needs}
 use mathlib.Core.Path.{refl}
 use mathlib.Core.List.{[]}
-use Rattle.sheet.specs.Field.{value, Bytes}
+use Rattle.sheet.specs.Field.{value}
 use Rattle.steps.specs.Records.{planSteps}
 use Rattle.pattern.specs.Entries.Reading.{FactsRead, refused-read, facts-read}
 use Rattle.pattern.specs.Entries.Steps.{refused-listed, read-listed}
@@ -12,7 +12,7 @@ use Rattle.pattern.proofs.plan_listing.Tie as tie
 returns : tie.Need-returns
 returns c =
     refused-listed (λ g. value (planSteps g) []) _
-    (refused-read _ (c .before .before .before .before .read-graph .ensures) (c .before .before .enum-told .given .1) (c .before .refusal .ensures))
+    (refused-read _ _ _ _ _ (c .before .before .before .before .read-graph .ensures) (c .before .before .enum-told .given .1) (c .before .refusal .ensures))
     (c .refused .ensures)
 
 -- the facts of the sheet
@@ -23,11 +23,7 @@ read : (c : tie.After-sizes2)
     (c .before .before .before .before .before .before .read-graph .last .1 .1 .0)
     (c .before .before .before .before .before .before .read-graph .last .1 .1 .1 .0)
 read c =
-    let all : Bytes _ = record {
-      each = λ i. c .before .before .before .before .before .before .before .before .before
-          .before .shared-slice-known .given i .fits;
-    } in
-    facts-read _ (c .before .before .before .before .before .before .read-graph .ensures) all (c .before .before .before .before .got .given .1)
+    facts-read _ _ _ _ _ (c .before .before .before .before .before .before .read-graph .ensures) (c .before .before .before .before .got .given .1)
 
 returns-2 : tie.Need-returns-2
 returns-2 c = read-listed (λ g. value (planSteps g) []) _ (read (c .before)) (c .plan-steps .ensures)

@@ -4,7 +4,7 @@ use mathlib.Core.Path.{refl, sym, ap}
 use mathlib.Core.List.{[]}
 use Rattle.theory.specs.Graph.{Graph}
 use Rattle.account.specs.Resting.{restNumbers}
-use Rattle.sheet.specs.Field.{value, Bytes}
+use Rattle.sheet.specs.Field.{value}
 use Rattle.sheet.specs.Answer.Laws.{answers-refused, answers-items}
 use Rattle.pattern.specs.Entries.Reading.{FactsRead, refused-read, facts-read}
 use Rattle.pattern.proofs.rests.Statement.{statement}
@@ -12,7 +12,7 @@ use Rattle.pattern.proofs.rests.Tie as tie
 
 returns : tie.Need-returns
 returns c =
-    answers-refused (rw (refused-read _ (c .before .before .before .read-graph .ensures) (c .before .enum-told .given .1) (c .refusal .ensures)))
+    answers-refused (rw (refused-read _ _ _ _ _ (c .before .before .before .read-graph .ensures) (c .before .enum-told .given .1) (c .refusal .ensures)))
 
 -- the facts of the sheet
 read : (c : tie.After-rests-arg)
@@ -22,9 +22,7 @@ read : (c : tie.After-rests-arg)
     (c .before .before .before .before .before .before .read-graph .last .1 .1 .0)
     (c .before .before .before .before .before .before .read-graph .last .1 .1 .1 .0)
 read c =
-    let all : Bytes _ =
-    record { each = λ i. c .before .before .before .before .before .before .before .before .before .before .before .shared-slice-known .given i .fits } in
-    facts-read _ (c .before .before .before .before .before .before .read-graph .ensures) all
+    facts-read _ _ _ _ _ (c .before .before .before .before .before .before .read-graph .ensures)
     (c .before .before .before .before .got .given .1)
 
 returns-2 : tie.Need-returns-2

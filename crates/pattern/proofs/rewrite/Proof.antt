@@ -1,30 +1,35 @@
 -- `pattern::rewrite` meets its contract: the reader accepts the bytes, and they are copied without their tags. Assumes nothing.
 use borrow.Author.Needs.{needs}
-use mathlib.Core.Path.{refl, sym, ap, _∙_}
-use Rattle.sheet.specs.Field.{refused}
-use Rattle.sheet.specs.Decode.{readSheet}
+use mathlib.Core.Path.{refl, _∙_}
 use Rattle.sheet.specs.Answer.Laws.{answers-refused, answers-items}
-use Rattle.reader.specs.Answers.{graphRule}
-use Rattle.reader.specs.Answers.Laws.{graph-refused, graph-accepted}
+use Rattle.pattern.specs.Entries.Reading.{SheetFound, refused-sheet, sheet-found}
+use Rattle.pattern.specs.Entries.Rewriting.{before-found}
 use Rattle.pattern.proofs.rewrite.Statement.{statement}
 use Rattle.pattern.proofs.rewrite.Tie as tie
 
 returns : tie.Need-returns
 returns c =
-    let r = c .before .before .before .read-graph in
-    let t = c .before .enum-told2 .given in
-    let q = graph-refused (readSheet _) (r .result) (t .0 .0) (r .ensures .answers) (t .1) in
-    answers-refused (rw (q ∙ ap refused (sym (c .refusal .ensures ∙ ap graphRule (t .1)))))
+    answers-refused (rw (refused-sheet _ _ _ _ _ _ (c .before .before .before .read-codes .ensures) (c .before .enum-told .given .1) (c .refusal .ensures)))
+
+-- the facts of the sheet
+read : (c : tie.After-known-told)
+    → SheetFound (c .before .before .before .before .before .before .before .before .before .before .args .bytes .now)
+    (c .before .got .given .0 .0)
+    (c .before .before .before .read-codes .last .1 .0) (c .before .before .before .read-codes .last .1 .1 .0)
+    (c .before .before .before .read-codes .last .1 .1 .1 .0) (c .before .before .before .read-codes .last .1 .1 .1 .1 .0)
+read c = sheet-found _ _ _ _ _ _ (c .before .before .before .read-codes .ensures) (c .before .got .given .1)
+
+length-before-requires : tie.Need-length-before-requires
+length-before-requires c κs = read c .drawn-is .sound .most
+
+write-untagged-requires : tie.Need-write-untagged-requires
+write-untagged-requires c κs = c .before .length-before .ensures ∙ before-found (read (c .before .before))
 
 returns-2 : tie.Need-returns-2
-returns-2 c =
-    let r = c .before .before .before .before .before .before .read-graph in
-    let t = c .before .before .before .before .enum-told .given in
-    let (f, rest, e, h) = graph-accepted (readSheet _) (r .result) (t .0 .0) (r .ensures .answers) (t .1) in
-    answers-items (c .before .before .write-untagged .ensures) (rw e)
+returns-2 c = answers-items (c .before .before .write-untagged .ensures) (rw (read (c .before .before .before .before .before) .reads))
 
 pub rewrite-spec : {M : Type 1} → statement M
 rewrite-spec =
     tie.close
-    (tie.spec (λ c κs. (refl, refl, refl)) (λ c. search needs) (λ c. search needs) (λ c κs. search needs) returns
-    (λ c κs. search needs) (λ c. search needs) returns-2)
+    (tie.spec (λ c κs. (refl, refl, refl, refl)) (λ c. search needs) (λ c. search needs) (λ c κs. search needs) returns
+    length-before-requires write-untagged-requires (λ c. search needs) returns-2)

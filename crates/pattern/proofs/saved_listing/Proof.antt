@@ -1,7 +1,6 @@
 -- `pattern::saved_listing` meets its contract: 11, and the check of the saved plan, of the graph that is read. Assumes nothing.
 use borrow.Author.Needs.{needs}
 use mathlib.Core.Path.{refl}
-use Rattle.sheet.specs.Field.{Bytes}
 use Rattle.steps.specs.Records.{savedRecords}
 use Rattle.pattern.specs.Entries.Reading.{FactsRead, refused-read, facts-read}
 use Rattle.pattern.specs.Entries.Steps.{refused-listed, read-listed}
@@ -11,7 +10,7 @@ use Rattle.pattern.proofs.saved_listing.Tie as tie
 returns : tie.Need-returns
 returns c =
     refused-listed (λ g. savedRecords g (c .before .before .before .before .before .before .before .before .before .before .args .plan .now)) _
-    (refused-read _ (c .before .before .before .before .read-graph .ensures) (c .before .before .enum-told .given .1) (c .before .refusal .ensures))
+    (refused-read _ _ _ _ _ (c .before .before .before .before .read-graph .ensures) (c .before .before .enum-told .given .1) (c .before .refusal .ensures))
     (c .refused .ensures)
 
 -- the facts of the sheet
@@ -22,11 +21,7 @@ read : (c : tie.After-sizes2)
     (c .before .before .before .before .before .before .read-graph .last .1 .1 .0)
     (c .before .before .before .before .before .before .read-graph .last .1 .1 .1 .0)
 read c =
-    let all : Bytes _ = record {
-      each = λ i. c .before .before .before .before .before .before .before .before .before .before
-          .before .shared-slice-known .given i .fits;
-    } in
-    facts-read _ (c .before .before .before .before .before .before .read-graph .ensures) all (c .before .before .before .before .got .given .1)
+    facts-read _ _ _ _ _ (c .before .before .before .before .before .before .read-graph .ensures) (c .before .before .before .before .got .given .1)
 
 returns-2 : tie.Need-returns-2
 returns-2 c =

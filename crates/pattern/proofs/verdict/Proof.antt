@@ -2,14 +2,13 @@
 use borrow.Author.Needs.{needs}
 use mathlib.Core.Path.{refl, ap, _∙_}
 use Rattle.theory.specs.Graph.{verdictOf}
-use Rattle.sheet.specs.Field.{Bytes}
 use Rattle.sketch.specs.declared.Judgement.the-variants.{Is}
 use Rattle.pattern.specs.Entries.Reading.{FactsRead, refused-read, facts-read}
 use Rattle.pattern.proofs.verdict.Statement.{statement}
 use Rattle.pattern.proofs.verdict.Tie as tie
 
 returns : tie.Need-returns
-returns c = rw (refused-read _ (c .before .before .before .read-graph .ensures) (c .before .enum-told .given .1) (c .refusal .ensures))
+returns c = rw (refused-read _ _ _ _ _ (c .before .before .before .read-graph .ensures) (c .before .enum-told .given .1) (c .refusal .ensures))
 
 -- the facts of the sheet
 read : (c : tie.After-start2)
@@ -18,9 +17,7 @@ read : (c : tie.After-start2)
     (c .before .before .before .before .before .read-graph .last .1 .0) (c .before .before .before .before .before .read-graph .last .1 .1 .0)
     (c .before .before .before .before .before .read-graph .last .1 .1 .1 .0)
 read c =
-    let all : Bytes _ =
-    record { each = λ i. c .before .before .before .before .before .before .before .before .before .shared-slice-known .given i .fits } in
-    facts-read _ (c .before .before .before .before .before .read-graph .ensures) all (c .before .before .before .got .given .1)
+    facts-read _ _ _ _ _ (c .before .before .before .before .before .read-graph .ensures) (c .before .before .before .got .given .1)
 
 returns-2 : tie.Need-returns-2
 returns-2 c = let f = read (c .before) in rw (f .reads) (ap Is (c .verdict-of .ensures _ ∙ ap verdictOf (f .graph-read)))

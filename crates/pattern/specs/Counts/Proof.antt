@@ -125,7 +125,7 @@ over-short (First c x) = omega arith
 -- ---- by a record
 
 module _ (lent : List ℕ) (all : Bytes lent) where
-  held-short : AtMost 889 (sheetField lent)
+  held-short : AtMost 1153 (sheetField lent)
   held-short items rest e =
       next-value (recordSheet lent) _ e (λ f t was e1.
       after-rule (by27 (overFault (graphOf f))) (sheetBytes f) (λ z. held-length f (record-accepted lent all was .1) (by27-none (overFault (graphOf f)) z))
@@ -173,7 +173,7 @@ module _ (bytes : List ℕ) (all : Bytes bytes) where
       let short = steps-short f a (fault-none g o) (savedSteps plan) (accepted-maximal (g .clusters) plan .0 z .1 .valid) in
       omega (arith, short, ap (λ (l : List Step). length (stepNumbers l)) same)))
 
-  hold-short : AtMost 891 (holdField bytes)
+  hold-short : AtMost 1155 (holdField bytes)
   hold-short = after-value (heldSheet bytes) recordBytes (λ f t e. let (h, o) = held-accepted bytes f t all e in record-room f h o)
 
 pub counts : Counts

@@ -2,6 +2,7 @@
 use Prim.Native.Nat.{ℕ}
 use native.Mathlib.Omega.{arith}
 use mathlib.Core.Path.{_≡_, refl, sym, ap, _∙_, subst}
+use mathlib.Core.Logic.{⊎-elim}
 use mathlib.Core.List.{List}
 use lib.IntN.{ℤ}
 use lib.ListN.{length, replicate}
@@ -13,8 +14,7 @@ use Rattle.sheet.specs.Decode.{readSheet}
 use Rattle.sheet.specs.Graph.{graphOf, overFault}
 use Rattle.sheet.specs.Answer.{byRule, Answers}
 use Rattle.sheet.specs.Answer.Laws.{next-rule}
-use Rattle.sheet.specs.Refusals.{Rule, By}
-use Rattle.sheet.specs.Refusals.Laws.{which, by-sheet}
+use Rattle.sheet.specs.Refusals.Laws.{refused-by}
 use Rattle.graph.specs.declared.Head.{Head}
 use Rattle.graph.specs.Lent.{graphIn}
 use Rattle.engine.specs.Steps.{blankStep}
@@ -35,8 +35,7 @@ module _ (what : Graph → Field (List Step)) (bytes : List ℕ) where
   pub refused-listed : {j : ℕ} {l : Listing} → readSheet bytes ≡ refused j → l ≡ listingOf (refused j) → Listed given l
   unfolding heldSheet
   refused-listed {j} e is =
-      let r : Rule 1 10 j = which (subst (By (Rule 1 10)) e (by-sheet bytes)) in
-      as-refused is (rw e) (λ z. omega (arith, r .from, z))
+      as-refused is (rw e) (λ z. ⊎-elim (λ r. omega (arith, r .from, z)) (λ r. omega (arith, r .from, z)) (refused-by bytes j e))
 
   -- one that is read: 11, or what its graph gives
   pub read-listed : {h : Head} {near start : List ℕ} {sizes : List ℤ} {l : Listing} (f : FactsRead bytes h near start sizes)

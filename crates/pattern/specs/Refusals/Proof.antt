@@ -25,7 +25,7 @@ use Rattle.sheet.specs.Decode.{readSheet}
 use Rattle.sheet.specs.Encode.{sheetBytes}
 use Rattle.sheet.specs.Answer.{byRule, answerTo}
 use Rattle.sheet.specs.RoundTrip.{written-read}
-use Rattle.sheet.specs.Refusals.{Rule, But, By, given, ruled, Fault}
+use Rattle.sheet.specs.Refusals.{Rule, OfSheet, By, given, ruled, Fault}
 use Rattle.sheet.specs.Refusals.Laws.{by-next, by-wider, which, by-sheet}
 use Rattle.sheet.specs.Refusals.Laws.{fault-else, fault-sheet}
 use Rattle.sheet.specs.Graph.{graphOf, overRule, overFault}
@@ -47,7 +47,7 @@ use Rattle.missing.specs.Missing.Laws.{by-rules}
 use Rattle.pattern.specs.Entries.{itemsField, held, heldSheet}
 use Rattle.part.specs.Part.{numberFault}
 use Rattle.pattern.specs.Entries.{partOf}
-use Rattle.pattern.specs.Refusals.{Short, ShortList, Asking, Numbered, Refusals}
+use Rattle.pattern.specs.Refusals.{Short, ShortList, Asking, Holding, Checking, Numbered, Refusals}
 
 -- items into lent space: 17 alone, where it is shorter
 lent : (x : Field (List ℕ)) (space : List ℕ) (k : ℕ) → answerTo x space ≡ Refused k → (x ≡ refused k) ⊎ ((k ≡ 17) × Short x space)
@@ -75,12 +75,12 @@ lent-list (value steps rest) list k e = by (ltb (length list) (length steps)) re
     by false p h = absurd (let z : _≡_ {A = ℕ} 0 1 = cc in omega arith)
 
 -- 4,667 bytes take every report
-printed : (bytes space : List ℕ) (k : ℕ) → Bytes bytes → 4667 ≤ length space → answerTo (itemsField reportOf bytes) space ≡ Refused k → Rule 1 10 k
+printed : (bytes space : List ℕ) (k : ℕ) → Bytes bytes → 4667 ≤ length space → answerTo (itemsField reportOf bytes) space ≡ Refused k → OfSheet k
 printed bytes space k all room e = by (readSheet bytes) (by-sheet bytes) refl e
   where
-    by : (x : Field Facts) → By (Rule 1 10) x → readSheet bytes ≡ x → answerTo (next x (λ f rest. value (reportOf (graphOf f)) [])) space ≡ Refused k
-        → Rule 1 10 k
-    by (refused j) h q e = let n : j ≡ k = cc in subst (Rule 1 10) n (which h)
+    by : (x : Field Facts) → By OfSheet x → readSheet bytes ≡ x → answerTo (next x (λ f rest. value (reportOf (graphOf f)) [])) space ≡ Refused k
+        → OfSheet k
+    by (refused j) h q e = let n : j ≡ k = cc in subst OfSheet n (which h)
     by (value f rest) h q e =
         let fits = report-room f (written-read bytes f rest all q .2) in
         let never : Done (length (reportOf (graphOf f))) ≡ Refused k = sym (long-answer (reportOf (graphOf f)) space (omega (arith, fits))) ∙ e in
@@ -146,31 +146,36 @@ placed s c held k e =
     (fault-else Placing (by27 (sheetFault s)) (placeFault (factsOf s) c held) (fault-27 Placing (λ k h. inr h) (sheetFault s))
     (fault-place (factsOf s) c held)) e
 
-fault-plan : (cs l : List ℕ) → Fault (But 14 (Rule 1 16)) (planFault cs l)
+fault-plan : (cs l : List ℕ) → Fault Checking (planFault cs l)
 fault-plan cs l = by (planFault cs l) refl
   where
-    by : (k : ℕ) → planFault cs l ≡ k → Fault (But 14 (Rule 1 16)) k
+    by : (k : ℕ) → planFault cs l ≡ k → Fault Checking k
     by zero q = tt
-    by (suc r) q = let h = fault-range cs l r q in (record { from = omega arith; to = h .1 }, h .2)
+    by (suc r) q = let h = fault-range cs l r q in inl (record { from = omega arith; to = h .1 }, h .2)
 
 -- ---- the entry points
 
-by-held : (f : Facts) (rest : List ℕ) → By (Rule 1 11) (held f rest)
+by-held : (f : Facts) (rest : List ℕ) → By Holding (held f rest)
 by-held f rest =
-    by-rule (overFault (graphOf f)) (value f rest) (fault-over (Rule 1 11) (record { from = omega arith; to = omega arith }) (graphOf f)) given
+    by-rule (overFault (graphOf f)) (value f rest) (fault-over Holding (inl (record { from = omega arith; to = omega arith })) (graphOf f)) given
 
-ten : (k : ℕ) → Rule 1 10 k → Rule 1 11 k
-ten k h = record { from = h .from; to = omega (arith, h .to) }
+sheet-held : (k : ℕ) → OfSheet k → Holding k
+sheet-held k (inl h) = inl (record { from = h .from; to = omega (arith, h .to) })
+sheet-held k (inr h) = inr h
 
-by-sketch : (bytes : List ℕ) → By (Rule 1 11) (heldSheet bytes)
+held-checked : (k : ℕ) → Holding k → Checking k
+held-checked k (inl h) = inl (record { from = h .from; to = omega (arith, h .to) }, λ z. omega (arith, h .to))
+held-checked k (inr h) = inr h
+
+by-sketch : (bytes : List ℕ) → By Holding (heldSheet bytes)
 unfolding heldSheet
-by-sketch bytes = by-next (by-wider ten (by-sheet bytes)) by-held
+by-sketch bytes = by-next (by-wider sheet-held (by-sheet bytes)) by-held
 
 -- the rules of the plan check, after those of the sheet
 checked : {A : Type 0} (bytes plan : List ℕ) (what : Facts → A)
-    → By (But 14 (Rule 1 16)) (next (heldSheet bytes) (λ f rest. byRule (planFault (graphOf f .clusters) plan) (value (what f) [])))
+    → By Checking (next (heldSheet bytes) (λ f rest. byRule (planFault (graphOf f .clusters) plan) (value (what f) [])))
 checked bytes plan what =
-    by-next (by-wider (λ k h. (record { from = h .from; to = omega (arith, h .to) }, λ z. omega (arith, h .to))) (by-sketch bytes))
+    by-next (by-wider held-checked (by-sketch bytes))
     (λ f rest. by-rule (planFault (graphOf f .clusters) plan) _ (fault-plan (graphOf f .clusters) plan) given)
 
 -- whatever refuses the bytes of a record, 27 refuses it
@@ -207,7 +212,7 @@ over-27 (suc k) = record { from = omega arith; to = omega arith }
 
 -- the chain: 25 where the start or the end is no element
 abbrev Chaining : ℕ → Type 0
-Chaining k = Rule 1 11 k ⊎ (k ≡ 25)
+Chaining k = Holding k ⊎ (k ≡ 25)
 
 by-ends : (g : Graph) (u v : ℕ) → By Chaining (chained g u v)
 by-ends g u v = by-rule (endsFault (g .n) u v) (value g []) (fault-ends (ltb u (g .n) && ltb v (g .n))) given

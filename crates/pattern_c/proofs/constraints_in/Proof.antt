@@ -3,18 +3,19 @@ use borrow.Author.Needs.{needs}
 use Prim.Native.Nat.{_-_}
 use native.Mathlib.Omega.{arith}
 use mathlib.Core.Path.{refl}
+use Rattle.pattern_c.specs.Columns.{constraintIn}
 use Rattle.pattern_c.specs.Columns.Laws.{Filling, filling-none, filling-more, filling-all}
 use Rattle.pattern_c.proofs.constraints_in.Statement.{statement}
 use Rattle.pattern_c.proofs.constraints_in.Tie as tie
 
 abbrev Inv-loop : tie.InvT-loop
-Inv-loop firsts seconds maps sizes cs₀ i₀ cs i = Filling firsts seconds maps sizes i cs
+Inv-loop firsts seconds maps sizes cs₀ i₀ cs i = Filling (constraintIn firsts seconds maps sizes) 200 i cs
 
 abbrev μ-loop : tie.MeasureT-loop
 μ-loop firsts seconds maps sizes cs₀ i₀ cs i = 200 - i
 
 loop-holds : tie.Need-loop-holds Inv-loop μ-loop
-loop-holds c = filling-none _ _ _ _ _ refl
+loop-holds c = filling-none _ _ _ refl
 
 array-set-from-cs : tie.Need-array-set-from-cs Inv-loop μ-loop
 array-set-from-cs c = omega (arith, c .before .loop-test .taken)
@@ -27,13 +28,13 @@ loop-again c =
     let a = c .before .before .before .before .before .before .before .args in
     let l = c .before .before .loop in
     rw (c .constraint-at .ensures)
-    (filling-more (a .firsts .now) (a .seconds .now) (a .maps .now) (a .sizes .now) (l .i) (l .cs)
+    (filling-more (constraintIn (a .firsts .now) (a .seconds .now) (a .maps .now) (a .sizes .now)) 200 (l .i) (l .cs)
     (omega (arith, c .before .loop-test .taken)) (l .inv))
 
 returns : tie.Need-returns Inv-loop μ-loop
 returns c =
     let a = c .before .before .before .before .before .before .args in
-    filling-all (a .firsts .now) (a .seconds .now) (a .maps .now) (a .sizes .now) (c .before .loop .i) (c .before .loop .cs)
+    filling-all (constraintIn (a .firsts .now) (a .seconds .now) (a .maps .now) (a .sizes .now)) 200 (c .before .loop .i) (c .before .loop .cs)
     (c .loop-test .left) (c .before .loop .inv)
 
 pub constraints-in-spec : {M : Type 1} → statement M

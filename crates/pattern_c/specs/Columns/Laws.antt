@@ -1,26 +1,54 @@
--- The blocks of a sheet that its columns give: each constraint by the lists that reach it, and the block filled from the front. Assumes nothing.
-use Prim.Native.Nat.{ℕ, _+_, _%_, _≤_, _<_}
+-- The blocks of a sheet that its columns give: each constraint by the lists that reach it, and a block filled from the front. Assumes nothing.
+use Prim.Native.Nat.{ℕ, zero, suc, _+_, _%_, _≤_, _<_}
+use native.Mathlib.Nat.{le-of-suc-le-suc}
 use native.Mathlib.Numerals.{add-one}
 use native.Mathlib.Omega.{arith}
 use mathlib.Core.Path.{_≡_, refl, sym, ap, _∙_}
-use mathlib.Core.List.{List, append-nil}
-use borrow.Author.Tests.{eq-eqb, ne-eqb, lt-ltb, le-ltb}
+use mathlib.Core.Bool.{Bool, true, false, _&&_}
+use mathlib.Core.List.{List, [], _∷_}
+use borrow.Author.Tests.{eq-eqb, ne-eqb, lt-ltb, le-ltb, ltb-true, ltb-false}
+use lib.Dec.{ltb}
 use lib.IntN.{ℤ, pos}
 use lib.ListN.{length, getD, take, set, length-set}
 use lib.Seq.{take-suc-set, take-all}
-use Rattle.sheet.specs.declared.Element.{Element}
-use Rattle.sheet.specs.declared.Constraint.{Constraint}
-use Rattle.sheet.specs.declared.Size.the-variants.{Given, Missing}
-use Rattle.theory.specs.Block.{block}
-use Rattle.sheet.specs.Facts.{elementsOf, blankElement, blankConstraint}
-use Rattle.sheet.specs.Facts.Laws.{elementsOf-length}
-use Rattle.pattern_c.specs.Columns.{constraintIn, constraintsIn, sheetIn}
+use Rattle.sheet.specs.Facts.{blankConstraint}
+use Rattle.pattern_c.specs.Columns.{placesOf, kindsListed, constraintFrom, constraintIn}
 
--- 64 elements fill their block
-elements-block : (lines : ℕ) → block 64 blankElement (elementsOf 64 lines) ≡ elementsOf 64 lines
-elements-block lines = rw (elementsOf-length 64 lines) (append-nil (elementsOf 64 lines))
+-- ---- kinds
 
--- a constraint by its place, list after list
+and-false : (b : Bool) → b && false ≡ false
+and-false true = refl
+and-false false = refl
+
+module _ (kinds : List ℕ) where
+  pub kinds-none-listed : kindsListed kinds 0 ≡ true
+  unfolding kindsListed
+  kinds-none-listed = refl
+
+  pub kinds-more : (i : ℕ) → kindsListed kinds i ≡ true → getD kinds i 3 ≤ 2 → kindsListed kinds (i + 1) ≡ true
+  unfolding kindsListed
+  kinds-more i h l = rw (add-one, h, lt-ltb (getD kinds i 3) 3 (omega (arith, l)))
+
+  -- one that is not known is not listed, whatever follows it
+  pub kinds-none : (n i : ℕ) → i < n → 2 < getD kinds i 3 → kindsListed kinds n ≡ false
+  unfolding kindsListed
+  kinds-none zero i l h = absurd (omega arith)
+  kinds-none (suc n) i l h = by (ltb i n) refl (λ q. kinds-none n i (ltb-true i n q) h)
+    where
+      by : (b : Bool) → ltb i n ≡ b → (ltb i n ≡ true → kindsListed kinds n ≡ false) → kindsListed kinds n && ltb (getD kinds n 3) 3 ≡ false
+      by true q before = rw (before q)
+      by false q before =
+          let s : i ≡ n = omega (arith, ltb-false i n q) in
+          rw (← s, le-ltb (getD kinds i 3) 3 h) (and-false (kindsListed kinds i))
+
+-- within a list it does not matter what would stand past the end
+pub within-list : (xs : List ℕ) (i a b : ℕ) → i < length xs → getD xs i a ≡ getD xs i b
+within-list [] i a b h = absurd (omega arith)
+within-list (x ∷ xs) zero a b h = refl
+within-list (x ∷ xs) (suc i) a b h = within-list xs i a b (le-of-suc-le-suc h)
+
+-- ---- a constraint by its place, list after list
+
 module _ (firsts seconds maps : List ℕ) (sizes : List ℤ) (i : ℕ) where
   pub short-firsts : length firsts ≤ i → constraintIn firsts seconds maps sizes i ≡ blankConstraint
   short-firsts f = rw (le-ltb _ _ f)
@@ -33,51 +61,41 @@ module _ (firsts seconds maps : List ℕ) (sizes : List ℤ) (i : ℕ) where
 
   module _ (f : i < length firsts) (s : i < length seconds) (m : i < length maps) where
     pub without-size : getD maps i 0 % 2 ≡ 0
-        → constraintIn firsts seconds maps sizes i ≡ record { first = getD firsts i 0; second = getD seconds i 0; size = Missing }
+        → constraintIn firsts seconds maps sizes i ≡ constraintFrom (getD firsts i 0) (getD seconds i 0) (getD maps i 0) (getD sizes i (pos 0))
     without-size z = rw (lt-ltb _ _ f, lt-ltb _ _ s, lt-ltb _ _ m, eq-eqb _ _ z)
 
     pub short-sizes : (getD maps i 0 % 2 ≡ 0 → ⊥) → length sizes ≤ i → constraintIn firsts seconds maps sizes i ≡ blankConstraint
     short-sizes z l = rw (lt-ltb _ _ f, lt-ltb _ _ s, lt-ltb _ _ m, ne-eqb _ _ z, le-ltb _ _ l)
 
     pub with-size : (getD maps i 0 % 2 ≡ 0 → ⊥) → i < length sizes
-        → constraintIn firsts seconds maps sizes i ≡ record {
-          first = getD firsts i 0;
-          second = getD seconds i 0;
-          size = Given
-              (getD sizes i (pos 0));
-        }
+        → constraintIn firsts seconds maps sizes i ≡ constraintFrom (getD firsts i 0) (getD seconds i 0) (getD maps i 0) (getD sizes i (pos 0))
     with-size z l = rw (lt-ltb _ _ f, lt-ltb _ _ s, lt-ltb _ _ m, ne-eqb _ _ z, lt-ltb _ _ l)
 
-module _ (firsts seconds maps : List ℕ) (sizes : List ℤ) where
-  -- the first i places hold the constraints of the columns
-  pub record Filling (i : ℕ) (block : List Constraint) : Type 0 where
-    pub within : i ≤ 200
-    pub long : length block ≡ 200
-    pub front : take i block ≡ constraintsIn firsts seconds maps sizes i
+-- ---- a block
 
-  pub filling-none : (block : List Constraint) → length block ≡ 200 → Filling 0 block
-  unfolding constraintsIn
+module _ {A : Type 0} (what : ℕ → A) (most : ℕ) where
+  -- the first i places hold what they should
+  pub record Filling (i : ℕ) (block : List A) : Type 0 where
+    pub within : i ≤ most
+    pub long : length block ≡ most
+    pub front : take i block ≡ placesOf what i
+
+  pub filling-none : (block : List A) → length block ≡ most → Filling 0 block
+  unfolding placesOf
   filling-none block h = record { within = omega arith; long = h; front = refl }
 
-  pub filling-more : (i : ℕ) (block : List Constraint) → i < 200 → Filling i block
-      → Filling (i + 1) (set block i (constraintIn firsts seconds maps sizes i))
-  unfolding constraintsIn
+  pub filling-more : (i : ℕ) (block : List A) → i < most → Filling i block → Filling (i + 1) (set block i (what i))
+  unfolding placesOf
   filling-more i block l h =
       let q : i < length block = rw (h .long) l in
       record {
         within = omega arith;
         long = rw length-set (h .long);
-        front = rw (add-one, take-suc-set block i (constraintIn firsts seconds maps sizes i) q, h .front);
+        front = rw (add-one, take-suc-set block i (what i) q, h .front);
       }
 
-  pub filling-all : (i : ℕ) (block : List Constraint) → 200 ≤ i → Filling i block → block ≡ constraintsIn firsts seconds maps sizes 200
+  pub filling-all : (i : ℕ) (block : List A) → most ≤ i → Filling i block → block ≡ placesOf what most
   filling-all i block l h =
-      let s : i ≡ 200 = omega (arith, h .within) in
+      let s : i ≡ most = omega (arith, h .within) in
       let q : length block ≤ i = rw (h .long) l in
-      sym (take-all i block q) ∙ h .front ∙ ap (constraintsIn firsts seconds maps sizes) s
-
-  pub sheet-in : (n e lines : ℕ) (es : List Element) (cs : List Constraint)
-      → es ≡ block 64 blankElement (elementsOf 64 lines) → cs ≡ constraintsIn firsts seconds maps sizes 200
-      → record { n = n; e = e; elements = es; constraints = cs } ≡ sheetIn n e lines firsts seconds maps sizes
-  unfolding sheetIn
-  sheet-in n e lines es cs p q = rw (p, q, elements-block lines)
+      sym (take-all i block q) ∙ h .front ∙ ap (placesOf what) s

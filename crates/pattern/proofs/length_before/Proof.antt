@@ -1,0 +1,43 @@
+-- `pattern::length_before` meets its contract, by the opening. Assumes nothing.
+use borrow.Author.Needs.{needs}
+use Prim.Native.Nat.{_+_, _*_, _≤_}
+use native.Mathlib.Omega.{arith}
+use mathlib.Core.Path.{sym, ap}
+use lib.Count.{ones, ones-le}
+use Rattle.sheet.specs.declared.Opening.{Opening}
+use Rattle.sheet.specs.Field.{kindBytes}
+use Rattle.pattern.proofs.length_before.Statement.{statement}
+use Rattle.pattern.proofs.length_before.Tie as tie
+
+most : (c : tie.After-struct-known) → ones (c .before .before .args .h .kinds .circles) ≤ 64
+most c = ones-le 64 (c .before .before .args .h .kinds .circles) (search needs)
+
+cast-radii : tie.Need-cast-radii
+cast-radii c = record { fits = omega (arith, most c) }
+
+mul-radii : tie.Need-mul-radii
+mul-radii c = record { fits = omega (arith, most c) }
+
+add-result-3 : tie.Need-add-result-3
+add-result-3 c =
+    let m = most (c .before .before .before) in record { fits = omega (arith, m, c .before .before .before .before .before .pre) }
+
+add-result-6 : tie.Need-add-result-6
+add-result-6 c =
+    let m = most (c .before .before .before) in record { fits = omega (arith, m, c .before .before .before .before .before .pre) }
+
+returns : tie.Need-returns
+returns c =
+    let h = c .before .before .before .before .before .args .h in
+    sym (ap (λ (o : Opening). 6 + kindBytes o (h .n) + 4 * ones (h .kinds .circles)) (c .before .enum-told .given .1))
+
+returns-2 : tie.Need-returns-2
+returns-2 c =
+    let h = c .before .before .before .before .before .args .h in
+    sym (ap (λ (o : Opening). 6 + kindBytes o (h .n) + 4 * ones (h .kinds .circles)) (c .before .enum-told2 .given .1))
+
+pub length-before-spec : {M : Type 1} → statement M
+length-before-spec =
+    tie.close
+    (tie.spec cast-radii mul-radii (λ c. search needs) (λ c. search needs) (λ c. search needs) add-result-3 (λ c. search needs) (λ c. search needs)
+    (λ c. search needs) add-result-6 returns returns-2)
