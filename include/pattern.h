@@ -17,23 +17,36 @@
  *
  * A sheet in bytes; docs/FORMAT.md says the same at length, with the report's lines:
  *
- *   50 46 30 31   the opening, PF01
+ *   50 46 30 31   the opening, PF01, or 50 46 30 32, PF02, whose elements may be circles
  *   1 byte        n, the count of elements, 2 to 64
- *   n/8 rounded   the kinds: bit (i mod 8) of byte (i div 8) is 1 where element i is a line, 0 where
- *   up bytes      it is a point; the bits from n on are 0
+ *   n/8 rounded   the kinds of PF01: bit (i mod 8) of byte (i div 8) is 1 where element i is a line, 0
+ *   up bytes      where it is a point; the bits from n on are 0
+ *   n/4 rounded   the kinds of PF02: the two bits from 2(i mod 4) on of byte (i div 4) are 0 where element
+ *   up bytes      i is a point, 1 where it is a line, 2 where it is a circle; the bits from 2n on are 0
+ *   4 bytes each  PF02: the radius of each circle, in element order, 1 to 40,000 tenths of a millimetre,
+ *                 lowest byte first
  *   1 byte        e, the count of constraints, 0 to 200; then each constraint:
  *     1 byte      the first end, an element
  *     1 byte      the second end, a higher one
- *     1 byte      the map: PATTERN_SIZED, PATTERN_TAGGED
+ *     1 byte      the map: PATTERN_SIZED, PATTERN_TAGGED and, of PF02, PATTERN_TANGENT, PATTERN_OTHER
  *     4 bytes     where PATTERN_SIZED stands: the size, signed, lowest byte first
  *     2 bytes     where PATTERN_TAGGED stands: the tag, any value
  *
- * The size of a constraint (rule 9):
+ * The size of a constraint (rule 9), where a circle counts as its centre point:
  *
  *   two points      a distance, 1 to 40,000 tenths of a millimetre
  *   point and line  a signed distance, -40,000 to 40,000 tenths of a millimetre, not 0; a missing size
  *                   is the distance 0, the point on the line
  *   two lines       a signed angle, -17,999 to 17,999 hundredths of a degree, not 0
+ *
+ * What a contact means, r being a radius; it stands in place of the size:
+ *
+ *   circle and line     the centre is at +r from the line; by the other contact at -r
+ *   point and circle    the point is at r from the centre
+ *   two circles         the centres are as far apart as the sum of the radii; by the other contact as
+ *                       the larger less the smaller
+ *
+ * Verdict, plan, clusters and report are those of the sketch of the centres.
  */
 #ifndef PATTERN_H
 #define PATTERN_H
@@ -45,10 +58,10 @@
 extern "C" {
 #endif
 
-#define PATTERN_MAX_ELEMENTS    64   /* points and lines of a sheet, numbered from 0 */
+#define PATTERN_MAX_ELEMENTS    64   /* points, lines and circles of a sheet, numbered from 0 */
 #define PATTERN_MAX_CONSTRAINTS 200  /* constraints of a sheet, numbered from 0 */
-#define PATTERN_MAX_SHEET       1814 /* bytes of a sheet that is read: it may carry tags */
-#define PATTERN_MAX_WRITTEN     1414 /* bytes of a written sheet: with this room no sheet is refused by 17 */
+#define PATTERN_MAX_SHEET       2078 /* bytes of a sheet that is read: it may carry tags */
+#define PATTERN_MAX_WRITTEN     1678 /* bytes of a written sheet: with this room no sheet is refused by 17 */
 #define PATTERN_MAX_REPORT      4667 /* bytes of a report: with this room no report is refused by 17 */
 #define PATTERN_MAX_PLAN        186  /* numbers of a plan, three a step: with this room no plan is refused by 17 */
 #define PATTERN_MAX_STEPS       62   /* steps of a plan: with room for so many no list of them is refused by 17 */
@@ -56,23 +69,23 @@ extern "C" {
 #define PATTERN_MAX_CLUSTERS    125  /* clusters that are left: with this room no list of them is refused by 17 */
 #define PATTERN_MAX_RESTS       250  /* words of what they rest on, two a cluster: with this room no list of them is refused by 17 */
 #define PATTERN_MAX_CHAIN       63   /* clusters of a chain: with this room no chain is refused by 17 */
-#define PATTERN_MAX_RECORD      891  /* bytes of a record: with this room no sketch is refused by 17 */
+#define PATTERN_MAX_RECORD      1155 /* bytes of a record: with this room no sketch is refused by 17 */
 #define PATTERN_MAX_PART        3534 /* bytes of one cluster's steps: with this room no list of them is refused by 17 */
 #define PATTERN_MAX_MISSING     125  /* missing dimensions: with this room no list of them is refused by 17 */
 #define PATTERN_MAX_OPEN        186  /* numbers of the open merges, three each: with this room no list of them is refused by 17 */
 #define PATTERN_UNMEASURED      65535 /* the price of a pair that can't be measured */
 #define PATTERN_MAX_STACK       32768 /* bytes of stack that a call takes */
 
-/* The rules that refuse, in checking order. */
+/* The rules that refuse, by number. "Rules 1 to 10" of a sheet are tried in the order of its fields, 18, 19 and 20 among them. */
 enum pattern_rule {
-    PATTERN_OPENING     = 1,  /* the sheet does not open with PF01 */
+    PATTERN_OPENING     = 1,  /* the sheet does not open with PF01 or PF02 */
     PATTERN_CUT         = 2,  /* the sheet ends inside a field, or before one that must follow */
     PATTERN_ELEMENTS    = 3,  /* the element count is outside 2 to 64 */
     PATTERN_KIND_BITS   = 4,  /* an unused kind bit is 1 */
     PATTERN_CONSTRAINTS = 5,  /* the constraint count is above 200 */
     PATTERN_ENDS        = 6,  /* the ends are not first below second below the element count */
     PATTERN_PAIR        = 7,  /* an earlier constraint has the same two ends */
-    PATTERN_MAP         = 8,  /* an unknown map bit, or no size for two points or two lines */
+    PATTERN_MAP         = 8,  /* a map bit that may not stand, or neither size nor contact where one must */
     PATTERN_SIZE        = 9,  /* the size is outside its range above, a written 0 included */
     PATTERN_EXTRA       = 10, /* bytes follow the last constraint */
     PATTERN_IS_OVER     = 11, /* the sheet is over, or one more constraint would make it so */
@@ -82,36 +95,57 @@ enum pattern_rule {
     PATTERN_NOT_OPEN    = 15, /* the clusters of a step do not make an open merge */
     PATTERN_UNFINISHED  = 16, /* after the last step a merge is still open */
     PATTERN_ROOM        = 17, /* `out` is shorter than the answer, or a record than what it must hold */
+    PATTERN_KIND        = 18, /* an element's kind is 3, after 4; for the writer also a circle under PF01, after 3 */
+    PATTERN_RADIUS      = 19, /* a radius is outside 1 to 40,000, where it is read; for the writer after 18 */
+    PATTERN_RADII       = 20, /* the other contact of two circles with equal radii, after 8 */
     PATTERN_ANOTHER     = 24, /* another number of constraints is held than was told */
     PATTERN_NO_ELEMENT  = 25, /* the start or the end of a chain is no element of the sheet */
     PATTERN_NO_NUMBER   = 26, /* no cluster of the plan has the number; tried before 17 */
     PATTERN_RECORD      = 27  /* the record stands for no sheet that may be held */
 };
 
-/* Bits of a constraint's map. */
-#define PATTERN_SIZED  1 /* the size is given; a point and a line may go without, the point then on the line */
-#define PATTERN_TAGGED 2 /* a tag of two bytes follows the size: it is read and dropped, and never written */
+/* The openings, as pattern_write takes them. */
+#define PATTERN_PF01 1
+#define PATTERN_PF02 2
+
+/* The kinds of elements. */
+#define PATTERN_POINT  0
+#define PATTERN_LINE   1
+#define PATTERN_CIRCLE 2
+
+/*
+ * Bits of a constraint's map. Rule 8 refuses PATTERN_TANGENT without a circle or beside PATTERN_SIZED, PATTERN_OTHER
+ * without PATTERN_TANGENT or for point and circle, and bits 4 to 7; neither size nor contact is for point and line alone.
+ */
+#define PATTERN_SIZED   1 /* the size is given; a point or centre and a line may go without, the point then on the line */
+#define PATTERN_TAGGED  2 /* a tag of two bytes follows the size: it is read and dropped, and never written */
+#define PATTERN_TANGENT 4 /* the two touch, which takes no size: centre to line +r, point to circle r, two circles the sum of radii */
+#define PATTERN_OTHER   8 /* beside PATTERN_TANGENT the other contact: -r, or the larger radius less the smaller */
 
 /*
  * Reads a sheet and writes it again: the same sheet with PATTERN_TAGGED clear and the tags gone, so
- * the same bytes where it has none. Tries rules 1 to 10 in the order of the fields, then 17. Answers
- * the count of bytes.
+ * the same bytes where it has none; the opening stays. Tries rules 1 to 10, with 18 to 20 among them, in
+ * the order of the fields, then 17. Answers the count of bytes.
  */
 int32_t pattern_rewrite(const uint8_t *sheet, size_t len, uint8_t *out, size_t room);
 
 /*
- * Writes a sheet from its facts; constraint i stands in place i of the four lists. Tries rules 3 and
- * 5, each constraint by 6 to 9, then 17. Answers the count of bytes.
- * Places from e on and bits of lines from n on have no influence. A constraint whose place lies beyond
- * firsts, seconds or maps, or beyond sizes where its map has PATTERN_SIZED, is refused by 6.
+ * Writes a sheet from its facts; element i stands in place i of two lists, constraint i in place i of
+ * four. Tries rules 1 (another opening), 3, 18 (another kind, or a circle under PF01), 19 and 5, each
+ * constraint by 6, 7, 8, 20 and 9, then 17. Answers the count of bytes.
+ * Places from n on and from e on have no influence, nor has the radius of what is no circle. An element
+ * beyond kinds is refused by 18, a circle beyond radii by 19. A constraint whose place lies beyond firsts,
+ * seconds or maps, or beyond sizes where its map has PATTERN_SIZED, is refused by 6.
  */
 int32_t pattern_write(
+    size_t opening,                             /* PATTERN_PF01 or PATTERN_PF02 */
     size_t n,                                   /* count of elements */
     size_t e,                                   /* count of constraints */
-    uint64_t lines,                             /* bit i: element i is a line, else a point */
+    const uint8_t *kinds, size_t kinds_len,     /* PATTERN_POINT, PATTERN_LINE or PATTERN_CIRCLE */
+    const uint32_t *radii, size_t radii_len,    /* of a circle: 1 to 40,000 tenths of a millimetre */
     const uint8_t *firsts, size_t firsts_len,   /* the first end, the lower one */
     const uint8_t *seconds, size_t seconds_len, /* the second end */
-    const uint8_t *maps, size_t maps_len,       /* PATTERN_SIZED; other bits have no influence */
+    const uint8_t *maps, size_t maps_len,       /* PATTERN_SIZED, or PATTERN_TANGENT and PATTERN_OTHER; PATTERN_TAGGED has no influence */
     const int32_t *sizes, size_t sizes_len,     /* distance in tenths of a millimetre, or angle in hundredths of a degree */
     uint8_t *out, size_t room);
 
@@ -200,7 +234,7 @@ struct pattern_step {
     uint64_t made;     /* the number of the cluster made */
     uint64_t parts[3]; /* the numbers of its three parts, ascending */
     uint64_t joint;    /* the three elements that they share, bit i for element i */
-    uint64_t lines;    /* how many of these are lines: 0 is ppp, 1 ppl, 2 pll, 3 lll */
+    uint64_t lines;    /* how many of these are lines, a circle being a point: 0 is ppp, 1 ppl, 2 pll, 3 lll */
     uint64_t ways;     /* how many placements there are, or PATTERN_WAYS_UNKNOWN */
 };
 
@@ -232,34 +266,43 @@ int32_t pattern_saved_steps(const uint8_t *sheet, size_t len, const uint16_t *pl
  *
  * PATTERN_MAX_RECORD bytes have room for every held sketch. The record holds facts alone, and only
  * pattern_hold and pattern_place write to it. One whose bytes stand for no sheet that may be held, one
- * that is refused by 1 to 10 or is over, is refused by 27, before all else; so is one that is cut.
+ * that is refused by 1 to 10 or 18 to 20 or is over, is refused by 27, before all else; so is one that is
+ * cut.
  */
 
 /*
  * Holds a sheet: writes the record of the same sheet without its tags. Tries rules 1 to 11, then 17.
- * Answers the count of bytes. The number of constraints that a record of pattern_hold and
- * pattern_place holds is PATTERN_HELD(record).
+ * Answers the count of bytes.
  */
 int32_t pattern_hold(const uint8_t *sheet, size_t len, uint8_t *record, size_t room);
 
-#define PATTERN_HELD(record) ((record)[7 + ((record)[6] + 7) / 8])
+/* How many constraints a record of pattern_hold and pattern_place holds: e, which follows the kinds and, of PF02, the radii. */
+static inline size_t pattern_held_count(const uint8_t *record)
+{
+    size_t n = record[6], circles = 0;
+    if (record[5] == '1')
+        return record[7 + (n + 7) / 8];
+    for (size_t i = 0; i < n; i++)
+        circles += (record[7 + i / 4] >> 2 * (i % 4) & 3) == PATTERN_CIRCLE;
+    return record[7 + (n + 3) / 4 + 4 * circles];
+}
 
 /*
  * Asks what one more constraint would do: the verdict, one of the names above, that the sketch with it
- * last would have, or the rule that refuses it. Tries rules 27, 6 to 9, and 11 where it would make the
- * sketch over. Changes nothing.
+ * last would have, or the rule that refuses it. Tries rules 27, 6, 7, 8, 20 and 9, and 11 where it would
+ * make the sketch over. Changes nothing.
  */
 int32_t pattern_ask(
     const uint8_t *record, size_t room,
     uint8_t first,  /* the first end, the lower one */
     uint8_t second, /* the second end */
-    uint8_t map,    /* PATTERN_SIZED; other bits have no influence */
-    int32_t size);  /* distance in tenths of a millimetre, or angle in hundredths of a degree */
+    uint8_t map,    /* PATTERN_SIZED, or PATTERN_TANGENT and PATTERN_OTHER; PATTERN_TAGGED has no influence */
+    int32_t size);  /* where PATTERN_SIZED stands: distance in tenths of a millimetre, or angle in hundredths of a degree */
 
 /*
  * Places the constraint: answers as asking would, and the record then holds it last. held is the number
- * of constraints held when it was asked. Tries rules 27, 24 where another number is held, 6 to 9, 11,
- * and 17 where the record has no room for it. A refusal leaves every byte as it was.
+ * of constraints held when it was asked. Tries rules 27, 24 where another number is held, 6, 7, 8, 20, 9,
+ * 11, and 17 where the record has no room for it. A refusal leaves every byte as it was.
  */
 int32_t pattern_place(
     uint8_t *record, size_t room, uint8_t first, uint8_t second, uint8_t map, int32_t size, size_t held);

@@ -1,9 +1,10 @@
 //! The sheets that are timed, some shapes at n 16, 32 and 64.
 
-use pattern_tests::facts::{Constraint, Kind, Sheet};
+use pattern_tests::dress::Mix;
+use pattern_tests::facts::{Constraint, Kind, Opening, Sheet};
 use pattern_tests::graph::Graph;
 use pattern_tests::random::Random;
-use pattern_tests::{shapes, tags, writer};
+use pattern_tests::{dress, shapes, tags, writer};
 
 /// Sheets of one shape.
 pub struct Case {
@@ -27,6 +28,15 @@ struct Dress {
 
 const PLAIN: Dress = Dress { lines: 0, tags: 0 };
 
+/// What the elements and constraints of a case of round lights look like, in hundredths.
+#[derive(Clone, Copy)]
+struct Round {
+    lines: usize,
+    circles: usize,
+    contacts: usize,
+    tags: usize,
+}
+
 /// A case of graphs, each with other names and, if `mixed`, in another order.
 fn case(name: &str, dress: Dress, mixed: bool, graph: impl Fn(&mut Random) -> Graph) -> Case {
     let random = &mut Random::new(name.len() as u64);
@@ -48,13 +58,57 @@ fn case(name: &str, dress: Dress, mixed: bool, graph: impl Fn(&mut Random) -> Gr
 fn dressed(graph: &Graph, dress: Dress, random: &mut Random) -> Sheet {
     let kind = |random: &mut Random| if random.chance(dress.lines) { Kind::Line } else { Kind::Point };
     let kinds: Vec<Kind> = (0..graph.n).map(|_| kind(random)).collect();
-    let constraint = |&(a, b): &(usize, usize)| Constraint {
-        first: a as u8,
-        second: b as u8,
-        size: (kinds[a] == kinds[b] || random.chance(70)).then(|| random.between(1, 17_999) as i32),
+    let constraint = |&(a, b): &(usize, usize)| match kinds[a] == kinds[b] || random.chance(70) {
+        true => Constraint::sized(a as u8, b as u8, random.between(1, 17_999) as i32),
+        false => Constraint::bare(a as u8, b as u8),
     };
     let constraints = graph.pairs.iter().map(constraint).collect();
-    Sheet { kinds, constraints }
+    Sheet::first(kinds, constraints)
+}
+
+/// A case of round lights: graphs with other names and in another order, as PF02 sheets.
+fn round(name: &str, round: Round, graph: impl Fn(&mut Random) -> Graph) -> Case {
+    let random = &mut Random::new(name.len() as u64);
+    let mut sheet = || {
+        let mut graph = graph(random);
+        graph.rename(random);
+        random.shuffle(&mut graph.pairs);
+        let mix = Mix { opening: Opening::Pf02, lines: round.lines, circles: round.circles, contacts: round.contacts };
+        dress::by_mix(&graph, mix, random)
+    };
+    let sheets: Vec<Sheet> = (0..POOL).map(|_| sheet()).collect();
+    let (n, e) = (sheets[0].n(), sheets[0].e());
+    let pool = sheets.iter().map(|sheet| tags::on(&writer::bytes(sheet), round.tags, random)).collect();
+    Case { name: name.to_string(), n, e, pool }
+}
+
+/// PF02 sheets for reading and writing.
+pub fn for_round_sheet() -> Vec<Case> {
+    let full = |random: &mut Random| shapes::scattered(64, 200, random);
+    let tree = |random: &mut Random| shapes::merge_tree(64, random);
+    vec![
+        round("64 circles, 200 contacts", Round { lines: 0, circles: 100, contacts: 100, tags: 0 }, full),
+        round("64 circles, 200 distances", Round { lines: 0, circles: 100, contacts: 0, tags: 0 }, full),
+        round("64 circles, half of each", Round { lines: 0, circles: 100, contacts: 50, tags: 0 }, full),
+        round("64 circles, contacts, every tag", Round { lines: 0, circles: 100, contacts: 100, tags: 100 }, full),
+        round("64 circles, merge tree", Round { lines: 0, circles: 100, contacts: 50, tags: 0 }, tree),
+        round("points, lines and circles", Round { lines: 30, circles: 50, contacts: 50, tags: 50 }, full),
+        round("no circle, 200 mixed", Round { lines: 40, circles: 0, contacts: 0, tags: 0 }, full),
+    ]
+}
+
+/// PF02 sheets for verdicts and reports.
+pub fn for_round() -> Vec<Case> {
+    let circles = Round { lines: 0, circles: 100, contacts: 70, tags: 0 };
+    let mixed = Round { lines: 20, circles: 70, contacts: 50, tags: 0 };
+    vec![
+        round("64 circles, strip", circles, |_| shapes::strip(64)),
+        round("64 circles, merge tree", circles, |random| shapes::merge_tree(64, random)),
+        round("64 circles, Henneberg, no split", circles, |random| shapes::henneberg(64, 0, random)),
+        round("64 circles, over", circles, |random| shapes::scattered(64, 200, random)),
+        round("mixed, merge tree", mixed, |random| shapes::merge_tree(64, random)),
+        round("mixed, merge tree less 8", mixed, |random| less(shapes::merge_tree(64, random), 8, random)),
+    ]
 }
 
 /// Sheets for reading and writing.
@@ -193,12 +247,10 @@ fn lined(name: &str, mixed: bool, graph: &Graph, line: fn(usize) -> bool) -> Cas
         for element in (0..graph.n).filter(|&element| line(element)) {
             kinds[names[element]] = Kind::Line;
         }
-        let constraint = |&(a, b): &(usize, usize)| Constraint {
-            first: names[a].min(names[b]) as u8,
-            second: names[a].max(names[b]) as u8,
-            size: Some(300),
+        let constraint = |&(a, b): &(usize, usize)| {
+            Constraint::sized(names[a].min(names[b]) as u8, names[a].max(names[b]) as u8, 300)
         };
-        writer::bytes(&Sheet { kinds, constraints: pairs.iter().map(constraint).collect() })
+        writer::bytes(&Sheet::first(kinds, pairs.iter().map(constraint).collect()))
     };
     let pool = (0..POOL).map(|_| sheet()).collect();
     Case { name: name.to_string(), n: graph.n, e: graph.pairs.len(), pool }

@@ -5,6 +5,7 @@
 
 int main(int argc, char **argv)
 {
+    const uint8_t kinds[] = {PATTERN_POINT, PATTERN_POINT, PATTERN_POINT, PATTERN_POINT};
     const uint8_t firsts[] = {0, 0, 1, 1, 2};
     const uint8_t seconds[] = {1, 2, 2, 3, 3};
     const uint8_t maps[] = {PATTERN_SIZED, PATTERN_SIZED, PATTERN_SIZED, PATTERN_SIZED, PATTERN_SIZED};
@@ -15,7 +16,8 @@ int main(int argc, char **argv)
         fprintf(stderr, "usage: write SHEET\n");
         return 2;
     }
-    int32_t count = pattern_write(4, 5, 0, firsts, 5, seconds, 5, maps, 5, sizes, 5, sheet, sizeof sheet);
+    int32_t count = pattern_write(
+        PATTERN_PF01, 4, 5, kinds, 4, NULL, 0, firsts, 5, seconds, 5, maps, 5, sizes, 5, sheet, sizeof sheet);
     if (count < 0) {
         printf("refused %d\n", (int)-count);
         return 1;

@@ -7,8 +7,8 @@ use crate::{shapes, writer};
 
 /// Points with these constraints: the ends and the size.
 fn points(n: usize, constraints: &[(u8, u8, i32)]) -> Sheet {
-    let constraint = |&(first, second, size)| Constraint { first, second, size: Some(size) };
-    Sheet { kinds: vec![Kind::Point; n], constraints: constraints.iter().map(constraint).collect() }
+    let constraint = |&(first, second, size)| Constraint::sized(first, second, size);
+    Sheet::first(vec![Kind::Point; n], constraints.iter().map(constraint).collect())
 }
 
 /// Points with these pairs, all of size 300.
@@ -32,7 +32,7 @@ fn example(n: usize, more: &[(usize, usize)]) -> Sheet {
 fn point_on_line(size: i32) -> Sheet {
     let mut sheet = points(3, &[(0, 1, 0), (0, 2, 300), (1, 2, size)]);
     sheet.kinds[0] = Kind::Line;
-    sheet.constraints[0].size = None;
+    sheet.constraints[0] = Constraint::bare(0, 1);
     sheet
 }
 

@@ -2,7 +2,7 @@
 //!
 //! Each wrapper is `#[inline]`, so that a program links only the functions it calls.
 
-use crate::facts::{Columns, Constraint, map};
+use crate::facts::{Columns, Constraint};
 
 #[path = "../../examples/rust/src/c.rs"]
 mod c;
@@ -18,9 +18,13 @@ pub fn rewrite(sheet: &[u8], out: &mut [u8]) -> i32 {
 pub fn write(facts: &Columns, out: &mut [u8]) -> i32 {
     unsafe {
         c::pattern_write(
+            facts.opening,
             facts.n,
             facts.e,
-            facts.lines,
+            facts.kinds.as_ptr(),
+            facts.kinds.len(),
+            facts.radii.as_ptr(),
+            facts.radii.len(),
             facts.firsts.as_ptr(),
             facts.firsts.len(),
             facts.seconds.as_ptr(),
@@ -149,15 +153,15 @@ pub fn hold(sheet: &[u8], record: &mut [u8]) -> i32 {
 /// `pattern_ask`
 #[inline]
 pub fn ask(record: &[u8], more: &Constraint) -> i32 {
-    let (size, map) = (more.size.unwrap_or(7), map(more));
-    unsafe { c::pattern_ask(record.as_ptr(), record.len(), more.first, more.second, map, size) }
+    let &Constraint { first, second, map, size } = more;
+    unsafe { c::pattern_ask(record.as_ptr(), record.len(), first, second, map, size) }
 }
 
 /// `pattern_place`
 #[inline]
 pub fn place(record: &mut [u8], more: &Constraint, held: usize) -> i32 {
-    let (size, map) = (more.size.unwrap_or(7), map(more));
-    unsafe { c::pattern_place(record.as_mut_ptr(), record.len(), more.first, more.second, map, size, held) }
+    let &Constraint { first, second, map, size } = more;
+    unsafe { c::pattern_place(record.as_mut_ptr(), record.len(), first, second, map, size, held) }
 }
 
 /// `pattern_held`
@@ -182,8 +186,31 @@ mod tests {
         unsafe {
             assert_eq!(c::pattern_rewrite(null(), 0, out, room), -1);
             assert_eq!(c::pattern_rewrite(sheet, len, null_mut(), 0), -17);
-            assert_eq!(c::pattern_write(2, 0, 1, null(), 0, null(), 0, null(), 0, null(), 0, out, room), 7);
-            assert_eq!(c::pattern_write(2, 0, 1, null(), 0, null(), 0, null(), 0, null(), 0, null_mut(), 0), -17);
+            let kinds = [1, 0].as_ptr();
+            let write = |kinds, count, out, room| {
+                c::pattern_write(
+                    1,
+                    2,
+                    0,
+                    kinds,
+                    count,
+                    null(),
+                    0,
+                    null(),
+                    0,
+                    null(),
+                    0,
+                    null(),
+                    0,
+                    null(),
+                    0,
+                    out,
+                    room,
+                )
+            };
+            assert_eq!(write(kinds, 2, out, room), 7);
+            assert_eq!(write(kinds, 2, null_mut(), 0), -17);
+            assert_eq!(write(null(), 0, out, room), -18);
             assert_eq!(c::pattern_over(null(), 0, null_mut(), 0), -1);
             assert_eq!(c::pattern_over(sheet, len, null_mut(), 0), 0);
             assert_eq!(c::pattern_verdict(null(), 0), -1);

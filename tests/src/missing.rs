@@ -40,7 +40,7 @@ fn permitted(sheet: &Sheet, prices: &[u16]) -> Result<Vec<Offer>, Rule> {
 /// The sheet with more pairs.
 fn with(sheet: &Sheet, offers: &[Offer]) -> Sheet {
     let mut more = sheet.clone();
-    more.constraints.extend(offers.iter().map(|o| Constraint { first: o.pair.0, second: o.pair.1, size: Some(300) }));
+    more.constraints.extend(offers.iter().map(|o| Constraint::sized(o.pair.0, o.pair.1, 300)));
     more
 }
 

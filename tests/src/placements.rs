@@ -1,4 +1,5 @@
-//! Joint kinds and placements (document 01, "Joint kinds and placements").
+//! Joint kinds and placements (document 01, "Joint kinds and placements"; document 02, 2026-01: contacts count as the distances they mean, circles as
+//! points).
 
 use crate::facts::Sheet;
 use crate::merging::Step;
@@ -17,7 +18,7 @@ pub fn ways(sheet: &Sheet, step: &Step) -> Option<usize> {
     let parts = step.parts.map(|part| sheet.constraints[part]);
     let length = |lines: usize| {
         let sizes = parts.iter().filter(move |c| size(c.ends() & sheet.lines()) == lines);
-        sizes.map(|c| i64::from(c.size.unwrap_or(0))).collect::<Vec<i64>>()
+        sizes.map(|c| sheet.distance(c)).collect::<Vec<i64>>()
     };
     let (distances, to_line) = (length(0), length(1));
     match kind(sheet, step.joint) {

@@ -1,6 +1,6 @@
 //! The reader: bytes to a sheet, or the rule of the first field that fails.
 
-use crate::facts::{Constraint, Kind, OPENING, Rule, Sheet};
+use crate::facts::{Constraint, Kind, Opening, Rule, SIZED, Sheet, TAGGED};
 use crate::rules;
 
 /// The bytes of a tag, which is read and dropped.
@@ -18,19 +18,19 @@ impl<'a> Fields<'a> {
     }
 
     /// A field of `count` bytes; rule 2 where the sheet ends inside it.
-    fn take(&mut self, count: usize) -> Result<&'a [u8], Rule> {
+    pub fn take(&mut self, count: usize) -> Result<&'a [u8], Rule> {
         let (field, left) = self.left.split_at_checked(count).ok_or(2)?;
         self.left = left;
         Ok(field)
     }
 
     /// A field of N bytes as an array.
-    fn array<const N: usize>(&mut self) -> Result<[u8; N], Rule> {
+    pub fn array<const N: usize>(&mut self) -> Result<[u8; N], Rule> {
         Ok(self.take(N)?.try_into().expect("a field of N bytes"))
     }
 
     /// A field of one byte.
-    fn byte(&mut self) -> Result<u8, Rule> {
+    pub fn byte(&mut self) -> Result<u8, Rule> {
         Ok(self.array::<1>()?[0])
     }
 
@@ -40,12 +40,13 @@ impl<'a> Fields<'a> {
     }
 }
 
-/// Reads a sheet by rules 1 to 10.
+/// Reads a sheet by rules 1 to 10 and 18 to 20.
 pub fn read(bytes: &[u8]) -> Result<Sheet, Rule> {
-    let mut fields = Fields::new(bytes.strip_prefix(OPENING).ok_or(1)?);
+    let opening = [Opening::Pf01, Opening::Pf02].into_iter().find(|o| bytes.starts_with(o.bytes())).ok_or(1)?;
+    let mut fields = Fields::new(&bytes[opening.bytes().len()..]);
     let n = usize::from(fields.byte()?);
     rules::element_count(n)?;
-    let kinds = kinds(fields.take(n.div_ceil(8))?, n)?;
+    let kinds = kinds(&mut fields, opening, n)?;
     let e = usize::from(fields.byte()?);
     rules::constraint_count(e)?;
     let mut constraints = Vec::new();
@@ -54,34 +55,47 @@ pub fn read(bytes: &[u8]) -> Result<Sheet, Rule> {
         constraints.push(next);
     }
     fields.end()?;
-    Ok(Sheet { kinds, constraints })
+    Ok(Sheet { opening, kinds, constraints })
 }
 
-/// The n kinds in the bits of a field; rule 4 where an unused bit is 1.
-fn kinds(field: &[u8], n: usize) -> Result<Vec<Kind>, Rule> {
-    let line = |i: usize| field[i / 8] >> (i % 8) & 1 == 1;
-    rules::refuse((n..8 * field.len()).any(line), 4)?;
-    Ok((0..n).map(|i| if line(i) { Kind::Line } else { Kind::Point }).collect())
+/// The n kinds, one field: rule 4 where an unused bit is 1, then 18 where a kind is 3. Then the radius of each circle, a field of its own, by 19.
+fn kinds(fields: &mut Fields, opening: Opening, n: usize) -> Result<Vec<Kind>, Rule> {
+    let width = opening.kind_bits();
+    let field = fields.take((width * n).div_ceil(8))?;
+    let bit = |i: usize| field[i / 8] >> (i % 8) & 1;
+    rules::refuse((width * n..8 * field.len()).any(|i| bit(i) == 1), 4)?;
+    let number = |i: usize| (0..width).map(|k| bit(width * i + k) << k).sum::<u8>();
+    rules::refuse((0..n).any(|i| number(i) == 3), 18)?;
+    let mut kinds = Vec::new();
+    for i in 0..n {
+        kinds.push(match number(i) {
+            0 => Kind::Point,
+            1 => Kind::Line,
+            _ => {
+                let radius = u32::from_le_bytes(fields.array()?);
+                rules::radius(radius)?;
+                Kind::Circle(radius)
+            }
+        });
+    }
+    Ok(kinds)
 }
 
-/// Reads the next constraint by rules 2 and 6 to 9.
+/// Reads the next constraint by rules 2, 6 to 9 and 20.
 pub fn constraint(fields: &mut Fields, kinds: &[Kind], earlier: &[Constraint]) -> Result<Constraint, Rule> {
     let first = fields.byte()?;
     let second = fields.byte()?;
     rules::ends(first, second, kinds.len(), earlier)?;
     let (a, b) = (kinds[usize::from(first)], kinds[usize::from(second)]);
     let map = fields.byte()?;
-    rules::refuse(map > 3, 8)?;
-    let size = if map & 1 == 1 {
-        let size = i32::from_le_bytes(fields.array()?);
-        rules::written_size(a, b, size)?;
-        Some(size)
-    } else {
-        rules::missing_size(a, b)?;
-        None
-    };
-    if map & 2 == 2 {
+    rules::map(a, b, map)?;
+    let mut size = 0;
+    if map & SIZED != 0 {
+        size = i32::from_le_bytes(fields.array()?);
+        rules::given_size(a, b, size)?;
+    }
+    if map & TAGGED != 0 {
         fields.take(TAG)?;
     }
-    Ok(Constraint { first, second, size })
+    Ok(Constraint { first, second, map, size }.kept())
 }

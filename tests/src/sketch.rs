@@ -2,20 +2,16 @@
 
 use crate::facts::{Constraint, Rule, Sheet};
 use crate::matching::by_matching;
-use crate::rules::{ends, missing_size, refuse, written_size};
+use crate::rules::{constraint, refuse};
 use crate::verdict::{judge, verdict};
 use crate::{reader, writer};
 
-/// The list with one constraint more, by 6 to 9 and 11.
+/// The list with one constraint more, by 6, 7, 8, 20, 9 and 11; bit 1 of its map has no influence.
 pub fn next(held: &Sheet, more: &Constraint) -> Result<Sheet, Rule> {
-    ends(more.first, more.second, held.n(), &held.constraints)?;
-    let kind = |end: u8| held.kinds[usize::from(end)];
-    match more.size {
-        Some(size) => written_size(kind(more.first), kind(more.second), size)?,
-        None => missing_size(kind(more.first), kind(more.second))?,
-    }
+    let more = more.kept();
+    constraint(&held.kinds, &held.constraints, &more)?;
     let mut next = held.clone();
-    next.constraints.push(*more);
+    next.constraints.push(more);
     refuse(by_matching(&next).is_some(), 11)?;
     Ok(next)
 }

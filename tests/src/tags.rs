@@ -1,6 +1,7 @@
 //! Tags in the bytes of a sheet: bit 1 of a constraint's map, and two bytes after its other fields.
 
 use crate::facts::Sheet;
+use crate::layout::starts;
 use crate::random::Random;
 use crate::writer;
 
@@ -32,19 +33,6 @@ pub fn on_constraint(plain: &[u8], hundredths: usize, random: &mut Random) -> Ve
     out
 }
 
-/// Where each constraint of a sheet starts.
-pub fn starts(sheet: &[u8]) -> Vec<usize> {
-    let count_at = 5 + usize::from(sheet[4]).div_ceil(8);
-    let mut next = count_at + 1;
-    let mut start = || {
-        let at = next;
-        let map = sheet[at + 2];
-        next += usize::from(3 + 4 * (map & 1) + (map & 2));
-        at
-    };
-    (0..sheet[count_at]).map(|_| start()).collect()
-}
-
 /// How many bytes of a sheet are tags.
 pub fn length(sheet: &[u8]) -> usize {
     starts(sheet).iter().map(|at| usize::from(sheet[at + 2] & 2)).sum()
@@ -61,7 +49,7 @@ mod tests {
 
     #[test]
     fn tags_go() {
-        assert_eq!(super::starts(TAGGED), [7, 16, 21]);
+        assert_eq!(crate::layout::starts(TAGGED), [7, 16, 21]);
         assert_eq!(super::length(TAGGED), 4);
         assert_eq!(rewrite(TAGGED), Ok(PLAIN.to_vec()));
         assert_eq!(rewrite(PLAIN), Ok(PLAIN.to_vec()));

@@ -20,12 +20,17 @@ static uint16_t plan[PATTERN_MAX_PLAN];
 static uint64_t items[PATTERN_MAX_RESTS], numbers[PATTERN_MAX_STEPS * PATTERN_STEP];
 static uint8_t firsts[PATTERN_MAX_CONSTRAINTS], seconds[PATTERN_MAX_CONSTRAINTS], maps[PATTERN_MAX_CONSTRAINTS];
 static int32_t sizes[PATTERN_MAX_CONSTRAINTS];
+static uint8_t kinds[PATTERN_MAX_ELEMENTS];
+static uint32_t radii[PATTERN_MAX_ELEMENTS];
 static size_t n, e;
 
-/* Facts in columns: the strip of 64 points. */
+/* Facts in columns: the strip of 64 circles. */
 static void facts(void)
 {
-    n = 64;
+    n = PATTERN_MAX_ELEMENTS;
+    memset(kinds, PATTERN_CIRCLE, sizeof kinds);
+    for (size_t k = 0; k < n; k++)
+        radii[k] = 40000;
     for (size_t k = 1; k < n; k++)
         for (size_t back = 1; back <= 2 && back <= k; back++, e++) {
             firsts[e] = (uint8_t)(k - back);
@@ -39,7 +44,7 @@ static void *nothing(void *u) { return u; }
 static void *rewrite(void *u) { pattern_rewrite(sheet, len, bytes, sizeof bytes); return u; }
 static void *write_(void *u)
 {
-    pattern_write(n, e, 0, firsts, e, seconds, e, maps, e, sizes, e, bytes, sizeof bytes);
+    pattern_write(PATTERN_PF02, n, e, kinds, n, radii, n, firsts, e, seconds, e, maps, e, sizes, e, bytes, sizeof bytes);
     return u;
 }
 static void *over(void *u) { pattern_over(sheet, len, items, PATTERN_MAX_CLUSTERS); return u; }
@@ -85,7 +90,7 @@ static void *ask(void *u)
 static void *place(void *u)
 {
     for (uint8_t k = 0; k < 64; k++)
-        pattern_place(record_, sizeof record_, 0, k, PATTERN_SIZED, 1, PATTERN_HELD(record_));
+        pattern_place(record_, sizeof record_, 0, k, PATTERN_SIZED, 1, pattern_held_count(record_));
     return u;
 }
 static void *held(void *u) { pattern_held(record_, sizeof record_, bytes, sizeof bytes); return u; }

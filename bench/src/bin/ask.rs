@@ -37,8 +37,8 @@ fn parts(bytes: &[u8], taken: bool) -> Option<Vec<u8>> {
     sheet.constraints.push(last);
     let (at, whole) = (out.len() as u16, writer::bytes(&sheet));
     out.extend_from_slice(&whole);
-    out.extend_from_slice(&[last.first, last.second, last.size.is_some().into()]);
-    out.extend_from_slice(&last.size.unwrap_or(0).to_le_bytes());
+    out.extend_from_slice(&[last.first, last.second, last.map]);
+    out.extend_from_slice(&last.size.to_le_bytes());
     out.extend_from_slice(&at.to_le_bytes());
     Some(out)
 }
@@ -47,7 +47,7 @@ fn parts(bytes: &[u8], taken: bool) -> Option<Vec<u8>> {
 fn more(sheet: &Sheet) -> Option<Constraint> {
     let n = sheet.n() as u8;
     let pairs = (0..n).flat_map(|a| (a + 1..n).map(move |b| (a, b)));
-    let all = pairs.map(|(first, second)| Constraint { first, second, size: Some(300) });
+    let all = pairs.map(|(first, second)| Constraint::sized(first, second, 300));
     all.into_iter().find(|more| sketch::next(sheet, more) == Err(11))
 }
 
@@ -67,6 +67,6 @@ fn ask() -> Contender {
     Contender::new("ask", |bytes| {
         let (_, last) = bytes.split_at(bytes.len() - 9);
         let size = i32::from_le_bytes([last[3], last[4], last[5], last[6]]);
-        ffi::ask(bytes, &Constraint { first: last[0], second: last[1], size: (last[2] == 1).then_some(size) })
+        ffi::ask(bytes, &Constraint { first: last[0], second: last[1], map: last[2], size })
     })
 }

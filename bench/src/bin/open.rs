@@ -19,7 +19,8 @@ fn main() {
     let cases: Vec<Case> = cases::for_chain().into_iter().filter(listed).collect();
     let sheets = || cases.iter().flat_map(|case| &case.pool);
     let steps: Steps = sheets().map(|bytes| (bytes.as_ptr(), ffi::plan(bytes, &mut [0; 186]) as usize / 3)).collect();
-    let after: [(&str, fn(usize) -> usize); 3] = [("none", |_| 0), ("half", |steps| steps / 2), ("all", |_| usize::MAX)];
+    let after: [(&str, fn(usize) -> usize); 3] =
+        [("none", |_| 0), ("half", |steps| steps / 2), ("all", |_| usize::MAX)];
     for (title, count) in after {
         let open = with("open", &steps, count, ffi::open);
         let plan = with("plan", &steps, count, |bytes, _, out| ffi::plan(bytes, out));

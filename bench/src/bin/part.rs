@@ -5,7 +5,7 @@ use std::collections::HashMap;
 use pattern_bench::cases::{self, Case};
 use pattern_bench::table;
 use pattern_bench::timing::Contender;
-use pattern_tests::ffi;
+use pattern_tests::{ffi, layout};
 
 /// The number of each sheet's last cluster, by where its bytes stand.
 type Numbers = HashMap<*const u8, usize>;
@@ -26,7 +26,7 @@ fn main() {
 /// The number of the last cluster, where a plan has a step.
 fn last(bytes: &[u8]) -> Option<usize> {
     let steps = ffi::plan(bytes, &mut [0; 186]) as usize / 3;
-    let constraints = usize::from(bytes[5 + usize::from(bytes[4]).div_ceil(8)]);
+    let constraints = usize::from(bytes[layout::count_at(bytes)]);
     (steps > 0).then(|| constraints + steps - 1)
 }
 

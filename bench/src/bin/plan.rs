@@ -16,6 +16,8 @@ fn main() {
     contenders.push(Contender::new("yardstick", pattern_bench::yardstick::verdict));
     table::print("verdict", &cases, &mut contenders);
     table::print("verdict of five points", &cases::five_points(), &mut contenders);
+    let mut contenders = [Contender::new("proved", ffi::verdict), Contender::new("plain Rust", plain::plan::verdict)];
+    table::print("verdict, PF02", &cases::for_round(), &mut contenders);
     table::print("step records, beside the plan alone", &cases, &mut [steps(), plan_alone()]);
 }
 

@@ -7,6 +7,7 @@ use pattern_tests::ffi;
 fn main() {
     let mut contenders = [with("proved", ffi::report), with("plain Rust", plain::report::report)];
     table::print("report", &cases::for_plan(), &mut contenders);
+    table::print("report, PF02", &cases::for_round(), &mut contenders);
 }
 
 /// A contender with lent bytes of its own.

@@ -9,6 +9,8 @@ fn main() {
     #[cfg(feature = "yardstick")]
     contenders.push(with("yardstick", pattern_bench::yardstick::rewrite).keeping_tags());
     table::print("read and write", &cases::for_sheet(), &mut contenders);
+    let mut contenders = [with("proved", ffi::rewrite), with("plain Rust", plain::sheet::rewrite)];
+    table::print("read and write, PF02", &cases::for_round_sheet(), &mut contenders);
 }
 
 /// A contender with lent bytes of its own.

@@ -4,36 +4,104 @@
 pub type Rule = u8;
 
 /// The most bytes of a written sheet.
-pub const MOST_BYTES: usize = 1414;
+pub const MOST_BYTES: usize = 1678;
 /// The most bytes of a constraint that is read, its tag included.
 const LONGEST: usize = 9;
 /// The most bytes of a written constraint.
 const LONGEST_WRITTEN: usize = 7;
 
-/// A constraint; its size counts where `sized` is 1, else it is 0.
+/// The two contacts, as maps.
+const TANGENT: u8 = 4;
+const OTHER_TANGENT: u8 = 12;
+
+/// A constraint; its map has bit 0 of a given size or a contact's bits, and its size is what it means: the given one, the contact's distance, or 0.
 #[derive(Clone, Copy)]
 pub struct Constraint {
     pub first: u8,
     pub second: u8,
-    pub sized: u8,
+    pub map: u8,
     pub size: i32,
 }
 
-/// A sheet's facts in blocks.
+/// A sheet's facts in blocks. The opening's last byte tells the openings apart; the radius of what is no circle is 0.
 pub struct Sheet {
+    opening: u8,
     pub n: usize,
     pub e: usize,
     pub lines: u64,
+    circles: u64,
+    radii: [u32; 64],
     pub constraints: [Constraint; 200],
 }
 
-const BLANK: Constraint = Constraint { first: 0, second: 0, sized: 0, size: 0 };
+const BLANK: Constraint = Constraint { first: 0, second: 0, map: 0, size: 0 };
 
 impl Sheet {
     /// A sheet to read into.
     pub fn blank() -> Sheet {
-        Sheet { n: 0, e: 0, lines: 0, constraints: [BLANK; 200] }
+        Sheet { opening: b'1', n: 0, e: 0, lines: 0, circles: 0, radii: [0; 64], constraints: [BLANK; 200] }
     }
+}
+
+/// The elements, as far as rules on constraints look at them.
+#[derive(Clone, Copy)]
+struct Elements<'a> {
+    n: usize,
+    lines: u64,
+    circles: u64,
+    radii: &'a [u32; 64],
+}
+
+impl Elements<'_> {
+    /// How many of the two ends are lines.
+    fn lines_of(&self, first: u8, second: u8) -> usize {
+        ((self.lines >> (first & 63) & 1) + (self.lines >> (second & 63) & 1)) as usize
+    }
+
+    /// The distance that a contact means, by rules 8 and 20.
+    fn contact(&self, first: u8, second: u8, map: u8) -> Result<i32, Rule> {
+        let circles = (self.circles >> (first & 63) & 1) + (self.circles >> (second & 63) & 1);
+        let (r, s) = (self.radii[usize::from(first & 63)] as i32, self.radii[usize::from(second & 63)] as i32);
+        match (circles, self.lines_of(first, second), map) {
+            (1 | 2, _, TANGENT) => Ok(r + s),
+            (1, 1, OTHER_TANGENT) => Ok(-r - s),
+            (2, _, OTHER_TANGENT) if r == s => Err(20),
+            (2, _, OTHER_TANGENT) => Ok((r - s).abs()),
+            _ => Err(8),
+        }
+    }
+}
+
+/// The even bits of a number, side by side.
+fn even_bits(kinds: u128) -> u64 {
+    let mut bits = kinds & (u128::MAX / 3);
+    for (by, mask) in [
+        (1, u128::MAX / 5),
+        (2, u128::MAX / 17),
+        (4, u128::MAX / 257),
+        (8, u128::MAX / 65_537),
+        (16, u128::MAX / 4_294_967_297),
+        (32, u128::MAX >> 64),
+    ] {
+        bits = (bits | bits >> by) & mask;
+    }
+    bits as u64
+}
+
+/// A set with a 0 between each two of its bits.
+fn spread(set: u64) -> u128 {
+    let mut bits = u128::from(set);
+    for (by, mask) in [
+        (32, u128::MAX / 4_294_967_297),
+        (16, u128::MAX / 65_537),
+        (8, u128::MAX / 257),
+        (4, u128::MAX / 17),
+        (2, u128::MAX / 5),
+        (1, u128::MAX / 3),
+    ] {
+        bits = (bits | bits << by) & mask;
+    }
+    bits
 }
 
 /// The lowest size and the span of sizes, 0 aside, for no, one and two lines.
@@ -64,35 +132,73 @@ impl Pairs {
     }
 }
 
-/// How many of the two ends are lines.
-fn lines_of(lines: u64, first: u8, second: u8) -> usize {
-    ((lines >> (first & 63) & 1) + (lines >> (second & 63) & 1)) as usize
-}
-
 /// Reads a sheet.
 pub fn read(bytes: &[u8], sheet: &mut Sheet) -> Result<(), Rule> {
-    let rest = bytes.strip_prefix(b"PF01").ok_or(1)?;
-    let (&count, rest) = rest.split_first().ok_or(2)?;
-    let n = usize::from(count);
-    if !(2..=64).contains(&n) {
-        return Err(3);
+    if let Some(rest) = bytes.strip_prefix(b"PF01") {
+        let (n, rest) = read_count(rest)?;
+        let (kinds, rest) = rest.split_at_checked(n.div_ceil(8)).ok_or(2)?;
+        let lines = kinds.iter().rev().fold(0, |lines, &byte| lines << 8 | u64::from(byte));
+        if n < 64 && lines >> n != 0 {
+            return Err(4);
+        }
+        (sheet.opening, sheet.n, sheet.lines, sheet.circles) = (b'1', n, lines, 0);
+        read_constraints::<false>(rest, sheet)
+    } else {
+        let (n, rest) = read_count(bytes.strip_prefix(b"PF02").ok_or(1)?)?;
+        let rest = read_round(n, rest, sheet)?;
+        read_constraints::<true>(rest, sheet)
     }
-    let (kinds, rest) = rest.split_at_checked(n.div_ceil(8)).ok_or(2)?;
-    let lines = kinds.iter().rev().fold(0, |lines, &byte| lines << 8 | u64::from(byte));
-    if n < 64 && lines >> n != 0 {
+}
+
+/// Reads the element count; the bytes after it.
+fn read_count(bytes: &[u8]) -> Result<(usize, &[u8]), Rule> {
+    let (&count, rest) = bytes.split_first().ok_or(2)?;
+    let n = usize::from(count);
+    if (2..=64).contains(&n) { Ok((n, rest)) } else { Err(3) }
+}
+
+/// Reads the kinds of PF02 and the radii; the bytes after them.
+fn read_round<'a>(n: usize, bytes: &'a [u8], sheet: &mut Sheet) -> Result<&'a [u8], Rule> {
+    let (field, mut rest) = bytes.split_at_checked(n.div_ceil(4)).ok_or(2)?;
+    let mut padded = [0; 16];
+    padded[..field.len()].copy_from_slice(field);
+    let kinds = u128::from_le_bytes(padded);
+    if n < 64 && kinds >> (2 * n) != 0 {
         return Err(4);
     }
-    let (&count, mut rest) = rest.split_first().ok_or(2)?;
+    let (lines, circles) = (even_bits(kinds), even_bits(kinds >> 1));
+    if lines & circles != 0 {
+        return Err(18);
+    }
+    (sheet.opening, sheet.n, sheet.lines, sheet.circles) = (b'2', n, lines, circles);
+    let mut left = circles;
+    while left != 0 {
+        let (field, after) = rest.split_first_chunk().ok_or(2)?;
+        let radius = u32::from_le_bytes(*field);
+        if !(1..=40_000).contains(&radius) {
+            return Err(19);
+        }
+        sheet.radii[left.trailing_zeros() as usize] = radius;
+        left &= left - 1;
+        rest = after;
+    }
+    Ok(rest)
+}
+
+/// Reads the constraint count and the constraints, which may be contacts where the sheet is `ROUND`.
+fn read_constraints<const ROUND: bool>(bytes: &[u8], sheet: &mut Sheet) -> Result<(), Rule> {
+    let (&count, mut rest) = bytes.split_first().ok_or(2)?;
     let e = usize::from(count);
     if e > 200 {
         return Err(5);
     }
-    (sheet.n, sheet.e, sheet.lines) = (n, e, lines);
+    sheet.e = e;
+    let elements = Elements { n: sheet.n, lines: sheet.lines, circles: sheet.circles, radii: &sheet.radii };
     let mut pairs = Pairs([0; 64]);
     for constraint in &mut sheet.constraints[..e] {
         rest = match rest.first_chunk::<LONGEST>() {
-            Some(bytes) => &rest[read_constraint(bytes, n, lines, &mut pairs, constraint)?..],
-            None => read_near_end(rest, n, lines, &mut pairs, constraint)?,
+            Some(bytes) => &rest[read_constraint::<ROUND>(bytes, elements, &mut pairs, constraint)?..],
+            None => read_near_end::<ROUND>(rest, elements, &mut pairs, constraint)?,
         };
     }
     if rest.is_empty() { Ok(()) } else { Err(10) }
@@ -100,16 +206,20 @@ pub fn read(bytes: &[u8], sheet: &mut Sheet) -> Result<(), Rule> {
 
 /// Reads a constraint from bytes that hold any; its length.
 #[inline(always)]
-fn read_constraint(
+fn read_constraint<const ROUND: bool>(
     bytes: &[u8; LONGEST],
-    n: usize,
-    lines: u64,
+    elements: Elements,
     pairs: &mut Pairs,
     constraint: &mut Constraint,
 ) -> Result<usize, Rule> {
     let [first, second, map] = bytes[..3].try_into().expect("three bytes");
-    pairs.take(first, second, n)?;
-    let lines = lines_of(lines, first, second);
+    pairs.take(first, second, elements.n)?;
+    if ROUND && map > 3 {
+        let size = elements.contact(first, second, map & !2)?;
+        *constraint = Constraint { first, second, map: map & !2, size };
+        return Ok(length(map));
+    }
+    let lines = elements.lines_of(first, second);
     if map > 3 || map & 1 == 0 && lines != 1 {
         return Err(8);
     }
@@ -119,16 +229,15 @@ fn read_constraint(
     } else if !in_range(lines, size) {
         return Err(9);
     }
-    *constraint = Constraint { first, second, sized: map & 1, size };
+    *constraint = Constraint { first, second, map: map & 1, size };
     Ok(length(map))
 }
 
 /// Reads a constraint where the bytes may end inside it; the bytes after it.
 #[cold]
-fn read_near_end<'a>(
+fn read_near_end<'a, const ROUND: bool>(
     bytes: &'a [u8],
-    n: usize,
-    lines: u64,
+    elements: Elements,
     pairs: &mut Pairs,
     constraint: &mut Constraint,
 ) -> Result<&'a [u8], Rule> {
@@ -138,11 +247,11 @@ fn read_near_end<'a>(
         return Err(2);
     }
     if bytes.len() < 3 {
-        pairs.take(padded[0], padded[1], n)?;
+        pairs.take(padded[0], padded[1], elements.n)?;
         return Err(2);
     }
     let size_is_cut = padded[2] & 1 == 1 && bytes.len() < 7;
-    match read_constraint(&padded, n, lines, pairs, constraint) {
+    match read_constraint::<ROUND>(&padded, elements, pairs, constraint) {
         Err(9) if size_is_cut => Err(2),
         Err(rule) => Err(rule),
         Ok(length) => bytes.get(length..).ok_or(2),
@@ -151,23 +260,43 @@ fn read_near_end<'a>(
 
 /// Writes a sheet into lent space; the count of bytes.
 pub fn write(sheet: &Sheet, out: &mut [u8]) -> Result<usize, Rule> {
-    let &Sheet { n, e, lines, ref constraints } = sheet;
+    let &Sheet { opening, n, e, lines, circles, ref radii, ref constraints } = sheet;
     if !(2..=64).contains(&n) {
         return Err(3);
+    }
+    let (lines, circles) = (lines & u64::MAX >> (64 - n), circles & u64::MAX >> (64 - n));
+    if circles != 0 && opening == b'1' {
+        return Err(18);
+    }
+    let mut bytes = [0; MOST_BYTES + LONGEST_WRITTEN];
+    bytes[..4].copy_from_slice(&[b'P', b'F', b'0', opening]);
+    bytes[4] = n as u8;
+    let mut at = if opening == b'1' {
+        bytes[5..13].copy_from_slice(&lines.to_le_bytes());
+        5 + n.div_ceil(8)
+    } else {
+        bytes[5..21].copy_from_slice(&(spread(lines) | spread(circles) << 1).to_le_bytes());
+        5 + n.div_ceil(4)
+    };
+    let mut left = circles;
+    while left != 0 {
+        let radius = radii[left.trailing_zeros() as usize];
+        if !(1..=40_000).contains(&radius) {
+            return Err(19);
+        }
+        bytes[at..at + 4].copy_from_slice(&radius.to_le_bytes());
+        at += 4;
+        left &= left - 1;
     }
     if e > 200 {
         return Err(5);
     }
-    let mut bytes = [0; MOST_BYTES + LONGEST_WRITTEN];
-    bytes[..4].copy_from_slice(b"PF01");
-    bytes[4] = n as u8;
-    bytes[5..13].copy_from_slice(&(lines & u64::MAX >> (64 - n)).to_le_bytes());
-    let mut at = 5 + n.div_ceil(8);
     bytes[at] = e as u8;
     at += 1;
+    let elements = Elements { n, lines, circles, radii };
     let mut pairs = Pairs([0; 64]);
     for constraint in &constraints[..e] {
-        check(constraint, n, lines, &mut pairs)?;
+        check(constraint, elements, &mut pairs)?;
         let own = bytes[at..].first_chunk_mut().expect("room for a constraint");
         at += write_constraint(constraint, own);
     }
@@ -175,13 +304,16 @@ pub fn write(sheet: &Sheet, out: &mut [u8]) -> Result<usize, Rule> {
     Ok(at)
 }
 
-/// Tries rules 6 to 9.
+/// Tries rules 6, 7, 8, 20 and 9.
 #[inline(always)]
-fn check(constraint: &Constraint, n: usize, lines: u64, pairs: &mut Pairs) -> Result<(), Rule> {
-    let &Constraint { first, second, sized, size } = constraint;
-    pairs.take(first, second, n)?;
-    let lines = lines_of(lines, first, second);
-    if sized == 0 {
+fn check(constraint: &Constraint, elements: Elements, pairs: &mut Pairs) -> Result<(), Rule> {
+    let &Constraint { first, second, map, size } = constraint;
+    pairs.take(first, second, elements.n)?;
+    if map > 3 {
+        return elements.contact(first, second, map).map(|_| ());
+    }
+    let lines = elements.lines_of(first, second);
+    if map == 0 {
         return if lines == 1 { Ok(()) } else { Err(8) };
     }
     if in_range(lines, size) { Ok(()) } else { Err(9) }
@@ -190,10 +322,10 @@ fn check(constraint: &Constraint, n: usize, lines: u64, pairs: &mut Pairs) -> Re
 /// Writes a constraint into bytes that have room for any; its length.
 #[inline(always)]
 fn write_constraint(constraint: &Constraint, bytes: &mut [u8; LONGEST_WRITTEN]) -> usize {
-    let &Constraint { first, second, sized, size } = constraint;
-    bytes[..3].copy_from_slice(&[first, second, sized]);
+    let &Constraint { first, second, map, size } = constraint;
+    bytes[..3].copy_from_slice(&[first, second, map]);
     bytes[3..].copy_from_slice(&size.to_le_bytes());
-    length(sized)
+    length(map)
 }
 
 /// The length of a constraint with this map.

@@ -35,6 +35,7 @@ pub struct Front {
 
 // The number of a contact, which no size is.
 const TANGENT: i32 = 100000;
+
 const OTHER_TANGENT: i32 = -100000;
 
 pub fn head_of(h: Front) -> Head
@@ -196,7 +197,11 @@ fn apart(r: u32, q: u32) -> u32
 fn both_circles(j: Kind, k: Kind) -> bool
     ensures { λ r. ⌜ r ≡ isCircle j && isCircle k ⌝ }
 {
-    if sheet::is_circle(j) { sheet::is_circle(k) } else { false }
+    if sheet::is_circle(j) {
+        sheet::is_circle(k)
+    } else {
+        false
+    }
 }
 
 // The size of a constraint between elements of two kinds.

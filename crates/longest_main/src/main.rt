@@ -4,7 +4,7 @@ ghost use Prim.Native.Nat.{_≤_};
 use libc::STDERR_FILENO;
 
 // Room for the largest sheet: rule 17 is never met.
-const ROOM: usize = 1414;
+const ROOM: usize = 1678;
 
 // The digit that a byte stands for, 100 where it stands for none.
 fn digit(b: u8) -> usize

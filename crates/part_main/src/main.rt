@@ -39,7 +39,7 @@ fn main() {
         io::write_all(STDERR_FILENO, b"usage: part_main SHEET NUMBER\n");
         return;
     }
-    let mut sheet = [0u8; 1815];
+    let mut sheet = [0u8; 2079];
     let read = console::read_file(1, &mut sheet);
     if !read.whole {
         return;

@@ -1,7 +1,7 @@
 -- All before the constraints, and the constraints: what is read of a list is read of its sheet. Assumes nothing.
-use Prim.Native.Nat.{ℕ, zero, suc, _+_, _<_}
+use Prim.Native.Nat.{ℕ, zero, suc, _+_}
 use native.Mathlib.Omega.{arith}
-use mathlib.Core.Path.{_≡_, refl, sym, ap, _∙_, subst}
+use mathlib.Core.Path.{_≡_, refl, sym, _∙_}
 use mathlib.Core.Bool.{true}
 use mathlib.Core.List.{List, [], _∷_, _++_}
 use lib.IntN.{ℤ}
@@ -18,11 +18,10 @@ use Rattle.sheet.specs.Decode.{opening, readKinds, readElements, constraint, co
 use Rattle.sheet.specs.RoundTrip.{written-read}
 use Rattle.fields.specs.declared.Cursor.{Cursor}
 use Rattle.graph.specs.declared.Front.{Front}
-use Rattle.graph.specs.Lent.{headOf, InArrays, SheetIn}
 use Rattle.reader.specs.declared.CodesRead.the-variants as codes-read
 use Rattle.reader.specs.declared.Outcome.{Outcome}
 use Rattle.reader.specs.declared.Outcome.the-variants as outcome
-use Rattle.reader.specs.Answers.{factsWith, asOutcome, Follows, ListRead, SheetRead}
+use Rattle.reader.specs.Answers.{asOutcome, Follows, ListRead, SheetRead}
 
 pub next-assoc : {A B C : Type 0} (x : Field A) (f : A → List ℕ → Field B) (g : B → List ℕ → Field C)
     → next (next x f) g ≡ next x (λ a s. next (f a s) g)
@@ -64,12 +63,16 @@ module _ {s radii : List ℕ} {h : Front} {c : Cursor} (x : Follows (readSheet s
       by (value cs t) is e =
           let f : Facts = record { opening = h .opening; elements = x .elements; constraints = cs } in
           let whole : readSheet s ≡ value f t = x .rest ∙ rw is in
-          let k : length cs ≡ h .e = omega (arith, constraints-counted-up (x .elements) (h .e) [] (drop (c .at) s) is) in
-          (f, t, whole, record {
-            accepted = written-read s f t all whole .2;
-            opening-is = refl;
-            head-is = rw (x .count, k, x .kinds-in .lines-are);
-            kinds-in = x .kinds-in;
-            arrays = l .holds cs t is;
-          })
+          let k : length cs ≡ h .e = omega (arith, constraints-counted-up (x .elements) (h .e) [] (drop (c .at) s) is) in (
+            f,
+            t,
+            whole,
+            record {
+              accepted = written-read s f t all whole .2;
+              opening-is = refl;
+              head-is = rw (x .count, k, x .kinds-in .lines-are);
+              kinds-in = x .kinds-in;
+              arrays = l .holds cs t is;
+            },
+          )
       by (refused j) is e = let z : _≡_ {A = ℕ} 0 1 = cc in absurd (omega arith)

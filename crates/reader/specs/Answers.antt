@@ -21,8 +21,7 @@ use Rattle.sheet.specs.Rules.{pairOf, sizeBy, mapAllowed, radiiDiffer}
 use Rattle.sheet.specs.Decode.{size, tag, dimension, constraints}
 use Rattle.fields.specs.declared.Cursor.{Cursor}
 use Rattle.graph.specs.declared.Front.{Front}
-use Rattle.graph.specs.declared.Head.{Head}
-use Rattle.graph.specs.Lent.{headOf, codeOf, InArrays, SheetIn, Stands, sizesOf}
+use Rattle.graph.specs.Lent.{codeOf, InArrays, SheetIn, Stands, sizesOf}
 use Rattle.reader.specs.declared.OpeningRead.{OpeningRead}
 use Rattle.reader.specs.declared.OpeningRead.the-variants as opening
 use Rattle.reader.specs.declared.EndsRead.{EndsRead}
@@ -38,7 +37,6 @@ use Rattle.reader.specs.declared.GraphRead.the-variants as graph
 use Rattle.reader.specs.declared.Outcome.{Outcome}
 use Rattle.reader.specs.declared.Outcome.the-variants as outcome
 use Rattle.reader.specs.declared.Reading.{Reading}
-pub mod Laws
 
 abbrev pub asOpening : List ℕ → OpeningRead → Field Opening
 asOpening s (opening.Value o c) = value o (drop (c .at) s)

@@ -232,7 +232,11 @@ fn read_ends(s: &[u8], c: Cursor, near: &[u64; 64], n: usize) -> EndsRead
 fn bare_allowed(p: PairKind, stands: bool) -> bool
     ensures { λ r. ⌜ r ≡ stands || sizeOptional p ⌝ }
 {
-    if stands { true } else { sheet::size_optional(p) }
+    if stands {
+        true
+    } else {
+        sheet::size_optional(p)
+    }
 }
 
 // The size, where bit 0 of the map stands: rule 9.

@@ -34,7 +34,7 @@ readKinds o n s =
     next (field (kindBytes o n) s) (λ m s1.
     demand (kindBitsUsed o n m) 4 (demand (kindsKnown (kindsOf o n m)) 18 (value (kindsOf o n m) s1)))
 
--- an element by its kind; a circle's radius is a field of its own, by rule 19
+-- an element by its kind, 3 being refused by 18; a circle's radius is a field of its own, by rule 19
 unfoldable pub element : ℕ → List ℕ → Field Element
 element zero s = value (record { kind = Point }) s
 element (suc zero) s = value (record { kind = Line }) s

@@ -26,7 +26,7 @@ abbrev pub clusterOf : Constraint → ℕ
 clusterOf c = pair (c .first) (c .second)
 
 -- the size of a constraint between elements of these kinds: a missing size means 0. A contact (document 02, 2026-01): centre to line is +r, point to
--- circle r, two circles the sum of radii; the other contact -r, or the larger radius less the smaller
+-- circle r, two circles the sum of radii; the other contact -r, or the larger radius less the smaller. (Rule 8 refuses it for point and circle.)
 abbrev pub sizeOf : Kind → Kind → Size → ℤ
 sizeOf j k (Given z) = z
 sizeOf j k Missing = pos 0

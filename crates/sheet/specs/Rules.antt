@@ -17,7 +17,7 @@ use Rattle.sheet.specs.declared.Size.{Size}
 use Rattle.sheet.specs.declared.Size.the-variants.{Given, Missing, Tangent, OtherTangent, Unfit}
 use Rattle.sheet.specs.declared.Constraint.{Constraint}
 use Rattle.sheet.specs.declared.Sheet.{Sheet}
-use Rattle.sheet.specs.Facts.{Facts, factsOf, isPoint, isLine, isCircle, radiusOf, kindBase, kindAt}
+use Rattle.sheet.specs.Facts.{factsOf, isPoint, isLine, isCircle, radiusOf, kindBase, kindAt}
 pub mod Laws
 pub mod Kinds
 
@@ -86,7 +86,7 @@ sizeOptional Lines = false
 abbrev pub withoutBit1 : ℕ → ℕ
 withoutBit1 map = map - 2 * (map / 2 % 2)
 
--- what a map says, z being the size where bit 0 stands
+-- what a map says, z being the size where bit 0 stands; bit 2 beside bit 0, bit 3 without bit 2 and bits 4 to 7 are unfit
 unfoldable pub sizeBy : ℕ → ℤ → Size
 sizeBy map z =
     cond (eqb (withoutBit1 map) 0) Missing (cond (eqb (withoutBit1 map) 1) (Given z)

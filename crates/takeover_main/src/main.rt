@@ -33,7 +33,7 @@ fn main() {
         io::write_all(STDERR_FILENO, b"usage: takeover_main SHEET PLAN\n");
         return;
     }
-    let mut sheet = [0u8; 1815];
+    let mut sheet = [0u8; 2079];
     let first = console::read_file(1, &mut sheet);
     if !first.whole {
         return;

@@ -3,9 +3,13 @@
 unsafe extern "C" {
     pub fn pattern_rewrite(sheet: *const u8, len: usize, out: *mut u8, room: usize) -> i32;
     pub fn pattern_write(
+        opening: usize,
         n: usize,
         e: usize,
-        lines: u64,
+        kinds: *const u8,
+        kinds_len: usize,
+        radii: *const u32,
+        radii_len: usize,
         firsts: *const u8,
         firsts_len: usize,
         seconds: *const u8,

@@ -12,7 +12,7 @@
 //!     Constraint::sized(0, 2, 300),
 //!     Constraint::sized(1, 2, 300),
 //! ];
-//! let facts = Facts { kinds: &[Kind::Point; 3], constraints: &constraints };
+//! let facts = Facts::pf01(&[Kind::Point; 3], &constraints);
 //! let mut space = [0; MOST_BYTES];
 //! let sheet = pattern::write(&facts, &mut space)?;
 //! assert_eq!(sheet.len(), 28);
@@ -32,9 +32,9 @@ pub const MOST_ELEMENTS: usize = 64;
 /// The most constraints of a sheet.
 pub const MOST_CONSTRAINTS: usize = 200;
 /// The most bytes of a written sheet: with so much space no sheet is refused by rule 17.
-pub const MOST_BYTES: usize = 1414;
+pub const MOST_BYTES: usize = 1678;
 /// The most bytes of a sheet that is read: it may carry tags.
-pub const MOST_READ: usize = 1814;
+pub const MOST_READ: usize = 2078;
 /// The most bytes of a report: with so much space no report is refused by rule 17.
 pub const MOST_REPORT: usize = 4667;
 /// The most bytes of one cluster's steps: with so much space none are refused by rule 17.
@@ -60,7 +60,7 @@ pub const MOST_MISSING: usize = 125;
 pub const UNMEASURED: u16 = 65_535;
 
 /// The most bytes of a held sketch's record.
-pub const MOST_RECORD: usize = 891;
+pub const MOST_RECORD: usize = 1155;
 
 /// The number of the rule that refuses a call.
 #[derive(Clone, Copy, PartialEq, Eq, Debug)]
@@ -77,7 +77,7 @@ impl Rule {
             5 => "the constraint count is above 200",
             6 => "the ends are not first below second below the element count",
             7 => "the pair stands in an earlier constraint",
-            8 => "the map has an unknown bit, or lacks the size of two points or two lines",
+            8 => "the dimension is none that the two kinds may have, or it is missing where one must stand",
             9 => "the size is outside its range",
             10 => "bytes follow the last constraint",
             11 => "the sheet is over, or one more constraint would make it so",
@@ -86,6 +86,9 @@ impl Rule {
             15 => "the clusters of a step do not make an open merge",
             16 => "after the last step a merge is still open",
             17 => "the lent space is shorter than the answer",
+            18 => "an element has a kind that the sheet's opening does not know",
+            19 => "a radius is outside 1 to 40,000",
+            20 => "two circles of equal radii have no other contact",
             21 => "the price list does not have one price for each pair",
             22 => "a price is between 1,001 and 65,534",
             23 => "no set of pairs that may be measured will do",
@@ -106,11 +109,46 @@ impl fmt::Display for Rule {
 
 impl std::error::Error for Rule {}
 
+/// What a sheet opens with.
+#[derive(Clone, Copy, PartialEq, Eq, Debug)]
+pub enum Opening {
+    /// Points and lines.
+    Pf01 = 1,
+    /// Points, lines and circles.
+    Pf02 = 2,
+}
+
 /// The kind of an element.
 #[derive(Clone, Copy, PartialEq, Eq, Debug)]
 pub enum Kind {
     Point,
     Line,
+    /// A circle of this radius, in tenths of a millimetre: 1 to 40,000.
+    Circle(u32),
+}
+
+impl Kind {
+    /// The kind's number and its radius, 0 of what is no circle.
+    fn numbers(self) -> (u8, u32) {
+        match self {
+            Kind::Point => (0, 0),
+            Kind::Line => (1, 0),
+            Kind::Circle(radius) => (2, radius),
+        }
+    }
+}
+
+/// What a constraint says.
+#[derive(Clone, Copy, PartialEq, Eq, Debug)]
+pub enum Dimension {
+    /// A distance in tenths of a millimetre, an angle in hundredths of a degree; a circle's is that of its centre.
+    Size(i32),
+    /// A point or a centre lies on a line.
+    On,
+    /// A circle touches a line or another circle, or a point lies on it.
+    Tangent,
+    /// The other contact: on the other side of the line, or one circle within the other.
+    OtherTangent,
 }
 
 /// A constraint between two elements, the first below the second.
@@ -118,27 +156,54 @@ pub enum Kind {
 pub struct Constraint {
     pub first: u8,
     pub second: u8,
-    /// A distance in tenths of a millimetre, an angle in hundredths of a degree; a point lies on a line by a missing one.
-    pub size: Option<i32>,
+    pub dimension: Dimension,
 }
 
 impl Constraint {
-    /// A constraint with a size.
-    pub fn sized(first: u8, second: u8, size: i32) -> Constraint {
-        Constraint { first, second, size: Some(size) }
+    /// A constraint.
+    pub fn new(first: u8, second: u8, dimension: Dimension) -> Constraint {
+        Constraint { first, second, dimension }
     }
 
-    /// The bit map: bit 0 where the size is given.
+    /// A constraint with a size.
+    pub fn sized(first: u8, second: u8, size: i32) -> Constraint {
+        Constraint::new(first, second, Dimension::Size(size))
+    }
+
+    /// The bit map: bit 0 where the size is given, bit 2 of a contact, bit 3 of the other.
     fn map(&self) -> u8 {
-        u8::from(self.size.is_some())
+        match self.dimension {
+            Dimension::Size(_) => 1,
+            Dimension::On => 0,
+            Dimension::Tangent => 4,
+            Dimension::OtherTangent => 12,
+        }
+    }
+
+    /// The size, 0 where none is given.
+    fn size(&self) -> i32 {
+        if let Dimension::Size(size) = self.dimension { size } else { 0 }
     }
 }
 
 /// The facts of a sheet.
 #[derive(Clone, Copy, PartialEq, Eq, Debug)]
 pub struct Facts<'a> {
+    pub opening: Opening,
     pub kinds: &'a [Kind],
     pub constraints: &'a [Constraint],
+}
+
+impl<'a> Facts<'a> {
+    /// The facts of a PF01 sheet, which has no circle.
+    pub fn pf01(kinds: &'a [Kind], constraints: &'a [Constraint]) -> Facts<'a> {
+        Facts { opening: Opening::Pf01, kinds, constraints }
+    }
+
+    /// The facts of a PF02 sheet.
+    pub fn pf02(kinds: &'a [Kind], constraints: &'a [Constraint]) -> Facts<'a> {
+        Facts { opening: Opening::Pf02, kinds, constraints }
+    }
 }
 
 /// Reads a sheet and writes it again: the same sheet without its tags.
@@ -168,36 +233,51 @@ pub fn rewrite<'a>(sheet: &[u8], out: &'a mut [u8]) -> Result<&'a [u8], Rule> {
 /// Writes a sheet from its facts.
 ///
 /// ```
-/// use pattern::{Constraint, Facts, Kind, Rule};
+/// use pattern::{Constraint, Dimension, Facts, Kind, MOST_BYTES, Rule};
 ///
 /// // a point on a line
-/// let on = Constraint { first: 0, second: 1, size: None };
-/// let mut facts = Facts { kinds: &[Kind::Line, Kind::Point], constraints: &[on] };
-/// let mut space = [0; 16];
+/// let on = [Constraint::new(0, 1, Dimension::On)];
+/// let mut facts = Facts::pf01(&[Kind::Line, Kind::Point], &on);
+/// let mut space = [0; MOST_BYTES];
 /// assert_eq!(pattern::write(&facts, &mut space)?, b"PF01\x02\x01\x01\0\x01\0");
 ///
 /// // two points have no such constraint
 /// facts.kinds = &[Kind::Point; 2];
 /// assert_eq!(pattern::write(&facts, &mut space), Err(Rule(8)));
+///
+/// // a round light of radius 300 mm stands on a sill, and a point of it lies 400 mm above
+/// let touches = |first, second| Constraint::new(first, second, Dimension::Tangent);
+/// let constraints = [touches(0, 1), touches(1, 2), Constraint::sized(0, 2, 4_000)];
+/// let light = Facts::pf02(&[Kind::Line, Kind::Circle(3_000), Kind::Point], &constraints);
+/// let sheet = pattern::write(&light, &mut space)?;
+/// let steps = pattern::steps(sheet)?;
+/// assert_eq!((steps.len(), steps[0].ways), (1, Some(2)));
+/// assert_eq!(pattern::write(&Facts::pf01(light.kinds, &constraints), &mut space), Err(Rule(18)));
 /// # Ok::<(), Rule>(())
 /// ```
 pub fn write<'a>(facts: &Facts, out: &'a mut [u8]) -> Result<&'a [u8], Rule> {
-    let &Facts { kinds, constraints } = facts;
-    let lines = kinds.iter().take(MOST_ELEMENTS).rev().fold(0, |bits, &kind| bits << 1 | u64::from(kind == Kind::Line));
+    let &Facts { opening, kinds, constraints } = facts;
     let mut columns = Columns::default();
+    for (i, kind) in kinds.iter().take(MOST_ELEMENTS).enumerate() {
+        (columns.kinds[i], columns.radii[i]) = kind.numbers();
+    }
     for (i, constraint) in constraints.iter().take(MOST_CONSTRAINTS).enumerate() {
         columns.firsts[i] = constraint.first;
         columns.seconds[i] = constraint.second;
         columns.maps[i] = constraint.map();
-        columns.sizes[i] = constraint.size.unwrap_or(0);
+        columns.sizes[i] = constraint.size();
     }
-    let Columns { firsts, seconds, maps, sizes } = &columns;
+    let Columns { kinds: numbers, radii, firsts, seconds, maps, sizes } = &columns;
     // SAFETY: each list is a live slice of its length, and `out` is borrowed alone.
     let answer = unsafe {
         c::pattern_write(
+            opening as usize,
             kinds.len(),
             constraints.len(),
-            lines,
+            numbers.as_ptr(),
+            numbers.len(),
+            radii.as_ptr(),
+            radii.len(),
             firsts.as_ptr(),
             firsts.len(),
             seconds.as_ptr(),
@@ -231,7 +311,7 @@ pub struct Over {
 /// let pairs = [(0, 1), (0, 2), (1, 2), (1, 3), (2, 3), (0, 3)];
 /// let constraints = pairs.map(|(first, second)| Constraint::sized(first, second, 300));
 /// let mut space = [0; MOST_BYTES];
-/// let sheet = pattern::write(&Facts { kinds: &[Kind::Point; 4], constraints: &constraints }, &mut space)?;
+/// let sheet = pattern::write(&Facts::pf01(&[Kind::Point; 4], &constraints), &mut space)?;
 /// assert_eq!(pattern::over(sheet)?, Some(Over { first: 5, set: 0b1111 }));
 ///
 /// assert_eq!(pattern::over(b"PF01\x02\0\0")?, None);
@@ -298,7 +378,7 @@ fn numbered(number: i32) -> Option<Verdict> {
 /// // four points with a triangle on 0, 1 and 2: the draughtsman reaches 3 from 2 easily, from 0 and 1 with a ladder
 /// let constraints = [Constraint::sized(0, 1, 300), Constraint::sized(0, 2, 300), Constraint::sized(1, 2, 300)];
 /// let mut space = [0; MOST_BYTES];
-/// let sheet = pattern::write(&Facts { kinds: &[Kind::Point; 4], constraints: &constraints }, &mut space)?;
+/// let sheet = pattern::write(&Facts::pf01(&[Kind::Point; 4], &constraints), &mut space)?;
 /// let mut space = [0; MOST_MISSING];
 /// let measure: Vec<_> = pattern::missing(sheet, &[0, 0, 5, 0, 5, 1], &mut space)?.collect();
 /// assert_eq!(measure, [(2, 3), (0, 3)]);
@@ -355,7 +435,7 @@ pub fn longest(n: usize, out: &mut [u8]) -> Result<&[u8], Rule> {
 /// ```
 /// # let mut space = [0; pattern::MOST_BYTES];
 /// # let constraints = [(0, 1), (1, 2), (3, 4)].map(|(a, b)| pattern::Constraint::sized(a, b, 300));
-/// # let facts = pattern::Facts { kinds: &[pattern::Kind::Point; 5], constraints: &constraints };
+/// # let facts = pattern::Facts::pf01(&[pattern::Kind::Point; 5], &constraints);
 /// # let sheet = pattern::write(&facts, &mut space)?;
 /// // distances between 0 and 1, 1 and 2, 3 and 4
 /// let mut space = [0; pattern::MOST_CHAIN];
@@ -375,7 +455,7 @@ pub fn chain<'a>(sheet: &[u8], from: usize, to: usize, out: &'a mut [u16]) -> Re
 /// ```
 /// # let mut space = [0; pattern::MOST_BYTES];
 /// # let constraints = [(0, 1), (0, 2), (1, 2)].map(|(a, b)| pattern::Constraint::sized(a, b, 300));
-/// # let facts = pattern::Facts { kinds: &[pattern::Kind::Point; 3], constraints: &constraints };
+/// # let facts = pattern::Facts::pf01(&[pattern::Kind::Point; 3], &constraints);
 /// # let sheet = pattern::write(&facts, &mut space)?;
 /// let mut space = [0; pattern::MOST_PLAN];
 /// assert_eq!(pattern::plan(sheet, &mut space)?, [0, 1, 2]);
@@ -400,7 +480,7 @@ pub fn plan<'a>(sheet: &[u8], out: &'a mut [u16]) -> Result<&'a [u16], Rule> {
 /// # let mut space = [0; pattern::MOST_BYTES];
 /// # let pairs = [(1, 2), (1, 3), (2, 3), (0, 1), (0, 2)];
 /// # let constraints = pairs.map(|(a, b)| pattern::Constraint::sized(a, b, 300));
-/// # let facts = pattern::Facts { kinds: &[pattern::Kind::Point; 4], constraints: &constraints };
+/// # let facts = pattern::Facts::pf01(&[pattern::Kind::Point; 4], &constraints);
 /// # let sheet = pattern::write(&facts, &mut space)?;
 /// // two triangles on the side between 1 and 2: that with point 0 comes first
 /// let mut space = [0; pattern::MOST_OPEN];
@@ -432,9 +512,8 @@ pub fn shared(a: u64, b: u64) -> u64 {
 /// ```
 /// # use pattern::{Constraint, Facts, Kind};
 /// # let mut space = [0; pattern::MOST_BYTES];
-/// # let between = |first, second| Constraint { first, second, size: Some(300) };
-/// # let constraints = [between(0, 1), between(0, 2), between(1, 2)];
-/// # let sheet = pattern::write(&Facts { kinds: &[Kind::Point; 3], constraints: &constraints }, &mut space)?;
+/// # let constraints = [(0, 1), (0, 2), (1, 2)].map(|(a, b)| Constraint::sized(a, b, 300));
+/// # let sheet = pattern::write(&Facts::pf01(&[Kind::Point; 3], &constraints), &mut space)?;
 /// let mut space = [0; pattern::MOST_CONSTRAINTS];
 /// let sets = pattern::initial(sheet, &mut space)?;
 /// assert_eq!(sets, [0b011, 0b101, 0b110]);
@@ -495,7 +574,7 @@ impl Step {
 ///
 /// # let mut space = [0; pattern::MOST_BYTES];
 /// # let constraints = [(0, 1), (0, 2), (1, 2)].map(|(a, b)| pattern::Constraint::sized(a, b, 300));
-/// # let facts = pattern::Facts { kinds: &[pattern::Kind::Point; 3], constraints: &constraints };
+/// # let facts = pattern::Facts::pf01(&[pattern::Kind::Point; 3], &constraints);
 /// # let sheet = pattern::write(&facts, &mut space)?;
 /// let step = Step { made: 3, parts: [0, 1, 2], joint: 0b111, kind: JointKind::Ppp, ways: Some(2) };
 /// assert_eq!(pattern::steps(sheet)?, [step]);
@@ -557,7 +636,7 @@ pub fn report<'a>(sheet: &[u8], out: &'a mut [u8]) -> Result<&'a str, Rule> {
 /// # let mut space = [0; pattern::MOST_BYTES];
 /// # let pairs = [(0, 1), (0, 2), (1, 2), (1, 3), (2, 3)];
 /// # let constraints = pairs.map(|(a, b)| pattern::Constraint::sized(a, b, 300));
-/// # let facts = pattern::Facts { kinds: &[pattern::Kind::Point; 4], constraints: &constraints };
+/// # let facts = pattern::Facts::pf01(&[pattern::Kind::Point; 4], &constraints);
 /// # let sheet = pattern::write(&facts, &mut space)?;
 /// // four points and five distances: cluster 5 is a triangle, cluster 6 all four
 /// assert_eq!(pattern::part_steps(sheet, 5)?, 1);
@@ -592,7 +671,7 @@ pub fn part_bytes(sheet: &[u8], number: usize) -> Result<usize, Rule> {
 ///
 /// # let mut space = [0; pattern::MOST_BYTES];
 /// # let constraints = [(0, 1), (0, 2), (1, 2)].map(|(a, b)| pattern::Constraint::sized(a, b, 300));
-/// # let facts = pattern::Facts { kinds: &[pattern::Kind::Point; 3], constraints: &constraints };
+/// # let facts = pattern::Facts::pf01(&[pattern::Kind::Point; 3], &constraints);
 /// # let sheet = pattern::write(&facts, &mut space)?;
 /// let mut space = [0; pattern::MOST_REPORT];
 /// assert!(pattern::check_plan(sheet, &[2, 0, 1], &mut space)?.contains("step 3 from 0 1 2"));
@@ -610,7 +689,7 @@ pub fn check_plan<'a>(sheet: &[u8], plan: &[u16], out: &'a mut [u8]) -> Result<&
 /// A held sketch: it owns its record, and placing alone changes it.
 ///
 /// ```
-/// use pattern::{Constraint, Rule, Sketch, Verdict};
+/// use pattern::{Constraint, Dimension, Rule, Sketch, Verdict};
 ///
 /// let mut sketch = Sketch::hold(b"PF01\x02\0\0")?;
 /// let (held, more) = (sketch.count(), Constraint::sized(0, 1, 300));
@@ -623,6 +702,12 @@ pub fn check_plan<'a>(sheet: &[u8], plan: &[u16], out: &'a mut [u8]) -> Result<&
 ///
 /// let mut space = [0; pattern::MOST_BYTES];
 /// assert_eq!(pattern::verdict(sketch.sheet(&mut space)?)?, Verdict::Well);
+///
+/// // two circles of radius 1 mm: they touch, and one does not lie within the other
+/// let mut sketch = Sketch::hold(b"PF02\x02\x0a\x0a\0\0\0\x0a\0\0\0\0")?;
+/// assert_eq!(sketch.ask(&Constraint::new(0, 1, Dimension::OtherTangent)), Err(Rule(20)));
+/// sketch.place(&Constraint::new(0, 1, Dimension::Tangent), 0)?;
+/// assert_eq!(sketch.count(), 1);
 /// # Ok::<(), Rule>(())
 /// ```
 #[derive(Clone, PartialEq, Eq, Debug)]
@@ -640,15 +725,19 @@ impl Sketch {
         Ok(Sketch { record })
     }
 
-    /// How many constraints it holds.
+    /// How many constraints it holds: the count follows the kinds and, of PF02, the radii.
     pub fn count(&self) -> usize {
-        let n = usize::from(self.record[6]);
-        self.record[7 + n.div_ceil(8)].into()
+        let (record, n) = (&self.record, usize::from(self.record[6]));
+        if record[5] == b'1' {
+            return record[7 + n.div_ceil(8)].into();
+        }
+        let circles = (0..n).filter(|i| record[7 + i / 4] >> (2 * (i % 4)) & 3 == 2).count();
+        record[7 + n.div_ceil(4) + 4 * circles].into()
     }
 
     /// The verdict of the sketch with one more constraint.
     pub fn ask(&self, more: &Constraint) -> Result<Verdict, Rule> {
-        let (record, size) = (&self.record, more.size.unwrap_or(0));
+        let (record, size) = (&self.record, more.size());
         // SAFETY: the record is a live slice of its length.
         let answer =
             unsafe { c::pattern_ask(record.as_ptr(), record.len(), more.first, more.second, more.map(), size) };
@@ -657,7 +746,7 @@ impl Sketch {
 
     /// Places a constraint that was asked when so many were held: the asked verdict.
     pub fn place(&mut self, more: &Constraint, held: usize) -> Result<Verdict, Rule> {
-        let (record, size) = (&mut self.record, more.size.unwrap_or(0));
+        let (record, size) = (&mut self.record, more.size());
         let (first, second, map) = (more.first, more.second, more.map());
         // SAFETY: the record is a live slice of its length, and is borrowed alone.
         let answer = unsafe { c::pattern_place(record.as_mut_ptr(), record.len(), first, second, map, size, held) };
@@ -677,8 +766,10 @@ fn text(report: &[u8]) -> &str {
     std::str::from_utf8(report).expect("a report is ASCII")
 }
 
-/// The fields of the constraints, a list each.
+/// The kinds and radii of the elements and the fields of the constraints, a list each.
 struct Columns {
+    kinds: [u8; MOST_ELEMENTS],
+    radii: [u32; MOST_ELEMENTS],
     firsts: [u8; MOST_CONSTRAINTS],
     seconds: [u8; MOST_CONSTRAINTS],
     maps: [u8; MOST_CONSTRAINTS],
@@ -688,6 +779,8 @@ struct Columns {
 impl Default for Columns {
     fn default() -> Columns {
         Columns {
+            kinds: [0; MOST_ELEMENTS],
+            radii: [0; MOST_ELEMENTS],
             firsts: [0; MOST_CONSTRAINTS],
             seconds: [0; MOST_CONSTRAINTS],
             maps: [0; MOST_CONSTRAINTS],

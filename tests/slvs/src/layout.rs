@@ -21,12 +21,9 @@ impl Layout {
 
     /// The sheet that measures the graph's pairs in this layout, rounded to what a sheet takes.
     pub fn measured(&self, graph: &Graph) -> Sheet {
-        let constraint = |&(a, b): &(usize, usize)| Constraint {
-            first: a as u8,
-            second: b as u8,
-            size: Some(self.distance(a, b).round().max(1.0) as i32),
-        };
-        Sheet { kinds: vec![Kind::Point; graph.n], constraints: graph.pairs.iter().map(constraint).collect() }
+        let size = |a, b| self.distance(a, b).round().max(1.0) as i32;
+        let constraint = |&(a, b): &(usize, usize)| Constraint::sized(a as u8, b as u8, size(a, b));
+        Sheet::first(vec![Kind::Point; graph.n], graph.pairs.iter().map(constraint).collect())
     }
 
     /// The distance of two points.

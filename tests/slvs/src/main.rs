@@ -7,7 +7,7 @@ use std::process::ExitCode;
 use pattern_slvs::layout::Layout;
 use pattern_slvs::sheets;
 use pattern_slvs::solver::{Solved, solve};
-use pattern_tests::facts::OPENING;
+use pattern_tests::facts::Opening;
 use pattern_tests::graph::Graph;
 use pattern_tests::run::{Hex, Run};
 use pattern_tests::set::{Set, elements, one, size, within};
@@ -66,7 +66,7 @@ fn bounds(run: &mut Run) {
 
 /// The bytes of n elements, of the first eight kinds given as bits, with at most one constraint, on (0,1).
 fn small_sheet(n: u8, kinds: u8, size: Option<i32>) -> Vec<u8> {
-    let mut bytes = [OPENING, &[n, kinds]].concat();
+    let mut bytes = [Opening::Pf01.bytes(), &[n, kinds]].concat();
     bytes.resize(5 + usize::from(n).div_ceil(8), 0);
     bytes.push(u8::from(size.is_some()));
     bytes.extend(size.iter().flat_map(|size| [&[0, 1, 1][..], &size.to_le_bytes()].concat()));

@@ -1,9 +1,9 @@
 //! Each entry of the card of five points beside the engine, and the reference, on the real sheet of that number in several orders; the same with one
-//! point a line, which is not on the card.
+//! point a line, which is not on the card, and with some points circles that touch.
 
 use std::process::ExitCode;
 
-use pattern_tests::facts::{Constraint, Kind, Sheet};
+use pattern_tests::facts::{Constraint, Kind, Opening, Sheet};
 use pattern_tests::interface::Found;
 use pattern_tests::run::Run;
 use pattern_tests::verdict::{judge, verdict};
@@ -29,6 +29,9 @@ fn main() -> ExitCode {
             run.random.shuffle(&mut sheet.constraints);
             judged(&mut run, &sheet);
         }
+        let round = with_circles(&sheet, &mut run);
+        run.same("reference", &number, verdict(&round, &judge(&round)), is);
+        judged(&mut run, &round);
         for line in 0..POINTS {
             let sheet = with_line(&sheet, line);
             let is = verdict(&sheet, &judge(&sheet));
@@ -57,10 +60,27 @@ fn with_line(sheet: &Sheet, line: u8) -> Sheet {
     sheet.kinds[usize::from(line)] = Kind::Line;
     for constraint in &mut sheet.constraints {
         if constraint.first == line || constraint.second == line {
-            constraint.size = None;
+            *constraint = Constraint::bare(constraint.first, constraint.second);
         }
     }
     sheet
+}
+
+/// The sheet with circles in place of some points, which touch whom they are constrained with.
+fn with_circles(sheet: &Sheet, run: &mut Run) -> Sheet {
+    let mut round = Sheet { opening: Opening::Pf02, ..sheet.clone() };
+    for kind in &mut round.kinds {
+        if run.random.chance(50) {
+            *kind = Kind::Circle(run.random.between(1, MOST_SIZE) as u32);
+        }
+    }
+    for constraint in &mut round.constraints {
+        let ends = [constraint.first, constraint.second].map(|end| round.kinds[usize::from(end)]);
+        if ends != [Kind::Point; 2] {
+            *constraint = Constraint::tangent(constraint.first, constraint.second);
+        }
+    }
+    round
 }
 
 /// Five points with those of the ten pairs, in dictionary order, whose bit stands, of any sizes.
@@ -69,7 +89,7 @@ fn five_points(number: usize, run: &mut Run) -> Sheet {
     let constraints = pairs
         .enumerate()
         .filter(|(bit, _)| number >> bit & 1 == 1)
-        .map(|(_, (first, second))| Constraint { first, second, size: Some(run.random.between(1, MOST_SIZE) as i32) })
+        .map(|(_, (first, second))| Constraint::sized(first, second, run.random.between(1, MOST_SIZE) as i32))
         .collect();
-    Sheet { kinds: vec![Kind::Point; POINTS.into()], constraints }
+    Sheet::first(vec![Kind::Point; POINTS.into()], constraints)
 }

@@ -131,7 +131,8 @@ fn constraint(sheet: &[u8], random: &mut Random) -> Constraint {
         _ => Constraint {
             first: random.byte() >> random.below(8),
             second: random.byte() >> random.below(8),
-            size: random.chance(80).then(|| random.bits() as i32 >> random.below(32)),
+            map: random.byte() >> random.below(8),
+            size: random.bits() as i32 >> random.below(32),
         },
     }
 }
@@ -142,14 +143,16 @@ fn facts(sheet: &[u8], random: &mut Random) -> Columns {
         return damage::facts(&sheet, random);
     }
     let mut length = || random.below(8);
-    let lengths = [length(), length(), length(), length()];
+    let lengths = [length(), length(), length(), length(), 8 * length(), 8 * length()];
     Columns {
+        opening: random.below(4),
         n: random.below(80),
         e: random.below(6),
-        lines: random.bits(),
+        kinds: (0..lengths[4]).map(|_| random.byte() % 3).collect(),
+        radii: (0..lengths[5]).map(|_| random.bits() as u32 >> random.below(32)).collect(),
         firsts: (0..lengths[0]).map(|_| random.byte() % 4).collect(),
         seconds: (0..lengths[1]).map(|_| random.byte() % 8).collect(),
-        maps: (0..lengths[2]).map(|_| random.byte() % 4).collect(),
+        maps: (0..lengths[2]).map(|_| random.byte() % 16).collect(),
         sizes: (0..lengths[3]).map(|_| random.bits() as i32 >> random.below(32)).collect(),
     }
 }

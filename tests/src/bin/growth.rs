@@ -15,8 +15,8 @@ const OVER: i32 = 0;
 const CLUSTERS: usize = 125;
 const RESTS: usize = 250;
 const REPORT: usize = 4_667;
-const RECORD: usize = 891;
-const SHEET: usize = 1_414;
+const RECORD: usize = 1_155;
+const SHEET: usize = 1_678;
 
 /// A final cluster, with the constraints that it rests on.
 struct Part {

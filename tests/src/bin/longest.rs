@@ -39,11 +39,10 @@ fn main() -> ExitCode {
 
 /// Pair (0,1), then for each k from 2 on the pairs (k-2,k) and (k-1,k).
 fn strip(n: usize) -> Sheet {
-    let constraint =
-        |first: usize, second: usize| Constraint { first: first as u8, second: second as u8, size: Some(SIZE) };
+    let constraint = |first: usize, second: usize| Constraint::sized(first as u8, second as u8, SIZE);
     let mut constraints = vec![constraint(0, 1)];
     for k in 2..n {
         constraints.extend([constraint(k - 2, k), constraint(k - 1, k)]);
     }
-    Sheet { kinds: vec![Kind::Point; n], constraints }
+    Sheet::first(vec![Kind::Point; n], constraints)
 }

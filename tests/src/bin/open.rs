@@ -22,8 +22,8 @@ fn main() -> ExitCode {
             mixed(&mut run, n, shape);
         }
     }
-    for rule in rules((1..=11).chain([17])) {
-        run.must("pattern_open", &rule, 50);
+    for rule in rules((1..=11).chain(17..=20)) {
+        run.must("pattern_open", &rule, 20);
     }
     for (open, least) in [("0", 1_000), ("1", 1_000), ("2", 500), ("10", 50), ("40", 3), ("62", 2)] {
         run.must("open", open, least);
@@ -52,7 +52,9 @@ const SHAPES: [Shape; 17] = [
     |n, random| less(shapes::strip(n), 1, random),
     |n, random| shapes::scattered(n, n + n / 2, random),
     |n, random| shapes::scattered(n, MOST_CONSTRAINTS, random),
-    |n, _| Graph::of(n, (0..(n - 1) / 2).flat_map(|k| [(2 * k, 2 * k + 1), (2 * k, 2 * k + 2), (2 * k + 1, 2 * k + 2)])),
+    |n, _| {
+        Graph::of(n, (0..(n - 1) / 2).flat_map(|k| [(2 * k, 2 * k + 1), (2 * k, 2 * k + 2), (2 * k + 1, 2 * k + 2)]))
+    },
     |n, _| Graph::of(n, (0..n / 2).map(|k| (2 * k, 2 * k + 1)).chain((2..n).map(|k| (k - 2, k)))),
 ];
 

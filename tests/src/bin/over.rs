@@ -33,7 +33,8 @@ fn main() -> ExitCode {
         let damaged = damage::aimed(&bytes, &mut run.random);
         over(&mut run, &damaged);
     }
-    rules((1..=10).chain([17])).for_each(|rule| run.must("pattern_over", &rule, 500));
+    rules((1..=10).chain(17..=19)).for_each(|rule| run.must("pattern_over", &rule, 500));
+    rules([20]).for_each(|rule| run.must("pattern_over", &rule, 50));
     for set in [NOT_OVER, "set of 4", "set of 5 to 16", "set of 17 to 64"] {
         run.must("sheets", set, 1_000);
     }

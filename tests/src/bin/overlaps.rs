@@ -32,7 +32,7 @@ fn main() -> ExitCode {
         let damaged = damage::aimed(&bytes, &mut run.random);
         calls::initial(&mut run, &damaged);
     }
-    rules(1..=10).for_each(|rule| run.must("pattern_initial", &rule, 100));
+    rules((1..=10).chain(18..=20)).for_each(|rule| run.must("pattern_initial", &rule, 50));
     rules([17]).for_each(|rule| run.must("pattern_initial", &rule, 100));
     for sheets in ["over", "not over"] {
         run.must("sheets", sheets, 500);

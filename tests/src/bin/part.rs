@@ -33,7 +33,8 @@ fn main() -> ExitCode {
     run.must("clusters", "made, merged away", 5_000);
     run.must("clusters", "made, left at the end", 1_000);
     run.must("clusters", "the whole plan in another order", 100);
-    rules((1..=11).chain([17, 26])).for_each(|rule| run.must("pattern_part", &rule, 50));
+    rules((1..=11).chain([17, 18, 26])).for_each(|rule| run.must("pattern_part", &rule, 50));
+    rules([19, 20]).for_each(|rule| run.must("pattern_part", &rule, 5));
     run.finish()
 }
 

@@ -38,7 +38,7 @@ fn main() -> ExitCode {
     }
     run.must("rings", "searched", 1000);
     for function in ["pattern_verdict", "pattern_plan", "pattern_clusters", "pattern_rests"] {
-        rules(1..=10).for_each(|rule| run.must(function, &rule, 100));
+        rules((1..=10).chain(18..=20)).for_each(|rule| run.must(function, &rule, 50));
     }
     for function in ["pattern_plan", "pattern_rests"] {
         rules([17]).for_each(|rule| run.must(function, &rule, 100));

@@ -34,8 +34,8 @@ fn main() -> ExitCode {
     for step in ["ppp 0", "ppp 1", "ppp 2", "ppp ?", "ppl 0", "ppl 1", "ppl 2", "ppl ?", "pll 1", "pll ?", "lll ?"] {
         run.must("steps", step, 100);
     }
-    rules((1..=10).chain([17])).for_each(|rule| run.must("pattern_report", &rule, 100));
-    rules((1..=13).chain([15, 16, 17])).for_each(|rule| run.must("pattern_check_plan", &rule, 100));
+    rules((1..=10).chain(17..=20)).for_each(|rule| run.must("pattern_report", &rule, 50));
+    rules((1..=13).chain(15..=20)).for_each(|rule| run.must("pattern_check_plan", &rule, 50));
     run.finish()
 }
 

@@ -2,10 +2,10 @@
 
 use std::process::ExitCode;
 
-use pattern_tests::calls::{rewrite, write};
+use pattern_tests::calls::{self, write};
 use pattern_tests::facts::{Columns, MOST_ELEMENTS};
-use pattern_tests::run::{INPUTS, Run, rules};
-use pattern_tests::{damage, dress, tags};
+use pattern_tests::run::{Hex, INPUTS, Run, outcome, rules};
+use pattern_tests::{damage, dress, first, reader, tags};
 
 const ROUNDS: usize = 30_000;
 /// Every so many rounds a sheet is cut at every byte.
@@ -36,7 +36,20 @@ fn main() -> ExitCode {
     }
     run.must("pattern_rewrite", INPUTS, 200_000);
     run.must("pattern_write", INPUTS, 50_000);
-    rules(1..=10).for_each(|rule| run.must("pattern_rewrite", &rule, 1_000));
-    rules([3, 5, 6, 7, 8, 9, 17]).for_each(|rule| run.must("pattern_write", &rule, 500));
+    rules((1..=10).chain([18, 19])).for_each(|rule| run.must("pattern_rewrite", &rule, 1_000));
+    rules([20]).for_each(|rule| run.must("pattern_rewrite", &rule, 300));
+    rules([1, 3, 5, 6, 7, 8, 9, 17, 18]).for_each(|rule| run.must("pattern_write", &rule, 500));
+    rules([19, 20]).for_each(|rule| run.must("pattern_write", &rule, 100));
+    rules(2..=10).for_each(|rule| run.must("PF01 read as document 01 has it", &rule, 1_000));
     run.finish()
+}
+
+/// Compares `pattern_rewrite`, and, of bytes that open with PF01, the reader of both openings with the one of document 01 alone.
+fn rewrite(run: &mut Run, bytes: &[u8]) {
+    calls::rewrite(run, bytes);
+    if bytes.starts_with(b"PF01") {
+        let alone = first::read(bytes);
+        run.count("PF01 read as document 01 has it", outcome(&alone));
+        run.same("reference", &Hex(bytes), reader::read(bytes), alone);
+    }
 }

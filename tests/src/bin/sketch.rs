@@ -3,14 +3,14 @@
 
 use std::process::ExitCode;
 
-use pattern_tests::facts::{Constraint, Kind, MOST_ELEMENTS, Sheet};
+use pattern_tests::facts::{MOST_ELEMENTS, Sheet};
 use pattern_tests::interface::Found;
 use pattern_tests::run::{Run, rules};
 use pattern_tests::{calls, damage, dress, sketch, tags, writer};
 
 const ROUNDS: usize = 4_000;
 /// Room for every held sketch.
-const MOST_RECORD: usize = 891;
+const MOST_RECORD: usize = 1_155;
 
 fn main() -> ExitCode {
     let mut run = Run::start("sketch", 50_463_036);
@@ -23,9 +23,10 @@ fn main() -> ExitCode {
             grow(&mut run, &sheet);
         }
     }
-    rules((1..=11).chain([17])).for_each(|rule| run.must("pattern_hold", &rule, 20));
+    rules((1..=11).chain(17..=20)).for_each(|rule| run.must("pattern_hold", &rule, 20));
     rules([6, 7, 8, 9, 11, 27]).for_each(|rule| run.must("pattern_ask", &rule, 100));
     rules([6, 7, 8, 9, 11, 17, 24, 27]).for_each(|rule| run.must("pattern_place", &rule, 100));
+    ["pattern_ask", "pattern_place"].iter().for_each(|call| run.must(call, "rule 20", 30));
     rules([17, 27]).for_each(|rule| run.must("pattern_held", &rule, 100));
     for call in ["pattern_hold", "pattern_ask", "pattern_place", "pattern_held"] {
         run.must(call, "accepted", 1000);
@@ -58,7 +59,7 @@ fn events(run: &mut Run, sheet: &Sheet) {
     held.constraints.truncate(run.random.below(sheet.e() + 1));
     let mut record = record(run, &held);
     for _ in 0..run.random.between(1, 12) {
-        let more = offered(run, &held);
+        let more = damage::offered(&held, &mut run.random);
         let told = number(run, held.e());
         match run.random.below(6) {
             0 | 1 => calls::ask(run, &record, &more),
@@ -99,27 +100,9 @@ fn broken(run: &mut Run, record: &[u8]) -> Vec<u8> {
     out
 }
 
-/// A constraint for a sketch: sound, or with a fault in one field.
-fn offered(run: &mut Run, held: &Sheet) -> Constraint {
-    let mut more = dress::next(&held.kinds, &mut run.random);
-    match run.random.below(10) {
-        0 => more.first = run.random.byte() >> run.random.below(8),
-        1 => more.second = run.random.byte() >> run.random.below(8),
-        2 => more.size = None,
-        3 => more.size = Some(run.random.pick(&[0, 40_001, -40_001, 18_000, -18_000, i32::MIN, i32::MAX])),
-        4 if held.e() > 0 => {
-            let old = held.constraints[run.random.below(held.e())];
-            (more.first, more.second) = (old.first, old.second);
-        }
-        _ => {}
-    }
-    more
-}
-
 /// Compares constraints offered one after another to a sketch that begins without any, and the engine on what it is then.
 fn grow(run: &mut Run, sheet: &Sheet) {
-    let kinds: Vec<Kind> = sheet.kinds.clone();
-    let mut held = Sheet { kinds, constraints: Vec::new() };
+    let mut held = Sheet { constraints: Vec::new(), ..sheet.clone() };
     let mut record = record(run, &held);
     record.resize(MOST_RECORD, 0);
     for _ in 0..4 * held.n() {

@@ -56,8 +56,8 @@ fn main() -> ExitCode {
     }
     run.must("rooms", "too short", 3_000);
     run.must("rooms", "long enough", 5_000);
-    rules((1..=11).chain([17])).for_each(|rule| run.must("pattern_steps", &rule, 100));
-    rules((1..=13).chain([15, 16, 17])).for_each(|rule| run.must("pattern_saved_steps", &rule, 100));
+    rules((1..=11).chain(17..=20)).for_each(|rule| run.must("pattern_steps", &rule, 50));
+    rules((1..=13).chain(15..=20)).for_each(|rule| run.must("pattern_saved_steps", &rule, 50));
     run.finish()
 }
 

@@ -1,6 +1,6 @@
 -- `graph::measure` meets its contract: after i turns the first i places hold sizes, the others numbers still. Assumes nothing.
 use borrow.Author.Needs.{needs}
-use Prim.Native.Nat.{ℕ, zero, suc, _+_, _-_, _<_, _≤_}
+use Prim.Native.Nat.{ℕ, _+_, _-_, _<_, _≤_}
 use native.Mathlib.Omega.{arith}
 use native.Mathlib.Nat.{add-zero}
 use native.Mathlib.Numerals.{add-one}
@@ -12,12 +12,12 @@ use mir.Facts.{toZ-ofZ}
 use mir.Syntax.{w32}
 use mir.Val.{toZ, ofZ}
 use lib.ListN.{length, take, drop, replicate, getD, length-set, length-map, take-append-drop, List·getD-append}
-use lib.Seq.{take-suc, take-suc-set, take-all, drop-set-lt, drop-drop, drop-at, getD-drop}
+use lib.Seq.{take-suc, take-suc-set, drop-set-lt, drop-drop, drop-at, getD-drop}
 use Rattle.theory.specs.Block.Laws.{length-block}
 use Rattle.sheet.specs.declared.Constraint.{Constraint}
 use Rattle.sheet.specs.declared.Kind.{Kind}
 use Rattle.sheet.specs.declared.Kinds.{Kinds}
-use Rattle.sheet.specs.Facts.{Facts, radiusOf, kindAt, blankConstraint}
+use Rattle.sheet.specs.Facts.{Facts, kindAt, blankConstraint}
 use Rattle.sheet.specs.Facts.Laws.{kind-in}
 use Rattle.sheet.specs.Rules.{radiiInRange}
 use Rattle.sheet.specs.Rules.Laws.{constraints-most, elements-taken}
@@ -68,7 +68,7 @@ module _ {f : Facts} {h : Front} {near start : List ℕ} {codes : List ℤ} {rad
       let n : length (map (λ (c : Constraint). codeOf (c .size)) (f .constraints)) ≡ h .e = rw (length-map, count) in
       let m : length (graphOf f .sizes) ≡ h .e = rw (length-map, count) in
       let cs = map (λ (c : Constraint). codeOf (c .size)) (f .constraints) in
-      ap (drop (h .e)) (a .arrays .codes-are) ∙ (drop-at cs (replicate (200 - length cs) (pos 0)) (h .e) n ∙ ap (λ (k : ℕ). replicate (200 - k) (pos 0)) (n ∙ sym m) 
+      ap (drop (h .e)) (a .arrays .codes-are) ∙ (drop-at cs (replicate (200 - length cs) (pos 0)) (h .e) n ∙ ap (λ (k : ℕ). replicate (200 - k) (pos 0)) (n ∙ sym m)
       ∙ sym (drop-at (graphOf f .sizes) (replicate (200 - length (graphOf f .sizes)) (pos 0)) (h .e) m))
 
 loop-holds : tie.Need-loop-holds Inv-loop μ-loop
@@ -119,9 +119,10 @@ kind-at-requires-2 c κs = let a = begun (c .before) .pre .2 in rw (is (c .befor
 size-of-requires : tie.Need-size-of-requires Inv-loop μ-loop
 size-of-requires c κs =
     let b = c .before .before in
-    let a = begun b .pre .2 in
-    (rw (c .before .kind-at .ensures, kind-in (a .kinds-in) (b .constraint-in .result .first)) (radius-most _ (range a) _),
-    rw (c .kind-at2 .ensures, kind-in (a .kinds-in) (b .constraint-in .result .second)) (radius-most _ (range a) _))
+    let a = begun b .pre .2 in (
+      rw (c .before .kind-at .ensures, kind-in (a .kinds-in) (b .constraint-in .result .first)) (radius-most _ (range a) _),
+      rw (c .kind-at2 .ensures, kind-in (a .kinds-in) (b .constraint-in .result .second)) (radius-most _ (range a) _),
+    )
 
 loop-again : tie.Need-loop-again Inv-loop μ-loop
 loop-again c =

@@ -1,6 +1,6 @@
 -- `graph::size_of` meets its contract: a given size is its own, a contact is made of the radii. Assumes nothing.
 use borrow.Author.Needs.{needs}
-use Prim.Native.Nat.{ℕ, zero, suc, _+_, _-_, _^_, _≤_, _<_}
+use Prim.Native.Nat.{ℕ, zero, suc, _+_, _-_, _^_, _<_}
 use native.Mathlib.Omega.{arith}
 use mathlib.Core.Path.{_≡_, sym, ap, _∙_}
 use mathlib.Core.Bool.{Bool, true, false, _&&_, cond}
@@ -8,8 +8,6 @@ use lib.IntN.{ℤ, pos, negℤ, +ℤ-idl, _-ℤ_}
 use mir.Facts.{toZ-ofZ, toZ-pos, sfits-lit, yes-ltb}
 use mir.Val.{SFits, toZ}
 use mir.Syntax.{w32}
-use Rattle.sheet.specs.declared.Size.{Size}
-use Rattle.sheet.specs.declared.Size.the-variants.{OtherTangent}
 use Rattle.sheet.specs.Facts.{isCircle, radiusOf}
 use Rattle.sheet.specs.Graph.{sizeOf}
 use Rattle.graph.proofs.size_of.Statement.{statement}

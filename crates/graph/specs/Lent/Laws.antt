@@ -224,4 +224,3 @@ radius-most (x ∷ xs) e zero = one (x .kind) (and-true (not (isCircle (x .kind)
     one (Circle r) e = leb-true r 40000 (and-true (leb 1 r) (leb r 40000) e .1)
 radius-most (x ∷ xs) e (suc i) =
     radius-most xs (and-true (not (isCircle (x .kind)) || radiusInRange (radiusOf (x .kind))) (radiiInRange xs) e .1) i
-

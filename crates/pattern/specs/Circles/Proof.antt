@@ -3,9 +3,8 @@ use Prim.Native.Nat.{ℕ}
 use mathlib.Core.Path.{_≡_, sym, ap, _∙_}
 use mathlib.Core.List.{List, []}
 use Rattle.theory.specs.Graph.{Graph, verdictOf}
-use Rattle.theory.specs.declared.Verdict.{Verdict}
 use Rattle.sheet.specs.Facts.{Facts}
-use Rattle.sheet.specs.Field.{Field, value, Bytes}
+use Rattle.sheet.specs.Field.{value, Bytes}
 use Rattle.sheet.specs.Decode.{readSheet}
 use Rattle.sheet.specs.Encode.{sheetBytes}
 use Rattle.sheet.specs.Accepted.{Accepted}

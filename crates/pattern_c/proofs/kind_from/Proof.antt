@@ -1,6 +1,5 @@
 -- `pattern_c::kind_from` meets its contract, by the kind's number. Assumes nothing.
 use borrow.Author.Needs.{needs}
-use native.Mathlib.Omega.{arith}
 use Prim.Native.Nat.{ℕ, zero, suc}
 use mathlib.Core.Path.{_≡_, refl}
 use Rattle.sheet.specs.declared.Kind.the-variants.{Circle}

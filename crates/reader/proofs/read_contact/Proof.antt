@@ -1,13 +1,12 @@
 -- `reader::read_contact` meets its contract: rules 8 and 20 of what the map announces, and the tag. Assumes nothing.
 use borrow.Author.Needs.{needs}
 use native.Mathlib.Omega.{arith}
-use mathlib.Core.Path.{_≡_, sym, ap, _∙_}
+use mathlib.Core.Path.{_≡_, sym, _∙_}
 use mathlib.Core.Bool.{true}
 use borrow.Author.Tests.{not-true, not-false}
-use lib.IntN.{pos}
 use mir.Facts.{toZ-ofZ}
 use mir.Syntax.{w32}
-use Rattle.sheet.specs.Rules.{sizeBy, sizeAllowed, radiiDiffer}
+use Rattle.sheet.specs.Rules.{sizeAllowed, radiiDiffer}
 use Rattle.reader.proofs.Dimension.{contact-by}
 use Rattle.reader.proofs.read_contact.Statement.{statement}
 use Rattle.reader.proofs.read_contact.Tie as tie

@@ -1,7 +1,6 @@
 -- `reader::read_dimension` meets its contract: the map, and then what follows it with a contact or without one. Assumes nothing.
 use borrow.Author.Needs.{needs}
-use native.Mathlib.Omega.{arith}
-use mathlib.Core.Path.{_≡_, sym, _∙_}
+use mathlib.Core.Path.{sym, _∙_}
 use Rattle.sheet.specs.Facts.{kindAt}
 use Rattle.sheet.specs.Facts.Laws.{kind-in}
 use Rattle.sheet.specs.Rules.Laws.{pair-lines}

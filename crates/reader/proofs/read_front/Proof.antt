@@ -1,8 +1,8 @@
 -- `reader::read_front` meets its contract: the fields before the constraints, one after another. Assumes nothing.
-use Prim.Native.Nat.{ℕ, _≤_}
+use Prim.Native.Nat.{ℕ}
 use native.Mathlib.Omega.{arith}
 use mathlib.Core.Bool.{true}
-use mathlib.Core.Path.{_≡_, refl, sym, ap, _∙_, subst}
+use mathlib.Core.Path.{_≡_, sym, ap, _∙_, subst}
 use mathlib.Core.List.{List}
 use borrow.Author.Tests.{not-true, not-false}
 use borrow.Author.Needs.{needs}
@@ -16,7 +16,6 @@ use Rattle.sheet.specs.Rules.Laws.{elements-range, constraints-most}
 use Rattle.sheet.specs.Decode.{readConstraints, readSheet}
 use Rattle.elements.specs.Answers.{elementsField, ElementsRead, kindsRule}
 use Rattle.elements.specs.declared.KindsRead.{KindsRead}
-use Rattle.elements.specs.declared.KindsRead.the-variants as kinds
 use Rattle.fields.specs.Answers.{asByte}
 use Rattle.reader.specs.Answers.{asOpening}
 use Rattle.reader.proofs.Sheets.{sheet-tail}

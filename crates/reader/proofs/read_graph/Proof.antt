@@ -4,12 +4,8 @@ use mathlib.Core.Logic.{⊎-elim}
 use mathlib.Core.List.{List}
 use Prim.Native.Nat.{ℕ}
 use borrow.Author.Needs.{needs}
-use lib.IntN.{ℤ}
-use Rattle.sheet.specs.Facts.{Facts}
-use Rattle.sheet.specs.Field.{value, refused}
+use Rattle.sheet.specs.Field.{refused}
 use Rattle.sheet.specs.Decode.{readSheet}
-use Rattle.graph.specs.declared.Front.{Front}
-use Rattle.graph.specs.Lent.{SheetIn, sizesOf}
 use Rattle.graph.specs.Lent.Sheets.{stands-in}
 use Rattle.graph.specs.Lent.Plain.{plain-sizes}
 use Rattle.reader.specs.declared.CodesRead.{CodesRead}
@@ -43,11 +39,16 @@ measure-requires c κs =
 returns-2 : tie.Need-returns-2
 returns-2 c =
     let r = c .before .before .before .before .before .before .before in
-    let t = told r (c .before .before .before .before .before .got .given .1) in
-    (t .0, t .1, t .2, rw (c .head-of .ensures) (stands-in (t .3)), ⊎-elim
-    (λ w. w .5 ∙ w .4 .ensures (t .0) _ (t .3))
-    (λ w. w .1 ∙ plain-sizes (t .3) (w .0 .left))
-    (c .before .if1 .came))
+    let t = told r (c .before .before .before .before .before .got .given .1) in (
+      t .0,
+      t .1,
+      t .2,
+      rw (c .head-of .ensures) (stands-in (t .3)),
+      ⊎-elim
+          (λ w. w .5 ∙ w .4 .ensures (t .0) _ (t .3))
+          (λ w. w .1 ∙ plain-sizes (t .3) (w .0 .left))
+          (c .before .if1 .came),
+    )
 
 pub read-graph-spec : {M : Type 1} → statement M
 read-graph-spec =

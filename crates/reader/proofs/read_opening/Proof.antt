@@ -1,7 +1,6 @@
 -- `reader::read_opening` meets its contract: one opening, else the other. Assumes nothing.
 use borrow.Author.Needs.{needs}
-use mathlib.Core.Path.{refl, sym, _∙_}
-use borrow.Author.Tests.{not-true, not-false}
+use mathlib.Core.Path.{sym, _∙_}
 use Rattle.sheet.specs.Decode.{opening}
 use Rattle.reader.proofs.read_opening.Statement.{statement}
 use Rattle.reader.proofs.read_opening.Tie as tie

@@ -306,8 +306,13 @@ module _ {s s1 s2 s3 s4 s5 t ks : List ℕ} {o : Opening} {n k : ℕ} {es : List
           constraints-in-range = rw k-is k-ok;
           no-fault = taken;
         };
-        most = rw whole (simp (length-append, opening-length o) (omega (arith, kinds-long, kinds-length o (length es) (rw n-is (elements-most n n-ok)),
-            radii-most es (rw n-is (elements-most n n-ok)), constraints-most k k-ok)));
+        most = rw whole (simp (length-append, opening-length o) (omega (
+          arith,
+          kinds-long,
+          kinds-length o (length es) (rw n-is (elements-most n n-ok)),
+          radii-most es (rw n-is (elements-most n n-ok)),
+          constraints-most k k-ok,
+        )));
       })
 
 pub sheet-read : (s : List ℕ) {f : Facts} {t : List ℕ} → Bytes s → readSheet s ≡ value f t → Read s f t

@@ -78,12 +78,12 @@ extended-in {f} {h} c a l k more =
     let more-count : h .e + 1 ≡ length (f .constraints ++ c ∷ []) =
     ap (λ (x : Head). x .e + 1) (a .head-is) ∙ sym (length-append (f .constraints) (c ∷ [])) in
     record {
-  accepted = extended-accepted f c (a .accepted) l k;
-  opening-is = a .opening-is;
-  head-is = λ z. record { n = a .head-is z .n; e = more-count z; lines = a .head-is z .lines };
-  kinds-in = a .kinds-in;
-  arrays = more;
-}
+      accepted = extended-accepted f c (a .accepted) l k;
+      opening-is = a .opening-is;
+      head-is = λ z. record { n = a .head-is z .n; e = more-count z; lines = a .head-is z .lines };
+      kinds-in = a .kinds-in;
+      arrays = more;
+    }
 
 -- the constraint in the block
 module _ (s : Sheet) (c : Constraint) (long : length (s .constraints) ≡ 200) (room : s .e < 200) where

@@ -1,0 +1,64 @@
+# Builds the command pattern and the libraries, and installs them: make, make install PREFIX=/usr/local
+PREFIX = /usr/local
+DESTDIR =
+CFLAGS = -O2 -Wall -Wextra -Wpedantic -Werror
+
+VERSION := $(shell sed -n 's/.define PATTERN_VERSION  *"\(.*\)"/\1/p' include/pattern_text.h)
+MAJOR := $(firstword $(subst ., ,$(VERSION)))
+
+PROVED = target/staticlib/libpattern_c.a
+OUT = target/install
+STATIC = $(OUT)/libpattern.a
+SHARED = $(OUT)/libpattern.so.$(VERSION)
+COMMAND = target/cargo/release/pattern
+HEADERS = include/pattern.h include/pattern_text.h
+TO = $(DESTDIR)$(PREFIX)
+
+all: $(STATIC) $(SHARED) command
+
+# The proved library. It is not made again where it is there: rt knows what it is made from.
+$(PROVED):
+	rt staticlib pattern_c
+
+$(OUT)/pattern_text.o: c/pattern_text.c $(HEADERS)
+	@mkdir -p $(OUT)
+	$(CC) -std=c11 $(CFLAGS) -fPIC -Iinclude -c $< -o $@
+
+$(STATIC): $(PROVED) $(OUT)/pattern_text.o
+	cp $(PROVED) $@.new
+	$(AR) r $@.new $(OUT)/pattern_text.o
+	mv $@.new $@
+
+$(SHARED): $(STATIC) c/exports.map
+	$(CC) -shared -Wl,-soname,libpattern.so.$(MAJOR) -Wl,--version-script,c/exports.map -Wl,-z,defs \
+		-Wl,--whole-archive $(STATIC) -Wl,--no-whole-archive -o $@
+
+command: $(PROVED)
+	cd tools && cargo build --release --quiet
+
+install: all
+	install -d $(TO)/bin $(TO)/include $(TO)/lib/pkgconfig $(TO)/share/man/man1
+	install -d $(TO)/share/bash-completion/completions $(TO)/share/zsh/site-functions $(TO)/share/fish/vendor_completions.d
+	install -m 755 $(COMMAND) $(TO)/bin/pattern
+	install -m 644 $(HEADERS) $(TO)/include
+	install -m 644 $(STATIC) $(TO)/lib/libpattern.a
+	install -m 755 $(SHARED) $(TO)/lib
+	ln -sf libpattern.so.$(VERSION) $(TO)/lib/libpattern.so.$(MAJOR)
+	ln -sf libpattern.so.$(MAJOR) $(TO)/lib/libpattern.so
+	sed 's|@PREFIX@|$(PREFIX)|; s|@VERSION@|$(VERSION)|' c/pattern.pc.in >$(TO)/lib/pkgconfig/pattern.pc
+	install -m 644 man/pattern.1 $(TO)/share/man/man1
+	$(COMMAND) completion bash >$(TO)/share/bash-completion/completions/pattern
+	$(COMMAND) completion zsh >$(TO)/share/zsh/site-functions/_pattern
+	$(COMMAND) completion fish >$(TO)/share/fish/vendor_completions.d/pattern.fish
+	install -d $(TO)/share/pattern
+	install -m 644 python/pattern.py $(TO)/share/pattern
+
+uninstall:
+	rm -f $(TO)/bin/pattern $(HEADERS:include/%=$(TO)/include/%) $(TO)/lib/libpattern.a $(TO)/lib/libpattern.so*
+	rm -f $(TO)/lib/pkgconfig/pattern.pc $(TO)/share/man/man1/pattern.1 $(TO)/share/bash-completion/completions/pattern
+	rm -f $(TO)/share/zsh/site-functions/_pattern $(TO)/share/fish/vendor_completions.d/pattern.fish $(TO)/share/pattern/pattern.py
+
+clean:
+	rm -rf $(OUT)
+
+.PHONY: all command install uninstall clean

@@ -1,2 +1,0 @@
--- What the reading of a sheet says of the field that it answers. Assumes nothing.
-use Prim.Native.Nat.{ℕ}

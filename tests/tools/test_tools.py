@@ -1,0 +1,285 @@
+"""The command pattern, run as a program: exit statuses, JSON, many files at once, completion."""
+
+import json
+import math
+import os
+import pty
+import random
+import re
+import subprocess
+import sys
+import tempfile
+import time
+import unittest
+import xml.etree.ElementTree
+
+ROOT = os.path.abspath(os.path.join(os.path.dirname(__file__), "..", ".."))
+TEXTS = os.path.join(ROOT, "examples", "text")
+SHEETS = os.path.join(ROOT, "tests", "programs", "report")
+
+
+def pattern(*arguments, text=None):
+    """Runs the command: its status, standard output and standard error."""
+    done = subprocess.run(["pattern", *arguments], input=text, capture_output=True)
+    return done.returncode, done.stdout.decode(), done.stderr.decode()
+
+
+def open_text(path):
+    """The content of a text file."""
+    with open(path) as file:
+        return file.read()
+
+
+def text(name):
+    """A text sheet of the examples."""
+    return os.path.join(TEXTS, name + ".txt")
+
+
+class Statuses(unittest.TestCase):
+    """0 well, 1 another verdict, 2 refused, 3 a file cannot be read or written, 64 usage."""
+
+    def test_verdicts(self):
+        for command in ("check", "report"):
+            self.assertEqual(pattern(command, text("gable"))[0], 0)
+            for name in ("frame", "braced", "lattice", "triangle", "hipped"):
+                self.assertEqual(pattern(command, text(name))[0], 1, name)
+
+    def test_the_worst_of_many(self):
+        refused = os.path.join(SHEETS, "refused_3_one.sheet")
+        self.assertEqual(pattern("check", text("gable"), text("rails"))[0], 0)
+        self.assertEqual(pattern("check", text("gable"), text("frame"), text("gable"))[0], 1)
+        self.assertEqual(pattern("check", text("frame"), refused, text("gable"))[0], 2)
+        self.assertEqual(pattern("check", refused, "no such file", text("gable"))[0], 3)
+
+    def test_files_and_usage(self):
+        for command in ("check", "show", "make", "report", "plan", "draw"):
+            self.assertEqual(pattern(command, "/")[0], 3, command)
+            status, out, error = pattern(command)
+            self.assertEqual((status, out), (64, ""), command)
+            self.assertIn("usage: pattern " + command, error)
+            status, out, error = pattern(command, "--help")
+            self.assertEqual((status, error), (0, ""), command)
+            self.assertIn("usage: pattern " + command, out)
+
+
+class Json(unittest.TestCase):
+    """What is printed for programs is JSON, and says what the words say."""
+
+    def check(self, *paths):
+        return json.loads(pattern("check", "--json", *paths)[1])
+
+    def test_every_stored_sheet(self):
+        paths = [os.path.join(SHEETS, name) for name in sorted(os.listdir(SHEETS)) if name.endswith(".sheet")]
+        for path, found in zip(paths, self.check(*paths)):
+            with open(path[: -len("sheet")] + "out") as file:
+                lines = [line.split() for line in file]
+            self.assertEqual(found["file"], path)
+            if lines[0][0] == "refused":
+                self.assertEqual((found["status"], found["rule"]), ("refused", int(lines[0][1])))
+                continue
+            self.assertEqual(found["status"], lines[0][1])
+            self.assertEqual([found["elements"], found["constraints"]], [int(lines[1][1]), int(lines[1][3])])
+            number = lambda name: int(name[1:])
+            steps = [line for line in lines if line[0] == "step"]
+            self.assertEqual([step["made"] for step in found["steps"]], [int(step[1]) for step in steps])
+            self.assertEqual([list(map(number, step["joint"])) for step in found["steps"]], [list(map(int, step[7:10])) for step in steps])
+            clusters = [line for line in lines if line[0] == "cluster"]
+            for cluster, line in zip(found["clusters"], clusters, strict=True):
+                on = line.index("rests")
+                self.assertEqual(list(map(number, cluster["holds"])), list(map(int, line[3:on])))
+                self.assertEqual(cluster["rests_on"], list(map(int, line[on + 2 :])))
+            over = [int(line[1]) for line in lines if line[0] == "first"]
+            self.assertEqual([found["over"]["constraint"]] if found["over"] else [], over)
+
+    def test_a_file_name_with_every_kind_of_character(self):
+        with tempfile.TemporaryDirectory() as folder:
+            path = os.path.join(folder, 'a "quoted"\\ \n\x01 näme')
+            os.symlink(text("gable"), path)
+            self.assertEqual(self.check(path)[0]["file"], path)
+
+    def test_commands(self):
+        calls = [["show", text("gable")], ["plan", text("gable")], ["part", text("gable"), "12"], ["chain", text("frame"), "A", "C"]]
+        calls += [["report", text("frame")], ["diff", text("frame"), text("braced")], ["add", text("frame"), "distance A C 7"]]
+        for call in calls:
+            self.assertTrue(json.loads(pattern(*call, "--json")[1]), call)
+
+
+class Many(unittest.TestCase):
+    """Ten thousand files in one call."""
+
+    def on_a_terminal(self, *arguments):
+        """What the command says on a standard error that is a terminal."""
+        ours, its = pty.openpty()
+        running = subprocess.Popen(["pattern", *arguments], stdout=subprocess.DEVNULL, stderr=its)
+        os.close(its)
+        said = b""
+        try:
+            while piece := os.read(ours, 4096):
+                said += piece
+        except OSError:  # the terminal is gone once the command has ended
+            pass
+        os.close(ours)
+        running.wait()
+        return said.decode()
+
+    def test_ten_thousand(self):
+        chance = random.Random(25)
+        with tempfile.TemporaryDirectory() as folder:
+            paths, wanted = [], []
+            for i in range(10_000):
+                n = chance.randrange(2, 12)
+                pairs = [(0, 1)] + [(j, k) for k in range(2, n) for j in (k - 2, k - 1)]
+                lacking = chance.randrange(0, 3)
+                pairs = pairs[: len(pairs) - min(lacking, len(pairs))]
+                lines = [f"point A{k}" for k in range(n)] + [f"distance A{j} A{k} 30" for j, k in pairs]
+                paths.append(os.path.join(folder, f"{i}.txt"))
+                wanted.append("well" if len(pairs) == 2 * n - 3 else "under")
+                with open(paths[-1], "w") as file:
+                    file.write("\n".join(lines))
+            start = time.monotonic()
+            status, out, error = pattern("check", "--json", *paths)
+            took = time.monotonic() - start
+            found = json.loads(out)
+            self.assertEqual((status, error), (1, ""))
+            self.assertEqual([row["file"] for row in found], paths)
+            self.assertEqual([row["status"] for row in found], wanted)
+            status, out, _ = pattern("check", "--quiet", *paths)
+            self.assertIn(f"well       {wanted.count('well'):6}\n", out)
+            self.assertRegex(self.on_a_terminal("check", "--quiet", *paths), r"\r[0-9]+ of 10000 files.*\r\x1b\[K$")
+            print(f"ten thousand files: {took:.1f} s", file=sys.stderr)
+
+
+class Pictures(unittest.TestCase):
+    """Pictures are well-formed, show every element and constraint, and are to scale."""
+
+    NAMES = ("gable", "frame", "braced", "lattice", "triangle", "hipped", "rails", "open", "light")
+
+    def facts(self, name):
+        return json.loads(pattern("show", "--json", text(name))[1])
+
+    def groups(self, picture):
+        """The groups of a picture by the key that they light: the shapes of each, in the order they are drawn."""
+        found = {}
+        for group in picture.iter("{http://www.w3.org/2000/svg}g"):
+            if "data-key" in group.attrib:
+                found.setdefault(group.attrib["data-key"], []).extend(group)
+        return found
+
+    def draw(self, path, *options):
+        status, out, error = pattern("draw", path, *options)
+        self.assertEqual((status, error), (0, ""), path)
+        return out
+
+    def test_everything_is_shown(self):
+        for name in self.NAMES:
+            facts = self.facts(name)
+            picture = xml.etree.ElementTree.fromstring(self.draw(text(name)))
+            groups = self.groups(picture)
+            wanted = [f"e{i}" for i in range(len(facts["elements"]))] + [f"k{k}" for k in range(len(facts["constraints"]))]
+            self.assertEqual(sorted(groups), sorted(wanted), name)
+            words = "".join(picture.itertext())
+            for element in facts["elements"]:
+                self.assertIn(element["name"], words)
+            for constraint in facts["constraints"]:
+                self.assertIn(constraint["text"], words)
+            width, height = (float(picture.attrib[side]) for side in ("width", "height"))
+            for shape in picture.iter("{http://www.w3.org/2000/svg}circle"):
+                self.assertTrue(0 < float(shape.attrib["cx"]) < width and 0 < float(shape.attrib["cy"]) < height, name)
+
+    def test_distances_are_to_scale(self):
+        for name in ("gable", "frame", "braced", "lattice"):
+            facts = self.facts(name)
+            groups = self.groups(xml.etree.ElementTree.fromstring(self.draw(text(name))))
+            places = {}
+            for i, element in enumerate(facts["elements"]):
+                if element["kind"] == "point":
+                    dot = next(shape for shape in groups[f"e{i}"] if shape.tag.endswith("circle"))
+                    places[element["name"]] = (float(dot.attrib["cx"]), float(dot.attrib["cy"]))
+            scales = []
+            for constraint in facts["constraints"]:
+                if constraint["demand"] == "size" and all(end in places for end in constraint["ends"]):
+                    scales.append(math.dist(*(places[end] for end in constraint["ends"])) / constraint["size"])
+            self.assertGreater(len(scales), 2)
+            self.assertLess(max(scales) / min(scales), 1.01, name)
+
+    def test_colours(self):
+        self.assertNotIn("stroke-dasharray", self.draw(text("gable")))
+        self.assertIn("stroke-dasharray", self.draw(text("frame")))
+        braced = xml.etree.ElementTree.fromstring(self.draw(text("braced")))
+        red = {key for key, shapes in self.groups(braced).items() if any("#d00000" in shape.attrib.values() for shape in shapes)}
+        self.assertEqual(red, {"e0", "e1", "e2", "e3", "k0", "k1", "k2", "k3", "k4", "k5"})
+
+    def test_every_stored_sheet_is_drawn(self):
+        for name in sorted(os.listdir(SHEETS)):
+            if name.endswith(".sheet") and not name.startswith("refused"):
+                xml.etree.ElementTree.fromstring(self.draw(os.path.join(SHEETS, name)))
+
+    def test_the_pictures_of_the_guide_are_drawn_again(self):
+        stored = os.path.join(ROOT, "docs", "pictures")
+        with tempfile.TemporaryDirectory() as folder:
+            subprocess.run([os.path.join(stored, "make"), folder], check=True)
+            names = sorted(name for name in os.listdir(stored) if name.endswith(".svg"))
+            self.assertEqual(sorted(os.listdir(folder)), names)
+            with open(os.path.join(ROOT, "docs", "GUIDE.md")) as file:
+                self.assertEqual(sorted(re.findall(r"\(pictures/(.*?\.svg)\)", file.read())), names)
+            for name in names:
+                old, new = (re.split(r"(-?[0-9]+\.[0-9]+)", open_text(os.path.join(place, name))) for place in (stored, folder))
+                self.assertEqual(old[::2], new[::2], name)
+                # numbers may differ by rounding on another machine
+                for a, b in zip(old[1::2], new[1::2]):
+                    self.assertAlmostEqual(float(a), float(b), delta=0.25, msg=name)
+
+    def test_the_page(self):
+        for name in self.NAMES:
+            page = self.draw(text(name), "--html")
+            self.assertIn(pattern("report", text(name))[1].strip(), page)
+            self.assertNotRegex(page.replace('xmlns="http://www.w3.org/2000/svg"', ""), "https?:|src=|href=|url\\(|@import")
+            rows = re.findall('<tr tabindex="0" data-key="([pk][0-9]+)"', page)
+            self.assertEqual(len(rows), len(set(rows)))
+            body = re.sub("<script>.*?</script>|<style>.*?</style>|<!DOCTYPE html>|<meta[^>]*>", "", page, flags=re.DOTALL)
+            xml.etree.ElementTree.fromstring(body)
+
+
+class Documents(unittest.TestCase):
+    """What README and the guide show is what the command prints."""
+
+    def test_readme(self):
+        readme = open_text(os.path.join(ROOT, "README.md"))
+        shown = [open_text(text("frame")), pattern("check", text("frame"))[1].replace(text("frame"), "frame.txt")]
+        for wanted in shown:
+            self.assertIn("\n".join("    " + line for line in wanted.splitlines()), readme)
+
+    def test_guide(self):
+        guide = open_text(os.path.join(ROOT, "docs", "GUIDE.md"))
+        section = guide[guide.index("## Reading a report") : guide.index("## Common mistakes")]
+        rows = re.findall(r"^\| `(.*?)` \|", section, re.MULTILINE)
+        self.assertEqual(rows, pattern("report", text("gable"))[1].splitlines())
+        frame = pattern("check", text("frame"))[1].replace(text("frame"), "frame.txt")
+        self.assertIn("\n".join("    " + line for line in frame.splitlines()), guide)
+
+
+class Completion(unittest.TestCase):
+    """The completion script for bash completes commands, options and files."""
+
+    def complete(self, *words):
+        script = 'eval "$(pattern completion bash)"; COMP_WORDS=("$@"); COMP_CWORD=$(($# - 1)); _pattern; printf "%s\\n" "${COMPREPLY[@]}"'
+        done = subprocess.run(["bash", "-c", script, "bash", *words], capture_output=True, cwd=TEXTS)
+        return done.stdout.decode().split()
+
+    def test_bash(self):
+        self.assertEqual(self.complete("pattern", "ch"), ["check", "chain"])
+        self.assertEqual(self.complete("pattern", "draw", "--h"), ["--html", "--help"])
+        self.assertEqual(self.complete("pattern", "draw", "ga"), ["gable.txt"])
+
+    def test_every_command_and_option_is_there(self):
+        commands = [line.split()[0] for line in pattern("--help")[1].splitlines() if re.match("  [a-z]", line)]
+        for shell in ("bash", "zsh", "fish"):
+            status, script, _ = pattern("completion", shell)
+            self.assertEqual(status, 0)
+            for command in commands:
+                self.assertIn(command, script)
+        self.assertEqual(pattern("completion", "csh")[0], 64)
+
+
+if __name__ == "__main__":
+    unittest.main()

@@ -1,0 +1,60 @@
+//! `pattern add`: what more dimensions would do.
+
+use super::check::status_of;
+use crate::cli::{Answer, Call, JSON, OUTPUT};
+use crate::describe;
+use crate::document::Document;
+use crate::engine;
+use crate::fault::{Fault, Refusal, Spot};
+use crate::finding::{Finding, verdict_name};
+use crate::json::Json;
+use crate::prices::Prices;
+use crate::text;
+
+/// Runs the command.
+pub fn run(call: &Call) -> Result<Answer, Fault> {
+    let document = Document::load(&call.operands[0])?;
+    let mut statements = Vec::new();
+    let mut more = Vec::new();
+    for place in 1..call.operands.len() {
+        let statement = call.text(place)?;
+        let parsed = text::statement(statement, &document.sheet.elements, &document.names);
+        more.push(parsed.map_err(|refusal| Fault::Refused { path: format!("statement {place}"), refusal })?);
+        statements.push(statement);
+    }
+    let bytes = engine::place(&document.bytes, &more).map_err(|(place, rule)| match place {
+        Some(place) => {
+            let words = statements[place].to_string();
+            let refusal = Refusal { spot: Spot::Whole, rule: Some(rule), words, constraint: None };
+            Fault::Refused { path: format!("statement {}", place + 1), refusal }
+        }
+        None => document.refused(rule),
+    })?;
+    let mut grown = Document::of(&document.path, &bytes)?;
+    grown.names = document.names;
+    let finding = Finding::of(&grown, &Prices::default().of(&grown)?).map_err(|rule| grown.refused(rule))?;
+    let status = status_of(finding.verdict);
+    if call.value(&OUTPUT).is_some() {
+        let out = match document.source {
+            Some(source) => extended(source, &statements).into_bytes(),
+            None => bytes,
+        };
+        let said = format!("{}: {}", grown.path, verdict_name(finding.verdict));
+        return Ok(Answer { notes: vec![said], ..Answer::deliver(call, out, status) });
+    }
+    let out = if call.has(&JSON) {
+        Json::Object(describe::json(&grown, &finding, None)).lines()
+    } else {
+        let lines = describe::lines(&grown, &finding, None);
+        format!("{}: {}\n  {}\n", grown.path, verdict_name(finding.verdict), lines.join("\n  "))
+    };
+    Ok(Answer::print(out, status))
+}
+
+/// A text with more statements at its end.
+fn extended(mut source: String, statements: &[&str]) -> String {
+    if !source.ends_with('\n') {
+        source.push('\n');
+    }
+    source + &statements.join("\n") + "\n"
+}

@@ -1,0 +1,120 @@
+//! `pattern diff`: what changed from one sheet to another.
+
+use crate::cli::{Answer, Call, JSON};
+use crate::document::Document;
+use crate::fault::{Fault, Status};
+use crate::finding::{Finding, verdict_name};
+use crate::json::Json;
+use crate::prices::Prices;
+use crate::text;
+
+/// A part as the names of its elements.
+type Part = Vec<String>;
+
+/// A sheet as it is compared: by names.
+struct Side {
+    verdict: &'static str,
+    elements: Vec<String>,
+    constraints: Vec<String>,
+    /// The parts that are left; none of a sheet that is over.
+    parts: Option<Vec<Part>>,
+}
+
+impl Side {
+    /// The sheet of a document.
+    fn of(document: &Document) -> Result<Side, Fault> {
+        let finding = Finding::of(document, &Prices::default().of(document)?).map_err(|rule| document.refused(rule))?;
+        let mut elements: Vec<_> = text::print(&document.sheet, &document.names).lines().map(str::to_string).collect();
+        let constraints = elements.split_off(elements.len() - document.sheet.constraints.len());
+        let part = |set: u64| document.named(set).into_iter().map(str::to_string).collect();
+        let parts = finding.clusters.iter().map(|cluster| part(cluster.elements)).collect();
+        let parts = finding.over.is_none().then_some(parts);
+        Ok(Side { verdict: verdict_name(finding.verdict), elements, constraints, parts })
+    }
+}
+
+/// Whether one part lies within another.
+fn within(small: &Part, large: &Part) -> bool {
+    small.iter().all(|name| large.contains(name))
+}
+
+/// What is in one list and not in the other.
+fn beyond(list: &[String], other: &[String]) -> Vec<String> {
+    list.iter().filter(|item| !other.contains(item)).cloned().collect()
+}
+
+/// What changed.
+struct Change {
+    gone: Vec<String>,
+    added: Vec<String>,
+    /// Parts that hold an old part and more, each with the old parts in it.
+    grown: Vec<(Part, Vec<Part>)>,
+    /// Old parts that lie in no new one.
+    broken: Vec<Part>,
+}
+
+impl Change {
+    /// What changed from one side to the other.
+    fn between(old: &Side, new: &Side) -> Change {
+        let (empty, parts) = (Vec::new(), [&old.parts, &new.parts]);
+        let [olds, news] = parts.map(|parts| parts.as_ref().unwrap_or(&empty));
+        let inside = |part: &Part| olds.iter().filter(|small| within(small, part)).cloned().collect::<Vec<_>>();
+        let grown = news.iter().filter(|part| !olds.contains(part)).map(|part| (part.clone(), inside(part)));
+        let broken = olds.iter().filter(|part| new.parts.is_some() && !news.iter().any(|large| within(part, large)));
+        Change {
+            gone: [beyond(&old.elements, &new.elements), beyond(&old.constraints, &new.constraints)].concat(),
+            added: [beyond(&new.elements, &old.elements), beyond(&new.constraints, &old.constraints)].concat(),
+            grown: grown.filter(|(_, from)| !from.is_empty()).collect(),
+            broken: broken.cloned().collect(),
+        }
+    }
+
+    /// The change in words.
+    fn words(&self, old: &Side, new: &Side) -> String {
+        let gone = self.gone.iter().map(|item| format!("- {item}\n"));
+        let added = self.added.iter().map(|item| format!("+ {item}\n"));
+        let verdict = (old.verdict != new.verdict).then(|| format!("verdict: {}, was {}\n", new.verdict, old.verdict));
+        let grown = self.grown.iter().map(|(part, from)| {
+            let from: Vec<_> = from.iter().map(|part| part.join(" ")).collect();
+            format!("grown: {}, from {}\n", part.join(" "), from.join("; "))
+        });
+        let broken = self.broken.iter().map(|part| format!("no longer rigid: {}\n", part.join(" ")));
+        gone.chain(added).chain(verdict).chain(grown).chain(broken).collect()
+    }
+
+    /// The change for a program.
+    fn json(&self, old: &Side, new: &Side) -> Json {
+        let grown = self.grown.iter().map(|(part, from)| {
+            let from = from.iter().map(Json::list).collect();
+            Json::Object(vec![("part", Json::list(part)), ("from", Json::List(from))])
+        });
+        Json::Object(vec![
+            ("old", old.verdict.into()),
+            ("new", new.verdict.into()),
+            ("gone", Json::list(&self.gone)),
+            ("added", Json::list(&self.added)),
+            ("grown", Json::List(grown.collect())),
+            ("broken", Json::List(self.broken.iter().map(Json::list).collect())),
+        ])
+    }
+}
+
+/// Runs the command.
+pub fn run(call: &Call) -> Result<Answer, Fault> {
+    let mut documents = [Document::load(&call.operands[0])?, Document::load(&call.operands[1])?];
+    if documents.iter().any(|document| document.source.is_none()) {
+        for document in &mut documents {
+            document.names = text::default_names(&document.sheet.elements);
+        }
+    }
+    let [old, new] = [Side::of(&documents[0])?, Side::of(&documents[1])?];
+    let change = Change::between(&old, &new);
+    let same = documents[0].sheet == documents[1].sheet && old.elements == new.elements;
+    let status = if same { Status::Well } else { Status::Other };
+    if call.has(&JSON) {
+        return Ok(Answer::print(change.json(&old, &new).lines(), status));
+    }
+    let words = change.words(&old, &new);
+    let words = if words.is_empty() && !same { "the same in another order\n".to_string() } else { words };
+    Ok(Answer::print(words, status))
+}

@@ -1,0 +1,171 @@
+//! The commands, each with its words for the help.
+
+mod add;
+mod chain;
+mod check;
+mod completion;
+mod diff;
+mod draw;
+mod part;
+mod plan;
+mod report;
+mod show;
+
+use crate::cli::{Command, Flag, JSON, OUTPUT};
+
+const PRICES: Flag = Flag {
+    name: "prices",
+    short: None,
+    value: Some("FILE"),
+    says: "what measuring costs: lines \"A B 5\", \"A C never\", \"default 10\"",
+};
+const QUIET: Flag = Flag { name: "quiet", short: Some('q'), value: None, says: "print the table at the end alone" };
+const HTML: Flag = Flag { name: "html", short: None, value: None, says: "a page with the report, lit by the mouse" };
+
+/// The most operands of a command that takes any number.
+const ANY: usize = usize::MAX;
+
+/// Every command, in the order of the help.
+pub const COMMANDS: [Command; 12] = [
+    Command {
+        name: "check",
+        operands: "FILE..",
+        count: (1, ANY),
+        flags: &[&JSON, &PRICES, &QUIET],
+        summary: "say whether sheets are fully dimensioned, and what is wrong",
+        about: "
+Each file gets its verdict (well, under, stuck, angle, over) with what is missing, what is
+too many, and a warning where sizes do not close. Several files are checked on all cores,
+and a table of verdicts stands at the end. The status is that of the worst file.
+Warnings marked numeric come from one layout in floating point and are not proved.",
+        run: check::run,
+    },
+    Command {
+        name: "show",
+        operands: "FILE",
+        count: (1, 1),
+        flags: &[&OUTPUT, &JSON],
+        summary: "print a sheet as text",
+        about: "
+The text has a statement a line: point, line and circle name the elements in their order,
+distance, angle, on and tangent are the constraints. Elements of a sheet in bytes are named
+P, L or C with their number.",
+        run: show::show,
+    },
+    Command {
+        name: "make",
+        operands: "FILE",
+        count: (1, 1),
+        flags: &[&OUTPUT],
+        summary: "make a sheet in bytes from its text",
+        about: "
+Names and comments are left behind: the bytes hold the facts alone. Statements:
+  point A B                    line bottom             circle lamp 45.0 mm
+  distance A B 600.0 mm        distance A bottom 30    angle bottom left 90 deg
+  on A bottom                  tangent lamp bottom     tangent lamp ring other
+Lengths are in mm, cm or m, angles in degrees; # begins a comment. \"opening PF02\" makes a
+sheet for circles where none stands. An angle turns from the first named line to the second.",
+        run: show::make,
+    },
+    Command {
+        name: "report",
+        operands: "FILE",
+        count: (1, 1),
+        flags: &[&JSON],
+        summary: "print the report: verdict, steps of the plan, parts that are left",
+        about: "
+The lines are the proved report's own, by numbers; --json gives the same by names.",
+        run: report::report,
+    },
+    Command {
+        name: "plan",
+        operands: "FILE",
+        count: (1, 1),
+        flags: &[&OUTPUT, &JSON],
+        summary: "print the plan, or save it with -o",
+        about: "
+Three cluster numbers a step, a step a line. With -o the plan is saved as the older programs
+save it: 16-bit numbers, lowest byte first. A sheet that is over has no plan.",
+        run: plan::plan,
+    },
+    Command {
+        name: "verify",
+        operands: "SHEET PLAN",
+        count: (2, 2),
+        flags: &[&JSON],
+        summary: "check a saved plan, and print the report for it",
+        about: "
+PLAN is a saved plan: 16-bit numbers, or the text that plan prints. It may take the merges in
+another order. A plan that is refused gives the rule, and the step at fault.",
+        run: plan::verify,
+    },
+    Command {
+        name: "add",
+        operands: "FILE STATEMENT..",
+        count: (2, ANY),
+        flags: &[&OUTPUT, &JSON],
+        summary: "ask what more dimensions would do; -o saves them",
+        about: "
+Each statement is a constraint in the words of the text form, in quotation marks:
+  pattern add house.txt \"distance A B 600\" \"on C bottom\"
+They are placed one after another; the verdict after all of them is printed. FILE itself is
+never changed: -o writes the new sheet, as text where FILE is text, else in bytes.",
+        run: add::run,
+    },
+    Command {
+        name: "part",
+        operands: "FILE CLUSTER",
+        count: (2, 2),
+        flags: &[&JSON],
+        summary: "print the steps of one cluster of the plan",
+        about: "
+CLUSTER is the number of any cluster of the plan. Each part's steps come before the step that
+uses them; a constraint is a cluster too and has none.",
+        run: part::run,
+    },
+    Command {
+        name: "chain",
+        operands: "FILE FROM TO",
+        count: (3, 3),
+        flags: &[&JSON],
+        summary: "print the fewest parts from one element to another",
+        about: "
+FROM and TO are names or numbers of elements. Each part shares an element with the next. Where
+the two are not connected it prints none and ends with status 1.",
+        run: chain::run,
+    },
+    Command {
+        name: "diff",
+        operands: "OLD NEW",
+        count: (2, 2),
+        flags: &[&JSON],
+        summary: "compare two sheets: constraints added and gone, parts grown",
+        about: "
+Elements are compared by name where both files are text, else by number. Ends with status 1
+where the sheets differ.",
+        run: diff::run,
+    },
+    Command {
+        name: "draw",
+        operands: "FILE",
+        count: (1, 1),
+        flags: &[&OUTPUT, &HTML],
+        summary: "draw a sheet as SVG, or as a page with --html",
+        about: "
+The elements are laid out from their dimensions where the plan gives a construction, the first
+placement of each step; else by a numeric search, else on a circle. The layout is tested, not
+proved. Parts have colours of their own, what is over is red, parts that can still move are
+dashed.",
+        run: draw::run,
+    },
+    Command {
+        name: "completion",
+        operands: "SHELL",
+        count: (1, 1),
+        flags: &[],
+        summary: "print a completion script for bash, zsh or fish",
+        about: "
+  pattern completion bash > /etc/bash_completion.d/pattern",
+        run: completion::run,
+    },
+];

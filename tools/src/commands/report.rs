@@ -1,0 +1,24 @@
+//! `pattern report`: the proved report.
+
+use super::check::status_of;
+use crate::cli::{Answer, Call, JSON};
+use crate::describe;
+use crate::document::Document;
+use crate::engine;
+use crate::fault::Fault;
+use crate::finding::Finding;
+use crate::json::Json;
+use crate::prices::Prices;
+
+/// Prints the report.
+pub fn report(call: &Call) -> Result<Answer, Fault> {
+    let document = Document::load(&call.operands[0])?;
+    let refused = |rule| document.refused(rule);
+    let finding = Finding::of(&document, &Prices::default().of(&document)?).map_err(refused)?;
+    let out = if call.has(&JSON) {
+        Json::Object(describe::json(&document, &finding, None)).lines()
+    } else {
+        engine::report(&document.bytes).map_err(refused)?
+    };
+    Ok(Answer::print(out, status_of(finding.verdict)))
+}

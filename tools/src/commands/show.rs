@@ -1,0 +1,50 @@
+//! `pattern show` and `pattern make`: a sheet as text, and back.
+
+use crate::cli::{Answer, Call, JSON};
+use crate::document::Document;
+use crate::fault::{Fault, Status};
+use crate::json::Json;
+use crate::sheet::{Demand, Kind};
+use crate::text;
+
+/// Prints a sheet as text.
+pub fn show(call: &Call) -> Result<Answer, Fault> {
+    let document = Document::load(&call.operands[0])?;
+    let out = if call.has(&JSON) { json(&document).lines() } else { text::print(&document.sheet, &document.names) };
+    Ok(Answer::deliver(call, out, Status::Well))
+}
+
+/// Makes the bytes of a sheet.
+pub fn make(call: &Call) -> Result<Answer, Fault> {
+    let document = Document::load(&call.operands[0])?;
+    Ok(Answer::deliver(call, document.bytes, Status::Well))
+}
+
+/// The facts of a sheet for a program: sizes in tenths of a millimetre and hundredths of a degree.
+fn json(document: &Document) -> Json {
+    let sheet = &document.sheet;
+    let elements = sheet.elements.iter().zip(&document.names).map(|(kind, name)| {
+        let mut fields = vec![("name", name.into()), ("kind", kind.name().into())];
+        if let Kind::Circle(radius) = kind {
+            fields.push(("radius", (*radius as usize).into()));
+        }
+        Json::Object(fields)
+    });
+    let constraints = sheet.constraints.iter().enumerate().map(|(k, constraint)| {
+        let ends = [constraint.first, constraint.second].map(|end| document.names[end].as_str());
+        let (what, size) = match constraint.demand {
+            Demand::Size(size) => ("size", size.into()),
+            Demand::On => ("on", Json::Null),
+            Demand::Tangent => ("tangent", Json::Null),
+            Demand::Other => ("tangent other", Json::Null),
+        };
+        let fields = [("ends", Json::list(ends)), ("demand", what.into()), ("size", size)];
+        let text = ("text", document.statement(k).into());
+        Json::Object(fields.into_iter().chain([text]).collect())
+    });
+    Json::Object(vec![
+        ("opening", sheet.opening.name().into()),
+        ("elements", Json::List(elements.collect())),
+        ("constraints", Json::List(constraints.collect())),
+    ])
+}

@@ -1,0 +1,131 @@
+//! A finding in words and as JSON.
+
+use pattern::Verdict;
+
+use crate::document::Document;
+use crate::draw::Position;
+use crate::finding::{Finding, verdict_name};
+use crate::json::Json;
+use crate::sheet::members;
+
+/// The most pairs, or constraints, that are named.
+const MOST_SHOWN: usize = 8;
+
+/// A count with its noun.
+pub fn counted(count: usize, noun: &str) -> String {
+    format!("{count} {noun}{}", if count == 1 { "" } else { "s" })
+}
+
+/// What there is to say of a sheet beside its verdict, a line each.
+pub fn lines(document: &Document, finding: &Finding, position: Option<&Position>) -> Vec<String> {
+    let (n, e) = (document.sheet.elements.len(), document.sheet.constraints.len());
+    let mut lines = vec![format!("{}, {}", counted(n, "element"), counted(e, "constraint"))];
+    match finding.verdict {
+        Verdict::Well => lines[0] += &format!(": fully dimensioned, built in {}", counted(finding.steps.len(), "step")),
+        Verdict::Under => lines[0] += &format!(": {} missing", counted(finding.freedoms, "dimension")),
+        Verdict::Stuck => {
+            let parts = counted(finding.clusters.len(), "part");
+            lines[0] += ": the count of dimensions is right, but no construction by threes";
+            lines.push(format!("{parts} left, and no three of them close: place some dimensions elsewhere"));
+        }
+        Verdict::Angle => {
+            let names = document.named(finding.angle).join(" ");
+            lines.push(format!(
+                "held by angles alone: {names}; angles fix no distance, and one of these follows from the others"
+            ));
+            if finding.freedoms > 0 {
+                lines.push(format!("{} missing", counted(finding.freedoms, "dimension")));
+            }
+        }
+        Verdict::Over => {}
+    }
+    if let Some(over) = &finding.over {
+        lines.push(format!("one too many: {} (constraint {})", document.statement(over.constraint), over.constraint));
+        lines.push(format!("the part {} is fixed already, by:", document.named(over.part).join(" ")));
+        let shown = over.earlier.iter().take(MOST_SHOWN);
+        lines.extend(shown.map(|&k| format!("  {} (constraint {k})", document.statement(k))));
+        let rest = over.earlier.len().saturating_sub(MOST_SHOWN);
+        lines.extend((rest > 0).then(|| format!("  and {rest} more")));
+        lines.push("leave one of these out, or the one too many".to_string());
+    }
+    if finding.verdict == Verdict::Under {
+        match &finding.missing {
+            Ok(pairs) => {
+                let shown: Vec<_> = pairs.iter().take(MOST_SHOWN).map(|&(a, b)| names(document, a, b)).collect();
+                let rest = pairs.len() - shown.len();
+                let more = if rest > 0 { format!(" and {rest} more") } else { String::new() };
+                lines.push(format!("measure next: {}{more}", shown.join(", ")));
+            }
+            Err(_) => lines.push(
+                "no distances that may be measured will do: angles are missing, or prices forbid too much".to_string(),
+            ),
+        }
+    }
+    lines.extend(warnings(document, finding, position));
+    lines
+}
+
+/// The names of a pair.
+fn names(document: &Document, a: usize, b: usize) -> String {
+    format!("{} {}", document.names[a], document.names[b])
+}
+
+/// The warnings: steps without a placement, and a special position.
+pub fn warnings(document: &Document, finding: &Finding, position: Option<&Position>) -> Vec<String> {
+    let open = finding.open_steps().map(|step| {
+        let statements = finding.step_statements(document, step).join(", ");
+        format!("WARNING: NO PLACEMENT: these sizes do not close (step {}): {statements}", step.made)
+    });
+    open.chain(position.map(|position| position.warning(document))).collect()
+}
+
+/// The fields of a finding for a program.
+pub fn json(document: &Document, finding: &Finding, position: Option<&Position>) -> Vec<(&'static str, Json)> {
+    let (n, e) = (document.sheet.elements.len(), document.sheet.constraints.len());
+    let pair = |&(a, b): &(usize, usize)| Json::list([&document.names[a], &document.names[b]]);
+    let missing = match (finding.verdict, &finding.missing) {
+        (Verdict::Under, Ok(pairs)) => Json::List(pairs.iter().map(pair).collect()),
+        _ => Json::Null,
+    };
+    let over = finding.over.as_ref().map_or(Json::Null, |over| {
+        Json::Object(vec![
+            ("constraint", over.constraint.into()),
+            ("statement", document.statement(over.constraint).into()),
+            ("part", Json::list(document.named(over.part))),
+            ("fixed_by", Json::list(over.earlier.iter().copied())),
+        ])
+    });
+    vec![
+        ("status", verdict_name(finding.verdict).into()),
+        ("elements", n.into()),
+        ("constraints", e.into()),
+        ("freedoms", finding.freedoms.into()),
+        ("missing", missing),
+        ("over", over),
+        ("angle", Json::list(document.named(finding.angle))),
+        ("steps", Json::List(finding.steps.iter().map(|step| step_json(document, step)).collect())),
+        ("clusters", Json::List(finding.clusters.iter().map(|cluster| cluster_json(document, cluster)).collect())),
+        ("warnings", Json::list(warnings(document, finding, position))),
+    ]
+}
+
+/// A step for a program.
+pub fn step_json(document: &Document, step: &pattern::Step) -> Json {
+    Json::Object(vec![
+        ("made", step.made.into()),
+        ("from", Json::list(step.parts)),
+        ("joint", Json::list(document.named(step.joint))),
+        ("kind", format!("{:?}", step.kind).to_lowercase().into()),
+        ("ways", step.ways.map_or(Json::Null, Json::from)),
+    ])
+}
+
+/// A cluster for a program.
+pub fn cluster_json(document: &Document, cluster: &crate::engine::Cluster) -> Json {
+    let rests = (0..128).filter(|k| cluster.rests >> k & 1 == 1);
+    Json::Object(vec![
+        ("number", cluster.number.into()),
+        ("holds", Json::list(members(cluster.elements).map(|i| document.names[i].as_str()))),
+        ("rests_on", Json::list(rests.map(|k: usize| k))),
+    ])
+}

@@ -1,0 +1,113 @@
+//! JSON, written.
+
+use std::fmt;
+
+/// A value.
+#[derive(Clone, PartialEq, Debug)]
+pub enum Json {
+    Null,
+    Bool(bool),
+    Number(i64),
+    Text(String),
+    List(Vec<Json>),
+    Object(Vec<(&'static str, Json)>),
+}
+
+impl Json {
+    /// A list of anything that makes a value.
+    pub fn list<T: Into<Json>>(items: impl IntoIterator<Item = T>) -> Json {
+        Json::List(items.into_iter().map(Into::into).collect())
+    }
+
+    /// The value laid out over lines: a line for each item of the outermost list, or for each field of the outermost object.
+    pub fn lines(&self) -> String {
+        let (open, close, rows): (_, _, Vec<String>) = match self {
+            Json::List(items) if !items.is_empty() => ('[', ']', items.iter().map(Json::to_string).collect()),
+            Json::Object(fields) if !fields.is_empty() => {
+                ('{', '}', fields.iter().map(|(name, value)| format!("\"{name}\": {value}")).collect())
+            }
+            other => return format!("{other}\n"),
+        };
+        format!("{open}\n  {}\n{close}\n", rows.join(",\n  "))
+    }
+}
+
+impl fmt::Display for Json {
+    fn fmt(&self, f: &mut fmt::Formatter) -> fmt::Result {
+        match self {
+            Json::Null => f.write_str("null"),
+            Json::Bool(value) => write!(f, "{value}"),
+            Json::Number(value) => write!(f, "{value}"),
+            Json::Text(text) => quoted(f, text),
+            Json::List(items) => {
+                f.write_str("[")?;
+                for (i, item) in items.iter().enumerate() {
+                    write!(f, "{}{item}", if i == 0 { "" } else { ", " })?;
+                }
+                f.write_str("]")
+            }
+            Json::Object(fields) => {
+                f.write_str("{")?;
+                for (i, (name, value)) in fields.iter().enumerate() {
+                    write!(f, "{}\"{name}\": {value}", if i == 0 { "" } else { ", " })?;
+                }
+                f.write_str("}")
+            }
+        }
+    }
+}
+
+/// A text in quotation marks, its quotation marks, backslashes and control characters escaped.
+fn quoted(f: &mut fmt::Formatter, text: &str) -> fmt::Result {
+    f.write_str("\"")?;
+    for c in text.chars() {
+        match c {
+            '"' | '\\' => write!(f, "\\{c}")?,
+            c if c.is_control() => write!(f, "\\u{:04x}", c as u32)?,
+            c => write!(f, "{c}")?,
+        }
+    }
+    f.write_str("\"")
+}
+
+impl From<bool> for Json {
+    fn from(value: bool) -> Json {
+        Json::Bool(value)
+    }
+}
+
+impl From<u8> for Json {
+    fn from(value: u8) -> Json {
+        Json::Number(value.into())
+    }
+}
+
+impl From<i32> for Json {
+    fn from(value: i32) -> Json {
+        Json::Number(value.into())
+    }
+}
+
+impl From<usize> for Json {
+    fn from(value: usize) -> Json {
+        Json::Number(value as i64)
+    }
+}
+
+impl From<&str> for Json {
+    fn from(value: &str) -> Json {
+        Json::Text(value.to_string())
+    }
+}
+
+impl From<String> for Json {
+    fn from(value: String) -> Json {
+        Json::Text(value)
+    }
+}
+
+impl From<&String> for Json {
+    fn from(value: &String) -> Json {
+        Json::Text(value.clone())
+    }
+}

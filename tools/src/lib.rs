@@ -1,0 +1,19 @@
+//! The command `pattern`: sheets as text, verdicts in words, plans and pictures, over the proved library.
+//!
+//! Every sheet passes through the proved reader or writer, and every verdict, plan and report is the proved library's. What is plain Rust here is the
+//! text form, the words, and the layout of pictures.
+
+pub mod cli;
+pub mod commands;
+pub mod describe;
+pub mod document;
+pub mod draw;
+pub mod engine;
+pub mod fault;
+pub mod fields;
+pub mod finding;
+pub mod json;
+pub mod parallel;
+pub mod prices;
+pub mod sheet;
+pub mod text;

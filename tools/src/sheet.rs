@@ -1,0 +1,129 @@
+//! The facts of a sheet, and their one way into bytes: the proved writer.
+
+use pattern::Rule;
+
+use crate::engine;
+
+/// The opening of a sheet: circles need the second.
+#[derive(Clone, Copy, PartialEq, Eq, Debug)]
+pub enum Opening {
+    Pf01 = 1,
+    Pf02 = 2,
+}
+
+impl Opening {
+    /// The four characters.
+    pub fn name(self) -> &'static str {
+        match self {
+            Opening::Pf01 => "PF01",
+            Opening::Pf02 => "PF02",
+        }
+    }
+}
+
+/// What an element is; a circle with its radius in tenths of a millimetre.
+#[derive(Clone, Copy, PartialEq, Eq, Debug)]
+pub enum Kind {
+    Point,
+    Line,
+    Circle(u32),
+}
+
+impl Kind {
+    /// The kind in a word.
+    pub fn name(self) -> &'static str {
+        match self {
+            Kind::Point => "point",
+            Kind::Line => "line",
+            Kind::Circle(_) => "circle",
+        }
+    }
+
+    /// A circle counts as its centre point.
+    pub fn is_line(self) -> bool {
+        self == Kind::Line
+    }
+
+    /// The radius: 0 of what is no circle.
+    pub fn radius(self) -> u32 {
+        match self {
+            Kind::Circle(radius) => radius,
+            _ => 0,
+        }
+    }
+}
+
+/// What a constraint asks of its two ends.
+#[derive(Clone, Copy, PartialEq, Eq, Debug)]
+pub enum Demand {
+    /// A distance in tenths of a millimetre, or an angle in hundredths of a degree.
+    Size(i32),
+    /// A point, or a centre, on a line.
+    On,
+    /// A circle touches: centre to line r, point to circle r, two circles the sum of the radii.
+    Tangent,
+    /// The other contact: centre to line -r, two circles the larger radius less the smaller.
+    Other,
+}
+
+/// A constraint between two elements by number.
+#[derive(Clone, Copy, PartialEq, Eq, Debug)]
+pub struct Constraint {
+    pub first: usize,
+    pub second: usize,
+    pub demand: Demand,
+}
+
+/// The facts of a sheet.
+#[derive(Clone, PartialEq, Eq, Debug)]
+pub struct Sheet {
+    pub opening: Opening,
+    pub elements: Vec<Kind>,
+    pub constraints: Vec<Constraint>,
+}
+
+/// What of the facts a rule refuses.
+#[derive(Clone, Copy, PartialEq, Eq, Debug)]
+pub enum Part {
+    Whole,
+    Element(usize),
+    Constraint(usize),
+}
+
+impl Sheet {
+    /// The distance in tenths of a millimetre, or the angle in hundredths of a degree, that a constraint stands for.
+    pub fn size(&self, constraint: &Constraint) -> i64 {
+        let kinds = [constraint.first, constraint.second].map(|end| self.elements[end]);
+        let radii = kinds.map(|kind| i64::from(kind.radius()));
+        match constraint.demand {
+            Demand::Size(size) => size.into(),
+            Demand::On => 0,
+            Demand::Tangent => radii[0] + radii[1],
+            Demand::Other if kinds.iter().any(|kind| kind.is_line()) => -(radii[0] + radii[1]),
+            Demand::Other => (radii[0] - radii[1]).abs(),
+        }
+    }
+
+    /// The first part of the facts that the writer refuses, by the rule: the last piece of the shortest beginning that the rule refuses.
+    pub fn fault(&self, rule: Rule) -> Part {
+        let refused = |n: usize, e: usize| {
+            let mut elements = self.elements[..n].to_vec();
+            elements.resize(n.max(2), Kind::Point);
+            let beginning = Sheet { opening: self.opening, elements, constraints: self.constraints[..e].to_vec() };
+            engine::write(&beginning) == Err(rule)
+        };
+        let n = self.elements.len();
+        match rule.0 {
+            18 | 19 => (0..n).find(|&i| refused(i + 1, 0)).map_or(Part::Whole, Part::Element),
+            6..=9 | 20 => {
+                (0..self.constraints.len()).find(|&i| refused(n, i + 1)).map_or(Part::Whole, Part::Constraint)
+            }
+            _ => Part::Whole,
+        }
+    }
+}
+
+/// The elements of a set, ascending: element i as bit i.
+pub fn members(set: u64) -> impl Iterator<Item = usize> {
+    (0..64).filter(move |i| set >> i & 1 == 1)
+}

@@ -1,0 +1,26 @@
+//! A sheet as text: a statement a line, with names, units and comments.
+//!
+//! ```text
+//! point A B            # points, numbered from 0 in the order of their names
+//! line bottom
+//! circle lamp 45.0 mm  # its radius
+//! distance A B 600.0 mm
+//! distance A bottom 30
+//! angle bottom left 90 deg
+//! on A bottom
+//! tangent lamp bottom
+//! tangent lamp ring other
+//! ```
+
+mod line;
+mod number;
+mod parse;
+mod print;
+
+pub use line::Line;
+pub use number::{degrees, millimetres};
+pub use parse::{Text, parse, statement};
+pub use print::{constraint, default_names, print};
+
+/// The word of the other contact.
+const OTHER: &str = "other";

@@ -1,0 +1,179 @@
+//! Layouts meet the dimensions, and special positions are seen.
+
+use pattern_tools::document::Document;
+use pattern_tools::draw::{self, How, Position};
+use pattern_tools::finding::Finding;
+use pattern_tools::prices::Prices;
+
+/// The document of a text.
+fn document(text: &str) -> Document {
+    Document::of("it", text.as_bytes()).unwrap_or_else(|fault| panic!("{fault}: {text}"))
+}
+
+/// What the numbers say of a text's position.
+fn position(text: &str) -> Option<Position> {
+    let document = document(text);
+    let finding = Finding::of(&document, &Prices::default().of(&document).expect("prices")).expect("a finding");
+    draw::examine(&document, &finding)
+}
+
+/// Numbers at random, the same in every run, from 0 to 1.
+struct Random(u64);
+
+impl Random {
+    fn next(&mut self) -> f64 {
+        self.0 ^= self.0 << 13;
+        self.0 ^= self.0 >> 7;
+        self.0 ^= self.0 << 17;
+        (self.0 >> 11) as f64 / (1u64 << 53) as f64
+    }
+
+    fn below(&mut self, bound: usize) -> usize {
+        (self.next() * bound as f64) as usize
+    }
+}
+
+/// A sheet that is well, its sizes measured in a layout at random: two elements that are held together, then each held by two that are.
+fn well(random: &mut Random, n: usize) -> String {
+    let lines: Vec<bool> = (0..n).map(|i| i > 1 && random.below(3) == 0).collect();
+    let places: Vec<[f64; 2]> = lines
+        .iter()
+        .map(|line| {
+            let [x, y] = [random.next(), random.next()];
+            if *line { [x * 6.2, y * 300.0] } else { [x * 800.0, y * 800.0] }
+        })
+        .collect();
+    let mut text: String =
+        lines.iter().enumerate().map(|(i, line)| format!("{} E{i}\n", if *line { "line" } else { "point" })).collect();
+    let mut hold = |a: usize, b: usize| {
+        let distance = |p: [f64; 2], l: [f64; 2]| -l[0].sin() * p[0] + l[0].cos() * p[1] - l[1];
+        let size = match (lines[a], lines[b]) {
+            (false, false) => (places[a][0] - places[b][0]).hypot(places[a][1] - places[b][1]),
+            (false, true) => distance(places[a], places[b]),
+            _ => distance(places[b], places[a]),
+        };
+        text += &format!("distance E{a} E{b} {size:.1}\n");
+    };
+    hold(0, 1);
+    for i in 2..n {
+        // a line is held by two points, a point by any two that are not both lines of no common point
+        let points: Vec<usize> = (0..i).filter(|&j| !lines[j]).collect();
+        let first = points[random.below(points.len())];
+        let others: Vec<usize> = (0..i).filter(|&j| j != first && (!lines[j] || !lines[i])).collect();
+        hold(first, i);
+        hold(others[random.below(others.len())], i);
+    }
+    text
+}
+
+#[test]
+fn a_plan_meets_the_dimensions() {
+    let mut random = Random(4);
+    let (mut met, mut warned) = (0, 0);
+    for round in 0..400 {
+        let text = well(&mut random, 3 + round % 20);
+        let document = document(&text);
+        assert_eq!(pattern::verdict(&document.bytes), Ok(pattern::Verdict::Well));
+        let layout = draw::layout(&document);
+        if layout.how == How::Plan {
+            assert!(draw::error(&document, &layout) < 1e-7, "{text}");
+            met += 1;
+        }
+        warned += usize::from(position(&text).is_some());
+    }
+    // sizes in whole tenths make a triangle flat now and then, or leave it open
+    assert!(met > 380 && warned < 40, "{met} of 400 were laid out by the plan, {warned} were warned of");
+}
+
+#[test]
+fn a_layout_in_general_position_is_not_warned_of() {
+    let strip = |n: usize| {
+        let points: String = (0..n).map(|i| format!("point E{i}\n")).collect();
+        let sides: String =
+            (2..n).map(|k| format!("distance E{} E{k} 30\ndistance E{} E{k} 30\n", k - 2, k - 1)).collect();
+        format!("{points}distance E0 E1 30\n{sides}")
+    };
+    for n in [3, 4, 10, 64] {
+        assert_eq!(position(&strip(n)), None);
+    }
+}
+
+#[test]
+fn special_positions_are_warned_of() {
+    let rails = include_str!("../../examples/text/rails.txt");
+    assert_eq!(position(rails), Some(Position::Loose(1 << 4)));
+    // a flat triangle is only just held
+    assert_eq!(
+        position("point A B C\ndistance A B 10\ndistance B C 20\ndistance A C 30\n"),
+        Some(Position::Loose(0b100))
+    );
+    // a pin between the rails at distances that contradict their gap
+    let apart = rails.replace("distance pin rail2 60.0 mm", "distance pin rail2 70.0 mm");
+    assert_eq!(position(&apart), Some(Position::Open(9)));
+    // two triangles that close, and a third on them that does not: the report has "?" there
+    let open = "point A B C D E\ndistance A B 10\ndistance A C 10\ndistance B C 10\ndistance B D 10\ndistance C D 5\ndistance A E 1\ndistance D E 1\n";
+    assert_eq!(position(open), Some(Position::Open(9)));
+    // what the report tells is not told again
+    assert_eq!(position(include_str!("../../examples/text/open.txt")), None);
+}
+
+#[test]
+fn every_example_has_the_layout_that_it_is_known_for() {
+    let how = |text: &str| {
+        let document = document(text);
+        let layout = draw::layout(&document);
+        assert!(
+            layout.how == How::Circle
+                || !matches!(pattern::over(&document.bytes), Ok(None))
+                || draw::error(&document, &layout) < 1e-6
+        );
+        layout.how
+    };
+    assert_eq!(how(include_str!("../../examples/text/gable.txt")), How::Plan);
+    assert_eq!(how(include_str!("../../examples/text/rails.txt")), How::Plan);
+    assert_eq!(how(include_str!("../../examples/text/light.txt")), How::Plan);
+    assert_eq!(how(include_str!("../../examples/text/frame.txt")), How::Search);
+    assert_eq!(how(include_str!("../../examples/text/lattice.txt")), How::Search);
+    assert_eq!(how(include_str!("../../examples/text/hipped.txt")), How::Search);
+    assert_eq!(how(include_str!("../../examples/text/triangle.txt")), How::Search);
+    assert_eq!(how(include_str!("../../examples/text/braced.txt")), How::Search);
+    assert_eq!(how(include_str!("../../examples/text/open.txt")), How::Circle);
+    assert_eq!(how("point A B\n"), How::Search);
+    assert_eq!(how("line a b c\n"), How::Search);
+}
+
+#[test]
+fn every_sheet_is_drawn() {
+    let mut random = Random(77);
+    for round in 0..300 {
+        let n = if round % 50 == 0 { 64 } else { 2 + random.below(12) };
+        let kinds: Vec<usize> = (0..n).map(|_| random.below(4)).collect();
+        let lines: Vec<bool> = kinds.iter().map(|kind| *kind == 0).collect();
+        let element = |(i, kind): (usize, &usize)| match kind {
+            0 => format!("line E{i}\n"),
+            1 => format!("circle E{i} {}\n", 10 + i),
+            _ => format!("point E{i}\n"),
+        };
+        let mut text: String = kinds.iter().enumerate().map(element).collect();
+        let mut pairs: Vec<(usize, usize)> = Vec::new();
+        for _ in 0..random.below(2 * n + 2).min(200) {
+            let (a, b) = (random.below(n), random.below(n));
+            if a < b && !pairs.contains(&(a, b)) {
+                pairs.push((a, b));
+                let size = 1 + random.below(150);
+                text += &match (lines[a], lines[b]) {
+                    (true, true) => format!("angle E{a} E{b} {size}\n"),
+                    _ if kinds[a] == 1 && size < 60 => format!("tangent E{a} E{b}\n"),
+                    (false, false) => format!("distance E{a} E{b} {size}\n"),
+                    _ if size < 40 => format!("on E{a} E{b}\n"),
+                    _ => format!("distance E{a} E{b} -{size}\n"),
+                };
+            }
+        }
+        let document = document(&text);
+        let finding = Finding::of(&document, &Prices::default().of(&document).expect("prices")).expect("a finding");
+        let page = draw::page(&document, &finding, draw::examine(&document, &finding).as_ref());
+        assert!(!page.contains("NaN") && !page.contains("inf"), "{text}");
+        assert_eq!(page.matches("class=\"element\"").count(), 2 * n, "{text}");
+    }
+}
