@@ -26,9 +26,11 @@ returns c =
 
 loop-again : tie.Need-loop-again Inv-loop μ-loop
 loop-again c =
-    let l = c .before .before .before .loop in
-    (omega (arith, c .before .before .loop-test .taken), kinds-more _ (l .i) (l .inv .1)
-    (rw (← c .before .kind-number .ensures) (c .if1 .left)))
+    let l = c .before .before .before .loop in (
+      omega (arith, c .before .before .loop-test .taken),
+      kinds-more _ (l .i) (l .inv .1)
+          (rw (← c .before .kind-number .ensures) (c .if1 .left)),
+    )
 
 returns-2 : tie.Need-returns-2 Inv-loop μ-loop
 returns-2 c =
