@@ -1,38 +1,21 @@
 //! The calls of the proved library, in the terms of this program.
 
-use pattern::{
-    Dimension, Facts, MOST_BYTES, MOST_CLUSTERS, MOST_MISSING, MOST_PLAN, MOST_REPORT, MOST_RESTS, Rule, Sketch, Step,
-};
+use pattern::{Facts, MOST_BYTES, MOST_CLUSTERS, MOST_MISSING, MOST_PLAN, MOST_REPORT, MOST_RESTS, Rule, Sketch, Step};
 
-use crate::sheet::{Constraint, Demand, Kind, Opening, Sheet};
+use crate::sheet::{Constraint, Sheet};
 
 /// A constraint as the library takes it.
 fn constraint(constraint: &Constraint) -> pattern::Constraint {
     let end = |end| u8::try_from(end).unwrap_or(u8::MAX);
-    let dimension = match constraint.demand {
-        Demand::Size(size) => Dimension::Size(size),
-        Demand::On => Dimension::On,
-        Demand::Tangent => Dimension::Tangent,
-        Demand::Other => Dimension::OtherTangent,
-    };
-    pattern::Constraint::new(end(constraint.first), end(constraint.second), dimension)
+    pattern::Constraint::new(end(constraint.first), end(constraint.second), constraint.dimension)
 }
 
 /// The bytes of a sheet from its facts.
 pub fn write(sheet: &Sheet) -> Result<Vec<u8>, Rule> {
-    let opening = match sheet.opening {
-        Opening::Pf01 => pattern::Opening::Pf01,
-        Opening::Pf02 => pattern::Opening::Pf02,
-    };
-    let kind = |kind: &Kind| match *kind {
-        Kind::Point => pattern::Kind::Point,
-        Kind::Line => pattern::Kind::Line,
-        Kind::Circle(radius) => pattern::Kind::Circle(radius),
-    };
-    let kinds: Vec<_> = sheet.elements.iter().map(kind).collect();
     let constraints: Vec<_> = sheet.constraints.iter().map(constraint).collect();
     let mut space = [0; MOST_BYTES];
-    pattern::write(&Facts { opening, kinds: &kinds, constraints: &constraints }, &mut space).map(<[u8]>::to_vec)
+    pattern::write(&Facts { opening: sheet.opening, kinds: &sheet.elements, constraints: &constraints }, &mut space)
+        .map(<[u8]>::to_vec)
 }
 
 /// The same sheet without its tags.

@@ -7,7 +7,7 @@ use pattern::Rule;
 
 use crate::engine;
 use crate::fault::{Refusal, Spot};
-use crate::sheet::{Constraint, Demand, Kind, Opening, Sheet};
+use crate::sheet::{Constraint, Dimension, Kind, Opening, Sheet};
 
 /// What a field says.
 #[derive(Clone, Copy, PartialEq, Eq, Debug)]
@@ -102,13 +102,13 @@ fn walk(bytes: &[u8]) -> (Sheet, Vec<(Name, usize)>) {
         if map & 2 == 2 {
             walk.take(Name::Tag(k), 2);
         }
-        let demand = match (size, map & 4, map & 8) {
-            (Some(size), _, _) => Demand::Size(size),
-            (None, 0, _) => Demand::On,
-            (None, _, 0) => Demand::Tangent,
-            _ => Demand::Other,
+        let dimension = match (size, map & 4, map & 8) {
+            (Some(size), _, _) => Dimension::Size(size),
+            (None, 0, _) => Dimension::On,
+            (None, _, 0) => Dimension::Tangent,
+            _ => Dimension::OtherTangent,
         };
-        constraints.push(Constraint { first, second, demand });
+        constraints.push(Constraint { first, second, dimension });
     }
     walk.take(Name::Extra, bytes.len().saturating_sub(walk.at));
     (Sheet { opening, elements, constraints }, walk.passed)

@@ -1,77 +1,16 @@
 //! The facts of a sheet, and their one way into bytes: the proved writer.
 
 use pattern::Rule;
+pub use pattern::{Dimension, Kind, Opening};
 
 use crate::engine;
-
-/// The opening of a sheet: circles need the second.
-#[derive(Clone, Copy, PartialEq, Eq, Debug)]
-pub enum Opening {
-    Pf01 = 1,
-    Pf02 = 2,
-}
-
-impl Opening {
-    /// The four characters.
-    pub fn name(self) -> &'static str {
-        match self {
-            Opening::Pf01 => "PF01",
-            Opening::Pf02 => "PF02",
-        }
-    }
-}
-
-/// What an element is; a circle with its radius in tenths of a millimetre.
-#[derive(Clone, Copy, PartialEq, Eq, Debug)]
-pub enum Kind {
-    Point,
-    Line,
-    Circle(u32),
-}
-
-impl Kind {
-    /// The kind in a word.
-    pub fn name(self) -> &'static str {
-        match self {
-            Kind::Point => "point",
-            Kind::Line => "line",
-            Kind::Circle(_) => "circle",
-        }
-    }
-
-    /// A circle counts as its centre point.
-    pub fn is_line(self) -> bool {
-        self == Kind::Line
-    }
-
-    /// The radius: 0 of what is no circle.
-    pub fn radius(self) -> u32 {
-        match self {
-            Kind::Circle(radius) => radius,
-            _ => 0,
-        }
-    }
-}
-
-/// What a constraint asks of its two ends.
-#[derive(Clone, Copy, PartialEq, Eq, Debug)]
-pub enum Demand {
-    /// A distance in tenths of a millimetre, or an angle in hundredths of a degree.
-    Size(i32),
-    /// A point, or a centre, on a line.
-    On,
-    /// A circle touches: centre to line r, point to circle r, two circles the sum of the radii.
-    Tangent,
-    /// The other contact: centre to line -r, two circles the larger radius less the smaller.
-    Other,
-}
 
 /// A constraint between two elements by number.
 #[derive(Clone, Copy, PartialEq, Eq, Debug)]
 pub struct Constraint {
     pub first: usize,
     pub second: usize,
-    pub demand: Demand,
+    pub dimension: Dimension,
 }
 
 /// The facts of a sheet.
@@ -95,12 +34,12 @@ impl Sheet {
     pub fn size(&self, constraint: &Constraint) -> i64 {
         let kinds = [constraint.first, constraint.second].map(|end| self.elements[end]);
         let radii = kinds.map(|kind| i64::from(kind.radius()));
-        match constraint.demand {
-            Demand::Size(size) => size.into(),
-            Demand::On => 0,
-            Demand::Tangent => radii[0] + radii[1],
-            Demand::Other if kinds.iter().any(|kind| kind.is_line()) => -(radii[0] + radii[1]),
-            Demand::Other => (radii[0] - radii[1]).abs(),
+        match constraint.dimension {
+            Dimension::Size(size) => size.into(),
+            Dimension::On => 0,
+            Dimension::Tangent => radii[0] + radii[1],
+            Dimension::OtherTangent if kinds.iter().any(|kind| kind.is_line()) => -(radii[0] + radii[1]),
+            Dimension::OtherTangent => (radii[0] - radii[1]).abs(),
         }
     }
 

@@ -2,7 +2,7 @@
 
 use pattern_tools::document::Document;
 use pattern_tools::fault::{Fault, Refusal, Spot};
-use pattern_tools::sheet::{Constraint, Demand, Kind, Opening, Sheet};
+use pattern_tools::sheet::{Constraint, Dimension, Kind, Opening, Sheet};
 use pattern_tools::{engine, fields, text};
 
 /// Numbers at random, the same in every run.
@@ -32,17 +32,17 @@ fn signed(random: &mut Random, most: i32) -> i32 {
 }
 
 /// What a constraint between two kinds may ask.
-fn demand(random: &mut Random, a: Kind, b: Kind) -> Demand {
+fn dimension(random: &mut Random, a: Kind, b: Kind) -> Dimension {
     let lines = usize::from(a.is_line()) + usize::from(b.is_line());
     let (circle, contact) = (a.radius() + b.radius() > 0, random.below(4));
     match (lines, circle, contact) {
-        (_, true, 0) => Demand::Tangent,
-        (1, true, 1) => Demand::Other,
-        (0, true, 1) if a.radius() > 0 && b.radius() > 0 && a != b => Demand::Other,
-        (1, _, 2) => Demand::On,
-        (0, ..) => Demand::Size(random.between(1, 40_000)),
-        (1, ..) => Demand::Size(signed(random, 40_000)),
-        _ => Demand::Size(signed(random, 17_999)),
+        (_, true, 0) => Dimension::Tangent,
+        (1, true, 1) => Dimension::OtherTangent,
+        (0, true, 1) if a.radius() > 0 && b.radius() > 0 && a != b => Dimension::OtherTangent,
+        (1, _, 2) => Dimension::On,
+        (0, ..) => Dimension::Size(random.between(1, 40_000)),
+        (1, ..) => Dimension::Size(signed(random, 40_000)),
+        _ => Dimension::Size(signed(random, 17_999)),
     }
 }
 
@@ -62,7 +62,11 @@ fn sheet(random: &mut Random, opening: Opening) -> Sheet {
         let second = 1 + random.below(n - 1);
         let first = random.below(second);
         if constraints.iter().all(|c| (c.first, c.second) != (first, second)) {
-            constraints.push(Constraint { first, second, demand: demand(random, elements[first], elements[second]) });
+            constraints.push(Constraint {
+                first,
+                second,
+                dimension: dimension(random, elements[first], elements[second]),
+            });
         }
     }
     Sheet { opening, elements, constraints }

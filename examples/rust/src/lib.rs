@@ -118,6 +118,16 @@ pub enum Opening {
     Pf02 = 2,
 }
 
+impl Opening {
+    /// The four characters.
+    pub fn name(self) -> &'static str {
+        match self {
+            Opening::Pf01 => "PF01",
+            Opening::Pf02 => "PF02",
+        }
+    }
+}
+
 /// The kind of an element.
 #[derive(Clone, Copy, PartialEq, Eq, Debug)]
 pub enum Kind {
@@ -128,12 +138,31 @@ pub enum Kind {
 }
 
 impl Kind {
-    /// The kind's number and its radius, 0 of what is no circle.
-    fn numbers(self) -> (u8, u32) {
+    /// The kind in a word.
+    pub fn name(self) -> &'static str {
         match self {
-            Kind::Point => (0, 0),
-            Kind::Line => (1, 0),
-            Kind::Circle(radius) => (2, radius),
+            Kind::Point => "point",
+            Kind::Line => "line",
+            Kind::Circle(_) => "circle",
+        }
+    }
+
+    /// Whether it is a line: a circle counts as its centre point.
+    pub fn is_line(self) -> bool {
+        self == Kind::Line
+    }
+
+    /// The radius: 0 of what is no circle.
+    pub fn radius(self) -> u32 {
+        if let Kind::Circle(radius) = self { radius } else { 0 }
+    }
+
+    /// The kind's number.
+    fn number(self) -> u8 {
+        match self {
+            Kind::Point => 0,
+            Kind::Line => 1,
+            Kind::Circle(_) => 2,
         }
     }
 }
@@ -259,7 +288,8 @@ pub fn write<'a>(facts: &Facts, out: &'a mut [u8]) -> Result<&'a [u8], Rule> {
     let &Facts { opening, kinds, constraints } = facts;
     let mut columns = Columns::default();
     for (i, kind) in kinds.iter().take(MOST_ELEMENTS).enumerate() {
-        (columns.kinds[i], columns.radii[i]) = kind.numbers();
+        columns.kinds[i] = kind.number();
+        columns.radii[i] = kind.radius();
     }
     for (i, constraint) in constraints.iter().take(MOST_CONSTRAINTS).enumerate() {
         columns.firsts[i] = constraint.first;
@@ -386,7 +416,11 @@ fn numbered(number: i32) -> Option<Verdict> {
 /// assert_eq!(pattern::missing(sheet, &blocked, &mut space).err(), Some(Rule(23)));
 /// # Ok::<(), Rule>(())
 /// ```
-pub fn missing<'a>(sheet: &[u8], prices: &[u16], out: &'a mut [u16]) -> Result<impl Iterator<Item = (u8, u8)> + use<'a>, Rule> {
+pub fn missing<'a>(
+    sheet: &[u8],
+    prices: &[u16],
+    out: &'a mut [u16],
+) -> Result<impl Iterator<Item = (u8, u8)> + use<'a>, Rule> {
     // SAFETY: each list is a live slice of its length, and `out` is borrowed alone.
     let answer = unsafe {
         c::pattern_missing(sheet.as_ptr(), sheet.len(), prices.as_ptr(), prices.len(), out.as_mut_ptr(), out.len())

@@ -4,7 +4,7 @@ use crate::cli::{Answer, Call, JSON};
 use crate::document::Document;
 use crate::fault::{Fault, Status};
 use crate::json::Json;
-use crate::sheet::{Demand, Kind};
+use crate::sheet::{Dimension, Kind};
 use crate::text;
 
 /// Prints a sheet as text.
@@ -32,11 +32,11 @@ fn json(document: &Document) -> Json {
     });
     let constraints = sheet.constraints.iter().enumerate().map(|(k, constraint)| {
         let ends = [constraint.first, constraint.second].map(|end| document.names[end].as_str());
-        let (what, size) = match constraint.demand {
-            Demand::Size(size) => ("size", size.into()),
-            Demand::On => ("on", Json::Null),
-            Demand::Tangent => ("tangent", Json::Null),
-            Demand::Other => ("tangent other", Json::Null),
+        let (what, size) = match constraint.dimension {
+            Dimension::Size(size) => ("size", size.into()),
+            Dimension::On => ("on", Json::Null),
+            Dimension::Tangent => ("tangent", Json::Null),
+            Dimension::OtherTangent => ("tangent other", Json::Null),
         };
         let fields = [("ends", Json::list(ends)), ("demand", what.into()), ("size", size)];
         let text = ("text", document.statement(k).into());

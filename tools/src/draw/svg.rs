@@ -9,7 +9,7 @@ use super::scene::{MARGIN, Paint, Scene};
 use crate::document::Document;
 use crate::draw::Position;
 use crate::finding::{Finding, verdict_name};
-use crate::sheet::{Constraint, Demand};
+use crate::sheet::{Constraint, Dimension};
 use crate::text::{degrees, millimetres};
 
 /// The height of a line of the legend.
@@ -190,11 +190,11 @@ fn constraint(scene: &Scene, k: usize) -> Drawn {
     let c = &document.sheet.constraints[k];
     let paint = scene.constraint_paint(k);
     let lines = [c.first, c.second].map(|end| document.sheet.elements[end].is_line());
-    let drawn = match (lines, c.demand) {
+    let drawn = match (lines, c.dimension) {
         _ if scene.how == How::Circle => measured(scene, k, paint),
         ([true, true], _) => angle(scene, k, paint),
-        (_, Demand::On) => marked(scene, if lines[0] { c.second } else { c.first }, paint),
-        (_, Demand::Tangent | Demand::Other) => contact(scene, c, paint),
+        (_, Dimension::On) => marked(scene, if lines[0] { c.second } else { c.first }, paint),
+        (_, Dimension::Tangent | Dimension::OtherTangent) => contact(scene, c, paint),
         _ => measured(scene, k, paint),
     };
     let title = format!("{}, constraint {k}", document.statement(k));
@@ -204,14 +204,14 @@ fn constraint(scene: &Scene, k: usize) -> Drawn {
 /// The size of a constraint in a word.
 fn size(scene: &Scene, c: &Constraint) -> String {
     let sheet = &scene.document.sheet;
-    match c.demand {
-        Demand::Size(size) if sheet.elements[c.first].is_line() && sheet.elements[c.second].is_line() => {
+    match c.dimension {
+        Dimension::Size(size) if sheet.elements[c.first].is_line() && sheet.elements[c.second].is_line() => {
             degrees(size.into()).replace(" deg", "°")
         }
-        Demand::Size(size) => millimetres(size.into()).replace(" mm", ""),
-        Demand::On => "on".to_string(),
-        Demand::Tangent => "tangent".to_string(),
-        Demand::Other => "tangent other".to_string(),
+        Dimension::Size(size) => millimetres(size.into()).replace(" mm", ""),
+        Dimension::On => "on".to_string(),
+        Dimension::Tangent => "tangent".to_string(),
+        Dimension::OtherTangent => "tangent other".to_string(),
     }
 }
 

@@ -6,7 +6,7 @@ use super::OTHER;
 use super::line::{Line, Word};
 use super::number::ANGLES;
 use crate::fault::{Refusal, Spot};
-use crate::sheet::{Constraint, Demand, Kind, Opening, Sheet};
+use crate::sheet::{Constraint, Dimension, Kind, Opening, Sheet};
 
 /// The statements of a text form.
 const STATEMENTS: &str = "point, line, circle, distance, angle, on, tangent or opening";
@@ -82,8 +82,8 @@ impl Reader {
     }
 
     /// Takes a constraint in, its lower end first.
-    fn constraint(&mut self, line: &Line, [a, b]: [usize; 2], demand: Demand) {
-        self.text.sheet.constraints.push(Constraint { first: a.min(b), second: a.max(b), demand });
+    fn constraint(&mut self, line: &Line, [a, b]: [usize; 2], dimension: Dimension) {
+        self.text.sheet.constraints.push(Constraint { first: a.min(b), second: a.max(b), dimension });
         self.text.constraints.push(Spot::Text { line: line.number, column: line.start() });
     }
 
@@ -116,27 +116,27 @@ impl Reader {
                 let what = "two points, or a point and a line (two lines take an angle)";
                 let ends = self.ends(line, what, |a, _| !a.is_line())?;
                 let size = line.length("a distance")?;
-                self.constraint(line, ends, Demand::Size(size));
+                self.constraint(line, ends, Dimension::Size(size));
             }
             "angle" => {
                 let ends = self.ends(line, "two lines", |a, b| a.is_line() && b.is_line())?;
                 let size = line.quantity("an angle in degrees, like 90", &ANGLES)?;
-                self.constraint(line, ends, Demand::Size(if ends[0] > ends[1] { -size } else { size }));
+                self.constraint(line, ends, Dimension::Size(if ends[0] > ends[1] { -size } else { size }));
             }
             "on" => {
                 let what = "a point or a centre, and a line (a point on a circle is tangent)";
                 let ends = self.ends(line, what, |a, b| !a.is_line() && b.is_line())?;
-                self.constraint(line, ends, Demand::On);
+                self.constraint(line, ends, Dimension::On);
             }
             "tangent" => {
                 let ends = self.ends(line, "a circle and another element", |a, _| matches!(a, Kind::Circle(_)))?;
                 let column = line.column();
-                let other = line.pass(|word| (word == OTHER).then_some(Demand::Other));
+                let other = line.pass(|word| (word == OTHER).then_some(Dimension::OtherTangent));
                 if other.is_some() && ends.iter().any(|&end| self.text.sheet.elements[end] == Kind::Point) {
                     let words = "expected the end of the line: a point and a circle have one contact";
                     return Err(line.refuse(column, words));
                 }
-                self.constraint(line, ends, other.unwrap_or(Demand::Tangent));
+                self.constraint(line, ends, other.unwrap_or(Dimension::Tangent));
             }
             _ => return Err(line.unexpected(STATEMENTS, keyword)),
         }

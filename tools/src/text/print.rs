@@ -3,7 +3,7 @@
 use std::fmt::Write;
 
 use super::{OTHER, degrees, millimetres};
-use crate::sheet::{Constraint, Demand, Kind, Opening, Sheet};
+use crate::sheet::{Constraint, Dimension, Kind, Opening, Sheet};
 
 /// Names for elements that have none: a letter for the kind, and the number.
 pub fn default_names(elements: &[Kind]) -> Vec<String> {
@@ -17,16 +17,16 @@ pub fn default_names(elements: &[Kind]) -> Vec<String> {
 
 /// A constraint as a statement.
 pub fn constraint(sheet: &Sheet, names: &[String], constraint: &Constraint) -> String {
-    let &Constraint { first, second, demand } = constraint;
+    let &Constraint { first, second, dimension } = constraint;
     let lines = [first, second].map(|end| sheet.elements[end].is_line());
     let (a, b) = (&names[first], &names[second]);
-    match demand {
-        Demand::Size(size) if lines == [true, true] => format!("angle {a} {b} {}", degrees(size.into())),
-        Demand::Size(size) => format!("distance {a} {b} {}", millimetres(size.into())),
-        Demand::On if lines[0] => format!("on {b} {a}"),
-        Demand::On => format!("on {a} {b}"),
-        Demand::Tangent => format!("tangent {a} {b}"),
-        Demand::Other => format!("tangent {a} {b} {OTHER}"),
+    match dimension {
+        Dimension::Size(size) if lines == [true, true] => format!("angle {a} {b} {}", degrees(size.into())),
+        Dimension::Size(size) => format!("distance {a} {b} {}", millimetres(size.into())),
+        Dimension::On if lines[0] => format!("on {b} {a}"),
+        Dimension::On => format!("on {a} {b}"),
+        Dimension::Tangent => format!("tangent {a} {b}"),
+        Dimension::OtherTangent => format!("tangent {a} {b} {OTHER}"),
     }
 }
 
