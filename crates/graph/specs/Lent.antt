@@ -57,6 +57,14 @@ pub record InArrays (cs : List Constraint) (near start : List ℕ) (codes : List
   pub start-is : start ≡ block 200 0 (map clusterOf cs)
   pub codes-are : codes ≡ block 200 (pos 0) (map (λ c. codeOf (c .size)) cs)
 
+-- two of them hold the ends, the third the numbers of the sizes
+pub record EndsIn (cs : List Constraint) (near start : List ℕ) : Type 0 where
+  pub ends-noted : Noted near cs
+  pub ends-start : start ≡ block 200 0 (map clusterOf cs)
+
+pub record CodesIn (cs : List Constraint) (codes : List ℤ) : Type 0 where
+  pub codes-stand : codes ≡ block 200 (pos 0) (map (λ c. codeOf (c .size)) cs)
+
 -- all that precedes the constraints, and the arrays, hold a sheet's facts, which no rule refuses
 pub record SheetIn (f : Facts) (h : Front) (near start : List ℕ) (codes : List ℤ) (radii : List ℕ) : Type 0 where
   pub accepted : Accepted f

@@ -10,7 +10,7 @@ ghost use lib.ListN.{length, replicate};
 ghost use Rattle.sheet.specs.Facts.{Facts, isCircle, radiusOf, factsOf, sheetOf};
 ghost use Rattle.sheet.specs.Rules.{sheetFault};
 ghost use Rattle.sheet.specs.Graph.{sizeOf};
-ghost use Rattle.graph.specs.Lent.{headIn, codeOf, Fits, InArrays, SheetIn, sizesOf, Packed, Unpacks};
+ghost use Rattle.graph.specs.Lent.{headIn, codeOf, Fits, InArrays, EndsIn, CodesIn, SheetIn, sizesOf, Packed, Unpacks};
 use sheet::Constraint;
 use sheet::Kind;
 use sheet::Kinds;
@@ -78,6 +78,25 @@ fn size_from(code: i32) -> Size
     Size::Given(code)
 }
 
+// Notes the ends a and b of constraint i.
+pub fn note_ends(near: &mut [u64; 64], start: &mut [u64; 200], i: usize, a: u8, b: u8)
+    requires { ⌜ (i < 200) × (a < b) × (b < 64) ⌝ }
+    ensures { λ r. ⌜ ((cs : List Constraint) (c : Constraint) → length cs ≡ i → c .first ≡ a → c .second ≡ b
+        → EndsIn cs (now (near .entry)) (now (start .entry)) → EndsIn (cs ++ c ∷ []) (now (near .exit)) (now (start .exit))) ⌝ }
+{
+    sheet::note_pair(near, a, b);
+    start[i] = sets::pair(a, b);
+}
+
+// Notes the number z of the size of constraint i.
+pub fn note_code(codes: &mut [i32; 200], i: usize, z: i32)
+    requires { ⌜ i < 200 ⌝ }
+    ensures { λ r. ⌜ ((cs : List Constraint) (c : Constraint) → length cs ≡ i → codeOf (c .size) ≡ z
+        → CodesIn cs (now (codes .entry)) → CodesIn (cs ++ c ∷ []) (now (codes .exit))) ⌝ }
+{
+    codes[i] = z;
+}
+
 // Notes constraint i, between a and b; z is the number of its size.
 pub fn note(
     near: &mut [u64; 64],
@@ -93,9 +112,8 @@ pub fn note(
         → InArrays cs (now (near .entry)) (now (start .entry)) (now (codes .entry))
         → InArrays (cs ++ c ∷ []) (now (near .exit)) (now (start .exit)) (now (codes .exit))) ⌝ }
 {
-    sheet::note_pair(near, a, b);
-    start[i] = sets::pair(a, b);
-    codes[i] = z;
+    note_ends(near, start, i, a, b);
+    note_code(codes, i, z);
 }
 
 // The constraints of a sheet, in arrays that were blank, and its radii.

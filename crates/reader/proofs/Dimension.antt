@@ -1,8 +1,8 @@
 -- What follows the map: without a contact by its bits 0 and 1, with one by the kinds of the ends. Assumes nothing.
 use Prim.Native.Nat.{ℕ, zero, suc, _/_, _%_, _<_, _≤_}
 use native.Mathlib.Omega.{arith}
-use mathlib.Core.Path.{_≡_, refl}
-use mathlib.Core.Bool.{Bool, true, false, _||_, cond}
+use mathlib.Core.Path.{_≡_, refl, ap, _∙_}
+use mathlib.Core.Bool.{Bool, true, false, cond}
 use mathlib.Core.List.{List, [], _∷_}
 use borrow.Author.Tests.{ne-eqb}
 use lib.Dec.{eqb}
@@ -11,10 +11,12 @@ use Rattle.sheet.specs.declared.Kind.{Kind}
 use Rattle.sheet.specs.declared.PairKind.{PairKind}
 use Rattle.sheet.specs.declared.Size.{Size}
 use Rattle.sheet.specs.declared.Size.the-variants.{Given, Missing, Tangent, OtherTangent, Unfit}
-use Rattle.sheet.specs.Field.{Field, value, next, demand, byte}
+use Rattle.sheet.specs.Field.{Field, value, refused, next, demand, byte}
 use Rattle.sheet.specs.Rules.{pairOf, sizeOptional, withoutBit1, sizeBy, sizeAllowed, mapAllowed, radiiDiffer}
 use Rattle.sheet.specs.Decode.{size, tag, dimension}
-use Rattle.reader.specs.Answers.{dimensionBy, announced}
+use Rattle.graph.specs.Lent.{codeOf}
+use Rattle.reader.specs.Answers.{dimensionBy, codeIn, tagged}
+use Rattle.reader.proofs.Constraints.{no-size, sized}
 
 next-demand : {A B : Type 0} (b : Bool) (k : ℕ) (a : A) (s : List ℕ) (f : A → List ℕ → Field B)
     → next (demand b k (value a s)) f ≡ demand b k (f a s)
@@ -29,6 +31,11 @@ dimension-is j k (map ∷ s) = next-demand (mapAllowed j k map) 8 map s _
 
 -- ---- without a contact
 
+-- what such a map announces, by its bit 0
+abbrev announced : Bool → Size
+announced true = Given (pos 0)
+announced false = Missing
+
 bare-size : (map : ℕ) → map < 4 → (sizeBy map (pos 0) ≡ announced (eqb (map % 2) 1)) × (map / 2 % 2 ≡ map / 2)
 unfolding sizeBy
 bare-size zero h = (refl, refl)
@@ -37,19 +44,39 @@ bare-size (suc (suc zero)) h = (refl, refl)
 bare-size (suc (suc (suc zero))) h = (refl, refl)
 bare-size (suc (suc (suc (suc map)))) h = absurd (omega arith)
 
-bare-allowed : (j k : Kind) (stands : Bool)
-    → (sizeAllowed j k (announced stands) ≡ stands || sizeOptional (pairOf j k)) × (radiiDiffer j k (announced stands) ≡ true)
-bare-allowed j k true = (refl, refl)
-bare-allowed j k false = (refl, refl)
+-- the tag after a size, which is told by its number
+pub code-tagged : (z : Size) (bit : Bool) (s : List ℕ) → codeIn (next (tag bit s) (λ t s1. value z s1)) ≡ tagged (codeOf z) bit s
+code-tagged z bit s = by (tag bit s)
+  where
+    by : (f : Field Unit) → codeIn (next f (λ t s1. value z s1)) ≡ next f (λ t s1. value (codeOf z) s1)
+    by (value t s1) = refl
+    by (refused k) = refl
 
-pub bare-by : (j k : Kind) (map : ℕ) (s : List ℕ) → map < 4
-    → dimensionBy j k map s ≡ demand (eqb (map % 2) 1 || sizeOptional (pairOf j k)) 8
-    (next (size (pairOf j k) (announced (eqb (map % 2) 1)) s) (λ z s1. next (tag (eqb (map / 2) 1) s1) (λ t s2. value z s2)))
-unfolding dimensionBy
-bare-by j k map s h =
-    let b = bare-size map h in
-    let a = bare-allowed j k (eqb (map % 2) 1) in
-    rw (b .0, b .1, a .0, a .1)
+module _ (j k : Kind) {p : PairKind} (q : pairOf j k ≡ p) (map : ℕ) (s : List ℕ) (h : map < 4) where
+  pub unsized-by : map % 2 ≡ 0 → codeIn (dimensionBy j k map s) ≡ demand (sizeOptional p) 8 (tagged (pos 0) (eqb (map / 2) 1) s)
+  unfolding dimensionBy size
+  unsized-by e = let b = bare-size map h in rw (b .0, b .1, e, q) (by (sizeOptional p))
+    where
+      by : (allowed : Bool) → codeIn (demand allowed 8 (next (tag (eqb (map / 2) 1) s) (λ t s2. value Missing s2)))
+          ≡ demand allowed 8 (tagged (pos 0) (eqb (map / 2) 1) s)
+      by true = code-tagged Missing (eqb (map / 2) 1) s
+      by false = refl
+
+  -- the size that follows the map, and the tag
+  abbrev given : Field Size
+  given = size p (Given (pos 0)) s
+
+  sized-by : map % 2 ≡ 1 → dimensionBy j k map s ≡ next given (λ z s1. next (tag (eqb (map / 2) 1) s1) (λ t s2. value z s2))
+  unfolding dimensionBy
+  sized-by e = let b = bare-size map h in rw (b .0, b .1, e, q)
+
+  pub no-size-by : {r : ℕ} → map % 2 ≡ 1 → codeIn given ≡ refused r → codeIn (dimensionBy j k map s) ≡ refused r
+  no-size-by e n = rw (sized-by e, no-size given n)
+
+  pub size-by : {z : ℤ} {u : List ℕ} → map % 2 ≡ 1 → codeIn given ≡ value z u → codeIn (dimensionBy j k map s) ≡ tagged z (eqb (map / 2) 1) u
+  size-by {z} {u} e n =
+      let y = sized given n in
+      rw (sized-by e, y .was) (code-tagged (y .size) (eqb (map / 2) 1) u ∙ ap (λ (x : ℤ). tagged x (eqb (map / 2) 1) u) (y .is))
 
 -- ---- with a contact, or with what no pair takes: no bytes of a size follow
 

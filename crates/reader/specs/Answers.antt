@@ -12,7 +12,6 @@ use Rattle.sheet.specs.declared.Opening.the-variants.{Pf01}
 use Rattle.sheet.specs.declared.Kind.{Kind}
 use Rattle.sheet.specs.declared.Element.{Element}
 use Rattle.sheet.specs.declared.Size.{Size}
-use Rattle.sheet.specs.declared.Size.the-variants.{Given, Missing}
 use Rattle.sheet.specs.declared.Constraint.{Constraint}
 use Rattle.sheet.specs.Facts.{Facts, kindAt, sheetOf}
 use Rattle.sheet.specs.Facts.Kinds.{KindsIn}
@@ -71,10 +70,9 @@ dimensionBy j k map s =
     demand (mapAllowed j k map) 8 (demand (radiiDiffer j k (sizeBy map (pos 0))) 20
     (next (size (pairOf j k) (sizeBy map (pos 0)) s) (λ z s1. next (tag (eqb (map / 2 % 2) 1) s1) (λ t s2. value z s2))))
 
--- what a map without a contact announces, by its bit 0
-abbrev pub announced : Bool → Size
-announced true = Given (pos 0)
-announced false = Missing
+-- the tag after a size, which is a number
+abbrev pub tagged : ℤ → Bool → List ℕ → Field ℤ
+tagged z bit s = next (tag bit s) (λ t s1. value z s1)
 
 -- a size as a number
 abbrev pub codeIn : Field Size → Field ℤ

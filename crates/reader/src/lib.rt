@@ -2,7 +2,6 @@
 // Each field read answers a value with the next cursor or the number of the rule that refuses it. Contracts cite the decoding of
 // the crate `sheet` and, for what an answer says, specs/Answers.antt.
 ghost use mathlib.Core.Path.{_≡_};
-ghost use mathlib.Core.Bool.{_||_};
 ghost use mathlib.Core.List.{List};
 ghost use Prim.Native.Nat.{_≤_, _<_, _-_, _^_};
 ghost use lib.Dec.{eqb};
@@ -11,18 +10,17 @@ ghost use lib.ListN.{length, drop, replicate};
 ghost use Rattle.sheet.specs.Facts.{kindAt};
 ghost use Rattle.sheet.specs.Facts.Kinds.{KindsIn};
 ghost use Rattle.sheet.specs.Field.{refused, signed32, begins};
-ghost use Rattle.sheet.specs.Rules.{pairOf, sizeOptional};
-ghost use Rattle.sheet.specs.Decode.{opening, size, tag, dimension, constraint, constraints, readSheet};
+ghost use Rattle.sheet.specs.declared.Size.the-variants.{Given};
+ghost use Rattle.sheet.specs.Rules.{pairOf};
+ghost use Rattle.sheet.specs.Decode.{opening, size, dimension, constraint, constraints, readSheet};
 ghost use Rattle.sheet.specs.Noted.{Noted};
 ghost use Rattle.graph.specs.Lent.{InArrays};
-ghost use Rattle.fields.specs.Answers.{asPlace};
-ghost use Rattle.reader.specs.Answers.{openingRule, asOpening, asEnds, endsRule, Ascending, codeIn, sizeRule, asSize, announced, dimensionBy};
+ghost use Rattle.reader.specs.Answers.{openingRule, asOpening, asEnds, endsRule, Ascending, codeIn, sizeRule, asSize, tagged, dimensionBy};
 ghost use Rattle.reader.specs.Answers.{frontRule, Fronted, codesRule, SheetRead, graphRule, GraphIs, ListRead, asReading, outcomeNumber};
 use elements::KindsRead;
 use fields::ByteRead;
 use fields::Cursor;
 use fields::NumberRead;
-use fields::PlaceRead;
 use graph::Front;
 use graph::Head;
 use sheet::Constraint;
@@ -228,24 +226,10 @@ fn read_ends(s: &[u8], c: Cursor, near: &[u64; 64], n: usize) -> EndsRead
     EndsRead::Value(a, b, c2)
 }
 
-// Whether a map without a contact may stand: rule 8.
-fn bare_allowed(p: PairKind, stands: bool) -> bool
-    ensures { λ r. ⌜ r ≡ stands || sizeOptional p ⌝ }
+// A size whose bit stands: rule 9.
+fn read_size(s: &[u8], c: Cursor, p: PairKind) -> SizeRead
+    ensures { λ r. ⌜ asSize (now (s .entry)) r ≡ codeIn (size p (Given (pos 0)) (drop (c .at) (now (s .entry)))) ⌝ }
 {
-    if stands {
-        true
-    } else {
-        sheet::size_optional(p)
-    }
-}
-
-// The size, where bit 0 of the map stands: rule 9.
-fn read_size(s: &[u8], c: Cursor, p: PairKind, stands: bool) -> SizeRead
-    ensures { λ r. ⌜ asSize (now (s .entry)) r ≡ codeIn (size p (announced stands) (drop (c .at) (now (s .entry)))) ⌝ }
-{
-    if !stands {
-        return SizeRead::Value(0, c);
-    }
     let number = fields::read_number(s, c, 4);
     let NumberRead::Value(u, after) = number else {
         return SizeRead::Refused(number.refusal());
@@ -257,17 +241,17 @@ fn read_size(s: &[u8], c: Cursor, p: PairKind, stands: bool) -> SizeRead
     SizeRead::Value(z, after)
 }
 
-// The tag, where bit 1 of the map stands: twice the bit is how many bytes are passed over, so that the way does not part at the bit.
-fn skip_tag(s: &[u8], c: Cursor, bit: u8) -> PlaceRead
+// The tag after a size, where bit 1 of the map stands: twice the bit is how many bytes are passed over, so that the way does not part at the bit.
+fn pass_tag(s: &[u8], c: Cursor, bit: u8, z: i32) -> SizeRead
     requires { ⌜ bit < 2 ⌝ }
-    ensures { λ r. ⌜ asPlace (now (s .entry)) r ≡ tag (eqb bit 1) (drop (c .at) (now (s .entry))) ⌝ }
+    ensures { λ r. ⌜ asSize (now (s .entry)) r ≡ tagged z (eqb bit 1) (drop (c .at) (now (s .entry))) ⌝ }
 {
     let at = c.at;
     let width = 2 * (bit as usize);
     if bytes_left(s.len(), at) < width {
-        return PlaceRead::Refused(2);
+        return SizeRead::Refused(2);
     }
-    PlaceRead::Value(Cursor { at: at + width })
+    SizeRead::Value(z, Cursor { at: at + width })
 }
 
 // What follows a map with a contact, or with a bit that no pair takes: rules 8 and 20, and then the tag.
@@ -282,31 +266,25 @@ fn read_contact(s: &[u8], c: Cursor, j: Kind, k: Kind, map: u8) -> SizeRead
     if !sheet::radii_differ(j, k, size) {
         return SizeRead::Refused(20);
     }
-    let tagged = skip_tag(s, c, map / 2 % 2);
-    let PlaceRead::Value(after) = tagged else {
-        return SizeRead::Refused(tagged.refusal());
-    };
-    SizeRead::Value(graph::code_of(size), after)
+    pass_tag(s, c, map / 2 % 2, graph::code_of(size))
 }
 
-// What follows a map without a contact: rule 8, the size by rule 9, and the tag.
+// What follows a map without a contact: rule 8, the size by rule 9, and the tag. The way parts at bit 0, so that each has its own next place.
 fn read_bare(s: &[u8], c: Cursor, p: PairKind, map: u8) -> SizeRead
     requires { ⌜ map < 4 ⌝ }
     ensures { λ r. ⌜ ((j k : Kind) → pairOf j k ≡ p → asSize (now (s .entry)) r ≡ codeIn (dimensionBy j k map (drop (c .at) (now (s .entry))))) ⌝ }
 {
-    let stands = map % 2 == 1;
-    if !bare_allowed(p, stands) {
-        return SizeRead::Refused(8);
+    if map % 2 == 0 {
+        if !sheet::size_optional(p) {
+            return SizeRead::Refused(8);
+        }
+        return pass_tag(s, c, map / 2, 0);
     }
-    let sized = read_size(s, c, p, stands);
-    let SizeRead::Value(z, c2) = sized else {
+    let sized = read_size(s, c, p);
+    let SizeRead::Value(z, after) = sized else {
         return sized;
     };
-    let tagged = skip_tag(s, c2, map / 2);
-    let PlaceRead::Value(c3) = tagged else {
-        return SizeRead::Refused(tagged.refusal());
-    };
-    SizeRead::Value(z, c3)
+    pass_tag(s, after, map / 2, z)
 }
 
 // What follows the two ends: the bit map and the fields whose bit stands, by the kinds of the elements.
@@ -328,7 +306,8 @@ fn read_dimension(s: &[u8], c: Cursor, kinds: Kinds, radii: &[u32; 64], a: u8, b
     read_contact(s, c1, j, k, map)
 }
 
-// Constraints i0 to e - 1 after those in the arrays, and then the end of the bytes: rules 6 to 10 and 20.
+// Constraints i0 to e - 1 after those in the arrays, and then the end of the bytes: rules 6 to 10 and 20. The ends are noted as soon as they are
+// read, so that they need not be kept.
 fn read_constraints(
     s: &[u8],
     from: Cursor,
@@ -353,11 +332,12 @@ fn read_constraints(
         let EndsRead::Value(a, b, c1) = ends else {
             return Outcome::Refused(ends.refusal());
         };
+        graph::note_ends(near, start, i, a, b);
         let sized = read_dimension(s, c1, kinds, radii, a, b);
         let SizeRead::Value(z, c2) = sized else {
             return Outcome::Refused(sized.refusal());
         };
-        graph::note(near, start, codes, i, a, b, z);
+        graph::note_code(codes, i, z);
         c = c2;
         i += 1;
     }

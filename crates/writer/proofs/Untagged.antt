@@ -4,7 +4,7 @@ use Prim.Native.Nat.{ℕ, zero, suc, _+_, _*_, _-_, _/_, _%_, _≤_, _<_, min}
 use native.Mathlib.Nat.{sub-zero, sub-self}
 use native.Mathlib.Decide.{decLt}
 use native.Mathlib.Omega.{arith}
-use mathlib.Core.Path.{_≡_, refl, sym, _∙_}
+use mathlib.Core.Path.{_≡_, refl, sym, subst, _∙_}
 use mathlib.Core.Bool.{Bool, true, false}
 use mathlib.Core.List.{List, [], _∷_, _++_, append-nil, append-assoc}
 use lib.Dec.{eqb}
@@ -19,6 +19,7 @@ use Rattle.sheet.specs.Field.{number, kindBytes}
 use Rattle.sheet.specs.WithoutTags.{sizeLength, tagLength, dropTags, openingIn, kindsIn, circlesAmong, beforeBy, before, listed, withoutTags}
 use Rattle.space.specs.Space.{Put}
 use Rattle.space.specs.Space.Laws.{put-none, put-as, _then_}
+use Rattle.writer.specs.Walk.{Walk}
 use Rattle.writer.proofs.Spread.{drop-least}
 
 -- ---- one constraint
@@ -131,16 +132,6 @@ before-some s = omega arith
 
 -- ---- the walk
 
-pub record Walk (space s : List ℕ) (e at from to i : ℕ) (out : List ℕ) : Type 0 where
-  pub turns : i ≤ e
-  pub done : List ℕ
-  pub put : Put space 0 done to out
-  pub passed : from ≤ at
-  pub from-in : from ≤ length s
-  pub to-in : to ≤ from
-  pub at-in : at ≤ length s + 1090
-  pub whole : withoutTags s ≡ done ++ take (at - from) (drop from s) ++ dropTags (e - i) (drop at s)
-
 pub walk-none : (space s : List ℕ) → getD s 4 0 < 256 → Walk space s (listed s) (before s) 0 0 0 space
 unfolding withoutTags
 walk-none space s b = record {
@@ -203,6 +194,16 @@ module _ {space s : List ℕ} {e at from to i : ℕ} {out : List ℕ} (w : Walk 
                 append-assoc,
               );
         }
+
+    -- one with a size, and one with none
+    walk-to : (k : ℕ) → bits / 2 % 2 ≡ 0 → at + 3 + 4 * (bits % 2) ≡ k → Walk space s e k from to (i + 1) out
+    walk-to k none on = subst (λ (k : ℕ). Walk space s e k from to (i + 1) out) on (walk-plain none)
+
+    pub walk-sized : bits ≡ 1 → Walk space s e (at + 7) from to (i + 1) out
+    walk-sized one = walk-to (at + 7) (omega arith) (omega arith)
+
+    pub walk-bare : bits ≡ 0 → Walk space s e (at + 3) from to (i + 1) out
+    walk-bare none = walk-to (at + 3) (omega arith) (omega arith)
 
     pub walk-tagged : {next : ℕ} {out′ : List ℕ} → bits / 2 % 2 ≡ 1
         → Put out to (take (at + 2 - from) (drop from s) ++ (bits - 2) ∷ take (4 * (bits % 2)) (drop (at + 3) s)) next out′

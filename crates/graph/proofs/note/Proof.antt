@@ -1,19 +1,16 @@
 -- `graph::note` meets its contract: each array holds one constraint more. Assumes nothing.
 use borrow.Author.Needs.{needs}
+use mathlib.Core.Path.{_∙_, sym}
 use mir.Facts.{toZ-ofZ}
 use mir.Syntax.{w32}
-use Rattle.graph.specs.Lent.Laws.{in-arrays-more}
+use Rattle.graph.specs.Lent.Laws.{ends-in, codes-in, in-arrays}
 use Rattle.graph.proofs.note.Statement.{statement}
 use Rattle.graph.proofs.note.Tie as tie
 
 returns : tie.Need-returns
 returns c = λ cs k n p h.
-    let s = c .before .before .before in
-    rw (toZ-ofZ {w = w32} {z = s .args .z} (search needs), c .pair .ensures, ← p .first-is, ← p .second-is, ← p .code-is)
-    (in-arrays-more cs k (s .args .i) n (s .pre .0) h (c .before .note-pair .ensures cs k (p .first-is) (p .second-is) (h .noted)))
+    in-arrays (c .before .before .note-ends .ensures cs k n (p .first-is) (p .second-is) (ends-in h))
+    (c .note-code .ensures cs k n (p .code-is ∙ sym (toZ-ofZ {w = w32} {z = c .before .before .before .before .before .args .z} (search needs))) (codes-in h))
 
 pub note-spec : {M : Type 1} → statement M
-note-spec =
-    tie.close
-    (tie.spec (λ c κs. search needs) (λ c κs. search needs) (λ c. search needs) (λ c. search needs) (λ c. search needs)
-    (λ c. search needs) returns)
+note-spec = tie.close (tie.spec (λ c κs. search needs) (λ c κs. search needs) returns)

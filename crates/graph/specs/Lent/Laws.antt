@@ -35,7 +35,7 @@ use Rattle.sheet.specs.Accepted.Laws.{taken, accepted-most}
 use Rattle.sheet.specs.Graph.{clusterOf}
 use Rattle.sheet.specs.Noted.{Noted}
 use Rattle.sheet.specs.Noted.Laws.{noted-none, clusters-more}
-use Rattle.graph.specs.Lent.{codeOf, Fits, InArrays, Unpacks}
+use Rattle.graph.specs.Lent.{codeOf, Fits, InArrays, EndsIn, CodesIn, Unpacks}
 
 -- ---- a block with one item more
 
@@ -53,19 +53,34 @@ filled-more blank xs x i n l more is = rw (is, more, ← n) (block-more 200 blan
 pub in-arrays-none : InArrays [] (replicate 64 0) (replicate 200 0) (replicate 200 (pos 0))
 in-arrays-none = record { noted = noted-none; start-is = refl; codes-are = refl }
 
-pub in-arrays-more : {near near′ start : List ℕ} {codes : List ℤ} (cs : List Constraint) (c : Constraint) (i : ℕ) → length cs ≡ i → i < 200
-    → InArrays cs near start codes → Noted near′ (cs ++ c ∷ [])
-    → InArrays (cs ++ c ∷ []) near′ (set start i (pair (c .first) (c .second))) (set codes i (codeOf (c .size)))
-in-arrays-more cs c i n l h more = record {
-  noted = more;
-  start-is =
+pub ends-more : {near near′ start : List ℕ} (cs : List Constraint) (c : Constraint) (i : ℕ) → length cs ≡ i → i < 200
+    → EndsIn cs near start → Noted near′ (cs ++ c ∷ []) → EndsIn (cs ++ c ∷ []) near′ (set start i (pair (c .first) (c .second)))
+ends-more cs c i n l h more = record {
+  ends-noted = more;
+  ends-start =
       filled-more 0 (map clusterOf cs) (pair (c .first) (c .second)) i (length-map cs _ ∙ n) l (clusters-more cs c)
-      (h .start-is);
-  codes-are =
+      (h .ends-start);
+}
+
+pub codes-more : {codes : List ℤ} (cs : List Constraint) (c : Constraint) (i : ℕ) → length cs ≡ i → i < 200
+    → CodesIn cs codes → CodesIn (cs ++ c ∷ []) (set codes i (codeOf (c .size)))
+codes-more cs c i n l h = record {
+  codes-stand =
       filled-more (pos 0) (map (λ d. codeOf (d .size)) cs) (codeOf (c .size)) i (length-map cs _ ∙ n) l
       (map-append (λ d. codeOf (d .size)) cs (c ∷ []))
-      (h .codes-are);
+      (h .codes-stand);
 }
+
+-- all three
+module _ {cs : List Constraint} {near start : List ℕ} {codes : List ℤ} where
+  pub ends-in : InArrays cs near start codes → EndsIn cs near start
+  ends-in h = record { ends-noted = h .noted; ends-start = h .start-is }
+
+  pub codes-in : InArrays cs near start codes → CodesIn cs codes
+  codes-in h = record { codes-stand = h .codes-are }
+
+  pub in-arrays : EndsIn cs near start → CodesIn cs codes → InArrays cs near start codes
+  in-arrays e c = record { noted = e .ends-noted; start-is = e .ends-start; codes-are = c .codes-stand }
 
 -- ---- a constraint out of the arrays
 

@@ -16,6 +16,7 @@ use Rattle.sheet.specs.Facts.Kinds.{KindsIn}
 use Rattle.sheet.specs.Field.{Field}
 use Rattle.sheet.specs.Decode.{dimension, constraint}
 use Rattle.graph.specs.Lent.{InArrays}
+use Rattle.graph.specs.Lent.Laws.{ends-in, codes-in, in-arrays}
 use Rattle.reader.specs.Answers.{between, asEnds, endsRule, sizeRule, asSize}
 use Rattle.reader.proofs.Constraints.{Turn, stopped, one-more, at-end, bytes-follow, no-size, sized}
 use Rattle.reader.proofs.read_constraints.Statement.{statement}
@@ -73,6 +74,10 @@ below c =
 abbrev from-ends : tie.After-known-told Inv-loop μ-loop → tie.At-loop Inv-loop μ-loop
 from-ends c = c .before .before .before .before .before .before
 
+-- there is a place for one more
+room : (c : tie.After-known-told Inv-loop μ-loop) → from-ends c .loop .i < 200
+room c = omega (arith, c .before .before .before .before .before .loop-test .taken, from-ends c .before .before .pre .2)
+
 abbrev rest : tie.After-known-told Inv-loop μ-loop → List Element → Field Size
 rest c es =
     dimension (kindAt es (c .before .ends .given .0 .0)) (kindAt es (c .before .ends .given .0 .1 .0))
@@ -80,7 +85,7 @@ rest c es =
 
 returns-2 : tie.Need-returns-2 Inv-loop μ-loop
 returns-2 c = λ es done en el n h.
-    let k = c .before .before .before .before in
+    let k = c .before .before .before .before .before .before .before in
     let a = from-ends k in
     let g : Given a = record { es = es; done = done; n-is = en; kinds-in = el; count = n; holds = h } in
     let s = a .before .before .args .s .now in
@@ -92,8 +97,9 @@ returns-2 c = λ es done en el n h.
 
 loop-again : tie.Need-loop-again Inv-loop μ-loop
 loop-again c =
-    let z = c .before .before .before .before in
-    let k = z .before .before .before .before in
+    let z = c .before .before in
+    let noted = z .before .before .before .before in
+    let k = noted .before .before .before in
     let a = from-ends k in
     let more = k .before .before .before .before .before .loop-test .taken in (
       omega arith,
@@ -101,16 +107,13 @@ loop-again c =
           let g : Given a = record { es = es; done = done; n-is = en; kinds-in = el; count = n; holds = h } in
           let s = a .before .before .args .s .now in
           let y = sized (rest k es) (sym (z .before .before .before .read-dimension .ensures es el) ∙ ap (asSize s) (z .before .sized .given .1)) in
+          let this : Constraint =
+          record { first = k .before .ends .given .0 .0; second = k .before .ends .given .0 .1 .0; size = y .size } in
           one-more (turn a g) more (ends-are (k .before .before .before) g ∙ ap (asEnds es s) (k .before .ends .given .1)
           ∙ ap (between (k .before .ends .given .0 .0) (k .before .ends .given .0 .1 .0)) (y .was))
-          (c .note .ensures (turn a g .read)
-          (record { first = k .before .ends .given .0 .0; second = k .before .ends .given .0 .1 .0; size = y .size }) (turn a g .count)
-          (record {
-            first-is = refl;
-            second-is = refl;
-            code-is = y .is ∙ sym (toZ-ofZ {w = w32} {z = z .before .sized .given .0 .0} (search needs));
-          })
-          (turn a g .holds)),
+          (in-arrays (noted .note-ends .ensures (turn a g .read) this (turn a g .count) refl refl (ends-in (turn a g .holds)))
+          (c .note-code .ensures (turn a g .read) this (turn a g .count)
+          (y .is ∙ sym (toZ-ofZ {w = w32} {z = z .before .sized .given .0 .0} (search needs))) (codes-in (turn a g .holds)))),
     )
 
 returns-3 : tie.Need-returns-3 Inv-loop μ-loop
@@ -129,7 +132,7 @@ read-constraints-spec =
     (tie.spec Inv-loop μ-loop
     (λ c. (c .before .pre .1, λ es done en el n h. record { read = done; count = n; holds = h; left = refl }))
     (λ c κs. c .before .before .before .before .pre .0) (λ c. search needs) (λ c. search needs) (λ c κs. search needs) returns
-    (λ c κs. (omega (arith, below c), below c .1)) (λ c. search needs) (λ c. search needs) (λ c κs. search needs) returns-2
-    (λ c κs. let k = c .before .before .before .before .before .before .before in
-    (omega (arith, k .before .before .before .before .before .loop-test .taken, from-ends k .before .before .pre .2), below k .0, below k .1))
+    (λ c κs. let k = c .before .before in (room k, below k .0, below k .1))
+    (λ c κs. let k = c .before .before .before in (omega (arith, below k), below k .1)) (λ c. search needs) (λ c. search needs) (λ c κs. search needs)
+    returns-2 (λ c κs. room (c .before .before .before .before .before .before .before .before))
     (λ c. omega arith) (λ c. omega arith) loop-again returns-3 returns-4)

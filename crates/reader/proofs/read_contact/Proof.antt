@@ -7,7 +7,7 @@ use borrow.Author.Tests.{not-true, not-false}
 use mir.Facts.{toZ-ofZ}
 use mir.Syntax.{w32}
 use Rattle.sheet.specs.Rules.{sizeAllowed, radiiDiffer}
-use Rattle.reader.proofs.Dimension.{contact-by}
+use Rattle.reader.proofs.Dimension.{contact-by, code-tagged}
 use Rattle.reader.proofs.read_contact.Statement.{statement}
 use Rattle.reader.proofs.read_contact.Tie as tie
 
@@ -43,7 +43,7 @@ differ c = sym (c .before .radii-differ .ensures) ∙ not-false (c .before .radi
 
 returns-3 : tie.Need-returns-3
 returns-3 c =
-    let d = c .before .before .before .before in
+    let d = c .before .before in
     let a = d .before .before in
     let s = a .before .before .before .before in
     rw (
@@ -51,29 +51,13 @@ returns-3 c =
       ← a .before .before .size-by .ensures,
       allowed a,
       differ d,
-      ← c .before .before .before .skip-tag .ensures,
-      c .refusal .ensures,
-      c .before .enum-told .given .1,
-    )
-
-returns-4 : tie.Need-returns-4
-returns-4 c =
-    let d = c .before .before .before .before .before in
-    let a = d .before .before in
-    let s = a .before .before .before .before in
-    rw (
-      contact-by (s .args .j) (s .args .k) (s .args .map) _ (s .pre),
-      ← a .before .before .size-by .ensures,
-      allowed a,
-      differ d,
-      ← c .before .before .before .before .skip-tag .ensures,
-      c .before .before .tagged .given .1,
-      toZ-ofZ {w = w32} {z = c .code-of .result} (record { sfits = c .code-of .ok }),
-      c .code-of .ensures,
+      code-tagged (a .before .before .size-by .result) _ _,
+      ← c .before .code-of .ensures,
+      c .pass-tag .ensures,
+      toZ-ofZ {w = w32} {z = c .before .code-of .result} (record { sfits = c .before .code-of .ok }),
     )
 
 pub read-contact-spec : {M : Type 1} → statement M
 read-contact-spec =
     tie.close
-    (tie.spec (λ c κs. search needs) (λ c κs. search needs) returns (λ c κs. search needs) returns-2 (λ c κs. omega arith) (λ c. search needs)
-    (λ c. search needs) (λ c κs. search needs) returns-3 (λ c κs. search needs) returns-4)
+    (tie.spec (λ c κs. search needs) (λ c κs. search needs) returns (λ c κs. search needs) returns-2 (λ c κs. search needs) (λ c κs. omega arith) returns-3)

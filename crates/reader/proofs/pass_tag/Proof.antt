@@ -1,8 +1,10 @@
--- `reader::skip_tag` meets its contract: a tag is twice the bit's bytes, all there or cut. Assumes nothing.
+-- `reader::pass_tag` meets its contract: a tag is twice the bit's bytes, all there or cut. Assumes nothing.
 use Prim.Native.Nat.{ℕ, zero, suc, _+_, _*_, _-_, _<_, _≤_}
 use native.Mathlib.Nat.{add-zero}
 use native.Mathlib.Omega.{arith}
-use mathlib.Core.Path.{_≡_, sym}
+use mathlib.Core.Path.{_≡_}
+use mir.Facts.{toZ-ofZ}
+use mir.Syntax.{w32}
 use mathlib.Core.List.{List}
 use borrow.Author.Needs.{needs}
 use lib.Dec.{eqb}
@@ -10,8 +12,8 @@ use lib.ListN.{length, drop}
 use Rattle.sheet.specs.Field.{value, refused}
 use Rattle.sheet.specs.Decode.{tag}
 use Rattle.fields.specs.Answers.Numbers.{field-short, field-whole}
-use Rattle.reader.proofs.skip_tag.Statement.{statement}
-use Rattle.reader.proofs.skip_tag.Tie as tie
+use Rattle.reader.proofs.pass_tag.Statement.{statement}
+use Rattle.reader.proofs.pass_tag.Tie as tie
 
 module _ (s : List ℕ) (at : ℕ) where
   cut : (bit : ℕ) → bit < 2 → length s - at < 2 * bit → tag (eqb bit 1) (drop at s) ≡ refused 2
@@ -29,12 +31,15 @@ module _ (s : List ℕ) (at : ℕ) where
 returns : tie.Need-returns
 returns c =
     let g = c .before .before .before in
-    sym (cut (g .args .s .now) (g .args .c .at) (g .args .bit) (g .pre) (omega arith))
+    rw (cut (g .args .s .now) (g .args .c .at) (g .args .bit) (g .pre) (omega arith))
 
 returns-2 : tie.Need-returns-2
 returns-2 c =
     let g = c .before .before .before in
-    sym (whole (g .args .s .now) (g .args .c .at) (g .args .bit) (g .pre) (omega arith))
+    rw (
+      whole (g .args .s .now) (g .args .c .at) (g .args .bit) (g .pre) (omega arith),
+      toZ-ofZ {w = w32} {z = g .args .z} (search needs),
+    )
 
-pub skip-tag-spec : {M : Type 1} → statement M
-skip-tag-spec = tie.close (tie.spec (λ c. search needs) (λ c κs. search needs) returns (λ c. search needs) returns-2)
+pub pass-tag-spec : {M : Type 1} → statement M
+pass-tag-spec = tie.close (tie.spec (λ c. search needs) (λ c κs. search needs) returns (λ c. search needs) returns-2)
