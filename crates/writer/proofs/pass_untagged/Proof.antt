@@ -1,5 +1,4 @@
 -- `writer::pass_untagged` meets its contract, by the walk of `Untagged`: nothing is put on the way. Assumes nothing.
-use borrow.Author.Needs.{needs}
 use Prim.Native.Nat.{ℕ, _-_}
 use native.Mathlib.Omega.{arith}
 use mathlib.Core.List.{List, []}
