@@ -1,7 +1,7 @@
 -- `reader::read_bare` meets its contract: rule 8, the size and the tag, one after another. Assumes nothing.
 use borrow.Author.Needs.{needs}
 use native.Mathlib.Omega.{arith}
-use mathlib.Core.Path.{_≡_, sym, ap, _∙_}
+use mathlib.Core.Path.{sym, ap, _∙_}
 use borrow.Author.Tests.{not-true, not-false}
 use lib.ListN.{drop}
 use mir.Facts.{toZ-ofZ}
