@@ -108,13 +108,16 @@ pub fn check_plan(
     ensures { λ r. ⌜ Answers (byRule (overFault (graphIn h (now (start .entry)) (now (sizes .entry))))
         (savedField (graphIn h (now (start .entry)) (now (sizes .entry))) (now (plan .entry)))) (now (out .entry)) r (now (out .exit)) ⌝ }
 {
-    let over = judge::over_fault(h, near, start);
-    if over != 0 {
-        return Written::Refused(over);
+    if 2 * h.n < h.e + 3 {
+        return Written::Refused(11);
     }
     let checked = plans::check_plan(start, h.e, plan);
     let outcome = checked.outcome;
     let run = checked.run;
+    let over = judge::over_after(h, near, start, run.steps);
+    if over != 0 {
+        return Written::Refused(over);
+    }
     match outcome {
         Outcome::Refused(rule) => Written::Refused(rule),
         Outcome::Accepted => put_settled(h, start, sizes, run, out),

@@ -14,7 +14,7 @@ ghost use Rattle.graph.specs.Lent.{graphIn, Drawn};
 ghost use Rattle.merges.specs.Run.{runOf, Start, Merged};
 ghost use Rattle.cycles.specs.Cycle.{HoldsBelow};
 ghost use Rattle.judge.specs.Judged.{listed as listedOf, overFound, judgedOf};
-ghost use Rattle.judge.specs.Telling.{Tells};
+ghost use Rattle.judge.specs.Telling.{Tells, Reached};
 use graph::Head;
 use merges::Run;
 use theory::Finding;
@@ -33,10 +33,24 @@ pub fn over_fault(h: Head, near: &[u64; 64], start: &[u64; 200]) -> u8
     requires { ⌜ Drawn h (now near) (now start) ⌝ }
     ensures { λ r. ⌜ ((z : List ℤ) → r ≡ overFault (graphIn h (now (start .entry)) z)) ⌝ }
 {
+    if 2 * h.n < h.e + 3 {
+        return 11;
+    }
     match over_of(h, near, start) {
         Finding::First { .. } => 11,
         Finding::Fine => 0,
     }
+}
+
+// The same where so many merges were made one after another: those that leave one cluster show that the sheet is not over.
+pub fn over_after(h: Head, near: &[u64; 64], start: &[u64; 200], steps: usize) -> u8
+    requires { ⌜ Drawn h (now near) (now start) × Reached (take (h .e) (now start)) steps ⌝ }
+    ensures { λ r. ⌜ ((z : List ℤ) → r ≡ overFault (graphIn h (now (start .entry)) z)) ⌝ }
+{
+    if 2 * steps + 1 == h.e {
+        return 0;
+    }
+    over_fault(h, near, start)
 }
 
 // What is judged of a sheet: its verdict; of an over sheet the first constraint and the smallest set, and no merge; else the engine's plan.

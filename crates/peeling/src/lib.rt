@@ -69,8 +69,8 @@ fn light_of(near: &[u64; 64], left: u64, who: u64) -> u64
 fn three_lines(around: u64, lines: u64) -> bool
     ensures { λ r. ⌜ r ≡ eqb (ones around) 3 && allLines lines around ⌝ }
 {
-    if u64::count_ones(around) == 3 {
-        around & lines == around
+    if around & lines == around {
+        u64::count_ones(around) == 3
     } else {
         false
     }

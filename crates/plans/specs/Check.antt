@@ -1,12 +1,14 @@
 -- The check of a saved plan, a list of numbers, three a step. Document 01, "Refused", rules 12 to 16: the count of numbers is tried first, then the
 -- steps one after another, each by 13 and 15, and then 16. Request 2026-06 took rule 14 out of the list (Rule14.antt). Everything here computes.
 -- Assumes nothing.
+use mathlib.Core.Path.{_≡_}
 use mathlib.Core.Bool.{Bool, true, false, _||_}
 use mathlib.Core.List.{List, [], _∷_}
 use Prim.Native.Nat.{ℕ, zero, suc, _%_}
 use lib.Dec.{eqb}
 use lib.ListN.{length}
-use Rattle.theory.specs.Merge.{slot, Merge, merge, put}
+use Rattle.theory.specs.Constraints.{NotOver}
+use Rattle.theory.specs.Merge.{slot, Merge, merge, put, Valid}
 use Rattle.theory.specs.Plan.{openTest, firstOf, isSome}
 use Rattle.merges.specs.Run.{runOf}
 use Rattle.merges.specs.declared.Run.{Run}
@@ -59,3 +61,10 @@ answerOf (suc rule) run = record { outcome = Refused (suc rule); run = runOf [] 
 -- the answer to the check of the saved plan l against the constraints cs
 unfoldable pub checkOf : List ℕ → List ℕ → Checked
 checkOf cs l = answerOf (planFault cs l) (runOf cs (savedSteps l))
+
+-- what is checked: that answer where the constraints are not over, and merges that can be made in any case
+pub record Checks (cs l : List ℕ) (r : Checked) : Type 0 where
+  pub answers : NotOver cs → r ≡ checkOf cs l
+  pub merges : List Merge
+  pub valid : Valid cs merges
+  pub count : length merges ≡ r .run .steps

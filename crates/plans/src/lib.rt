@@ -1,12 +1,14 @@
 // The check of a saved plan. Document 01, "Refused", rules 12, 13, 15 and 16. Contracts cite specs/Check.antt.
 ghost use mathlib.Core.Path.{_≡_};
-ghost use Prim.Native.Nat.{_<_, min, max};
+ghost use mathlib.Core.List.{List};
+ghost use Prim.Native.Nat.{ℕ, _+_, _≤_, _<_, min, max};
 ghost use lib.ListN.{length, take};
 ghost use Rattle.theory.specs.Constraints.{NotOver};
-ghost use Rattle.theory.specs.Merge.{slot, merge as numbers};
-ghost use Rattle.theory.specs.Plan.{ascending};
+ghost use Rattle.theory.specs.Merge.{Merge, slot, merge as numbers, final};
+ghost use Rattle.theory.specs.Plan.{ascending, firstOf, isSome};
 ghost use Rattle.merges.specs.Run.{places, Start};
-ghost use Rattle.plans.specs.Check.{misnamed as isMisnamed, faultOf, stepFault, asMerge, answerOf, checkOf};
+ghost use Rattle.merges.specs.Going.{Slots};
+ghost use Rattle.plans.specs.Check.{misnamed as isMisnamed, faultOf, stepFault, asMerge, answerOf, Checks};
 use merges::ELEMENTS;
 use merges::PLACES;
 use merges::Run;
@@ -114,7 +116,7 @@ pub struct Checked {
 
 fn refused(rule: u8) -> Checked
     requires { ⌜ 0 < rule ⌝ }
-    ensures { λ r. ⌜ ((run : Run) → r ≡ answerOf rule run) ⌝ }
+    ensures { λ r. ⌜ ((run : Run) → r ≡ answerOf rule run) × (r .run .steps ≡ 0) ⌝ }
 {
     let run = merges::no_run();
     Checked {
@@ -123,10 +125,22 @@ fn refused(rule: u8) -> Checked
     }
 }
 
-// The check of a saved plan against the constraints that are the first e of `start`, which are not over.
+// Is a merge open after so many steps on e constraints that are not over? Where one cluster is left none is.
+fn still_open(slots: &[u64; PLACES], e: usize, steps: usize) -> bool
+    requires { ⌜ (e + steps ≤ places) × (length (now slots) ≡ places) ⌝ }
+    ensures { λ r. ⌜ ((cs : List ℕ) (p : List Merge) → NotOver cs → length cs ≡ e → Slots cs p (now (slots .entry)) (e + steps)
+        → r ≡ isSome (firstOf 0 (final cs p))) ⌝ }
+{
+    if 2 * steps + 1 == e {
+        return false;
+    }
+    merges::some_open(slots, e + steps)
+}
+
+// The check of a saved plan against the constraints that are the first e of `start`. Where these are over, its run is a list of merges all the same.
 pub fn check_plan(start: &[u64; 200], e: usize, plan: &[u16]) -> Checked
-    requires { ⌜ Start (now start) e × NotOver (take e (now start)) ⌝ }
-    ensures { λ r. ⌜ r ≡ checkOf (take e (now (start .entry))) (now (plan .entry)) ⌝ }
+    requires { ⌜ Start (now start) e ⌝ }
+    ensures { λ r. ⌜ Checks (take e (now (start .entry))) (now (plan .entry)) r ⌝ }
 {
     if plan.len() % 3 != 0 {
         return refused(12);
@@ -158,7 +172,7 @@ pub fn check_plan(start: &[u64; 200], e: usize, plan: &[u16]) -> Checked
         steps += 1;
         at += 3;
     }
-    if merges::some_open(&slots, e + steps) {
+    if still_open(&slots, e, steps) {
         return refused(16);
     }
     let run = Run {

@@ -107,13 +107,16 @@ pub fn saved_steps(
     ensures { λ r. ⌜ Listed (byRule (overFault (graphIn h (now (start .entry)) (now (sizes .entry))))
         (savedRecords (graphIn h (now (start .entry)) (now (sizes .entry))) (now (plan .entry)))) r ⌝ }
 {
-    let over = judge::over_fault(h, near, start);
-    if over != 0 {
-        return refused(over);
+    if 2 * h.n < h.e + 3 {
+        return refused(11);
     }
     let checked = plans::check_plan(start, h.e, plan);
     let outcome = checked.outcome;
     let run = checked.run;
+    let over = judge::over_after(h, near, start, run.steps);
+    if over != 0 {
+        return refused(over);
+    }
     match outcome {
         Outcome::Refused(rule) => refused(rule),
         Outcome::Accepted => listed(h, start, sizes, run),

@@ -1,22 +1,26 @@
 -- What counts and peeling decide of a graph without a plan, and what the judgement says of the verdict. Assumes nothing.
 use Prim.Native.Nat.{ℕ, _+_, _*_, _≤_, _<_}
 use native.Mathlib.Omega.{arith}
-use mathlib.Core.Path.{_≡_, sym, ap, ap₂, _∙_, subst}
+use mathlib.Core.Path.{_≡_, refl, sym, ap, ap₂, _∙_, subst}
 use mathlib.Core.Logic.{_≢_}
 use mathlib.Core.Bool.{Bool, true, false}
 use mathlib.Core.List.{List, []}
 use lib.Count.{ones}
 use lib.ListN.{length}
 use Rattle.theory.specs.Constraints.{NotOver}
-use Rattle.theory.specs.Merge.{joints}
+use Rattle.theory.specs.Merge.{final, joints, left}
 use Rattle.theory.specs.Merge.One.{one-fine}
+use Rattle.theory.specs.Merge.Count.{steps-left}
 use Rattle.theory.specs.Plan.{planOf}
 use Rattle.theory.specs.Plan.Laws.{plan-of-maximal}
 use Rattle.theory.specs.Verdict.{angled}
+use Rattle.theory.specs.declared.Finding.{Finding}
 use Rattle.theory.specs.declared.Finding.the-variants.{Fine, First}
 use Rattle.theory.specs.declared.Verdict.the-variants.{Over, Angle, Well, Under}
 use Rattle.theory.specs.Graph.{Graph, findingOf, verdictOf}
-use Rattle.theory.specs.Graph.Laws.{fine-finding, fine-verdict}
+use Rattle.theory.specs.Graph.Laws.{fine-finding, fine-verdict, fine-not-over}
+use Rattle.sheet.specs.Graph.{overFault}
+use Rattle.sheet.specs.Graph.Laws.{fine-fault, first-fault}
 use Rattle.theory.specs.Near.{Near}
 use Rattle.theory.specs.declared.Verdict.{Verdict}
 use Rattle.cycles.specs.Cycle.{HoldsBelow}
@@ -32,7 +36,7 @@ use Rattle.merges.specs.Run.{runOf, Merged, Planned}
 use Rattle.merges.specs.declared.Run.{Run}
 use Rattle.judge.specs.declared.Judged.{Judged}
 use Rattle.judge.specs.Judged.{listed, overFound, judgedBy, judgedOf}
-use Rattle.judge.specs.Telling.{Tells}
+use Rattle.judge.specs.Telling.{Tells, Reached}
 use Rattle.judge.specs.Judged.Laws.{steps-are}
 use Rattle.judge.specs.Judged.Lists.{judged-held}
 
@@ -56,6 +60,19 @@ module _ (g : Graph) (sound : Sound (g .n) (g .clusters)) where
   pub one-left : {run : Run} → Merged cs run → 2 * run .steps + 1 ≡ length cs → NotOver cs
   one-left m one = one-fine cs (sound .simple .pairs) (m .p) (m .valid) (omega (arith, steps-are cs (sound .simple .pairs) m, one))
 
+  module _ {steps : ℕ} (r : Reached cs steps) where
+    reached-left : left (final cs (r .merges)) + 2 * steps ≡ length cs
+    reached-left = omega (arith, steps-left cs (sound .simple .pairs) (r .merges) (r .valid), r .count)
+
+    pub reached-few : 2 * steps ≤ length cs
+    reached-few = omega (arith, reached-left)
+
+    pub one-fault : 2 * steps + 1 ≡ length cs → overFault g ≡ 0
+    one-fault one =
+        let pairs = sound .simple .pairs in
+        fine-fault g (fine-finding g pairs (sound .below)
+        (one-fine cs pairs (r .merges) (r .valid) (omega (arith, reached-left, one))))
+
   pub judged-tells : {j : Judged} → j ≡ judgedOf g → Tells g (j .verdict) (j .first)
   judged-tells e = record {
     verdict-is = judged-held g sound e .verdict-is;
@@ -70,6 +87,14 @@ module _ (g : Graph) (sound : Sound (g .n) (g .clusters)) where
 
   pub more-is : 2 * g .n < length cs + 3 → verdictOf g ≡ Over
   more-is h = verdict-more g (sound .two) (sound .simple .pairs) (sound .below) h
+
+  -- rule 11 of them
+  pub more-fault : 2 * g .n < length cs + 3 → overFault g ≡ 11
+  more-fault h = by (findingOf g) refl
+    where
+      by : (o : Finding) → findingOf g ≡ o → overFault g ≡ 11
+      by Fine q = absurd (fine-not-over g q (more-is h))
+      by (First c x) q = first-fault g q
 
   -- fewer than 2n-3 constraints, and too few lines for a joint of three or a ring
   pub fewer-is : ones (g .lines) ≤ 2 → findingOf g ≡ Fine → length cs + 3 < 2 * g .n → verdictOf g ≡ Under

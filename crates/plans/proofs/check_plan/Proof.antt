@@ -1,16 +1,17 @@
 -- `plans::check_plan` meets its contract: the loop keeps `Checking`. Assumes nothing.
 use mathlib.Core.Path.{_≡_, sym, ap, _∙_}
-use mathlib.Core.List.{List}
+use mathlib.Core.List.{List, []}
 use Prim.Native.Nat.{ℕ, _-_, _%_}
 use native.Mathlib.Omega.{arith}
 use borrow.Author.Needs.{needs}
 use lib.ListN.{length, take}
+use Rattle.theory.specs.Constraints.{NotOver}
 use Rattle.theory.specs.Merge.{merge}
 use Rattle.theory.specs.Plan.{ascending}
 use Rattle.merges.specs.Run.{runOf}
 use Rattle.merges.specs.declared.Run.{Run}
 use Rattle.merges.specs.Going.Laws.{slots-long, used-few, below-i, below-j, below-k, going-fewer}
-use Rattle.plans.specs.Check.{stepFault, savedSteps, planFault, answerOf, checkOf, asMerge}
+use Rattle.plans.specs.Check.{stepFault, savedSteps, planFault, answerOf, checkOf, asMerge, Checks}
 use Rattle.plans.specs.declared.Checked.{Checked}
 use Rattle.plans.proofs.Checking.{named, fault-12, Checking, checking-start, open-here, refuses, checking-next, still-open, accepts}
 use Rattle.plans.proofs.check_plan.Statement.{statement}
@@ -24,9 +25,15 @@ abbrev μ-loop : tie.MeasureT-loop
 μ-loop start e plan slots₀ parts₀ joints₀ steps₀ at₀ slots parts joints steps at = length plan - at
 
 -- a refusal by the plan's rule
-refused-by : (cs l : List ℕ) {r : Checked} {rule : ℕ} → ((run : Run) → r ≡ answerOf rule run) → rule ≡ planFault cs l → r ≡ checkOf cs l
+refused-by : (cs l : List ℕ) {r : Checked} {rule : ℕ} → ((run : Run) → r ≡ answerOf rule run) × (r .run .steps ≡ 0)
+    → (NotOver cs → rule ≡ planFault cs l) → Checks cs l r
 unfolding checkOf
-refused-by cs l h e = h (runOf cs (savedSteps l)) ∙ ap (λ (k : ℕ). answerOf k (runOf cs (savedSteps l))) e
+refused-by cs l h e = record {
+  answers = λ fine. h .0 (runOf cs (savedSteps l)) ∙ ap (λ (k : ℕ). answerOf k (runOf cs (savedSteps l))) (e fine);
+  merges = [];
+  valid = tt;
+  count = sym (h .1);
+}
 
 -- the numbers are three a step
 mult : (c : tie.At-loop Inv-loop μ-loop) → length (c .before .before .before .before .args .plan .now) % 3 ≡ 0
@@ -61,10 +68,10 @@ up : (c : tie.After-ascend Inv-loop μ-loop)
 up c = sym (c .ascend .ensures ∙ ap ascending (named-is (c .before .before)))
 
 returns : tie.Need-returns Inv-loop μ-loop
-returns c = refused-by _ _ (c .refused .ensures) (fault-12 _ _ (c .before .if1 .taken))
+returns c = refused-by _ _ (c .refused .ensures) (λ fine. fault-12 _ _ (c .before .if1 .taken))
 
 loop-holds : tie.Need-loop-holds Inv-loop μ-loop
-loop-holds c = checking-start (c .before .before .before .pre .0) (c .begin .ensures)
+loop-holds c = checking-start (c .before .before .before .pre) (c .begin .ensures)
 
 fault-at-requires : tie.Need-fault-at-requires Inv-loop μ-loop
 fault-at-requires c κs = slots-long (c .before .before .before .before .before .before .before .before .loop .inv .going .clusters)
@@ -74,7 +81,7 @@ returns-2 c =
     let f = c .before .before in
     let d = f .before .before .before .before .before .before .before .before in
     refused-by _ _ (c .refused2 .ensures)
-    (refuses (d .before .loop .inv) (mult (d .before)) (d .loop-test .taken) (fault-is f) (c .before .if2 .taken))
+    (λ fine. refuses (d .before .loop .inv) (mult (d .before)) (d .loop-test .taken) (fault-is f) (c .before .if2 .taken))
 
 step-requires : tie.Need-step-requires Inv-loop μ-loop
 step-requires c κs =
@@ -83,7 +90,7 @@ step-requires c κs =
     let g = l .loop .inv .going in
     let o = open-here (l .loop .inv) (none-here d) in
     let f = going-fewer g o (up d) in
-    (below-i g o (up d), below-j g o (up d), below-k g o (up d), omega (arith, f, l .before .before .before .before .pre .0 .few), f)
+    (below-i g o (up d), below-j g o (up d), below-k g o (up d), omega (arith, f, l .before .before .before .before .pre .few), f)
 
 loop-again : tie.Need-loop-again Inv-loop μ-loop
 loop-again c =
@@ -91,8 +98,8 @@ loop-again c =
     let t = d .before .before .before .before .before .before .before .before .before .before in
     checking-next (t .before .loop .inv) (mult (t .before)) (t .loop-test .taken) (none-here d) (up d) (c .step .ensures)
 
-some-open-requires : tie.Need-some-open-requires Inv-loop μ-loop
-some-open-requires c κs = let g = c .before .before .loop .inv .going .clusters in (used-few g, slots-long g)
+still-open-requires : tie.Need-still-open-requires Inv-loop μ-loop
+still-open-requires c κs = let g = c .before .before .loop .inv .going .clusters in (used-few g, slots-long g)
 
 returns-3 : tie.Need-returns-3 Inv-loop μ-loop
 returns-3 c =
@@ -100,16 +107,22 @@ returns-3 c =
     let d = s .before .before .before in
     let w = d .loop .inv in
     refused-by _ _ (c .refused3 .ensures)
-    (still-open w (mult d) (s .before .before .loop-test .left)
-    (sym (c .before .if3 .taken) ∙ s .some-open .ensures _ (w .p) (d .before .before .before .before .pre .1) (w .going .clusters)))
+    (λ fine. still-open w (mult d) (s .before .before .loop-test .left)
+    (sym (c .before .if3 .taken) ∙ s .still-open .ensures _ (w .p) fine (w .going .size) (w .going .clusters)))
 
 returns-4 : tie.Need-returns-4 Inv-loop μ-loop
 returns-4 c =
     let s = c .before in
     let d = s .before .before .before in
     let w = d .loop .inv in
-    accepts w (mult d) (s .before .before .loop-test .left)
-    (sym (c .if3 .left) ∙ s .some-open .ensures _ (w .p) (d .before .before .before .before .pre .1) (w .going .clusters))
+    record {
+      answers = λ fine.
+          accepts w (mult d) (s .before .before .loop-test .left)
+          (sym (c .if3 .left) ∙ s .still-open .ensures _ (w .p) fine (w .going .size) (w .going .clusters));
+      merges = w .p;
+      valid = w .going .clusters .valid;
+      count = omega (arith, w .going .clusters .count, w .going .size);
+    }
 
 pub check-plan-spec : {M : Type 1} → statement M
 check-plan-spec =
@@ -117,5 +130,4 @@ check-plan-spec =
     (tie.spec Inv-loop μ-loop (λ c κs. search needs) returns (λ c κs. search needs) loop-holds (λ c. search needs) (λ c. search needs)
     (λ c κs. search needs) (λ c. search needs) (λ c. search needs) (λ c. search needs) (λ c κs. search needs) (λ c. search needs)
     (λ c. search needs) (λ c. search needs) (λ c κs. search needs) fault-at-requires (λ c κs. search needs) returns-2 (λ c κs. search needs)
-    (λ c. search needs) step-requires (λ c. search needs) (λ c. search needs) (λ c. search needs) loop-again (λ c. search needs)
-    some-open-requires (λ c κs. search needs) returns-3 returns-4)
+    (λ c. search needs) step-requires (λ c. search needs) (λ c. search needs) (λ c. search needs) loop-again still-open-requires (λ c κs. search needs) returns-3 returns-4)

@@ -1,5 +1,5 @@
 -- `plans::refused` meets its contract. Assumes nothing.
-use mathlib.Core.Path.{_≡_}
+use mathlib.Core.Path.{_≡_, ap}
 use mathlib.Core.List.{[]}
 use Prim.Native.Nat.{ℕ, zero, suc, _<_}
 use native.Mathlib.Omega.{arith}
@@ -19,7 +19,8 @@ refusal zero h e run = absurd (omega arith)
 refusal (suc rule) h e run = λ t. record { outcome = Refused (suc rule); run = e t }
 
 returns : tie.Need-returns
-returns c = refusal (c .before .args .rule) (c .before .pre) (c .no-run .ensures)
+unfolding runOf
+returns c = (refusal (c .before .args .rule) (c .before .pre) (c .no-run .ensures), ap (λ (x : Run). x .steps) (c .no-run .ensures))
 
 pub refused-spec : {M : Type 1} → statement M
 refused-spec = tie.close (tie.spec (λ c κs. search needs) returns)
