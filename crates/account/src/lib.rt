@@ -40,9 +40,9 @@ fn put_list(
     let parts = run.parts;
     let joints = run.joints;
     let slots = run.slots;
-    let carried = rests::rests_of(&parts, h.e, count);
-    let low = carried.low;
-    let high = carried.high;
+    let mut low = [0u64; 192];
+    let mut high = [0u64; 192];
+    rests::carry(&parts, h.e, count, &mut low, &mut high);
     report::write_report(
         out,
         h.n,
@@ -197,8 +197,8 @@ pub fn rests(h: Head, near: &[u64; 64], start: &[u64; 200], out: &mut [u64]) -> 
     let steps = run.steps;
     let parts = run.parts;
     let slots = run.slots;
-    let carried = rests::rests_of(&parts, h.e, steps);
-    let low = carried.low;
-    let high = carried.high;
+    let mut low = [0u64; 192];
+    let mut high = [0u64; 192];
+    rests::carry(&parts, h.e, steps, &mut low, &mut high);
     put_rests(&slots, &low, &high, h.e + steps, out)
 }

@@ -2,17 +2,11 @@
 // and specs/Words.antt.
 ghost use mathlib.Core.Path.{_≡_};
 ghost use Prim.Native.Nat.{_+_, _≤_, _<_, _^_};
-ghost use lib.ListN.{getD, set};
+ghost use lib.ListN.{getD, set, replicate};
 ghost use Rattle.theory.specs.Set.{_∪_};
 ghost use Rattle.merges.specs.Run.{mostConstraints, mostSteps, places};
 ghost use Rattle.rests.specs.Words.{Listed, Told, Alone};
 use merges::PLACES;
-
-// What clusters rest on, by number: constraints 0 to 63 as bits of `low`, 64 to 127 of `high`. Only what stands at a living cluster's number counts.
-pub struct Rests {
-    pub low: [u64; PLACES],
-    pub high: [u64; PLACES],
-}
 
 // The set of one number below 64, as a word.
 fn single(n: usize) -> u64
@@ -23,17 +17,15 @@ fn single(n: usize) -> u64
 }
 
 // The words of initial clusters, each of which rests on the constraint of its own number: those of the numbers from `first` to `last`, 64 at most.
-fn alone(first: usize, last: usize) -> [u64; PLACES]
-    requires { ⌜ (last ≤ first + 64) × (last ≤ places) ⌝ }
-    ensures { λ r. ⌜ Alone first last last r ⌝ }
+fn note_alone(words: &mut [u64; PLACES], first: usize, last: usize)
+    requires { ⌜ (last ≤ first + 64) × (last ≤ places) × (now words ≡ replicate places 0) ⌝ }
+    ensures { λ r. ⌜ Alone first last last (now (words .exit)) ⌝ }
 {
-    let mut words = [0u64; PLACES];
     let mut i = first;
     while i < last {
         words[i] = single(i - first);
         i += 1;
     }
-    words
 }
 
 // A number of a cluster as a place.
@@ -52,22 +44,30 @@ fn join(words: &mut [u64; PLACES], made: usize, i: usize, j: usize, k: usize)
     words[made] = words[i] | words[j] | words[k];
 }
 
-// What the clusters of e constraints rest on after a list of merges, from its parts: a merged one on what its three rest on.
-pub fn rests_of(parts: &[u16; PLACES], e: usize, steps: usize) -> Rests
-    requires { ⌜ (e ≤ mostConstraints) × (steps ≤ mostSteps) × Listed e (now parts) steps ⌝ }
-    ensures { λ r. ⌜ ((l : Listed e (now (parts .entry)) steps) → Told 0 (l .cs) (l .p) (r .low) × Told 1 (l .cs) (l .p) (r .high)) ⌝ }
+// What the clusters of e constraints rest on after a list of merges, from its parts: a merged one on what its three rest on. By number, in arrays that
+// were blank, constraints 0 to 63 as bits of `low`, 64 to 127 of `high`; only what stands at a living cluster's number counts.
+pub fn carry(
+    parts: &[u16; PLACES],
+    e: usize,
+    steps: usize,
+    low: &mut [u64; PLACES],
+    high: &mut [u64; PLACES],
+)
+    requires { ⌜ (e ≤ mostConstraints) × (steps ≤ mostSteps) × Listed e (now parts) steps
+        × (now low ≡ replicate places 0) × (now high ≡ replicate places 0) ⌝ }
+    ensures { λ r. ⌜ ((l : Listed e (now (parts .entry)) steps)
+        → Told 0 (l .cs) (l .p) (now (low .exit)) × Told 1 (l .cs) (l .p) (now (high .exit))) ⌝ }
 {
-    let mut low = alone(0, 64);
-    let mut high = alone(64, e);
+    note_alone(low, 0, 64);
+    note_alone(high, 64, e);
     let mut t: usize = 0;
     while t < steps {
         let i = wide(parts[3 * t]);
         let j = wide(parts[3 * t + 1]);
         let k = wide(parts[3 * t + 2]);
         let made = e + t;
-        join(&mut low, made, i, j, k);
-        join(&mut high, made, i, j, k);
+        join(low, made, i, j, k);
+        join(high, made, i, j, k);
         t += 1;
     }
-    Rests { low, high }
 }

@@ -2,16 +2,14 @@
 use borrow.Author.Needs.{needs}
 use Prim.Native.Nat.{ℕ, _*_, _≤_}
 use native.Mathlib.Omega.{arith}
-use mathlib.Core.Path.{sym, ap, _∙_}
+use mathlib.Core.Path.{refl, sym, ap, _∙_}
 use mathlib.Core.List.{List, []}
 use lib.IntN.{ℤ}
-use lib.ListN.{take}
 use Rattle.theory.specs.Graph.{Graph}
 use Rattle.graph.specs.Lent.{graphIn}
 use Rattle.graph.specs.Lent.Sheets.{counted}
 use Rattle.space.specs.Space.{answer, after}
 use Rattle.judge.specs.Judged.Lists.{Held, judged-held}
-use Rattle.rests.specs.Words.{Told}
 use Rattle.account.specs.Account.Laws.{room}
 use Rattle.account.specs.Account.Answers.{over-found, PlanFound, plan-found}
 use Rattle.account.specs.Resting.Laws.{parts, pairs-are, none-stored}
@@ -44,42 +42,36 @@ module _ (c : tie.Else1) where
       × (c .before .before .judge .result .run .steps ≤ 62)
   few = room (start .args .h) (start .args .start .now) [] (start .pre .sound) (counted (start .pre)) (plan [] .notOver) (plan [] .merged)
 
-rests-of-requires : tie.Need-rests-of-requires
-rests-of-requires c κs =
-    let k = c .before .before .before .before in
-    (few k .1, few k .3, parts (counted (start k .pre)) (plan k [] .merged) .listed)
+carry-requires : tie.Need-carry-requires
+carry-requires c κs =
+    let k = c .before .before .before .before .before .before in
+    (few k .1, few k .3, parts (counted (start k .pre)) (plan k [] .merged) .listed, refl, refl)
 
--- the words of what the clusters rest on
-module _ (c : tie.After-rests-of) where
-  abbrev judged : tie.Else1
-  judged = c .before .before .before .before .before
-
-  told : (z : List ℤ)
-      → Told 0 (take (start judged .args .h .e) (start judged .args .start .now)) (plan judged z .merged .p) (c .rests-of .result .low)
-      × Told 1 (take (start judged .args .h .e) (start judged .args .start .now)) (plan judged z .merged .p) (c .rests-of .result .high)
-  told z =
-      let q = parts (counted (start judged .pre)) (plan judged z .merged) in
-      let t = c .rests-of .ensures (q .listed) in
-      (q .told (t .0), q .told (t .1))
+abbrev judged : tie.After-carry → tie.Else1
+judged c = c .before .before .before .before .before .before .before
 
 put-rests-requires : tie.Need-put-rests-requires
 put-rests-requires c κs =
-    let r = c .before .before .before .before .before .before .before in
+    let r = c .before .before .before .before .before in
     let k = judged r in
-    (omega (arith, few k), held k .slots-long, told r [] .0 .long, told r [] .1 .long)
+    let q = parts (counted (start k .pre)) (plan k [] .merged) in
+    let t = r .carry .ensures (q .listed) in
+    (omega (arith, few k), held k .slots-long, q .told (t .0) .long, q .told (t .1) .long)
 
 returns-2 : tie.Need-returns-2
 returns-2 c z =
-    let r = c .before .before .before .before .before .before .before .before .before .before in
+    let r = c .before .before .before .before .before .before .before .before in
     let k = judged r in
     let s = start k in
-    let t = told r z in
-    let e = pairs-are (counted (s .pre)) (plan k z .merged) (s .pre .sound .simple .pairs) (few k .1) (t .0) (t .1) ∙ plan k z .rests-are in
+    let q = parts (counted (s .pre)) (plan k z .merged) in
+    let t = r .carry .ensures (q .listed) in
+    let e = pairs-are (counted (s .pre)) (plan k z .merged) (s .pre .sound .simple .pairs) (few k .1) (q .told (t .0)) (q .told (t .1))
+    ∙ plan k z .rests-are in
     let w = c .before .before .put-rests .ensures in
     (w .0 ∙ ap (λ (l : List ℕ). answer l (s .args .out .now)) e, w .1 ∙ ap (λ (l : List ℕ). after l (s .args .out .now)) e)
 
 pub rests-spec : {M : Type 1} → statement M
 rests-spec =
     tie.close
-    (tie.spec (λ c κs. search needs) (λ c κs. search needs) returns rests-of-requires
-    (λ c. record { fits = omega (arith, few (judged (c .before .before .before .before .before .before))) }) put-rests-requires (λ c. search needs) returns-2)
+    (tie.spec (λ c κs. search needs) (λ c κs. search needs) returns carry-requires
+    (λ c. record { fits = omega (arith, few (judged (c .before .before .before .before))) }) put-rests-requires (λ c. search needs) returns-2)

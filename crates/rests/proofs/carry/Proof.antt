@@ -1,4 +1,4 @@
--- `rests::rests_of` meets its contract: after each step the words are those of the clusters that live then. Assumes nothing.
+-- `rests::carry` meets its contract: after each step the words are those of the clusters that live then. Assumes nothing.
 use mathlib.Core.Path.{_≡_, sym, _∙_, subst}
 use mathlib.Core.List.{List}
 use Prim.Native.Nat.{ℕ, _+_, _-_, _*_, _≤_, _<_}
@@ -8,8 +8,8 @@ use lib.ListN.{getD, set, take}
 use Rattle.theory.specs.Set.{_∪_}
 use Rattle.rests.specs.Words.{Listed, Told}
 use Rattle.rests.specs.Words.Laws.{alone-low, alone-high, below, told-start, told-next, told-end}
-use Rattle.rests.proofs.rests_of.Statement.{statement}
-use Rattle.rests.proofs.rests_of.Tie as tie
+use Rattle.rests.proofs.carry.Statement.{statement}
+use Rattle.rests.proofs.carry.Tie as tie
 
 abbrev Inv-loop : tie.InvT-loop
 Inv-loop parts e steps low₀ high₀ t₀ low high t =
@@ -20,13 +20,13 @@ abbrev μ-loop : tie.MeasureT-loop
 
 loop-holds : tie.Need-loop-holds Inv-loop μ-loop
 loop-holds c =
-    let low = c .before .alone .ensures in
-    let high = c .alone2 .ensures in (
+    let low = c .before .before .note-alone .ensures in
+    let high = c .note-alone2 .ensures in
+    let s = c .before .before .before .before in (
       omega arith,
       λ l. (
-        told-start l 0 (c .before .alone .result) (low .long) (λ n h. alone-low (c .before .alone .result) low n),
-        told-start l 1 (c .alone2 .result) (high .long)
-            (alone-high (c .alone2 .result) (c .before .before .args .e) (omega (arith, c .before .before .pre .0)) high),
+        told-start l 0 _ (low .long) (λ n h. alone-low _ low n),
+        told-start l 1 _ (high .long) (alone-high _ (s .args .e) (omega (arith, s .pre .0)) high),
       ),
     )
 
@@ -48,7 +48,7 @@ module _ (c : tie.After-wide3 Inv-loop μ-loop) where
   at = c .before .before .before .before .before .before .before
 
   abbrev start : tie.Start Inv-loop μ-loop
-  start = at .before .before .before
+  start = at .before .before .before .before .before
 
   going : at .loop .t < start .args .steps
   going = c .before .before .before .before .before .before .loop-test .taken
@@ -80,10 +80,10 @@ returns c l =
     let n = c .before .loop in
     let t = n .inv .1 l in
     let h = c .loop-test .left in
-    let e : n .t ≡ c .before .before .before .before .args .steps = omega (arith, n .inv .0) in
+    let e : n .t ≡ c .before .before .before .before .before .before .args .steps = omega (arith, n .inv .0) in
     (told-end l 0 (n .t) (n .low) e (t .0), told-end l 1 (n .t) (n .high) e (t .1))
 
-pub rests-of-spec : {M : Type 1} → statement M
-rests-of-spec =
+pub carry-spec : {M : Type 1} → statement M
+carry-spec =
     tie.close
     (tie.spec Inv-loop μ-loop (λ c κs. search needs) (λ c κs. search needs) loop-holds (λ c. search needs) (λ c. search needs) (λ c. search needs) (λ c κs. search needs) (λ c. search needs) (λ c. search needs) (λ c. search needs) (λ c. search needs) (λ c κs. search needs) (λ c. search needs) (λ c. search needs) (λ c. search needs) (λ c. search needs) (λ c κs. search needs) (λ c. search needs) (λ c κs. used (c .before)) (λ c κs. used (c .before .before .before)) (λ c. search needs) (λ c. search needs) loop-again returns)

@@ -1,4 +1,4 @@
--- `rests::alone` meets its contract: the words of the numbers passed stand. Assumes nothing.
+-- `rests::note_alone` meets its contract: the words of the numbers passed stand. Assumes nothing.
 use mathlib.Core.Path.{_≡_, refl, sym, ap, _∙_}
 use mathlib.Core.List.{List}
 use Prim.Native.Nat.{ℕ, _+_, _-_, _^_, _≤_, _<_}
@@ -9,14 +9,14 @@ use lib.ListN.{getD, set, length-set}
 use lib.Seq.{getD-set-same, getD-set-other}
 use Rattle.theory.specs.Block.Laws.{getD-blank}
 use Rattle.rests.specs.Words.{Alone}
-use Rattle.rests.proofs.alone.Statement.{statement}
-use Rattle.rests.proofs.alone.Tie as tie
+use Rattle.rests.proofs.note_alone.Statement.{statement}
+use Rattle.rests.proofs.note_alone.Tie as tie
 
 abbrev Inv-loop : tie.InvT-loop
-Inv-loop first last words₀ i₀ words i = (first ≤ i) × Alone first last i words
+Inv-loop words₀ first last i₀ words i = (first ≤ i) × Alone first last i words
 
 abbrev μ-loop : tie.MeasureT-loop
-μ-loop first last words₀ i₀ words i = last - i
+μ-loop words₀ first last i₀ words i = last - i
 
 -- one word more
 module _ {first last i v : ℕ} {words : List ℕ} (h : first ≤ i) (l : i < last) (room : last ≤ 192) (is : v ≡ 2 ^ (i - first)) (a : Alone first last i words) where
@@ -37,12 +37,12 @@ module _ {first last i v : ℕ} {words : List ℕ} (h : first ≤ i) (l : i < la
 loop-holds : tie.Need-loop-holds Inv-loop μ-loop
 loop-holds c = (
   omega arith,
-  record {
+  rw (c .pre .2) (record {
     long = refl;
     each = λ n f k m. absurd (omega arith);
     less = λ n k. getD-blank 192 0 192 n;
     more = λ n k. getD-blank 192 0 192 n;
-  },
+  }),
 )
 
 loop-again : tie.Need-loop-again Inv-loop μ-loop
@@ -56,8 +56,8 @@ returns c =
     let a = c .before .loop .inv .1 in
     record { long = a .long; each = λ n f k m. a .each n f (omega (arith, c .loop-test .left)) m; less = a .less; more = a .more }
 
-pub alone-spec : {M : Type 1} → statement M
-alone-spec =
+pub note-alone-spec : {M : Type 1} → statement M
+note-alone-spec =
     tie.close
     (tie.spec Inv-loop μ-loop loop-holds (λ c. search needs) (λ c κs. search needs) (λ c. search needs) (λ c. search needs) (λ c. search needs)
     (λ c. search needs) loop-again returns)
