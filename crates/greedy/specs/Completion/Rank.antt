@@ -84,7 +84,7 @@ rest-pairs cs p x z h = p z (rest-among cs x z h .0)
 
 -- ---- two tight sets that share two elements are one
 
-exact-or : (cs : List ℕ) → NotOver cs → (x y : ℕ) → Exact cs x → Exact cs y → 2 ≤ ones (x ∩ y) → Exact cs (x ∪ y)
+pub exact-or : (cs : List ℕ) → NotOver cs → (x y : ℕ) → Exact cs x → Exact cs y → 2 ≤ ones (x ∩ y) → Exact cs (x ∪ y)
 unfolding NotOver
 exact-or cs fine x y ex ey b =
     let c : 2 ≤ ones (x ∪ y) = omega (arith, ⊑⇒size≤ x (x ∩ y) (a∩b⊑a x y), ⊑⇒size≤ (x ∪ y) x (a⊑a∪b x y)) in
