@@ -3,10 +3,10 @@ use Prim.Native.Nat.{ℕ, _+_, _-_, _≤_, _<_, _^_}
 use native.Mathlib.Omega.{arith}
 use mathlib.Core.Path.{_≡_, sym, ap, _∙_}
 use mathlib.Core.List.{List, [], _∷_, _++_}
-use Rattle.space.specs.Space.{Put}
 use Rattle.theory.specs.declared.Step.{Step}
 use Rattle.report.specs.Report.{stepLine}
 use Rattle.report.specs.Pieces.{Small}
+use Rattle.report.specs.Block.{block, Stands}
 use Rattle.part.specs.declared.Tally.{Tally}
 use Rattle.part.specs.Part.{partSteps}
 use Rattle.part.specs.Part.Laws.{Parts, parts-of, part-made}
@@ -80,9 +80,9 @@ module _ {e : ℕ} {step : ℕ → Step} {c : ℕ} {s : Step} (h : Made e step c
         k-room = room-first (of (s .k)) _ after-j
 
         module _ {s3 : List ℕ} {d : Tally} (listed-k : Listed s2 b (of (s .k)) d s3) where
-          pub own-room : (d .bytes + 310 < 2 ^ 64) × (d .steps + 1 < 2 ^ 64)
+          pub own-room : (d .bytes + 310 ≤ block) × (d .steps + 1 < 2 ^ 64)
           own-room = room-one s (room-rest (of (s .k)) _ after-j listed-k)
 
-          pub all-listed : {s4 : List ℕ} {next : ℕ} → Put s3 (d .bytes) (stepLine s) next s4
+          pub all-listed : {s4 : List ℕ} {next : ℕ} → Stands s3 (d .bytes) (stepLine s) next s4
               → Listed s0 t (of c) (record { steps = d .steps + 1; bytes = next }) s4
           all-listed p = listed-as (sym pieces) (listed-i also (listed-j also (listed-k also listed-one s p)))

@@ -5,9 +5,12 @@ ghost use Prim.Native.Nat.{_+_, _≤_, _<_};
 ghost use Rattle.sheet.specs.Answer.{Answers};
 ghost use Rattle.graph.specs.Lent.{graphIn, Drawn};
 ghost use Rattle.engine.specs.Steps.{stepAt};
+ghost use Rattle.report.specs.Block.{Numerals};
 ghost use Rattle.part.specs.Part.{partSteps, heldField, linesField};
 ghost use Rattle.part.specs.Tallies.{Lower, Listed, Room, measureOf, Tallied};
 use graph::Head;
+use report::BLOCK;
+use report::TEXT;
 use space::Written;
 
 // How many steps, and how many bytes their lines have.
@@ -22,10 +25,11 @@ pub enum Measured {
     Refused(u8),
 }
 
-// The lines of the steps of cluster c, from the place `t.bytes` on; none where it is initial. A call over no space measures.
+// The lines of the steps of cluster c, from the place `t.bytes` on, counted; none where it is initial.
 fn put_part(
-    out: &mut [u8],
+    out: &mut [u8; BLOCK],
     t: Tally,
+    text: &[u8; TEXT],
     parts: &[u16; 192],
     joints: &[u64; 64],
     start: &[u64; 200],
@@ -36,19 +40,21 @@ fn put_part(
 ) -> Tally
     requires { ⌜ (e ≤ 125) × (c < e + 62) × Lower e (stepAt lines e (now sizes) (now start) (now parts) (now joints)) c ⌝ }
     requires { ⌜ Room t (partSteps e (stepAt lines e (now sizes) (now start) (now parts) (now joints)) c) ⌝ }
+    requires { ⌜ Numerals (now text) ⌝ }
     ensures { λ r. ⌜ Listed (now (out .entry)) t
         (partSteps e (stepAt lines e (now (sizes .entry)) (now (start .entry)) (now (parts .entry)) (now (joints .entry))) c) r (now (out .exit)) ⌝ }
 {
     if c < e {
         return t;
     }
-    put_made(out, t, parts, joints, start, sizes, lines, e, c)
+    put_made(out, t, text, parts, joints, start, sizes, lines, e, c)
 }
 
 // The same of a cluster that a step makes: the lines of its parts, lowest first, then that of its own step.
 fn put_made(
-    out: &mut [u8],
+    out: &mut [u8; BLOCK],
     t: Tally,
+    text: &[u8; TEXT],
     parts: &[u16; 192],
     joints: &[u64; 64],
     start: &[u64; 200],
@@ -59,28 +65,29 @@ fn put_made(
 ) -> Tally
     requires { ⌜ (e ≤ 125) × (c < e + 62) × Lower e (stepAt lines e (now sizes) (now start) (now parts) (now joints)) c × (e ≤ c) ⌝ }
     requires { ⌜ Room t (partSteps e (stepAt lines e (now sizes) (now start) (now parts) (now joints)) c) ⌝ }
+    requires { ⌜ Numerals (now text) ⌝ }
     ensures { λ r. ⌜ Listed (now (out .entry)) t
         (partSteps e (stepAt lines e (now (sizes .entry)) (now (start .entry)) (now (parts .entry)) (now (joints .entry))) c) r (now (out .exit)) ⌝ }
 {
     let s = engine::step_at(parts, joints, start, sizes, lines, e, c - e);
-    let a = put_part(out, t, parts, joints, start, sizes, lines, e, s.i);
-    let b = put_part(out, a, parts, joints, start, sizes, lines, e, s.j);
-    let d = put_part(out, b, parts, joints, start, sizes, lines, e, s.k);
-    let next = report::put_step_line(out, d.bytes, s);
+    let a = put_part(out, t, text, parts, joints, start, sizes, lines, e, s.i);
+    let b = put_part(out, a, text, parts, joints, start, sizes, lines, e, s.j);
+    let d = put_part(out, b, text, parts, joints, start, sizes, lines, e, s.k);
+    let next = report::put_step_line(out, d.bytes, text, s);
     Tally {
         steps: d.steps + 1,
         bytes: next,
     }
 }
 
-// The lines of the steps of cluster c of a graph's plan, from the front of the space: 11, then 26. A call over no space measures.
+// The lines of the steps of cluster c of a graph's plan, from the front of the block, and how many they are: 11, then 26.
 fn put_cluster(
     h: Head,
     near: &[u64; 64],
     start: &[u64; 200],
     sizes: &[i32; 200],
     c: usize,
-    out: &mut [u8],
+    out: &mut [u8; BLOCK],
 ) -> Measured
     requires { ⌜ Drawn h (now near) (now start) ⌝ }
     ensures { λ r. ⌜ Tallied (heldField (graphIn h (now (start .entry)) (now (sizes .entry))) c) (now (out .entry)) r (now (out .exit)) ⌝ }
@@ -96,12 +103,24 @@ fn put_cluster(
     }
     let parts = run.parts;
     let joints = run.joints;
+    let text = report::numerals();
     let none = Tally { steps: 0, bytes: 0 };
-    let all = put_part(out, none, &parts, &joints, start, sizes, h.lines, h.e, c);
+    let all = put_part(
+        out,
+        none,
+        &text,
+        &parts,
+        &joints,
+        start,
+        sizes,
+        h.lines,
+        h.e,
+        c,
+    );
     Measured::Is(all)
 }
 
-// How many steps cluster c has and how many bytes their lines, without writing any: 11, then 26.
+// How many steps cluster c has and how many bytes their lines, into no lent space: 11, then 26.
 pub fn measure(
     h: Head,
     near: &[u64; 64],
@@ -112,12 +131,9 @@ pub fn measure(
     requires { ⌜ Drawn h (now near) (now start) ⌝ }
     ensures { λ r. ⌜ r ≡ measureOf (heldField (graphIn h (now (start .entry)) (now (sizes .entry))) c) ⌝ }
 {
-    let mut none = [0u8; 1];
-    put_cluster(h, near, start, sizes, c, &mut none[0..0])
+    let mut lines: [u8; BLOCK] = [0; BLOCK];
+    put_cluster(h, near, start, sizes, c, &mut lines)
 }
-
-// The longest list of one cluster's steps: 62 lines.
-const LONGEST: usize = 3534;
 
 // The steps of cluster c as the report's lines, into space that takes them whole or not at all: 11, then 26, then 17.
 pub fn list(
@@ -132,7 +148,7 @@ pub fn list(
     ensures { λ r. ⌜ Answers (linesField (heldField (graphIn h (now (start .entry)) (now (sizes .entry))) c)) (now (out .entry)) r
         (now (out .exit)) ⌝ }
 {
-    let mut whole: [u8; LONGEST] = [0; LONGEST];
+    let mut whole: [u8; BLOCK] = [0; BLOCK];
     let got = put_cluster(h, near, start, sizes, c, &mut whole);
     match got {
         Measured::Is(t) => {

@@ -5,12 +5,13 @@ use mathlib.Core.Path.{_≡_, ap, _∙_}
 use mathlib.Core.List.{List}
 use lib.ListN.{length, take}
 use Rattle.space.specs.declared.Written.{Written}
-use Rattle.space.specs.Space.{Put, answer, after}
-use Rattle.space.specs.Space.Laws.{put-stands}
+use Rattle.space.specs.Space.{answer, after}
+use Rattle.report.specs.Block.{Stands}
 
-module _ {items buffer filled : List ℕ} {len : ℕ} (room : length items ≤ length buffer) (p : Put buffer 0 items len filled) where
+module _ {items buffer filled : List ℕ} {len : ℕ} (room : length items ≤ length buffer) (p : Stands buffer 0 items len filled) where
   kept : take (len - 0) filled ≡ items
-  kept = ap (λ (k : ℕ). take k filled) {x = len - 0} {y = len} (omega arith) ∙ put-stands room p
+  kept =
+      ap (λ (k : ℕ). take k filled) {x = len - 0} {y = len} (omega arith) ∙ p .front-is (omega (arith, p .next-is))
 
   pub buffered : (space : List ℕ) {left : List ℕ} {r : Written}
       → (r ≡ answer (take (len - 0) filled) space) × (left ≡ after (take (len - 0) filled) space)

@@ -2,3 +2,4 @@
 pub mod Elements
 pub mod Report
 pub mod Pieces
+pub mod Block

@@ -44,12 +44,12 @@ restWords low high = ascii " rests on" ++ (numbers (elements low) ++ (numbers (a
 abbrev pub longest : ℕ
 longest = 4667
 
--- the numbers of a step, and of each of several, are below 1,000
+-- the numbers of a step, and of each of several, are below 256
 pub record Small (s : Step) : Type 0 where
-  pub made-small : s .made < 1000
-  pub i-small : s .i < 1000
-  pub j-small : s .j < 1000
-  pub k-small : s .k < 1000
+  pub made-small : s .made < 256
+  pub i-small : s .i < 256
+  pub j-small : s .j < 256
+  pub k-small : s .k < 256
 
 abbrev pub AllSmall : List Step → Type 0
 AllSmall [] = Unit {0}

@@ -15,15 +15,15 @@ use Rattle.part.proofs.list.Statement.{statement}
 use Rattle.part.proofs.list.Tie as tie
 
 -- what was measured
-module _ (c : tie.After-whole3) where
+module _ (c : tie.After-whole2) where
   abbrev entry : tie.Start
-  entry = c .before .before .before .before .before .before .before .before .before
+  entry = c .before .before .before .before .before .before .before .before
 
   abbrev graph : Graph
   graph = graphIn (entry .args .h) (entry .args .start .now) (entry .args .sizes .now)
 
   abbrev listed : tie.After-put-cluster
-  listed = c .before .before .before .before .before .before
+  listed = c .before .before .before .before .before
 
   has : Had (heldField graph (entry .args .c)) (c .before .before .before .got .given .0 .0)
   has = had _ (listed .put-cluster .ensures .measured) (c .before .before .before .got .given .1)
@@ -40,20 +40,20 @@ returns c =
     let x = c .before .before .before .before in
     let h = has x in
     answers-items
-    (buffered (short x) (rw (← h .bytes-are) at (listed x .put-cluster .ensures .puts (h .steps) (h .rest) (h .gives))) (entry x .args .out .now)
-    (c .before .before .put-whole .ensures))
+    (buffered (omega (arith, short x)) (rw (← h .bytes-are) at (listed x .put-cluster .ensures .puts (h .steps) (h .rest) (h .gives)))
+    (entry x .args .out .now) (c .before .before .put-whole .ensures))
     (ap linesField (h .gives))
 
 returns-2 : tie.Need-returns-2
 returns-2 c =
-    let s = c .before .before .before .before .before .before .before in
+    let s = c .before .before .before .before .before .before in
     let g = graphIn (s .args .h) (s .args .start .now) (s .args .sizes .now) in
     answers-refused
     (ap linesField
-    (not-had (heldField g (s .args .c)) (c .before .before .before .before .put-cluster .ensures .measured) (c .before .got2 .given .1)))
+    (not-had (heldField g (s .args .c)) (c .before .before .before .put-cluster .ensures .measured) (c .before .got2 .given .1)))
 
 pub list-spec : {M : Type 1} → statement M
 list-spec =
     tie.close
-    (tie.spec (λ c. search needs) (λ c κs. search needs) (λ c. search needs) (λ c. search needs) (λ c. search needs) part-put-whole-end
-    (λ c κs. search needs) (λ c. search needs) (λ c. search needs) returns returns-2)
+    (tie.spec (λ c κs. search needs) (λ c. search needs) (λ c. search needs) (λ c. search needs) part-put-whole-end (λ c κs. search needs)
+    (λ c. search needs) (λ c. search needs) returns returns-2)

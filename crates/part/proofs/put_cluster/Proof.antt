@@ -17,14 +17,14 @@ graph s = graphIn (s .args .h) (s .args .start .now) (s .args .sizes .now)
 
 returns : tie.Need-returns
 returns c =
-    let s = c .before .before .before .before in
+    let s = c .before .before .before in
     tallied-refused
     (over-refused (graph s) (s .pre .sound) _ (c .before .before .judge .ensures _) (sym (c .before .number .ensures) ∙ c .if1 .taken) (s .args .c))
 
 -- not over
 module _ (c : tie.Else1) where
   abbrev entry : tie.Start
-  entry = c .before .before .before .before
+  entry = c .before .before .before
 
   found : PlanFound (graph entry) (entry .pre .sound) (c .before .before .judge .result) (c .before .before .judge .ensures _)
   found = plan-found _ _ _ _ (λ v. c .if1 .left (c .before .number .ensures ∙ v))
@@ -59,10 +59,14 @@ returns-2 c =
 -- the number of a cluster
 put-part-requires : tie.Need-put-part-requires
 put-part-requires c κs =
-    let x = c .before .before .before .before .before .before .before .before .before in
+    let text = c .before .before .before .before in
+    let y = text .before .before .before in
+    let x = y .before .before .before .before in
     let s = entry x in
+    let asked =
     plan.asks (s .args .h) (s .args .start .now) (s .args .sizes .now) (s .pre .sound) (counted (s .pre)) (found x .notOver) _ (found x .run-is)
-    (s .args .c) (omega (arith, c .before .before .before .before .before .if2 .left))
+    (s .args .c) (omega (arith, y .if2 .left)) in
+    (asked .0, (asked .1, text .numerals .ensures))
 
 returns-3 : tie.Need-returns-3
 returns-3 c =
@@ -70,9 +74,9 @@ returns-3 c =
     let x = y .before .before .before .before in
     let s = entry x in
     plan.all-listed (s .args .h) (s .args .start .now) (s .args .sizes .now) (s .pre .sound) (counted (s .pre)) (found x .notOver) _ (found x .run-is)
-    (s .args .c) (omega (arith, y .if2 .left)) (found x .none) (c .before .before .put-part .ensures)
+    (s .args .c) (omega (arith, y .if2 .left)) (found x .none) (c .put-part .ensures)
 
 pub put-cluster-spec : {M : Type 1} → statement M
 put-cluster-spec =
     tie.close
-    (tie.spec (λ c κs. search needs) (λ c κs. search needs) returns add-if2 returns-2 put-part-requires (λ c. search needs) returns-3)
+    (tie.spec (λ c κs. search needs) (λ c κs. search needs) returns add-if2 returns-2 (λ c κs. search needs) put-part-requires returns-3)

@@ -5,10 +5,10 @@ use mathlib.Core.Path.{_≡_, refl, sym, ap, _∙_}
 use mathlib.Core.List.{List, []}
 use lib.ListN.{length}
 use Rattle.theory.specs.declared.Step.{Step}
-use Rattle.space.specs.Space.{Put}
 use Rattle.sheet.specs.Field.{Field, value, refused}
 use Rattle.sheet.specs.Field.Laws.{refused-value}
 use Rattle.report.specs.Report.{stepLines}
+use Rattle.report.specs.Block.{Stands}
 use Rattle.part.specs.declared.Tally.{Tally}
 use Rattle.part.specs.declared.Measured.{Measured}
 use Rattle.part.specs.declared.Measured.the-variants.{Is, Refused}
@@ -61,7 +61,7 @@ tallied-listed {x} {space} {after} {steps} {r} e l few = record {
     bytes : r .bytes ≡ length (stepLines steps)
     bytes = omega (arith, l .puts .next-is)
 
-    put : Put space 0 (stepLines steps) (length (stepLines steps)) after
+    put : Stands space 0 (stepLines steps) (length (stepLines steps)) after
     put = rw (← bytes) (l .puts)
 
     listed-same : {m : List Step} {rest : List ℕ} → x ≡ value m rest → steps ≡ m

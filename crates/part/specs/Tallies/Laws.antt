@@ -1,13 +1,13 @@
 -- One list of steps after another. Assumes nothing.
-use Prim.Native.Nat.{ℕ, _+_, _<_, _^_}
+use Prim.Native.Nat.{ℕ, _+_, _≤_, _<_, _^_}
 use native.Mathlib.Omega.{arith}
 use mathlib.Core.Path.{_≡_, refl, sym, ap, _∙_}
 use mathlib.Core.List.{List, [], _∷_, _++_, append-assoc, append-nil}
 use lib.ListN.{length, length-append}
-use Rattle.space.specs.Space.{Put}
-use Rattle.space.specs.Space.Laws.{put-none, put-as, _then_}
 use Rattle.theory.specs.declared.Step.{Step}
 use Rattle.report.specs.Report.{stepLine, stepLines}
+use Rattle.report.specs.Block.{block, Stands}
+use Rattle.report.specs.Block.Laws.{stands-none, stands-as, _then_}
 use Rattle.part.specs.declared.Tally.{Tally}
 use Rattle.part.specs.Tallies.{Listed, Room}
 
@@ -31,17 +31,17 @@ listed-as e p = rw e at p
 
 pub listed-none : (space : List ℕ) (t : Tally) → Listed space t [] t space
 unfolding stepLines
-listed-none space t = record { puts = put-none space (t .bytes); counts = omega arith }
+listed-none space t = record { puts = stands-none space (t .bytes); counts = omega arith }
 
-pub listed-one : {space after : List ℕ} {t : Tally} {next : ℕ} (s : Step) → Put space (t .bytes) (stepLine s) next after
+pub listed-one : {space after : List ℕ} {t : Tally} {next : ℕ} (s : Step) → Stands space (t .bytes) (stepLine s) next after
     → Listed space t (s ∷ []) (record { steps = t .steps + 1; bytes = next }) after
-listed-one s p = record { puts = put-as (sym (lines-one s)) p; counts = refl }
+listed-one s p = record { puts = stands-as (sym (lines-one s)) p; counts = refl }
 
 infixl 5 _also_
 pub _also_ : {s0 s1 s2 : List ℕ} {t0 t1 t2 : Tally} {xs ys : List Step} → Listed s0 t0 xs t1 s1 → Listed s1 t1 ys t2 s2
     → Listed s0 t0 (xs ++ ys) t2 s2
 _also_ {xs = xs} {ys = ys} p q = record {
-  puts = put-as (sym (lines-append xs ys)) (p .puts then q .puts);
+  puts = stands-as (sym (lines-append xs ys)) (p .puts then q .puts);
   counts = omega (arith, p .counts, q .counts, length-append xs ys);
 }
 
@@ -64,5 +64,5 @@ pub room-as : {t : Tally} {xs ys : List Step} → xs ≡ ys → Room t xs → Ro
 room-as e h = rw e at h
 
 -- the line of one step
-pub room-one : {t : Tally} (s : Step) → Room t (s ∷ []) → (t .bytes + 310 < 2 ^ 64) × (t .steps + 1 < 2 ^ 64)
+pub room-one : {t : Tally} (s : Step) → Room t (s ∷ []) → (t .bytes + 310 ≤ block) × (t .steps + 1 < 2 ^ 64)
 room-one s h = (omega (arith, h .bytes-fit), omega (arith, h .steps-fit))

@@ -12,12 +12,12 @@ use Rattle.report.proofs.put_clusters.Statement.{statement}
 use Rattle.report.proofs.put_clusters.Tie as tie
 
 abbrev Inv-loop : tie.InvT-loop
-Inv-loop out₀ at slots low high used next₀ c₀ out next c =
+Inv-loop out₀ at text slots low high used next₀ c₀ out next c =
     (c ≤ used) × Going out₀ at (clusterLines 0 (take used slots) (take used (wide low high))) out next
     (clusterLines c (drop c (take used slots)) (drop c (take used (wide low high))))
 
 abbrev μ-loop : tie.MeasureT-loop
-μ-loop out₀ at slots low high used next₀ c₀ out next c = used - c
+μ-loop out₀ at text slots low high used next₀ c₀ out next c = used - c
 
 -- one cluster after another
 next-line : (slots low high : List ℕ) (m c : ℕ) → length slots ≡ 192 → length low ≡ 192 → length high ≡ 192 → m ≤ 192 → c < m
@@ -32,28 +32,28 @@ next-line slots low high m c ls ll lh few h =
 
 put-slot-line-requires : tie.Need-put-slot-line-requires Inv-loop μ-loop
 put-slot-line-requires c κs =
-    let s = c .before .before .before .before .before .before .before in
+    let s = c .before .before .before .before .before .before in
     let h = c .before .before .before .before .loop-test .taken in
-    (omega (arith, h, s .pre .0), omega (arith, place (c .before .before .before .before .before .loop .inv .1), s .pre .4))
+    (s .pre .0, omega (arith, h, s .pre .1), omega (arith, place (c .before .before .before .before .before .loop .inv .1), s .pre .5))
 
 loop-again : tie.Need-loop-again Inv-loop μ-loop
 loop-again c =
-    let s = c .before .before .before .before .before .before .before .before .before .before in
-    let l = c .before .before .before .before .before .before .before .before .loop in
-    let h = c .before .before .before .before .before .before .before .loop-test .taken in (
+    let s = c .before .before .before .before .before .before .before in
+    let l = c .before .before .before .before .before .before .loop in
+    let h = c .before .before .before .before .before .loop-test .taken in (
       omega (arith, h),
-      put-next (next-line (s .args .slots .now) (s .args .low .now) (s .args .high .now) (s .args .used) (l .c) (s .pre .1) (s .pre .2) (s .pre .3)
-          (s .pre .0) h) (l .inv .1) (c .before .before .put-slot-line .ensures),
+      put-next (next-line (s .args .slots .now) (s .args .low .now) (s .args .high .now) (s .args .used) (l .c) (s .pre .2) (s .pre .3) (s .pre .4)
+          (s .pre .1) h) (l .inv .1) (c .put-slot-line .ensures),
     )
 
 returns : tie.Need-returns Inv-loop μ-loop
 returns c =
-    let a = c .before .before .before .args in
-    put-last (clusters-none (a .slots .now) (wide (a .low .now) (a .high .now)) (a .used) (c .before .loop .c) (c .loop-test .left)) (c .before .loop .inv .1)
+    let a = c .before .before .args in
+    put-last (clusters-none (a .slots .now) (wide (a .low .now) (a .high .now)) (a .used) (c .before .loop .c) (c .loop-test .left))
+    (c .before .loop .inv .1)
 
 pub put-clusters-spec : {M : Type 1} → statement M
 put-clusters-spec =
     tie.close
     (tie.spec Inv-loop μ-loop (λ c. (omega arith, start _)) (λ c. omega arith) (λ c. omega arith) (λ c. omega arith) (λ c. omega arith)
-    (λ c. omega arith) (λ c. omega arith) put-slot-line-requires (λ c. omega arith)
-    (λ c. omega arith) loop-again (λ c. returns c .length-is) returns)
+    (λ c. omega arith) (λ c. omega arith) put-slot-line-requires (λ c. omega arith) (λ c. omega arith) loop-again returns)

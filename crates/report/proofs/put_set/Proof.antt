@@ -2,7 +2,7 @@
 use borrow.Author.Needs.{needs}
 use native.Mathlib.Omega.{arith}
 use mathlib.Core.Path.{ap}
-use Rattle.space.specs.Space.Laws.{put-as}
+use Rattle.report.specs.Block.Laws.{stands-as}
 use Rattle.report.specs.Elements.{elements}
 use Rattle.report.specs.Pieces.{numbers}
 use Rattle.report.specs.Report.Laws.{above-zero}
@@ -12,10 +12,9 @@ use Rattle.report.proofs.put_set.Tie as tie
 
 returns : tie.Need-returns
 returns c =
-    let set = c .before .before in
-    let a = set .before .before .before .args .set in
-    let put = put-as (ap numbers (above-zero (elements a))) (set .put-set-from .ensures .0) in
+    let a = c .before .before .args .set in
+    let put = stands-as (ap numbers (above-zero (elements a))) (c .put-set-from .ensures .0) in
     (put, omega (arith, put .next-is, set-most a))
 
 pub put-set-spec : {M : Type 1} → statement M
-put-set-spec = tie.close (tie.spec (λ c κs. search needs) (λ c. search needs) returns)
+put-set-spec = tie.close (tie.spec (λ c κs. search needs) returns)

@@ -14,34 +14,37 @@ use Rattle.report.proofs.put_set_from.Statement.{statement}
 use Rattle.report.proofs.put_set_from.Tie as tie
 
 abbrev Inv-loop : tie.InvT-loop
-Inv-loop out₀ at first set next₀ rest₀ out next rest =
+Inv-loop out₀ at text first set next₀ rest₀ out next rest =
     (rest < 2 ^ 64) × Going out₀ at (numbers (above first (elements set))) out next (numbers (above first (elements rest)))
 
 abbrev μ-loop : tie.MeasureT-loop
-μ-loop out₀ at first set next₀ rest₀ out next rest = rest
+μ-loop out₀ at text first set next₀ rest₀ out next rest = rest
 
 put-number-requires : tie.Need-put-number-requires Inv-loop μ-loop
 put-number-requires c κs =
-    let l = c .before .before .loop in
-    (omega (arith, trailing-le 64 (l .rest), c .before .before .before .before .pre), omega (arith, place (l .inv .1), above-most (c .before .before .before .before .args .first) (c .before .before .before .before .args .set)))
+    let s = c .before .before .before in
+    let l = c .before .before .loop in (
+      s .pre .0,
+      omega (arith, trailing-le 64 (l .rest), s .pre .1),
+      omega (arith, place (l .inv .1), above-most (s .args .first) (s .args .set), s .pre .2),
+    )
 
 loop-again : tie.Need-loop-again Inv-loop μ-loop
 loop-again c =
-    let l = c .before .before .before .before .before .loop in (
+    let l = c .before .before .before .loop in (
       omega (arith, and-le-l (l .rest) (l .rest - 1)),
-      put-next (above-lowest _ (l .rest) (l .inv .0) (c .before .before .before .before .loop-test .taken)) (l .inv .1)
-          (c .before .before .put-number .ensures .0),
+      put-next (above-lowest _ (l .rest) (l .inv .0) (c .before .before .loop-test .taken)) (l .inv .1) (c .put-number .ensures .0),
     )
 
 returns : tie.Need-returns Inv-loop μ-loop
 returns c =
-    let first = c .before .before .before .args .first in
-    let put = put-last (ap (λ (a : ℕ). numbers (above first (elements a))) (search needs) ∙ above-none first) (c .before .loop .inv .1) in
-    (put, omega (arith, put .next-is, above-most (c .before .before .before .args .first) (c .before .before .before .args .set)))
+    let a = c .before .before .args in
+    let put = put-last (ap (λ (x : ℕ). numbers (above (a .first) (elements x))) (search needs) ∙ above-none (a .first)) (c .before .loop .inv .1) in
+    (put, omega (arith, put .next-is, above-most (a .first) (a .set)))
 
 pub put-set-from-spec : {M : Type 1} → statement M
 put-set-from-spec =
     tie.close
     (tie.spec Inv-loop μ-loop (λ c. (search needs, start _)) (λ c. omega (arith, trailing-le 64 (c .before .loop .rest)))
-    (λ c. omega (arith, trailing-le 64 (c .before .before .loop .rest), c .before .before .before .before .pre)) put-number-requires (λ c. omega arith) (λ c. let l = c .before .before .before .before .before .loop in omega (arith, and-le-r (l .rest) (l .rest - 1)))
-    loop-again (λ c. returns c .0 .length-is) returns)
+    (λ c. omega (arith, trailing-le 64 (c .before .before .loop .rest), c .before .before .before .pre .1)) put-number-requires (λ c. omega arith)
+    (λ c. let l = c .before .before .before .loop in omega (arith, and-le-r (l .rest) (l .rest - 1))) loop-again returns)

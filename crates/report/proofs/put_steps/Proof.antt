@@ -4,7 +4,7 @@ use native.Mathlib.Omega.{arith}
 use mathlib.Core.Path.{sym, ap, subst}
 use mathlib.Core.List.{List}
 use Rattle.theory.specs.declared.Step.{Step}
-use Rattle.space.specs.Space.Laws.{put-as}
+use Rattle.report.specs.Block.Laws.{stands-as}
 use Rattle.engine.specs.Steps.{stepAt, stepsFor, stepsIn}
 use Rattle.report.specs.Report.{stepLine, stepLines}
 use Rattle.report.specs.Pieces.{Small}
@@ -14,12 +14,12 @@ use Rattle.report.proofs.put_steps.Statement.{statement}
 use Rattle.report.proofs.put_steps.Tie as tie
 
 abbrev Inv-loop : tie.InvT-loop
-Inv-loop out₀ at parts joints start sizes lines e count next₀ t₀ out next t =
+Inv-loop out₀ at text parts joints start sizes lines e count next₀ t₀ out next t =
     (t ≤ count) × Going out₀ at (stepLines (stepsIn lines e sizes start parts joints count)) out next
     (stepLines (stepsFor (stepAt lines e sizes start parts joints) t (count - t)))
 
 abbrev μ-loop : tie.MeasureT-loop
-μ-loop out₀ at parts joints start sizes lines e count next₀ t₀ out next t = count - t
+μ-loop out₀ at text parts joints start sizes lines e count next₀ t₀ out next t = count - t
 
 -- the steps in the arrays
 abbrev steps : tie.Start Inv-loop μ-loop → ℕ → Step
@@ -32,33 +32,33 @@ none-put f count space a =
     (start (stepLines (stepsFor f 0 count)))
 
 loop-holds : tie.Need-loop-holds Inv-loop μ-loop
-loop-holds c = let s = c .before in (omega arith, none-put (steps s) (s .args .count) (s .args .out .now) (s .args .at))
+loop-holds c = (omega arith, none-put (steps c) (c .args .count) (c .args .out .now) (c .args .at))
 
 put-step-line-requires : tie.Need-put-step-line-requires Inv-loop μ-loop
 put-step-line-requires c κs =
-    let s = c .before .before .before .before .before in
+    let s = c .before .before .before .before in
     let l = c .before .before .before .loop in (
-      subst Small (sym (c .before .step-at .ensures)) (small-at (steps s) (s .args .count) (l .t) (s .pre .2) (c .before .before .loop-test .taken)),
-      omega (arith, place (l .inv .1), s .pre .3),
+      s .pre .0,
+      subst Small (sym (c .before .step-at .ensures)) (small-at (steps s) (s .args .count) (l .t) (s .pre .3) (c .before .before .loop-test .taken)),
+      omega (arith, place (l .inv .1), s .pre .4),
     )
 
 loop-again : tie.Need-loop-again Inv-loop μ-loop
 loop-again c =
-    let s = c .before .before .before .before .before .before .before .before in
-    let l = c .before .before .before .before .before .before .loop in
-    let h = c .before .before .before .before .before .loop-test .taken in (
+    let s = c .before .before .before .before .before in
+    let l = c .before .before .before .before .loop in
+    let h = c .before .before .before .loop-test .taken in (
       omega (arith, h),
       put-next (steps-next (steps s) (s .args .count) (l .t) h) (l .inv .1)
-          (put-as (ap stepLine (c .before .before .before .before .step-at .ensures)) (c .before .before .put-step-line .ensures)),
+          (stands-as (ap stepLine (c .before .before .step-at .ensures)) (c .put-step-line .ensures)),
     )
 
 returns : tie.Need-returns Inv-loop μ-loop
 returns c =
-    let s = c .before .before .before in
+    let s = c .before .before in
     put-last (steps-none (steps s) (s .args .count) (c .before .loop .t) (c .loop-test .left)) (c .before .loop .inv .1)
 
 pub put-steps-spec : {M : Type 1} → statement M
 put-steps-spec =
     tie.close
-    (tie.spec Inv-loop μ-loop loop-holds (λ c κs. omega arith) put-step-line-requires (λ c. omega arith) (λ c. omega arith) loop-again
-    (λ c. returns c .length-is) returns)
+    (tie.spec Inv-loop μ-loop loop-holds (λ c κs. omega arith) put-step-line-requires (λ c. omega arith) (λ c. omega arith) loop-again returns)

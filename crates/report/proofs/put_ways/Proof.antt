@@ -1,7 +1,7 @@
 -- `report::put_ways` meets its contract: a number or a text. Assumes nothing.
 use borrow.Author.Needs.{needs}
 use mathlib.Core.Path.{sym, ap}
-use Rattle.space.specs.Space.Laws.{put-as, _then_}
+use Rattle.report.specs.Block.Laws.{stands-as, _then_}
 use Rattle.report.specs.Pieces.{waysWords}
 use Rattle.report.proofs.put_ways.Statement.{statement}
 use Rattle.report.proofs.put_ways.Tie as tie
@@ -9,10 +9,8 @@ use Rattle.report.proofs.put_ways.Tie as tie
 pub put-ways-spec : {M : Type 1} → statement M
 put-ways-spec =
     tie.close
-    (tie.spec (λ c. search needs) (λ c. search needs) (λ c κs. search needs) (λ c κs. search needs) (λ c. search needs)
-    (λ c. search needs) (λ c κs. search needs) (λ c. search needs)
-    (λ c. let byte = c .before .before in let number = byte .before .before .before .before in
-    put-as (sym (ap waysWords (number .before .before .before .ways .given .1))) (number .put-number .ensures .0 then byte .put-byte .ensures))
-    (λ c. search needs)
-    (λ c. let text = c .before .before in
-    put-as (sym (ap waysWords (text .before .before .before .enum-told .given .1))) (text .put-text .ensures)))
+    (tie.spec (λ c. search needs) (λ c. search needs) (λ c κs. search needs) (λ c. search needs) (λ c κs. search needs) (λ c. search needs)
+    (λ c. search needs) (λ c κs. search needs)
+    (λ c. let number = c .before .before .before in
+    stands-as (sym (ap waysWords (number .before .before .before .ways .given .1))) (number .put-number .ensures .0 then c .put-word .ensures))
+    (λ c. stands-as (sym (ap waysWords (c .before .before .before .enum-told .given .1))) (c .put-word2 .ensures)))

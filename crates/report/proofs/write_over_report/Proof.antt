@@ -7,12 +7,13 @@ use Rattle.report.proofs.write_over_report.Tie as tie
 
 returns : tie.Need-returns
 returns c =
-    let lines = c .before .before .before .before .before .before .before in
+    let lines = c .before .before .before .before .before .before in
     let put = lines .put-over-report .ensures in
-    buffered (omega (arith, put .0 .next-is, put .1)) (put .0) (lines .before .before .before .args .out .now) (c .before .before .put-whole .ensures)
+    buffered (omega (arith, put .0 .next-is, put .1)) (put .0) (lines .before .before .before .before .before .args .out .now)
+    (c .before .before .put-whole .ensures)
 
 pub write-over-report-spec : {M : Type 1} → statement M
 write-over-report-spec =
     tie.close
-    (tie.spec (λ c. search needs) (λ c κs. search needs) (λ c. search needs) (λ c. search needs) (λ c. search needs) (λ c κs. search needs)
-    (λ c. search needs) returns)
+    (tie.spec (λ c κs. search needs) (λ c κs. search needs) (λ c. search needs) (λ c. search needs) (λ c. search needs)
+    (λ c κs. search needs) (λ c. search needs) returns)

@@ -1,17 +1,21 @@
 -- `report::write_report` meets its contract: the buffer has room for the report. Assumes nothing.
 use borrow.Author.Needs.{needs}
+use native.Mathlib.Omega.{arith}
 use Rattle.report.proofs.Buffered.{buffered}
 use Rattle.report.proofs.write_report.Statement.{statement}
 use Rattle.report.proofs.write_report.Tie as tie
 
+put-report-requires : tie.Need-put-report-requires
+put-report-requires c κs = (c .before .before .numerals .ensures, c .before .before .before .before .pre)
+
 returns : tie.Need-returns
 returns c =
-    let lines = c .before .before .before .before .before .before .before in
-    let entry = lines .before .before .before in
-    buffered (entry .pre .1) (lines .put-report .ensures) (entry .args .out .now) (c .before .before .put-whole .ensures)
+    let lines = c .before .before .before .before .before .before in
+    let entry = lines .before .before .before .before .before in
+    buffered (omega (arith, entry .pre .1)) (lines .put-report .ensures) (entry .args .out .now) (c .before .before .put-whole .ensures)
 
 pub write-report-spec : {M : Type 1} → statement M
 write-report-spec =
     tie.close
-    (tie.spec (λ c. search needs) (λ c κs. search needs) (λ c. search needs) (λ c. search needs) (λ c. search needs) (λ c κs. search needs)
-    (λ c. search needs) returns)
+    (tie.spec (λ c κs. search needs) put-report-requires (λ c. search needs) (λ c. search needs) (λ c. search needs)
+    (λ c κs. search needs) (λ c. search needs) returns)

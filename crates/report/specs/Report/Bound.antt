@@ -171,7 +171,7 @@ modest-steps g s (m ∷ p) v = (modest-step g s m (v .0), modest-steps g (put s 
 
 -- ---- and their numbers small
 
-small-step : (g : Graph) (s : List ℕ) (m : Merge) → OpenAt s m → length s < 1000 → Small (stepOf g s m)
+small-step : (g : Graph) (s : List ℕ) (m : Merge) → OpenAt s m → length s < 256 → Small (stepOf g s m)
 unfolding stepOf
 small-step g s m o h =
     let a = open-ascending s m o in
@@ -182,7 +182,7 @@ small-step g s m o h =
       k-small = omega (arith, alive-lt s (ascending m .k) (a .livek));
     }
 
-pub small-steps : (g : Graph) (s : List ℕ) (p : List Merge) → Valid s p → length s + length p ≤ 1000 → AllSmall (stepsFrom g s p)
+pub small-steps : (g : Graph) (s : List ℕ) (p : List Merge) → Valid s p → length s + length p ≤ 256 → AllSmall (stepsFrom g s p)
 unfolding stepsFrom
 small-steps g s [] v h = tt
 small-steps g s (m ∷ p) v h = (small-step g s m (v .0) (omega arith), small-steps g (put s m) p (v .1) (omega (arith, length-put s m)))
