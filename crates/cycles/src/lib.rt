@@ -28,7 +28,7 @@ fn without_run(near: &[u64; 64], all: u64, first: u8) -> u64
 }
 
 // The elements below n.
-fn below(n: usize) -> u64
+pub fn below(n: usize) -> u64
     requires { ⌜ (1 ≤ n) × (n ≤ 64) ⌝ }
     ensures { λ r. ⌜ r ≡ full n ⌝ }
 {

@@ -45,6 +45,10 @@ pub record Largest (near : List ℕ) (u : ℕ) : Type 0 where
 
 -- ---- taking elements away
 
+-- elements from n on have no neighbours
+pub record Beyond (near : List ℕ) (n : ℕ) : Type 0 where
+  pub none : (x : ℕ) → n ≤ x → x < 64 → getD near x 0 ≡ 0
+
 -- elements of u with at most two neighbours in u
 pub record Light (near : List ℕ) (u todo : ℕ) : Type 0 where
   pub light : (x : ℕ) → x ∈ todo → (x ∈ u) × (ones (getD near x 0 ∩ u) ≤ 2)

@@ -12,7 +12,7 @@ ghost use lib.ListN.{length, take, getD};
 ghost use Rattle.theory.specs.Set.{_∈_, _⊑_, at, full};
 ghost use Rattle.theory.specs.Near.{Simple, Standing, Near};
 ghost use Rattle.theory.specs.Verdict.{allLines};
-ghost use Rattle.peeling.specs.Core.{Core, Dense, Largest, Light, Heavy, Mutual, Peeled, Taken, Told};
+ghost use Rattle.peeling.specs.Core.{Core, Dense, Largest, Beyond, Light, Heavy, Mutual, Peeled, Taken, Told};
 ghost use Rattle.peeling.specs.Hard.{Shown, Linked, Left, Marks};
 
 // A byte as an index.
@@ -30,13 +30,29 @@ pub fn other_end(pair: u64, a: u8) -> u8
     sets::lowest(pair - sets::single(a))
 }
 
-// The elements with two neighbours at most.
-fn light_all(near: &[u64; 64]) -> u64
-    ensures { λ r. ⌜ Light (now (near .entry)) (full 64) r × ((x : ℕ) → x < 64 → at x r ≡ 0 → 3 ≤ ones (getD (now (near .entry)) x 0)) ⌝ }
+// How many elements come before those, from the highest down, that have no neighbour; one at least.
+fn used(near: &[u64; 64]) -> u8
+    ensures { λ r. ⌜ (1 ≤ r) × (r ≤ 64) × Beyond (now (near .entry)) r ⌝ }
+{
+    let mut n: u8 = 64;
+    while 1 < n {
+        let i = wide(n - 1);
+        if near[i] != 0 {
+            return n;
+        }
+        n = n - 1;
+    }
+    n
+}
+
+// The elements below n with two neighbours at most.
+fn light_all(near: &[u64; 64], n: u8) -> u64
+    requires { ⌜ n ≤ 64 ⌝ }
+    ensures { λ r. ⌜ Light (now (near .entry)) (full n) r × ((x : ℕ) → x < n → at x r ≡ 0 → 3 ≤ ones (getD (now (near .entry)) x 0)) ⌝ }
 {
     let mut todo: u64 = 0;
     let mut x: u8 = 0;
-    while x < 64 {
+    while x < n {
         let i = wide(x);
         if sets::without_lowest(sets::without_lowest(near[i])) == 0 {
             todo = todo | sets::single(x);
@@ -89,12 +105,13 @@ pub struct Peeling {
     pub angle: bool,
 }
 
-// Takes elements with two neighbours at most away, one after another.
-fn peel(near: &[u64; 64], low: u64, lines: u64) -> Peeling
-    requires { ⌜ Light (now near) (full 64) low × ((x : ℕ) → x < 64 → at x low ≡ 0 → 3 ≤ ones (getD (now near) x 0)) ⌝ }
+// Takes elements with two neighbours at most away, one after another; those from n on are gone.
+fn peel(near: &[u64; 64], n: u8, low: u64, lines: u64) -> Peeling
+    requires { ⌜ (1 ≤ n) × (n ≤ 64) × Beyond (now near) n × Light (now near) (full n) low
+        × ((x : ℕ) → x < n → at x low ≡ 0 → 3 ≤ ones (getD (now near) x 0)) ⌝ }
     ensures { λ r. ⌜ Taken (now (near .entry)) lines (r .left) (r .angle) × (Mutual (now (near .entry)) → Dense (now (near .entry)) (r .left)) ⌝ }
 {
-    let mut left: u64 = 18446744073709551615;
+    let mut left = cycles::below(wide(n));
     let mut todo = low;
     let mut angle = false;
     while todo != 0 {
@@ -108,13 +125,21 @@ fn peel(near: &[u64; 64], low: u64, lines: u64) -> Peeling
     Peeling { left, angle }
 }
 
+// The same of all elements.
+fn peel_all(near: &[u64; 64], lines: u64) -> Peeling
+    ensures { λ r. ⌜ Taken (now (near .entry)) lines (r .left) (r .angle) × (Mutual (now (near .entry)) → Dense (now (near .entry)) (r .left)) ⌝ }
+{
+    let n = used(near);
+    let low = light_all(near, n);
+    peel(near, n, low, lines)
+}
+
 // The elements that an over set can have; and where there is none, and 2n-3 constraints of n elements, whether some joint of the plan is three lines.
 pub fn peel_of(near: &[u64; 64], lines: u64) -> Peeling
     ensures { λ r. ⌜ ((cs : List ℕ) → Simple cs → Near cs (now (near .entry))
         → Told cs lines (r .left) (r .angle) × Largest (now (near .entry)) (r .left)) ⌝ }
 {
-    let low = light_all(near);
-    peel(near, low, lines)
+    peel_all(near, lines)
 }
 
 // The elements that an over set can have: the largest set whose elements have three neighbours each in it.
@@ -122,8 +147,7 @@ pub fn core_of(near: &[u64; 64]) -> u64
     ensures { λ r. ⌜ Peeled (now (near .entry)) r
         × ((cs : List ℕ) → Simple cs → Near cs (now (near .entry)) → Core cs r × Largest (now (near .entry)) r) ⌝ }
 {
-    let low = light_all(near);
-    let peeling = peel(near, low, 0);
+    let peeling = peel_all(near, 0);
     peeling.left
 }
 

@@ -6,9 +6,9 @@ use Rattle.peeling.proofs.core_of.Tie as tie
 
 returns : tie.Need-returns
 returns c =
-    let near = c .before .before .args .near .now in
-    let t = c .peel .ensures in
-    let left = c .peel .result .left in (
+    let near = c .before .args .near .now in
+    let t = c .peel-all .ensures in
+    let left = c .peel-all .result .left in (
       t .0 .peeled,
       λ cs simple is-near. (
         core-peeled cs near simple is-near left (t .0 .peeled),
@@ -17,4 +17,4 @@ returns c =
     )
 
 pub core-of-spec : {M : Type 1} → statement M
-core-of-spec = tie.close (tie.spec (λ c κs. search needs) (λ c κs. search needs) returns)
+core-of-spec = tie.close (tie.spec (λ c κs. search needs) returns)

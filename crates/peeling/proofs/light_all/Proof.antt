@@ -14,14 +14,14 @@ use Rattle.peeling.proofs.light_all.Statement.{statement}
 use Rattle.peeling.proofs.light_all.Tie as tie
 
 abbrev Inv-loop : tie.InvT-loop
-Inv-loop near todo₀ x₀ todo x =
-    (x ≤ 64) × Light near (full 64) todo × ((y : ℕ) → y < x → at y todo ≡ 0 → 3 ≤ ones (getD near y 0))
+Inv-loop near n todo₀ x₀ todo x =
+    (x ≤ n) × Light near (full n) todo × ((y : ℕ) → y < x → at y todo ≡ 0 → 3 ≤ ones (getD near y 0))
 
 abbrev μ-loop : tie.MeasureT-loop
-μ-loop near todo₀ x₀ todo x = 64 - x
+μ-loop near n todo₀ x₀ todo x = n - x
 
 loop-holds : tie.Need-loop-holds Inv-loop μ-loop
-loop-holds c = (omega arith, light-none (c .args .near .now) (full 64), λ y l z. absurd (omega arith))
+loop-holds c = (omega arith, light-none (c .args .near .now) (full (c .args .n)), λ y l z. absurd (omega arith))
 
 mul-without-lowest : tie.Need-mul-without-lowest Inv-loop μ-loop
 mul-without-lowest c = omega (arith, c .wide .ensures)
@@ -31,16 +31,17 @@ element-copy-out-without-lowest c = omega (arith, c .wide .ensures)
 
 loop-again : tie.Need-loop-again Inv-loop μ-loop
 loop-again c =
-    let near = c .before .before .before .before .before .before .before .args .near .now in
+    let s = c .before .before .before .before .before .before .before in
+    let near = s .args .near .now in
     let l = c .before .before .before .before .before .before .loop in
     let i = c .before .before .before .before .wide in
     let p = c .before .before .without-lowest in
     let q = c .before .without-lowest2 in (
       omega arith,
       ⊎-elim
-          (λ w. light-all-code near (l .todo) (l .inv .1) (c .before .before .before .before .before .loop-test .taken) (i .ensures) (w .1 .ensures)
+          (λ w. light-all-code near (s .args .n) (l .todo) (l .inv .1) (c .before .before .before .before .before .loop-test .taken) (i .ensures) (w .1 .ensures)
           (two-most (getD near (i .result) 0) (p .result) (q .result) (p .ensures) (q .ensures) (w .0 .taken)) (w .2))
-          (λ w. light-same near (full 64) (w .1) (l .inv .1)) (c .if1 .came),
+          (λ w. light-same near (full (s .args .n)) (w .1) (l .inv .1)) (c .if1 .came),
       λ y o. heavy-tried (λ z. z < l .x) (λ z. 3 ≤ ones (getD near z 0)) (l .todo) (l .x) (l .inv .2)
           (⊎-elim (λ w. inl (w .2 ∙ ap (bitOr (l .todo)) (w .1 .ensures)))
           (λ w. inr (

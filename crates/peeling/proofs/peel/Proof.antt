@@ -1,42 +1,47 @@
 -- `peel` meets its contract. The loop's invariant: elements are taken away down to left, and todo are light there. Assumes nothing.
-use mathlib.Core.Path.{_≡_, refl, ap, _∙_}
+use mathlib.Core.Path.{_≡_, ap, _∙_}
 use Prim.Native.Nat.{_-_}
 use native.Mathlib.Omega.{arith}
 use lib.ListN.{getD}
-use Rattle.peeling.specs.Core.{Light, Heavy, Mutual, whole, corners, Taken}
+use Rattle.peeling.specs.Core.{Light, Heavy, Mutual, Taken}
 use Rattle.peeling.specs.Core.Neighbours.{heavy-start}
 use Rattle.peeling.specs.Core.Peeling.{peeled-small, peel-room, todo-room, peel-less, light-next, heavy-left}
-use Rattle.peeling.specs.Core.Angle.{taken-next}
+use Rattle.peeling.specs.Core.Angle.{taken-start, taken-next}
 use Rattle.theory.specs.Set.{_∩_, _∪_, at, full}
 use Rattle.theory.specs.Set.Laws.{at-zero, a∩b⊑b}
-use Rattle.theory.specs.Verdict.{angled}
 use borrow.Author.Needs.{needs}
 use Rattle.peeling.proofs.peel.Statement.{statement}
 use Rattle.peeling.proofs.peel.Tie as tie
 
 abbrev Inv-loop : tie.InvT-loop
-Inv-loop near low lines left₀ todo₀ angle₀ left todo angle =
+Inv-loop near n low lines left₀ todo₀ angle₀ left todo angle =
     Taken near lines left angle × Light near left todo × (Mutual near → Heavy near left left todo)
 
 abbrev μ-loop : tie.MeasureT-loop
-μ-loop near low lines left₀ todo₀ angle₀ left todo angle = left
+μ-loop near n low lines left₀ todo₀ angle₀ left todo angle = left
 
 loop-holds : tie.Need-loop-holds Inv-loop μ-loop
-unfolding full corners angled
-loop-holds c = (record { peeled = whole; angle-is = refl }, c .pre .0, λ m. heavy-start (c .args .near .now) (c .args .low) m (c .pre .1))
+loop-holds c =
+    let s = c .before .before in
+    let near = s .args .near .now in
+    rw (c .below .ensures ∙ ap full (c .before .wide .ensures)) (
+      taken-start near (s .args .lines) (s .args .n) (s .pre .1) (s .pre .2),
+      s .pre .3,
+      λ m. heavy-start near (s .args .n) (s .args .low) (s .pre .1) (s .pre .2) m (s .pre .4),
+    )
 
 single-requires : tie.Need-single-requires Inv-loop μ-loop
 single-requires c κs = c .before .lowest .ensures .0
 
 mul-three-lines : tie.Need-mul-three-lines Inv-loop μ-loop
-mul-three-lines c = omega (arith, c .before .wide .ensures, c .before .before .lowest .ensures .0)
+mul-three-lines c = omega (arith, c .before .wide2 .ensures, c .before .before .lowest .ensures .0)
 
 element-copy-out-three-lines : tie.Need-element-copy-out-three-lines Inv-loop μ-loop
-element-copy-out-three-lines c = omega (arith, c .before .wide .ensures, c .before .before .lowest .ensures .0)
+element-copy-out-three-lines c = omega (arith, c .before .wide2 .ensures, c .before .before .lowest .ensures .0)
 
 sub-left : tie.Need-sub-left Inv-loop μ-loop
 sub-left c =
-    let s = c .before .before .before .before .before .before .before .before in
+    let s = c .before .before .before .before .before .before .before .before .before .before in
     let l = c .before .before .before .before .before .before .before .loop in
     let x = c .before .before .before .before .before .lowest in
     let b = c .before .before .before .single in
@@ -44,30 +49,30 @@ sub-left c =
 
 sub-todo : tie.Need-sub-todo Inv-loop μ-loop
 sub-todo c =
-    let s = c .before .before .before .before .before .before .before .before in
+    let s = c .before .before .before .before .before .before .before .before .before .before in
     let l = c .before .before .before .before .before .before .before .loop in
     let x = c .before .before .before .before .before .lowest in
     let b = c .before .before .before .single in
     todo-room (s .args .near .now) (l .left) (l .todo) (x .result) (b .result) (l .inv .1) (x .ensures .1) (b .ensures)
 
 mul-light-of : tie.Need-mul-light-of Inv-loop μ-loop
-mul-light-of c = omega (arith, c .before .before .before .before .wide .ensures, c .before .before .before .before .before .lowest .ensures .0)
+mul-light-of c = omega (arith, c .before .before .before .before .wide2 .ensures, c .before .before .before .before .before .lowest .ensures .0)
 
 element-copy-out-light-of : tie.Need-element-copy-out-light-of Inv-loop μ-loop
 element-copy-out-light-of c =
-    omega (arith, c .before .before .before .before .wide .ensures, c .before .before .before .before .before .lowest .ensures .0)
+    omega (arith, c .before .before .before .before .wide2 .ensures, c .before .before .before .before .before .lowest .ensures .0)
 
 light-of-requires : tie.Need-light-of-requires Inv-loop μ-loop
 unfolding _∩_
 light-of-requires c κs =
-    let s = c .before .before .before .before .before .before .before .before .before in
+    let s = c .before .before .before .before .before .before .before .before .before .before .before in
     let l = c .before .before .before .before .before .before .before .before .loop in
-    a∩b⊑b (getD (s .args .near .now) (c .before .before .before .before .before .wide .result) 0)
+    a∩b⊑b (getD (s .args .near .now) (c .before .before .before .before .before .wide2 .result) 0)
     (l .left - c .before .before .before .before .single .result)
 
 loop-less : tie.Need-loop-less Inv-loop μ-loop
 loop-less c =
-    let s = c .before .before .before .before .before .before .before .before .before .before in
+    let s = c .before .before .before .before .before .before .before .before .before .before .before .before in
     let l = c .before .before .before .before .before .before .before .before .before .loop in
     let x = c .before .before .before .before .before .before .before .lowest in
     let b = c .before .before .before .before .before .single in
@@ -76,10 +81,10 @@ loop-less c =
 loop-again : tie.Need-loop-again Inv-loop μ-loop
 unfolding _∩_ _∪_
 loop-again c =
-    let s = c .before .before .before .before .before .before .before .before .before .before in
+    let s = c .before .before .before .before .before .before .before .before .before .before .before .before in
     let l = c .before .before .before .before .before .before .before .before .before .loop in
     let x = c .before .before .before .before .before .before .before .lowest in
-    let i = c .before .before .before .before .before .before .wide in
+    let i = c .before .before .before .before .before .before .wide2 in
     let b = c .before .before .before .before .before .single in
     let t = c .before .before .before .three-lines in
     let n = c .before .before .either in (
@@ -102,6 +107,6 @@ returns c =
 pub peel-spec : {M : Type 1} → statement M
 peel-spec =
     tie.close
-    (tie.spec Inv-loop μ-loop loop-holds (λ c κs. search needs) (λ c κs. search needs) single-requires mul-three-lines
+    (tie.spec Inv-loop μ-loop (λ c κs. search needs) (λ c κs. omega (arith, c .wide .ensures, c .before .pre .0, c .before .pre .1)) loop-holds (λ c κs. search needs) (λ c κs. search needs) single-requires mul-three-lines
     element-copy-out-three-lines (λ c κs. search needs) (λ c κs. search needs) sub-left sub-todo mul-light-of
     element-copy-out-light-of light-of-requires loop-less loop-again returns)

@@ -1,13 +1,16 @@
 -- Three lines among the corners are three lines in a joint of the plan. Assumes nothing.
-use mathlib.Core.Path.{_≡_, refl, sym, ap₂, _∙_, subst}
+use mathlib.Core.Path.{_≡_, refl, sym, ap, ap₂, _∙_, subst}
 use mathlib.Core.Logic.{Iff·symm}
 use mathlib.Core.Bool.{Bool, true, false, _||_, _&&_}
 use mathlib.Core.List.{List, _∷_}
-use Prim.Native.Nat.{ℕ, _+_, _*_, _^_, _-_, _≤_}
+use Prim.Native.Nat.{ℕ, zero, suc, _+_, _*_, _^_, _-_, _≤_}
+use native.Mathlib.Omega.{arith}
 use lib.Count.{ones}
 use lib.Dec.{eqb}
 use lib.ListN.{length, getD}
-use Rattle.theory.specs.Set.{_∈_, _∩_, _∪_}
+use lib.Pow.{pow-pos}
+use Rattle.theory.specs.Set.{_∈_, _∩_, _∪_, full}
+use Rattle.theory.specs.Set.Laws.{size-zero, size-pow, size-∪, ⊑⇒size≤, a∩b⊑a, a∩b⊑b}
 use Rattle.theory.specs.Constraints.{Below}
 use Rattle.theory.specs.Near.{Simple, Near}
 use Rattle.theory.specs.Merge.{joints}
@@ -15,7 +18,8 @@ use Rattle.theory.specs.Plan.{planOf}
 use Rattle.theory.specs.Plan.Laws.{plan-of-maximal}
 use Rattle.theory.specs.Verdict.{allLines, angled}
 use Rattle.theory.specs.Verdict.Laws.{angled-same}
-use Rattle.peeling.specs.Core.{Core, Light, Peeled, less, corner, corners, Taken, Told}
+use Rattle.peeling.specs.Core.{Core, Beyond, Light, Peeled, whole, less, corner, corners, Taken, Told}
+use Rattle.peeling.specs.Core.Neighbours.{full-at}
 use Rattle.peeling.specs.Core.Peeling.{core-peeled, core-none}
 use Rattle.peeling.specs.Core.Joints.{joints-are}
 
@@ -41,6 +45,35 @@ all-told cs near simple is-near lines left angle t = record {
         let fine = core-none cs (subst (Core cs) z (core-peeled cs near simple is-near u d)) in
         angled-same lines (corners d) (joints cs (planOf cs))
         (λ y. Iff·symm (joints-are cs near simple is-near k below fine two most count u d z (planOf cs) (plan-of-maximal cs (simple .pairs)) y))
+
+-- ---- those without a neighbour are gone at the start
+
+full-less : (k : ℕ) → full (suc k) - 2 ^ k ≡ full k
+unfolding full
+full-less k = omega (arith, pow-pos k)
+
+module _ (near : List ℕ) (lines : ℕ) where
+  taken-from : (d n : ℕ) → d + n ≡ 64 → Beyond near n → Taken near lines (full n) false
+  unfolding corners angled
+  taken-from zero n e b =
+      let same : 64 ≡ n = omega arith in subst (λ (k : ℕ). Taken near lines (full k) false) same (record { peeled = whole; angle-is = refl })
+  taken-from (suc d) n e b =
+      let w = taken-from d (suc n) (omega arith) (record { none = λ x l m. b .none x (omega arith) m }) in
+      let around = getD near n 0 ∩ full (suc n) in
+      let none : ones around ≡ 0 =
+      omega (arith, ⊑⇒size≤ (getD near n 0) around (a∩b⊑a (getD near n 0) (full (suc n))), ap ones (b .none n (omega arith) (omega arith)), size-zero) in
+      let one : ones (corner near (full (suc n)) n) ≡ 1 =
+      omega (arith, size-∪ (2 ^ n) around, ⊑⇒size≤ around (2 ^ n ∩ around) (a∩b⊑b (2 ^ n) around), size-pow n, none) in
+      let q = full-at (suc n) n (omega arith) in
+      let h : ones around ≤ 2 = omega (arith, none) in
+      subst (λ (u : ℕ). Taken near lines u false) (full-less n) (record {
+        peeled = less n (w .peeled) q h;
+        angle-is = w .angle-is ∙ sym (angle-more near lines (full (suc n)) n (w .peeled) q h
+            ∙ ap (λ (k : ℕ). (eqb k 3 && allLines lines (corner near (full (suc n)) n)) || angled lines (corners (w .peeled))) one);
+      })
+
+  pub taken-start : (n : ℕ) → n ≤ 64 → Beyond near n → Taken near lines (full n) false
+  taken-start n most b = taken-from (64 - n) n (omega arith) b
 
 -- ---- one element taken away
 

@@ -13,7 +13,7 @@ use Rattle.theory.specs.Set.{_∈_, _∩_, _∪_, _⊑_, at, full}
 use Rattle.theory.specs.Set.Laws.{at-∪, at-le, at-zero, at-same, at-other, bit, size-zero, size-none, ⊑⇒size≤, ⊑-refl, a∩b⊑a, ∩-comm, ∩-mono}
 use Rattle.theory.specs.Set.Laws.{⊑⇒∩≡, both, out, cut-below, below-full}
 use Rattle.theory.specs.Set.Less.{drop-low, at-below, less-same, less-other, less-sub, less-out, less-in}
-use Rattle.peeling.specs.Core.{Light, Heavy, Mutual}
+use Rattle.peeling.specs.Core.{Beyond, Light, Heavy, Mutual}
 
 pub near-sub : (m u v : ℕ) → u ⊑ v → ones (m ∩ u) ≤ ones (m ∩ v)
 near-sub m u v h = ⊑⇒size≤ (m ∩ v) (m ∩ u) (∩-mono (⊑-refl m) h)
@@ -57,12 +57,12 @@ light-code near u todo {x} {i} {s} {new} t e ei es two q =
     (light-one near u todo x t e (subst (λ (k : ℕ). ones (bitAnd (getD near k 0) u) ≤ 2) ei two))
 
 -- two neighbours at most in all
-pub light-all-code : (near : List ℕ) (todo : ℕ) {x i s new : ℕ} → Light near (full 64) todo → x < 64 → i ≡ x → s ≡ 2 ^ x → ones (getD near i 0) ≤ 2
-    → new ≡ bitOr todo s → Light near (full 64) new
+pub light-all-code : (near : List ℕ) (n todo : ℕ) {x i s new : ℕ} → Light near (full n) todo → x < n → i ≡ x → s ≡ 2 ^ x → ones (getD near i 0) ≤ 2
+    → new ≡ bitOr todo s → Light near (full n) new
 unfolding _∩_
-light-all-code near todo {x} {i} t l ei es two q =
-    light-code near (full 64) todo t (full-at 64 x l) ei es
-    (omega (arith, ⊑⇒size≤ (getD near i 0) (getD near i 0 ∩ full 64) (a∩b⊑a (getD near i 0) (full 64)))) q
+light-all-code near n todo {x} {i} t l ei es two q =
+    light-code near (full n) todo t (full-at n x l) ei es
+    (omega (arith, ⊑⇒size≤ (getD near i 0) (getD near i 0 ∩ full n) (a∩b⊑a (getD near i 0) (full n)))) q
 
 pub light-same : (near : List ℕ) (u : ℕ) {todo new : ℕ} → new ≡ todo → Light near u todo → Light near u new
 light-same near u q t = subst (Light near u) (sym q) t
@@ -98,19 +98,28 @@ heavy-tried P Q todo x {new} f d y i z = elim (ℕ-discrete y x) [
   | no n ↦ f y (i n) (elim d [ inl w ↦ omega (arith, z, ap (at y) w, at-∪ y todo (2 ^ x)) | inr w ↦ ap (at y) (sym (w .0)) ∙ z ])
 ]
 
--- at the start every element is left
-pub heavy-start : (near : List ℕ) (todo : ℕ) → Mutual near → ((x : ℕ) → x < 64 → at x todo ≡ 0 → 3 ≤ ones (getD near x 0))
-    → Heavy near (full 64) (full 64) todo
-heavy-start near todo m f = record {
+-- at the start every element below n is left
+pub heavy-start : (near : List ℕ) (n todo : ℕ) → n ≤ 64 → Beyond near n → Mutual near
+    → ((x : ℕ) → x < n → at x todo ≡ 0 → 3 ≤ ones (getD near x 0)) → Heavy near (full n) (full n) todo
+heavy-start near n todo most none m f = record {
   heavy = λ x i o.
-      let l : x < 64 = at-below 64 x (full 64) (rw (⊑⇒∩≡ (full 64) (full 64) (⊑-refl (full 64))) at (cut-below 64 (full 64))) i in
-      rw (⊑⇒∩≡ (getD near x 0) (full 64) (record {
+      let l : x < n = at-below n x (full n) (rw (⊑⇒∩≡ (full n) (full n) (⊑-refl (full n))) at (cut-below n (full n))) i in
+      rw (⊑⇒∩≡ (getD near x 0) (full n) (record {
         le = λ y. elim (bit (at y (getD near x 0)) (at-le y (getD near x 0))) [
           | inl e ↦ omega arith
-          | inr e ↦ omega (arith, full-at 64 y (m .below x y l e))
+          | inr e ↦ omega (arith, full-at n y (within x y (omega arith) e))
         ];
       })) (f x l o);
 }
+  where
+    -- a neighbour has one
+    within : (x y : ℕ) → x < 64 → y ∈ getD near x 0 → y < n
+    within x y l e = elim (decLe n y) [
+      | yes h ↦
+          let small = m .below x y l e in
+          absurd (omega (arith, m .back x y l small e, ap (at x) (none .none y h small), at-zero x))
+      | no h ↦ omega arith
+    ]
 
 -- x is taken away, and its neighbours are tried
 pub heavy-next : (near : List ℕ) (u todo x r : ℕ) → u < 2 ^ 64 → Mutual near → Heavy near u u todo → x ∈ u → x ∈ todo
