@@ -201,6 +201,28 @@ pub struct Told {
     pub first: usize,
 }
 
+// What is told of a sheet with 2n-3 constraints from the engine's merges: those that leave one cluster show that it is not over.
+fn merged_told(h: Head, near: &[u64; 64], start: &[u64; 200]) -> Told
+    requires { ⌜ Drawn h (now near) (now start) × (h .e + 3 ≡ 2 * h .n) ⌝ }
+    ensures { λ r. ⌜ ((z : List ℤ) → Tells (graphIn h (now (start .entry)) z) (r .verdict) (r .first)) ⌝ }
+{
+    let run = merges::merge_all(start, h.e);
+    let joints = run.joints;
+    let slots = run.slots;
+    let steps = run.steps;
+    let verdict = engine::settle(&joints, &slots, steps, h.n, h.e, h.lines);
+    if 2 * steps + 1 == h.e {
+        return Told { verdict, first: 0 };
+    }
+    match over_of(h, near, start) {
+        Finding::First { constraint, .. } => Told {
+            verdict: Verdict::Over,
+            first: constraint,
+        },
+        Finding::Fine => Told { verdict, first: 0 },
+    }
+}
+
 // What is told of a sheet with 2n-3 constraints. One that peels off to the last element is well, unless three lines went so.
 pub fn full_told(h: Head, near: &[u64; 64], start: &[u64; 200]) -> Told
     requires { ⌜ Drawn h (now near) (now start) × (h .e + 3 ≡ 2 * h .n) ⌝ }
@@ -208,12 +230,7 @@ pub fn full_told(h: Head, near: &[u64; 64], start: &[u64; 200]) -> Told
 {
     let peeling = peeling::peel_of(near, h.lines);
     if peeling.left != 0 {
-        let judged = judge(h, near, start);
-        let verdict = judged.verdict;
-        return Told {
-            verdict,
-            first: judged.first,
-        };
+        return merged_told(h, near, start);
     }
     if peeling.angle {
         return Told {

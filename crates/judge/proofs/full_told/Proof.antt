@@ -1,14 +1,11 @@
--- `judge::full_told` meets its contract: what peels off to the last element is well, or angle where three lines went so; else the judgement tells.
+-- `judge::full_told` meets its contract: what peels off to the last element is well, or angle where three lines went so; else the merges tell.
 -- Assumes nothing.
 use borrow.Author.Needs.{needs}
 use native.Mathlib.Omega.{arith}
 use Rattle.graph.specs.Lent.Sheets.{counted}
-use Rattle.judge.specs.Judged.Short.{judged-tells, angle-peeled, well-peeled}
+use Rattle.judge.specs.Judged.Short.{angle-peeled, well-peeled}
 use Rattle.judge.proofs.full_told.Statement.{statement}
 use Rattle.judge.proofs.full_told.Tie as tie
-
-returns : tie.Need-returns
-returns c = λ z. judged-tells _ (c .before .before .before .before .pre .0 .sound) (c .judge .ensures z)
 
 returns-2 : tie.Need-returns-2
 returns-2 c =
@@ -23,4 +20,4 @@ returns-3 c =
     λ z. well-peeled _ (s .0 .sound) (omega (arith, s .1, counted (s .0))) t (omega (arith, c .before .if1 .left)) (c .if2 .left)
 
 pub full-told-spec : {M : Type 1} → statement M
-full-told-spec = tie.close (tie.spec (λ c κs. search needs) (λ c κs. search needs) returns returns-2 returns-3)
+full-told-spec = tie.close (tie.spec (λ c κs. search needs) (λ c κs. search needs) (λ c. c .merged-told .ensures) returns-2 returns-3)
