@@ -47,7 +47,7 @@ pub fn over_after(h: Head, near: &[u64; 64], start: &[u64; 200], steps: usize) -
     requires { ⌜ Drawn h (now near) (now start) × Reached (take (h .e) (now start)) steps ⌝ }
     ensures { λ r. ⌜ ((z : List ℤ) → r ≡ overFault (graphIn h (now (start .entry)) z)) ⌝ }
 {
-    if 2 * steps + 1 == h.e {
+    if h.e == 2 * steps + 1 {
         return 0;
     }
     over_fault(h, near, start)

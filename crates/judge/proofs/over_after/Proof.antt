@@ -18,7 +18,7 @@ returns : tie.Need-returns
 returns c =
     let s = c .before .before in
     let d = s .pre .0 in
-    λ z. sym (one-fault _ (d .sound) (s .pre .1) (c .if1 .taken ∙ sym (counted d)))
+    λ z. sym (one-fault _ (d .sound) (s .pre .1) (sym (c .if1 .taken) ∙ sym (counted d)))
 
 pub over-after-spec : {M : Type 1} → statement M
 over-after-spec =
