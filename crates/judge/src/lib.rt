@@ -4,7 +4,6 @@ ghost use mathlib.Core.List.{List, []};
 ghost use Prim.Native.Nat.{_+_, _*_, _≤_, _<_};
 ghost use lib.IntN.{ℤ};
 ghost use lib.ListN.{length, take};
-ghost use mathlib.Core.Bool.{true};
 ghost use mathlib.Core.Logic.{_≢_};
 ghost use Rattle.theory.specs.Graph.{Graph, findingOf, verdictOf};
 ghost use Rattle.theory.specs.Constraints.{Pairs};
@@ -19,6 +18,8 @@ use graph::Head;
 use merges::Run;
 use theory::Finding;
 use theory::Verdict;
+
+const EVERY_ELEMENT: u64 = 18446744073709551615;
 
 // The first constraint that makes the sheet over, with the smallest set; Fine where it is not over.
 pub fn over_of(h: Head, near: &[u64; 64], start: &[u64; 200]) -> Finding
@@ -77,18 +78,16 @@ fn listed(h: Head, run: Run) -> Judged
     }
 }
 
-// Does the sheet have three lines or more, and do no constraints run round? It is looked for only where there are fewer than elements.
-fn forest(h: Head, near: &[u64; 64]) -> bool
+// All elements that a joint or a ring of lines can have, where there are three lines or more: what is left when lines with one neighbour at most, and
+// rows of elements that end with one, are taken away.
+fn around(h: Head, near: &[u64; 64]) -> u64
     requires { ⌜ (1 ≤ h .n) × (h .n ≤ 64) ⌝ }
-    ensures { λ r. ⌜ (r ≡ true → HoldsBelow (now (near .entry)) (h .n) 0) ⌝ }
+    ensures { λ r. ⌜ HoldsBelow (now (near .entry)) (h .n) r ⌝ }
 {
     if u64::count_ones(h.lines) < 3 {
-        return false;
+        return EVERY_ELEMENT;
     }
-    if h.n <= h.e {
-        return false;
-    }
-    cycles::rounds(near, h.n) == 0
+    cycles::rounds(near, h.n, h.lines)
 }
 
 // No merge of the constraints.
@@ -105,12 +104,13 @@ fn unmerged(start: &[u64; 200], e: usize) -> Run
     }
 }
 
-// The judgement of a sheet that is not over. Where no constraints run round nothing merges, and no ring is looked for.
+// The judgement of a sheet that is not over. Where nothing is left that runs round nothing merges, and no ring is looked for.
 fn fine_judged(h: Head, near: &[u64; 64], start: &[u64; 200]) -> Judged
     requires { ⌜ Drawn h (now near) (now start) × (h .e + 3 ≢ 2 * h .n) × ((z : List ℤ) → findingOf (graphIn h (now start) z) ≡ Fine) ⌝ }
     ensures { λ r. ⌜ ((z : List ℤ) → r ≡ judgedOf (graphIn h (now (start .entry)) z)) ⌝ }
 {
-    if forest(h, near) {
+    let left = around(h, near);
+    if left == 0 {
         let run = unmerged(start, h.e);
         return Judged {
             verdict: Verdict::Under,
@@ -120,7 +120,12 @@ fn fine_judged(h: Head, near: &[u64; 64], start: &[u64; 200]) -> Judged
         };
     }
     let run = merges::merge_all(start, h.e);
-    listed(h, run)
+    let angles = Head {
+        n: h.n,
+        e: h.e,
+        lines: h.lines & left,
+    };
+    listed(angles, run)
 }
 
 // The judgement of a sheet with 2n-3 constraints. Merges that leave one cluster show that it is not over.
@@ -158,16 +163,14 @@ pub fn fine_verdict(h: Head, near: &[u64; 64], start: &[u64; 200]) -> Verdict
     requires { ⌜ Drawn h (now near) (now start) × (h .e + 3 < 2 * h .n) × ((z : List ℤ) → findingOf (graphIn h (now start) z) ≡ Fine) ⌝ }
     ensures { λ r. ⌜ ((z : List ℤ) → r ≡ verdictOf (graphIn h (now (start .entry)) z)) ⌝ }
 {
-    if u64::count_ones(h.lines) <= 2 {
-        return Verdict::Under;
-    }
-    if forest(h, near) {
+    let lines = h.lines & around(h, near);
+    if u64::count_ones(lines) <= 2 {
         return Verdict::Under;
     }
     let run = merges::merge_all(start, h.e);
     let joints = run.joints;
     let slots = run.slots;
-    engine::settle(&joints, &slots, run.steps, h.n, h.e, h.lines)
+    engine::settle(&joints, &slots, run.steps, h.n, h.e, lines)
 }
 
 // The verdict of a sheet with fewer than 2n-3 constraints.

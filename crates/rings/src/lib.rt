@@ -68,14 +68,31 @@ fn strip_rows(clusters: &[u64], l: u64) -> u64
     if twice != 0 {
         return l;
     }
-    cycles::rounds_in(&near, l) & l
+    cycles::rounds_in(&near, l, l) & l
+}
+
+// A count of lines as a count of clusters.
+fn size(count: u32) -> usize
+    ensures { λ r. ⌜ r ≡ count ⌝ }
+{
+    count as usize
+}
+
+// What the stripping begins with: without rows, unless the lines are so many that most clusters would be two of them.
+fn first_strip(clusters: &[u64], lines: u64) -> u64
+    ensures { λ r. ⌜ Keeps lines (now (clusters .entry)) r ⌝ }
+{
+    if clusters.len() / 2 < size(u64::count_ones(lines)) {
+        return lines;
+    }
+    strip_rows(clusters, lines)
 }
 
 // Do lines stay, however often they are stripped?
 pub fn ringed(clusters: &[u64], lines: u64) -> bool
     ensures { λ r. ⌜ r ≡ isRinged lines (now (clusters .entry)) ⌝ }
 {
-    let mut l = lines;
+    let mut l = first_strip(clusters, lines);
     while l != 0 {
         let next = strip_lines(clusters, l);
         if next == l {

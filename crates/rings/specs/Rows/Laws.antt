@@ -283,6 +283,27 @@ module _ (lines : ℕ) (s : List ℕ) (l : ℕ) (w : Keeps lines s l) where
       by true t = refl
       by false t = absurd t
 
+-- ---- lines that may be left out
+
+-- what keeps all that no stripping takes off has a ring where they have one
+pub kept-same : (lines : ℕ) (s : List ℕ) (l : ℕ) → Keeps lines s l → ringed l s ≡ ringed lines s
+kept-same lines s l w = by (ℕ-discrete last 0)
+  where
+    last : ℕ
+    last = stripped (ones l) s l
+
+    last-kept : Keeps l s last
+    last-kept = record {
+      sub = stripped-sub (ones l) s l;
+      stays = λ g sub same. subst (λ (z : ℕ). z ⊑ last) (stripped-same (ones l) s g same) (stripped-mono (ones l) s g l sub);
+    }
+
+    by : Dec (last ≡ 0) → ringed l s ≡ ringed lines s
+    by (yes z) = sym (kept-none l s last last-kept z) ∙ kept-none lines s last (keep-on lines s l last w last-kept) z
+    by (no n) =
+        let ends = stripped-ends (ones l) s l (omega arith) in
+        sym (kept-some l s last last-kept n ends) ∙ kept-some lines s last (keep-on lines s l last w last-kept) n ends
+
 -- ---- one cluster
 
 linked-lives : (l c x : ℕ) → at x (linked l c) ≤ living c
