@@ -14,7 +14,6 @@ use Rattle.judge.specs.declared.Judged.{Judged}
 pub mod Laws
 pub mod Lists
 pub mod Short
-pub mod Angles
 
 -- a list of merges of the constraints, with its own verdict
 unfoldable pub listed : Graph → List Merge → Judged

@@ -13,8 +13,11 @@ ghost use Rattle.graph.specs.Lent.{graphIn, Drawn};
 ghost use Rattle.merges.specs.Run.{runOf, Start, Merged};
 ghost use Rattle.cycles.specs.Cycle.{HoldsBelow};
 ghost use Rattle.judge.specs.Judged.{listed as listedOf, overFound, judgedOf};
+ghost use Rattle.judge.specs.Angles.{Open, PlanIn, headIn};
 ghost use Rattle.judge.specs.Telling.{Tells};
 use graph::Head;
+use merges::ELEMENTS;
+use merges::PLACES;
 use merges::Run;
 use theory::Finding;
 use theory::Verdict;
@@ -78,8 +81,8 @@ fn listed(h: Head, run: Run) -> Judged
     }
 }
 
-// All elements that a joint or a ring of lines can have, where there are three lines or more: what is left when lines with one neighbour at most, and
-// rows of elements that end with one, are taken away.
+// All elements that a joint or a ring of lines can have: what is left when lines with one neighbour at most, and rows of elements that end with one,
+// are taken away. Nothing is where there are two lines or fewer, or as many constraints as elements.
 fn around(h: Head, near: &[u64; 64]) -> u64
     requires { ⌜ (1 ≤ h .n) × (h .n ≤ 64) ⌝ }
     ensures { λ r. ⌜ HoldsBelow (now (near .entry)) (h .n) r ⌝ }
@@ -87,7 +90,21 @@ fn around(h: Head, near: &[u64; 64]) -> u64
     if u64::count_ones(h.lines) < 3 {
         return EVERY_ELEMENT;
     }
+    if h.n <= h.e {
+        return EVERY_ELEMENT;
+    }
     cycles::rounds(near, h.n, h.lines)
+}
+
+// A sheet with those of its lines alone that are in a set.
+fn lines_in(h: Head, set: u64) -> Head
+    ensures { λ r. ⌜ r ≡ headIn h set ⌝ }
+{
+    Head {
+        n: h.n,
+        e: h.e,
+        lines: h.lines & set,
+    }
 }
 
 // No merge of the constraints.
@@ -104,7 +121,36 @@ fn unmerged(start: &[u64; 200], e: usize) -> Run
     }
 }
 
-// The judgement of a sheet that is not over. Where nothing is left that runs round nothing merges, and no ring is looked for.
+// The verdict of a sheet that is not over and has other than 2n-3 constraints, from the engine's merges. Rings are looked for among lines that turn.
+fn angle_or_under(
+    h: Head,
+    near: &[u64; 64],
+    joints: &[u64; ELEMENTS],
+    slots: &[u64; PLACES],
+    steps: usize,
+) -> Verdict
+    requires { ⌜ (h .e ≤ 125) × (2 * steps ≤ h .e) × (length (now near) ≡ 64) × (length (now joints) ≡ 64) × (length (now slots) ≡ 192) ⌝ }
+    ensures { λ r. ⌜ ((g : Graph) → Open g (now (near .entry)) → PlanIn g (now (joints .entry)) (now (slots .entry)) steps → g .lines ≡ h .lines
+        → length (g .clusters) ≡ h .e → r ≡ verdictOf g) ⌝ }
+{
+    if u64::count_ones(h.lines) <= 2 {
+        return Verdict::Under;
+    }
+    if engine::angled(joints, steps, h.lines) {
+        return Verdict::Angle;
+    }
+    let all = &slots[..];
+    let e = h.e;
+    let used = e + steps;
+    let lines = rings::turning(near, &all[e..used], h.lines);
+    if engine::round(slots, steps, e, lines) {
+        Verdict::Angle
+    } else {
+        Verdict::Under
+    }
+}
+
+// The judgement of a sheet that is not over. Where nothing is left that runs round nothing merges.
 fn fine_judged(h: Head, near: &[u64; 64], start: &[u64; 200]) -> Judged
     requires { ⌜ Drawn h (now near) (now start) × (h .e + 3 ≢ 2 * h .n) × ((z : List ℤ) → findingOf (graphIn h (now start) z) ≡ Fine) ⌝ }
     ensures { λ r. ⌜ ((z : List ℤ) → r ≡ judgedOf (graphIn h (now (start .entry)) z)) ⌝ }
@@ -120,12 +166,15 @@ fn fine_judged(h: Head, near: &[u64; 64], start: &[u64; 200]) -> Judged
         };
     }
     let run = merges::merge_all(start, h.e);
-    let angles = Head {
-        n: h.n,
-        e: h.e,
-        lines: h.lines & left,
-    };
-    listed(angles, run)
+    let joints = run.joints;
+    let slots = run.slots;
+    let verdict = angle_or_under(lines_in(h, left), near, &joints, &slots, run.steps);
+    Judged {
+        verdict,
+        first: 0,
+        set: 0,
+        run,
+    }
 }
 
 // The judgement of a sheet with 2n-3 constraints. Merges that leave one cluster show that it is not over.
@@ -163,14 +212,14 @@ pub fn fine_verdict(h: Head, near: &[u64; 64], start: &[u64; 200]) -> Verdict
     requires { ⌜ Drawn h (now near) (now start) × (h .e + 3 < 2 * h .n) × ((z : List ℤ) → findingOf (graphIn h (now start) z) ≡ Fine) ⌝ }
     ensures { λ r. ⌜ ((z : List ℤ) → r ≡ verdictOf (graphIn h (now (start .entry)) z)) ⌝ }
 {
-    let lines = h.lines & around(h, near);
-    if u64::count_ones(lines) <= 2 {
+    let angles = lines_in(h, around(h, near));
+    if u64::count_ones(angles.lines) <= 2 {
         return Verdict::Under;
     }
     let run = merges::merge_all(start, h.e);
     let joints = run.joints;
     let slots = run.slots;
-    engine::settle(&joints, &slots, run.steps, h.n, h.e, lines)
+    angle_or_under(angles, near, &joints, &slots, run.steps)
 }
 
 // The verdict of a sheet with fewer than 2n-3 constraints.

@@ -3,7 +3,7 @@
 ghost use mathlib.Core.Path.{_≡_};
 ghost use lib.ListN.{length};
 ghost use Rattle.theory.specs.Ring.{linked as linkedOf, strip, ringed as isRinged};
-ghost use Rattle.rings.specs.Rows.{Joined, Keeps};
+ghost use Rattle.rings.specs.Rows.{Joined, Keeps, Turned};
 
 // The lines of l that a cluster holds, none if there is only one.
 fn linked(cluster: u64, l: u64) -> u64
@@ -71,28 +71,26 @@ fn strip_rows(clusters: &[u64], l: u64) -> u64
     cycles::rounds_in(&near, l, l) & l
 }
 
-// A count of lines as a count of clusters.
-fn size(count: u32) -> usize
-    ensures { λ r. ⌜ r ≡ count ⌝ }
+// Those of the lines that are left when lines are taken away that share a constraint or one of the merged clusters with one other at most.
+pub fn turning(near: &[u64; 64], merged: &[u64], lines: u64) -> u64
+    requires { ⌜ length (now near) ≡ 64 ⌝ }
+    ensures { λ r. ⌜ Turned (now (near .entry)) (now (merged .entry)) lines r ⌝ }
 {
-    count as usize
-}
-
-// What the stripping begins with: without rows, unless the lines are so many that most clusters would be two of them.
-fn first_strip(clusters: &[u64], lines: u64) -> u64
-    ensures { λ r. ⌜ Keeps lines (now (clusters .entry)) r ⌝ }
-{
-    if clusters.len() / 2 < size(u64::count_ones(lines)) {
-        return lines;
+    let mut among = *near;
+    let mut i: usize = 0;
+    while i < merged.len() {
+        let m = linked(merged[i], lines);
+        join(&mut among, m);
+        i += 1;
     }
-    strip_rows(clusters, lines)
+    cycles::rounds_in(&among, lines, lines) & lines
 }
 
 // Do lines stay, however often they are stripped?
 pub fn ringed(clusters: &[u64], lines: u64) -> bool
     ensures { λ r. ⌜ r ≡ isRinged lines (now (clusters .entry)) ⌝ }
 {
-    let mut l = first_strip(clusters, lines);
+    let mut l = lines;
     while l != 0 {
         let next = strip_lines(clusters, l);
         if next == l {

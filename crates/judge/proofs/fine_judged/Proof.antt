@@ -1,18 +1,17 @@
--- `judge::fine_judged` meets its contract: where nothing runs round there is no plan, and else the engine's merges are
--- listed. Assumes nothing.
+-- `judge::fine_judged` meets its contract: where nothing runs round there is no plan, and else the engine's merges are judged. Assumes nothing.
 use borrow.Author.Needs.{needs}
 use Prim.Native.Nat.{_≤_}
 use native.Mathlib.Omega.{arith}
-use mathlib.Core.Path.{refl, sym, _∙_}
+use mathlib.Core.Path.{refl, sym, ap, _∙_}
 use mathlib.Core.List.{[]}
 use lib.ListN.{take}
-use Rattle.theory.specs.Set.{_∩_}
 use Rattle.theory.specs.Constraints.{NotOver}
+use Rattle.graph.specs.declared.Head.{Head}
 use Rattle.graph.specs.Lent.{graphIn}
 use Rattle.graph.specs.Lent.Sheets.{counted, found-fine, fine-few}
 use Rattle.judge.specs.Judged.Laws.{starts, steps-few}
-use Rattle.judge.specs.Judged.Short.{fine-judged}
-use Rattle.judge.specs.Judged.Angles.{linesIn, same-judged, none-judged}
+use Rattle.judge.specs.Angles.{linesIn}
+use Rattle.judge.specs.Angles.Laws.{run-places, drawn-open, run-judged, planned-run, plan-in, open-in, same-verdict, none-judged}
 use Rattle.judge.proofs.fine_judged.Statement.{statement}
 use Rattle.judge.proofs.fine_judged.Tie as tie
 
@@ -27,31 +26,37 @@ returns : tie.Need-returns
 returns c = λ z.
     let s = c .before .before .before in
     let a = c .before .before .around in
-    let d = s .pre .0 in
-    none-judged (graphIn (s .args .h) (s .args .start .now) z) (d .sound) (s .args .near .now) (d .near-is) (s .pre .2 z) (a .result) (a .ensures)
-    (c .before .if1 .taken) (λ e. s .pre .1 (sym (rw (counted d)) ∙ e)) (c .unmerged .ensures)
+    let (d, ne, fine) = s .pre in
+    none-judged (graphIn (s .args .h) (s .args .start .now) z) (s .args .near .now) (drawn-open d z (fine z) ne) (a .result) (a .ensures)
+    (c .before .if1 .taken) (c .unmerged .ensures)
 
-listed-requires : tie.Need-listed-requires
-listed-requires c κs =
-    let s = c .before .before .before .before in
+angle-or-under-requires : tie.Need-angle-or-under-requires
+angle-or-under-requires c κs =
+    let s = c .before .before .before .before .before .before .before .before in
     let d = s .pre .0 in
-    (d .sound .most, few s, omega (arith, steps-few _ (d .sound .simple .pairs) (c .before .merge-all .ensures .merged), counted d))
+    let is = c .before .before .lines-in .ensures in
+    let m = c .before .before .before .before .before .merge-all .ensures .merged in
+    let e = ap (λ (h : Head). h .e) is in
+    let places = run-places _ (d .sound .simple .pairs) m (omega (arith, few s, counted d)) in
+    (omega (arith, e, few s), omega (arith, e, steps-few _ (d .sound .simple .pairs) m, counted d), d .near-is .places, places .0, places .1)
 
 returns-2 : tie.Need-returns-2
-unfolding _∩_
 returns-2 c = λ z.
-    let p = c .before .before .merge-all .ensures in
-    let a = c .before .before .before .before .around in
-    let s = c .before .before .before .before .before in
-    let d = s .pre .0 in
+    let s = c .before .before .before .before .before .before .before .before .before in
+    let a = c .before .before .before .before .before .before .before .before .around in
+    let is = c .before .before .before .lines-in .ensures in
+    let p = c .before .before .before .before .before .before .merge-all .ensures in
+    let (d, ne, fine) = s .pre in
     let g = graphIn (s .args .h) (s .args .start .now) z in
-    let k = linesIn g (a .result) in
-    c .listed .ensures k (p .merged) (d .sound .simple .pairs) refl refl (counted d)
-    ∙ fine-judged k (d .sound) p (not-over s)
-    ∙ same-judged g (d .sound) (s .args .near .now) (d .near-is) (s .pre .2 z) (a .result) (a .ensures)
+    let o = drawn-open d z (fine z) ne in
+    run-judged g _ o
+    (c .angle-or-under .ensures (linesIn g (a .result)) (open-in g _ o (a .result) (a .ensures)) (plan-in _ _ (open-in g _ o (a .result) (a .ensures)) p)
+    (sym (ap (λ (h : Head). h .lines) is)) (counted d ∙ sym (ap (λ (h : Head). h .e) is))
+    ∙ same-verdict g _ o (a .result) (a .ensures))
+    (planned-run g _ o p)
 
 pub fine-judged-spec : {M : Type 1} → statement M
 fine-judged-spec =
     tie.close
     (tie.spec (λ c κs. search needs) (λ c κs. starts (c .before .before .pre .0) (few (c .before .before))) returns
-    (λ c κs. starts (c .before .before .pre .0) (few (c .before .before))) listed-requires returns-2)
+    (λ c κs. starts (c .before .before .pre .0) (few (c .before .before))) (λ c κs. search needs) angle-or-under-requires returns-2)

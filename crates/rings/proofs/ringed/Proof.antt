@@ -6,7 +6,7 @@ use lib.Count.{ones}
 use Rattle.theory.specs.Set.Laws.{⊑⇒size≤}
 use Rattle.theory.specs.Ring.{strip}
 use Rattle.rings.specs.Rows.{Keeps}
-use Rattle.rings.specs.Rows.Laws.{keep-on, strip-keeps, kept-some, kept-none}
+use Rattle.rings.specs.Rows.Laws.{all-kept, keep-on, strip-keeps, kept-some, kept-none}
 use Rattle.rings.specs.Turns.Laws.{strip-fewer}
 use Rattle.rings.proofs.ringed.Statement.{statement}
 use Rattle.rings.proofs.ringed.Tie as tie
@@ -25,7 +25,7 @@ returns c =
 loop-less : tie.Need-loop-less Inv-loop μ-loop
 loop-less c =
     let l = c .before .before .before .before .loop in
-    let s = c .before .before .before .before .before .before .before .args .clusters .now in
+    let s = c .before .before .before .before .before .before .args .clusters .now in
     let next = c .before .before .strip-lines in
     omega (
       arith,
@@ -37,7 +37,7 @@ loop-less c =
 loop-again : tie.Need-loop-again Inv-loop μ-loop
 loop-again c =
     let l = c .before .before .before .before .loop in
-    let a = c .before .before .before .before .before .before .before .args in
+    let a = c .before .before .before .before .before .before .args in
     let s = a .clusters .now in
     let next = c .before .before .strip-lines in
     keep-on (a .lines) s (next .result) (c .strip-rows .result)
@@ -47,5 +47,5 @@ loop-again c =
 pub ringed-spec : {M : Type 1} → statement M
 ringed-spec =
     tie.close
-    (tie.spec Inv-loop μ-loop (λ c κs. search needs) (λ c. c .first-strip .ensures) (λ c κs. search needs) returns (λ c κs. search needs) loop-less loop-again
+    (tie.spec Inv-loop μ-loop (λ c. all-kept _ _) (λ c κs. search needs) returns (λ c κs. search needs) loop-less loop-again
     (λ c. kept-none _ _ (c .before .loop .l) (c .before .loop .inv) (c .loop-test .left)))

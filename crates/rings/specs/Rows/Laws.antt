@@ -134,7 +134,7 @@ linked-in l c x h = by (decLe 2 (ones (c ∩ l)))
     by (yes t) = let r = ∈-∩⁻ x c l (ap (at x) (many l c t) ∙ h) in (r .0, r .1, t)
     by (no n) = absurd (omega (arith, ap (at x) (few l c (omega (arith, n))), at-zero x))
 
-in-linked : (l c x : ℕ) → x ∈ c → x ∈ l → 2 ≤ ones (c ∩ l) → x ∈ linked l c
+pub in-linked : (l c x : ℕ) → x ∈ c → x ∈ l → 2 ≤ ones (c ∩ l) → x ∈ linked l c
 unfolding _∩_
 in-linked l c x p q t = ap (at x) (sym (many l c t)) ∙ both x c l p q
 
