@@ -1,5 +1,5 @@
-// Constraints that run round: elements with one neighbour at most are taken away, one after another, and where none is left the constraint graph is a
-// forest. Contracts cite this crate's Cycle.
+// Constraints that run round: elements with one neighbour at most are taken away, one after another, and whatever runs round is among those left.
+// Contracts cite this crate's Cycle.
 ghost use mathlib.Core.Path.{_≡_};
 ghost use Prim.Native.Nat.{_≤_, _<_};
 ghost use Rattle.theory.specs.Set.{_∈_, full};

@@ -13,7 +13,7 @@ ghost use Rattle.graph.specs.Lent.{graphIn, Drawn};
 ghost use Rattle.merges.specs.Run.{runOf, Start, Merged};
 ghost use Rattle.cycles.specs.Cycle.{HoldsBelow};
 ghost use Rattle.judge.specs.Judged.{listed as listedOf, overFound, judgedOf};
-ghost use Rattle.judge.specs.Angles.{Open, PlanIn, headIn};
+ghost use Rattle.judge.specs.Angles.{Names, linesInHead};
 ghost use Rattle.judge.specs.Telling.{Tells};
 use graph::Head;
 use merges::ELEMENTS;
@@ -81,8 +81,8 @@ fn listed(h: Head, run: Run) -> Judged
     }
 }
 
-// All elements that a joint or a ring of lines can have: what is left when lines with one neighbour at most, and rows of elements that end with one,
-// are taken away. Nothing is where there are two lines or fewer, or as many constraints as elements.
+// A set that holds every element of a merge and every line of a ring: what is left when lines with one neighbour at most, and rows of elements that
+// end with one, are taken away. Where there are two lines or fewer, or as many constraints as elements, it is not looked for.
 fn around(h: Head, near: &[u64; 64]) -> u64
     requires { ⌜ (1 ≤ h .n) × (h .n ≤ 64) ⌝ }
     ensures { λ r. ⌜ HoldsBelow (now (near .entry)) (h .n) r ⌝ }
@@ -98,7 +98,7 @@ fn around(h: Head, near: &[u64; 64]) -> u64
 
 // A sheet with those of its lines alone that are in a set.
 fn lines_in(h: Head, set: u64) -> Head
-    ensures { λ r. ⌜ r ≡ headIn h set ⌝ }
+    ensures { λ r. ⌜ r ≡ linesInHead h set ⌝ }
 {
     Head {
         n: h.n,
@@ -121,7 +121,7 @@ fn unmerged(start: &[u64; 200], e: usize) -> Run
     }
 }
 
-// The verdict of a sheet that is not over and has other than 2n-3 constraints, from the engine's merges. Rings are looked for among lines that turn.
+// The verdict of a sheet that is not over, with fewer than 2n-3 constraints, from the engine's merges. Rings are looked for among lines that turn.
 fn angle_or_under(
     h: Head,
     near: &[u64; 64],
@@ -130,8 +130,7 @@ fn angle_or_under(
     steps: usize,
 ) -> Verdict
     requires { ⌜ (h .e ≤ 125) × (2 * steps ≤ h .e) × (length (now near) ≡ 64) × (length (now joints) ≡ 64) × (length (now slots) ≡ 192) ⌝ }
-    ensures { λ r. ⌜ ((g : Graph) → Open g (now (near .entry)) → PlanIn g (now (joints .entry)) (now (slots .entry)) steps → g .lines ≡ h .lines
-        → length (g .clusters) ≡ h .e → r ≡ verdictOf g) ⌝ }
+    ensures { λ r. ⌜ Names h (now (near .entry)) (now (joints .entry)) (now (slots .entry)) steps r ⌝ }
 {
     if u64::count_ones(h.lines) <= 2 {
         return Verdict::Under;

@@ -39,7 +39,7 @@ pub record Noted (l : ℕ) (s near : List ℕ) (twice k : ℕ) : Type 0 where
       → x ∈ linked l (getD s j 0) → y ∈ linked l (getD s j 0) → ⊥
 
 -- the neighbours and the lines that share one of the clusters below k are noted
-pub record Beside (near clusters : List ℕ) (l : ℕ) (among : List ℕ) (k : ℕ) : Type 0 where
+pub record Neighbours (near clusters : List ℕ) (l : ℕ) (among : List ℕ) (k : ℕ) : Type 0 where
   pub places : length among ≡ 64
   pub old : (x y : ℕ) → y ∈ getD near x 0 → y ∈ getD among x 0
   pub new : (i x y : ℕ) → i < k → x ∈ linked l (getD clusters i 0) → y ∈ linked l (getD clusters i 0) → y ∈ getD among x 0
@@ -47,6 +47,6 @@ pub record Beside (near clusters : List ℕ) (l : ℕ) (among : List ℕ) (k : �
 -- what runs round among them stays in r
 pub record Turned (near clusters : List ℕ) (l r : ℕ) : Type 0 where
   pub among : List ℕ
-  pub beside : Beside near clusters l among (length clusters)
+  pub neighbours : Neighbours near clusters l among (length clusters)
   pub sub : r ⊑ l
   pub holds : Holds among l r

@@ -1,12 +1,10 @@
 -- `judge::angle_or_under` meets its contract: a joint of three lines, else a ring among the lines that turn. Assumes nothing.
 use borrow.Author.Needs.{needs}
 use native.Mathlib.Omega.{arith}
-use mathlib.Core.Path.{sym, ap, _∙_, subst}
-use Prim.Native.Nat.{ℕ}
+use mathlib.Core.Path.{sym, ap, _∙_}
 use lib.Count.{ones}
-use Rattle.theory.specs.Verdict.{angled}
 use Rattle.judge.specs.Judged.Short.{fewer-is}
-use Rattle.judge.specs.Angles.Laws.{joint-angle, finals-in, turned, ring-angle, no-angle}
+use Rattle.judge.specs.Angles.Laws.{joint-angle, turned-verdict}
 use Rattle.judge.proofs.angle_or_under.Statement.{statement}
 use Rattle.judge.proofs.angle_or_under.Tie as tie
 
@@ -27,19 +25,15 @@ round-requires c κs =
 
 returns-3 : tie.Need-returns-3
 returns-3 c g o a l e =
-    let r = c .before .round in
-    let t = c .before .before .turning in
     let k = c .before .before .before .before .before in
-    sym (ring-angle g _ o a (rw (l) (sym (k .before .angled .ensures) ∙ k .if2 .left)) (turned g a e l (t .ensures))
-    (sym (r .ensures _ (finals-in g a e) (a .left-are ∙ e)) ∙ c .if3 .taken))
+    sym (turned-verdict g _ o a l e (k .before .angled .ensures) (k .if2 .left) (c .before .before .turning .ensures) (c .before .round .ensures) .0
+    (c .if3 .taken))
 
 returns-4 : tie.Need-returns-4
 returns-4 c g o a l e =
-    let r = c .before .round in
-    let t = c .before .before .turning in
     let k = c .before .before .before .before .before in
-    sym (no-angle g _ o a (rw (l) (sym (k .before .angled .ensures) ∙ k .if2 .left)) (turned g a e l (t .ensures))
-    (sym (r .ensures _ (finals-in g a e) (a .left-are ∙ e)) ∙ c .if3 .left))
+    sym (turned-verdict g _ o a l e (k .before .angled .ensures) (k .if2 .left) (c .before .before .turning .ensures) (c .before .round .ensures) .1
+    (c .if3 .left))
 
 pub angle-or-under-spec : {M : Type 1} → statement M
 angle-or-under-spec =

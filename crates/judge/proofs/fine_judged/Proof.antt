@@ -1,62 +1,38 @@
 -- `judge::fine_judged` meets its contract: where nothing runs round there is no plan, and else the engine's merges are judged. Assumes nothing.
 use borrow.Author.Needs.{needs}
-use Prim.Native.Nat.{_≤_}
-use native.Mathlib.Omega.{arith}
-use mathlib.Core.Path.{refl, sym, ap, _∙_}
-use mathlib.Core.List.{[]}
-use lib.ListN.{take}
-use Rattle.theory.specs.Constraints.{NotOver}
-use Rattle.graph.specs.declared.Head.{Head}
 use Rattle.graph.specs.Lent.{graphIn}
-use Rattle.graph.specs.Lent.Sheets.{counted, found-fine, fine-few}
-use Rattle.judge.specs.Judged.Laws.{starts, steps-few}
-use Rattle.judge.specs.Angles.{linesIn}
-use Rattle.judge.specs.Angles.Laws.{run-places, drawn-open, run-judged, planned-run, plan-in, open-in, same-verdict, none-judged}
+use Rattle.judge.specs.Angles.Laws.{run-judged, planned-run, none-judged}
+use Rattle.judge.specs.Angles.Drawn.{drawn-starts, drawn-fewer, planned-places, planned-verdict}
 use Rattle.judge.proofs.fine_judged.Statement.{statement}
 use Rattle.judge.proofs.fine_judged.Tie as tie
-
-module _ (c : tie.Start) where
-  not-over : NotOver (take (c .args .h .e) (c .args .start .now))
-  not-over = found-fine (c .pre .0 .sound) (c .pre .2 [])
-
-  few : c .args .h .e ≤ 125
-  few = let d = c .pre .0 in omega (arith, fine-few (d .sound) not-over, counted d)
 
 returns : tie.Need-returns
 returns c = λ z.
     let s = c .before .before .before in
     let a = c .before .before .around in
     let (d, ne, fine) = s .pre in
-    none-judged (graphIn (s .args .h) (s .args .start .now) z) (s .args .near .now) (drawn-open d z (fine z) ne) (a .result) (a .ensures)
+    none-judged (graphIn (s .args .h) (s .args .start .now) z) (s .args .near .now) (drawn-fewer d fine ne z) (a .result) (a .ensures)
     (c .before .if1 .taken) (c .unmerged .ensures)
 
 angle-or-under-requires : tie.Need-angle-or-under-requires
 angle-or-under-requires c κs =
-    let s = c .before .before .before .before .before .before .before .before in
-    let d = s .pre .0 in
-    let is = c .before .before .lines-in .ensures in
-    let m = c .before .before .before .before .before .merge-all .ensures .merged in
-    let e = ap (λ (h : Head). h .e) is in
-    let places = run-places _ (d .sound .simple .pairs) m (omega (arith, few s, counted d)) in
-    (omega (arith, e, few s), omega (arith, e, steps-few _ (d .sound .simple .pairs) m, counted d), d .near-is .places, places .0, places .1)
+    let k = c .before .before .before .before .before in
+    let (d, ne, fine) = k .before .before .before .pre in
+    planned-places d fine (k .merge-all .ensures) (k .before .before .around .result) (c .before .before .lines-in .ensures)
 
 returns-2 : tie.Need-returns-2
 returns-2 c = λ z.
-    let s = c .before .before .before .before .before .before .before .before .before in
-    let a = c .before .before .before .before .before .before .before .before .around in
-    let is = c .before .before .before .lines-in .ensures in
-    let p = c .before .before .before .before .before .before .merge-all .ensures in
+    let k = c .before .before .before .before .before .before in
+    let s = k .before .before .before in
+    let p = k .merge-all .ensures in
     let (d, ne, fine) = s .pre in
-    let g = graphIn (s .args .h) (s .args .start .now) z in
-    let o = drawn-open d z (fine z) ne in
-    run-judged g _ o
-    (c .angle-or-under .ensures (linesIn g (a .result)) (open-in g _ o (a .result) (a .ensures)) (plan-in _ _ (open-in g _ o (a .result) (a .ensures)) p)
-    (sym (ap (λ (h : Head). h .lines) is)) (counted d ∙ sym (ap (λ (h : Head). h .e) is))
-    ∙ same-verdict g _ o (a .result) (a .ensures))
-    (planned-run g _ o p)
+    let a = k .before .before .around in
+    let v = planned-verdict d fine p (a .result) (c .before .before .before .lines-in .ensures) (a .ensures) ne (c .angle-or-under .ensures) z in
+    let o = drawn-fewer d fine ne z in
+    run-judged (graphIn (s .args .h) (s .args .start .now) z) _ o v (planned-run (graphIn (s .args .h) (s .args .start .now) z) _ o p)
 
 pub fine-judged-spec : {M : Type 1} → statement M
 fine-judged-spec =
     tie.close
-    (tie.spec (λ c κs. search needs) (λ c κs. starts (c .before .before .pre .0) (few (c .before .before))) returns
-    (λ c κs. starts (c .before .before .pre .0) (few (c .before .before))) (λ c κs. search needs) angle-or-under-requires returns-2)
+    (tie.spec (λ c κs. search needs) (λ c κs. let (d, ne, fine) = c .before .before .pre in drawn-starts d fine) returns
+    (λ c κs. let (d, ne, fine) = c .before .before .pre in drawn-starts d fine) (λ c κs. search needs) angle-or-under-requires returns-2)

@@ -1,16 +1,15 @@
 -- Lines that run round alone make angles: the verdict, and the judgement, with the other lines left out. Assumes nothing.
 use mathlib.Core.Path.{_≡_, refl, sym, ap, ap₂, _∙_, subst}
-use mathlib.Core.Logic.{_≢_, inl, inr}
+use mathlib.Core.Logic.{inl, inr}
 use mathlib.Core.Bool.{Bool, true, false, _||_}
 use mathlib.Core.List.{List, [], _∷_}
 use Prim.Native.Nat.{ℕ, zero, suc, _+_, _-_, _*_, _≤_}
 use native.Mathlib.Omega.{arith}
 use lib.Count.{ones}
 use lib.Dec.{eqb}
-use lib.IntN.{ℤ}
 use lib.ListN.{length, take, drop}
 use lib.Seq.{take-nil}
-use Rattle.theory.specs.Block.Laws.{length-block, take-block}
+use Rattle.theory.specs.Block.Laws.{take-block}
 use Rattle.theory.specs.Set.{_∩_, _⊑_, at}
 use Rattle.theory.specs.Set.Laws.{ext, at-∩, size-zero, ⊑⇒size≤, a∩b⊑a, a∩b⊑b, ∩-greatest}
 use Rattle.theory.specs.Constraints.{Among, Pairs, NotOver}
@@ -23,15 +22,11 @@ use Rattle.theory.specs.Ring.{ringed}
 use Rattle.theory.specs.Verdict.{angled, angleBound, judged}
 use Rattle.theory.specs.declared.Verdict.{Verdict}
 use Rattle.theory.specs.declared.Verdict.the-variants.{Angle, Well, Stuck, Under}
-use Rattle.theory.specs.Graph.{Graph, findingOf, listVerdict, verdictOf}
+use Rattle.theory.specs.Graph.{Graph, listVerdict, verdictOf}
 use Rattle.theory.specs.Graph.Laws.{fine-verdict}
 use Rattle.theory.specs.Graph.Short.{verdict-angle, verdict-fewer}
-use Rattle.theory.specs.declared.Finding.the-variants.{Fine}
-use Rattle.graph.specs.declared.Head.{Head}
-use Rattle.graph.specs.Lent.{graphIn, Drawn}
-use Rattle.graph.specs.Lent.Sheets.{counted}
-use Rattle.merges.specs.Run.{runOf, Merged, Planned}
-use Rattle.merges.specs.Run.Laws.{length-joints, length-final}
+use Rattle.merges.specs.Run.{runOf, Planned}
+use Rattle.merges.specs.Run.Laws.{length-joints}
 use Rattle.merges.specs.declared.Run.{Run}
 use Rattle.cycles.specs.Cycle.{HoldsBelow}
 use Rattle.cycles.specs.Cycle.Tight.{joints-in, lines-in, no-plan}
@@ -40,9 +35,9 @@ use Rattle.rings.specs.Rows.Laws.{kept-same}
 use Rattle.rings.specs.Rows.Merged.{turned-keeps}
 use Rattle.judge.specs.declared.Judged.{Judged}
 use Rattle.judge.specs.Judged.{listed, judgedBy, judgedOf}
-use Rattle.judge.specs.Judged.Laws.{finals-are, steps-are, steps-few}
+use Rattle.judge.specs.Judged.Laws.{finals-are, steps-are}
 use Rattle.judge.specs.Judged.Short.{fewer-is}
-use Rattle.judge.specs.Angles.{linesIn, Open, PlanIn}
+use Rattle.judge.specs.Angles.{linesIn, Fewer, PlanIn}
 
 -- the joints that lie in a set are of lines where they are of lines in it
 angled-in : (lines r : ℕ) (js : List ℕ) → ((j : ℕ) → Among j js → j ⊑ r) → angled (lines ∩ r) js ≡ angled lines js
@@ -77,34 +72,17 @@ drop-take (suc n) k (suc m) [] e = sym (take-nil k)
 drop-take (suc n) k (suc m) (x ∷ s) e = drop-take n k m s (omega arith)
 
 module _ (g : Graph) {held slots : List ℕ} {steps : ℕ} (a : PlanIn g held slots steps) {e : ℕ} (count : length (g .clusters) ≡ e) where
-  pub finals-in : take (e + steps) slots ≡ final (g .clusters) (planOf (g .clusters))
+  finals-in : take (e + steps) slots ≡ final (g .clusters) (planOf (g .clusters))
   finals-in = ap (λ (k : ℕ). take (k + steps) slots) (sym count) ∙ a .finals-are
 
-  pub turned : {near : List ℕ} {lines l : ℕ} → g .lines ≡ lines → Turned near (take (e + steps - e) (drop e slots)) lines l
+  turned : {near : List ℕ} {lines l : ℕ} → g .lines ≡ lines → Turned near (take (e + steps - e) (drop e slots)) lines l
       → Turned near (drop (length (g .clusters)) (final (g .clusters) (planOf (g .clusters)))) (g .lines) l
   turned {near} {lines} {l} is t =
       subst (λ (k : ℕ). Turned near (drop (length (g .clusters)) (final (g .clusters) (planOf (g .clusters)))) k l) (sym is)
       (subst (λ (s : List ℕ). Turned near s lines l)
       (sym (ap (λ (k : ℕ). drop k (final (g .clusters) (planOf (g .clusters)))) count ∙ ap (drop e) (sym finals-in) ∙ drop-take e (e + steps - e) (e + steps) slots (omega arith))) t)
 
--- the arrays of a list of merges
-pub run-places : (cs : List ℕ) → Pairs cs → {run : Run} (m : Merged cs run) → length cs ≤ 125 → (length (run .joints) ≡ 64) × (length (run .slots) ≡ 192)
-unfolding runOf
-run-places cs pairs m few =
-    let steps = steps-few cs pairs m in
-    let is = ap (λ (k : Run). k .steps) (m .is) in (
-      ap (λ (k : Run). length (k .joints)) (m .is)
-          ∙ length-block 64 0 (joints cs (m .p)) (omega (arith, length-joints (m .p) cs, steps, few, is)),
-      ap (λ (k : Run). length (k .slots)) (m .is)
-          ∙ length-block 192 0 (final cs (m .p)) (omega (arith, length-final (m .p) cs, steps, few, is)),
-    )
-
--- the arrays of a sheet that is not over
-pub drawn-open : {h : Head} {near start : List ℕ} → Drawn h near start → (z : List ℤ) → findingOf (graphIn h start z) ≡ Fine → h .e + 3 ≢ 2 * h .n
-    → Open (graphIn h start z) near
-drawn-open d z found ne = record { sound = d .sound; is-near = d .near-is; found = found; other = λ e. ne (sym (rw (counted d)) ∙ e) }
-
-module _ (g : Graph) (near : List ℕ) (o : Open g near) where
+module _ (g : Graph) (near : List ℕ) (o : Fewer g near) where
   abbrev cs : List ℕ
   cs = g .clusters
 
@@ -157,15 +135,25 @@ module _ (g : Graph) (near : List ℕ) (o : Open g near) where
           kept-same (g .lines) (final cs p) l
           (turned-keeps cs near (o .sound .simple) (o .is-near) fine p valid (g .lines) l t)
 
-      pub ring-angle : ringed l (final cs p) ≡ true → verdictOf g ≡ Angle
+      ring-angle : ringed l (final cs p) ≡ true → verdictOf g ≡ Angle
       unfolding listVerdict named
       ring-angle e =
           fine-verdict g (o .found) ∙ judged-named (g .lines) (g .n) (length cs) (joints cs p) (final cs p)
           ∙ ap (named (g .n) (length cs) (final cs p))
           (ap (λ (b : Bool). angled (g .lines) (joints cs p) || b) (sym ringed-is ∙ e) ∙ or-true (angled (g .lines) (joints cs p)))
 
-      pub no-angle : ringed l (final cs p) ≡ false → verdictOf g ≡ Under
+      no-angle : ringed l (final cs p) ≡ false → verdictOf g ≡ Under
       no-angle e = verdict-fewer g (o .found) (angled-is (sym none)) (sym ringed-is ∙ e) (o .other)
+
+    pub turned-verdict : {lines e : ℕ} → g .lines ≡ lines → length cs ≡ e → {b : Bool} → b ≡ angled lines (take steps held) → b ≡ false → {l : ℕ}
+        → Turned near (take (e + steps - e) (drop e slots)) lines l → {q : Bool}
+        → ((finals : List ℕ) → take (e + steps) slots ≡ finals → left finals + 2 * steps ≡ e → q ≡ ringed l finals)
+        → (q ≡ true → verdictOf g ≡ Angle) × (q ≡ false → verdictOf g ≡ Under)
+    turned-verdict is count b-is none t q-is =
+        let no-joint : angled (g .lines) (take steps held) ≡ false = rw (is) (sym b-is ∙ none) in
+        let turns = turned g a count is t in
+        let ring = sym (q-is (final cs p) (finals-in g a count) (a .left-are ∙ count)) in
+        (λ y. ring-angle no-joint turns (ring ∙ y), λ y. no-angle no-joint turns (ring ∙ y))
 
   -- ---- the lines that run round
 
@@ -193,8 +181,8 @@ module _ (g : Graph) (near : List ℕ) (o : Open g near) where
         (kept-same (g .lines) (final cs p) (g .lines ∩ r) kept))
         ∙ sym (judged-named (g .lines) (g .n) (length cs) (joints cs p) (final cs p))
 
-    pub open-in : Open (linesIn g r) near
-    open-in = record { sound = o .sound; is-near = o .is-near; found = o .found; other = o .other }
+    pub fewer-in : Fewer (linesIn g r) near
+    fewer-in = record { sound = o .sound; is-near = o .is-near; found = o .found; other = o .other }
 
     pub same-verdict : verdictOf (linesIn g r) ≡ verdictOf g
     same-verdict = fine-verdict (linesIn g r) (o .found) ∙ same-plan ∙ sym (fine-verdict g (o .found))

@@ -23,16 +23,16 @@ use Rattle.theory.specs.Merge.Numbered.{start-good, start-distinct, good-final}
 use Rattle.theory.specs.Ring.{linked, strip}
 use Rattle.theory.specs.Ring.Strip.{rich}
 use Rattle.cycles.specs.Cycle.{Round, Holds}
-use Rattle.rings.specs.Rows.{Joined, Keeps, Beside, Turned}
+use Rattle.rings.specs.Rows.{Joined, Keeps, Neighbours, Turned}
 use Rattle.rings.specs.Rows.Laws.{in-linked}
 
-pub beside-start : (near clusters : List ℕ) (l : ℕ) → length near ≡ 64 → Beside near clusters l near 0
-beside-start near clusters l e = record { places = e; old = λ x y h. h; new = λ i x y h. absurd (omega arith) }
+pub neighbours-start : (near clusters : List ℕ) (l : ℕ) → length near ≡ 64 → Neighbours near clusters l near 0
+neighbours-start near clusters l e = record { places = e; old = λ x y h. h; new = λ i x y h. absurd (omega arith) }
 
-module _ (near clusters : List ℕ) (l : ℕ) (among : List ℕ) (k m : ℕ) (next : List ℕ) (t : ℕ) (w : Beside near clusters l among k)
+module _ (near clusters : List ℕ) (l : ℕ) (among : List ℕ) (k m : ℕ) (next : List ℕ) (t : ℕ) (w : Neighbours near clusters l among k)
     (is : m ≡ linked l (getD clusters k 0)) (j : Joined among m next t) where
-  pub beside-turn : Beside near clusters l next (k + 1)
-  beside-turn = record {
+  pub neighbours-turn : Neighbours near clusters l next (k + 1)
+  neighbours-turn = record {
     places = j .places;
     old = λ x y h. j .old x y (w .old x y h);
     new = λ i x y h a b. elim (ℕ-discrete i k) [
@@ -44,12 +44,12 @@ module _ (near clusters : List ℕ) (l : ℕ) (among : List ℕ) (k m : ℕ) (ne
       here : (i x : ℕ) → i ≡ k → x ∈ linked l (getD clusters i 0) → x ∈ m
       here i x e h = subst (λ (z : ℕ). x ∈ z) (sym is) (subst (λ (z : ℕ). x ∈ linked l (getD clusters z 0)) e h)
 
-pub beside-end : (near clusters : List ℕ) (l : ℕ) (among : List ℕ) (k r : ℕ) → Beside near clusters l among k → length clusters ≤ k
+pub neighbours-end : (near clusters : List ℕ) (l : ℕ) (among : List ℕ) (k r : ℕ) → Neighbours near clusters l among k → length clusters ≤ k
     → Holds among l r → Turned near clusters l (bitAnd r l)
 unfolding _∩_
-beside-end near clusters l among k r w all h = record {
+neighbours-end near clusters l among k r w all h = record {
   among = among;
-  beside = record { places = w .places; old = w .old; new = λ i x y o. w .new i x y (omega (arith, o, all)) };
+  neighbours = record { places = w .places; old = w .old; new = λ i x y o. w .new i x y (omega (arith, o, all)) };
   sub = a∩b⊑b r l;
   holds = λ g rd sub. ∩-greatest (h g rd sub) sub;
 }
@@ -82,7 +82,7 @@ module _ (cs near : List ℕ) (simple : Simple cs) (is-near : Near cs near) (fin
         by : Dec (i < length cs) → y ∈ getD (t .among) x 0
         by (yes low) =
             let a = slot-among cs i d z (sym (final-old p cs i low (λ o. z (sym e ∙ o))) ∙ e) in
-            t .beside .old x y
+            t .neighbours .old x y
             (is-near .says x y (at-below 64 x d (simple .below d a) xd) .1
             (subst (λ (w : ℕ). Among w cs) (pair-is d x y (simple .pairs d a) xd yd (Ne·symm yx)) a))
         by (no high) =
@@ -91,7 +91,7 @@ module _ (cs near : List ℕ) (simple : Simple cs) (is-near : Near cs near) (fin
             getD-drop (length cs) s j 0 ∙ ap (slot s) (omega (arith, high)) ∙ e in
             let linked-there : (w : ℕ) → w ∈ d → w ∈ l → w ∈ linked l (getD (drop (length cs) s) j 0) =
             λ w h k. subst (λ (c : ℕ). w ∈ linked l c) (sym there) (in-linked l d w h k more) in
-            t .beside .new j x y (omega (arith, alive-lt s i (λ o. z (sym e ∙ o)), length-drop (length cs) s, high)) (linked-there x xd xl)
+            t .neighbours .new j x y (omega (arith, alive-lt s i (λ o. z (sym e ∙ o)), length-drop (length cs) s, high)) (linked-there x xd xl)
             (linked-there y yd yl)
 
     -- so what no stripping takes off runs round among them
