@@ -132,9 +132,6 @@ fn angle_or_under(
     requires { ⌜ (h .e ≤ 125) × (2 * steps ≤ h .e) × (length (now near) ≡ 64) × (length (now joints) ≡ 64) × (length (now slots) ≡ 192) ⌝ }
     ensures { λ r. ⌜ Names h (now (near .entry)) (now (joints .entry)) (now (slots .entry)) steps r ⌝ }
 {
-    if u64::count_ones(h.lines) <= 2 {
-        return Verdict::Under;
-    }
     if engine::angled(joints, steps, h.lines) {
         return Verdict::Angle;
     }
@@ -149,7 +146,7 @@ fn angle_or_under(
     }
 }
 
-// The judgement of a sheet that is not over. Where nothing is left that runs round nothing merges.
+// The judgement of a sheet that is not over. Where nothing is left that runs round nothing merges, and two lines that do make no angle.
 fn fine_judged(h: Head, near: &[u64; 64], start: &[u64; 200]) -> Judged
     requires { ⌜ Drawn h (now near) (now start) × (h .e + 3 ≢ 2 * h .n) × ((z : List ℤ) → findingOf (graphIn h (now start) z) ≡ Fine) ⌝ }
     ensures { λ r. ⌜ ((z : List ℤ) → r ≡ judgedOf (graphIn h (now (start .entry)) z)) ⌝ }
@@ -165,9 +162,18 @@ fn fine_judged(h: Head, near: &[u64; 64], start: &[u64; 200]) -> Judged
         };
     }
     let run = merges::merge_all(start, h.e);
+    let rounds = lines_in(h, left);
+    if u64::count_ones(rounds.lines) <= 2 {
+        return Judged {
+            verdict: Verdict::Under,
+            first: 0,
+            set: 0,
+            run,
+        };
+    }
     let joints = run.joints;
     let slots = run.slots;
-    let verdict = angle_or_under(lines_in(h, left), near, &joints, &slots, run.steps);
+    let verdict = angle_or_under(rounds, near, &joints, &slots, run.steps);
     Judged {
         verdict,
         first: 0,
