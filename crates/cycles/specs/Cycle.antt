@@ -6,7 +6,7 @@ use Prim.Native.Nat.{ℕ, _<_}
 use lib.ListN.{getD}
 use Rattle.theory.specs.Set.{_∈_, _⊑_}
 pub mod Laws
-pub mod Free
+pub mod Tight
 
 -- two neighbours of x in the set a
 pub record Between (near : List ℕ) (a x : ℕ) : Type 0 where

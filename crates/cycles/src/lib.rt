@@ -1,5 +1,5 @@
-// Constraints that run round: elements with one neighbour at most are taken away, one after another, and where none is left the constraint graph is a
-// forest. Contracts cite this crate's Cycle.
+// Constraints that run round: elements with one neighbour at most are taken away, one after another, and whatever runs round is among those left.
+// Contracts cite this crate's Cycle.
 ghost use mathlib.Core.Path.{_≡_};
 ghost use Prim.Native.Nat.{_≤_, _<_};
 ghost use Rattle.theory.specs.Set.{_∈_, full};
@@ -36,12 +36,13 @@ pub fn below(n: usize) -> u64
     top - 1 + top
 }
 
-// What is left of a set when elements with one neighbour at most in it are taken away: it holds all that runs round there.
-pub fn rounds_in(near: &[u64; 64], all: u64) -> u64
+// What is left of a set when elements with one neighbour at most in it are taken away, beginning with the first ones: it holds all that runs round
+// there.
+pub fn rounds_in(near: &[u64; 64], all: u64, first: u64) -> u64
     ensures { λ r. ⌜ Holds (now (near .entry)) all r ⌝ }
 {
     let mut left = all;
-    let mut todo = all;
+    let mut todo = first & all;
     while todo != 0 {
         let x = sets::lowest(todo);
         let bit = sets::single(x);
@@ -52,9 +53,9 @@ pub fn rounds_in(near: &[u64; 64], all: u64) -> u64
 }
 
 // The same of all elements below n.
-pub fn rounds(near: &[u64; 64], n: usize) -> u64
+pub fn rounds(near: &[u64; 64], n: usize, first: u64) -> u64
     requires { ⌜ (1 ≤ n) × (n ≤ 64) ⌝ }
     ensures { λ r. ⌜ HoldsBelow (now (near .entry)) n r ⌝ }
 {
-    rounds_in(near, below(n))
+    rounds_in(near, below(n), first)
 }

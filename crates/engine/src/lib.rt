@@ -25,7 +25,7 @@ use theory::Verdict;
 use theory::Ways;
 
 // Is some joint three lines?
-fn angled(joints: &[u64; ELEMENTS], steps: usize, lines: u64) -> bool
+pub fn angled(joints: &[u64; ELEMENTS], steps: usize, lines: u64) -> bool
     requires { ⌜ (steps ≤ 64) × (length (now joints) ≡ 64) ⌝ }
     ensures { λ r. ⌜ r ≡ someLines lines (take steps (now (joints .entry))) ⌝ }
 {
@@ -41,7 +41,7 @@ fn angled(joints: &[u64; ELEMENTS], steps: usize, lines: u64) -> bool
 }
 
 // Do the final clusters, of which e less two a step are left, make a ring of lines? One cluster makes none.
-fn round(slots: &[u64; PLACES], steps: usize, e: usize, lines: u64) -> bool
+pub fn round(slots: &[u64; PLACES], steps: usize, e: usize, lines: u64) -> bool
     requires { ⌜ (steps ≤ 64) × (e + steps ≤ 192) × (length (now slots) ≡ 192) ⌝ }
     ensures { λ r. ⌜ ((finals : List ℕ) → take (e + steps) (now (slots .entry)) ≡ finals → left finals + 2 * steps ≡ e → r ≡ ringed lines finals) ⌝ }
 {

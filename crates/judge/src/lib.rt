@@ -4,7 +4,6 @@ ghost use mathlib.Core.List.{List, []};
 ghost use Prim.Native.Nat.{_+_, _*_, _≤_, _<_};
 ghost use lib.IntN.{ℤ};
 ghost use lib.ListN.{length, take};
-ghost use mathlib.Core.Bool.{true};
 ghost use mathlib.Core.Logic.{_≢_};
 ghost use Rattle.theory.specs.Graph.{Graph, findingOf, verdictOf};
 ghost use Rattle.theory.specs.Constraints.{Pairs};
@@ -14,11 +13,16 @@ ghost use Rattle.graph.specs.Lent.{graphIn, Drawn};
 ghost use Rattle.merges.specs.Run.{runOf, Start, Merged};
 ghost use Rattle.cycles.specs.Cycle.{HoldsBelow};
 ghost use Rattle.judge.specs.Judged.{listed as listedOf, overFound, judgedOf};
+ghost use Rattle.judge.specs.Angles.{Names, linesInHead};
 ghost use Rattle.judge.specs.Telling.{Tells, Reached};
 use graph::Head;
+use merges::ELEMENTS;
+use merges::PLACES;
 use merges::Run;
 use theory::Finding;
 use theory::Verdict;
+
+const EVERY_ELEMENT: u64 = 18446744073709551615;
 
 // The first constraint that makes the sheet over, with the smallest set; Fine where it is not over.
 pub fn over_of(h: Head, near: &[u64; 64], start: &[u64; 200]) -> Finding
@@ -91,18 +95,30 @@ fn listed(h: Head, run: Run) -> Judged
     }
 }
 
-// Does the sheet have three lines or more, and do no constraints run round? It is looked for only where there are fewer than elements.
-fn forest(h: Head, near: &[u64; 64]) -> bool
+// A set that holds every element of a merge and every line of a ring: what is left when lines with one neighbour at most, and rows of elements that
+// end with one, are taken away. Where there are two lines or fewer, or as many constraints as elements, it is not looked for.
+fn around(h: Head, near: &[u64; 64]) -> u64
     requires { ⌜ (1 ≤ h .n) × (h .n ≤ 64) ⌝ }
-    ensures { λ r. ⌜ (r ≡ true → HoldsBelow (now (near .entry)) (h .n) 0) ⌝ }
+    ensures { λ r. ⌜ HoldsBelow (now (near .entry)) (h .n) r ⌝ }
 {
     if u64::count_ones(h.lines) < 3 {
-        return false;
+        return EVERY_ELEMENT;
     }
     if h.n <= h.e {
-        return false;
+        return EVERY_ELEMENT;
     }
-    cycles::rounds(near, h.n) == 0
+    cycles::rounds(near, h.n, h.lines)
+}
+
+// A sheet with those of its lines alone that are in a set.
+fn lines_in(h: Head, set: u64) -> Head
+    ensures { λ r. ⌜ r ≡ linesInHead h set ⌝ }
+{
+    Head {
+        n: h.n,
+        e: h.e,
+        lines: h.lines & set,
+    }
 }
 
 // No merge of the constraints.
@@ -119,12 +135,38 @@ fn unmerged(start: &[u64; 200], e: usize) -> Run
     }
 }
 
-// The judgement of a sheet that is not over. Where no constraints run round nothing merges, and no ring is looked for.
+// The verdict of a sheet that is not over, with fewer than 2n-3 constraints, from the engine's merges. Rings are looked for among lines that turn.
+fn angle_or_under(
+    h: Head,
+    near: &[u64; 64],
+    joints: &[u64; ELEMENTS],
+    slots: &[u64; PLACES],
+    steps: usize,
+) -> Verdict
+    requires { ⌜ (h .e ≤ 125) × (2 * steps ≤ h .e) × (length (now near) ≡ 64) × (length (now joints) ≡ 64) × (length (now slots) ≡ 192) ⌝ }
+    ensures { λ r. ⌜ Names h (now (near .entry)) (now (joints .entry)) (now (slots .entry)) steps r ⌝ }
+{
+    if engine::angled(joints, steps, h.lines) {
+        return Verdict::Angle;
+    }
+    let all = &slots[..];
+    let e = h.e;
+    let used = e + steps;
+    let lines = rings::turning(near, &all[e..used], h.lines);
+    if engine::round(slots, steps, e, lines) {
+        Verdict::Angle
+    } else {
+        Verdict::Under
+    }
+}
+
+// The judgement of a sheet that is not over. Where nothing is left that runs round nothing merges, and two lines that do make no angle.
 fn fine_judged(h: Head, near: &[u64; 64], start: &[u64; 200]) -> Judged
     requires { ⌜ Drawn h (now near) (now start) × (h .e + 3 ≢ 2 * h .n) × ((z : List ℤ) → findingOf (graphIn h (now start) z) ≡ Fine) ⌝ }
     ensures { λ r. ⌜ ((z : List ℤ) → r ≡ judgedOf (graphIn h (now (start .entry)) z)) ⌝ }
 {
-    if forest(h, near) {
+    let left = around(h, near);
+    if left == 0 {
         let run = unmerged(start, h.e);
         return Judged {
             verdict: Verdict::Under,
@@ -134,7 +176,24 @@ fn fine_judged(h: Head, near: &[u64; 64], start: &[u64; 200]) -> Judged
         };
     }
     let run = merges::merge_all(start, h.e);
-    listed(h, run)
+    let rounds = lines_in(h, left);
+    if u64::count_ones(rounds.lines) <= 2 {
+        return Judged {
+            verdict: Verdict::Under,
+            first: 0,
+            set: 0,
+            run,
+        };
+    }
+    let joints = run.joints;
+    let slots = run.slots;
+    let verdict = angle_or_under(rounds, near, &joints, &slots, run.steps);
+    Judged {
+        verdict,
+        first: 0,
+        set: 0,
+        run,
+    }
 }
 
 // The judgement of a sheet with 2n-3 constraints. Merges that leave one cluster show that it is not over.
@@ -172,16 +231,14 @@ pub fn fine_verdict(h: Head, near: &[u64; 64], start: &[u64; 200]) -> Verdict
     requires { ⌜ Drawn h (now near) (now start) × (h .e + 3 < 2 * h .n) × ((z : List ℤ) → findingOf (graphIn h (now start) z) ≡ Fine) ⌝ }
     ensures { λ r. ⌜ ((z : List ℤ) → r ≡ verdictOf (graphIn h (now (start .entry)) z)) ⌝ }
 {
-    if u64::count_ones(h.lines) <= 2 {
-        return Verdict::Under;
-    }
-    if forest(h, near) {
+    let angles = lines_in(h, around(h, near));
+    if u64::count_ones(angles.lines) <= 2 {
         return Verdict::Under;
     }
     let run = merges::merge_all(start, h.e);
     let joints = run.joints;
     let slots = run.slots;
-    engine::settle(&joints, &slots, run.steps, h.n, h.e, h.lines)
+    angle_or_under(angles, near, &joints, &slots, run.steps)
 }
 
 // The verdict of a sheet with fewer than 2n-3 constraints.

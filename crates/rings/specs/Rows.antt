@@ -6,7 +6,9 @@ use Prim.Native.Nat.{ℕ, _<_}
 use lib.ListN.{length, getD}
 use Rattle.theory.specs.Set.{_∈_, _⊑_, at}
 use Rattle.theory.specs.Ring.{linked, strip}
+use Rattle.cycles.specs.Cycle.{Holds}
 pub mod Laws
+pub mod Merged
 
 -- what no stripping takes off the set l stays in r
 pub record Keeps (l : ℕ) (s : List ℕ) (r : ℕ) : Type 0 where
@@ -35,3 +37,16 @@ pub record Noted (l : ℕ) (s near : List ℕ) (twice k : ℕ) : Type 0 where
   pub noted : (i x y : ℕ) → i < k → x ∈ linked l (getD s i 0) → y ∈ linked l (getD s i 0) → y ∈ getD near x 0
   pub apart : twice ≡ 0 → (i j x y : ℕ) → i < j → j < k → y ≢ x → x ∈ linked l (getD s i 0) → y ∈ linked l (getD s i 0)
       → x ∈ linked l (getD s j 0) → y ∈ linked l (getD s j 0) → ⊥
+
+-- the neighbours and the lines that share one of the clusters below k are noted
+pub record Neighbours (near clusters : List ℕ) (l : ℕ) (among : List ℕ) (k : ℕ) : Type 0 where
+  pub places : length among ≡ 64
+  pub old : (x y : ℕ) → y ∈ getD near x 0 → y ∈ getD among x 0
+  pub new : (i x y : ℕ) → i < k → x ∈ linked l (getD clusters i 0) → y ∈ linked l (getD clusters i 0) → y ∈ getD among x 0
+
+-- what runs round among them stays in r
+pub record Turned (near clusters : List ℕ) (l r : ℕ) : Type 0 where
+  pub among : List ℕ
+  pub neighbours : Neighbours near clusters l among (length clusters)
+  pub sub : r ⊑ l
+  pub holds : Holds among l r

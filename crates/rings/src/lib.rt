@@ -3,7 +3,7 @@
 ghost use mathlib.Core.Path.{_≡_};
 ghost use lib.ListN.{length};
 ghost use Rattle.theory.specs.Ring.{linked as linkedOf, strip, ringed as isRinged};
-ghost use Rattle.rings.specs.Rows.{Joined, Keeps};
+ghost use Rattle.rings.specs.Rows.{Joined, Keeps, Turned};
 
 // The lines of l that a cluster holds, none if there is only one.
 fn linked(cluster: u64, l: u64) -> u64
@@ -68,7 +68,22 @@ fn strip_rows(clusters: &[u64], l: u64) -> u64
     if twice != 0 {
         return l;
     }
-    cycles::rounds_in(&near, l) & l
+    cycles::rounds_in(&near, l, l) & l
+}
+
+// Those of the lines that are left when lines are taken away that share a constraint or one of the merged clusters with one other at most.
+pub fn turning(near: &[u64; 64], merged: &[u64], lines: u64) -> u64
+    requires { ⌜ length (now near) ≡ 64 ⌝ }
+    ensures { λ r. ⌜ Turned (now (near .entry)) (now (merged .entry)) lines r ⌝ }
+{
+    let mut among = *near;
+    let mut i: usize = 0;
+    while i < merged.len() {
+        let m = linked(merged[i], lines);
+        join(&mut among, m);
+        i += 1;
+    }
+    cycles::rounds_in(&among, lines, lines) & lines
 }
 
 // Do lines stay, however often they are stripped?

@@ -2,8 +2,8 @@
 use native.Mathlib.Omega.{arith}
 use borrow.Author.Needs.{needs}
 use lib.Count.{ones}
-use Rattle.theory.specs.Set.{_⊑_}
-use Rattle.theory.specs.Set.Laws.{⊑-refl, at-le}
+use Rattle.theory.specs.Set.{_∩_, _⊑_}
+use Rattle.theory.specs.Set.Laws.{a∩b⊑b, at-le}
 use Rattle.theory.specs.Set.Less.{at-room}
 use Rattle.cycles.specs.Cycle.{Holds}
 use Rattle.cycles.specs.Cycle.Laws.{todo-in, todo-less}
@@ -11,13 +11,14 @@ use Rattle.cycles.proofs.rounds_in.Statement.{statement}
 use Rattle.cycles.proofs.rounds_in.Tie as tie
 
 abbrev Inv-loop : tie.InvT-loop
-Inv-loop near all left₀ todo₀ left todo = (todo ⊑ left) × Holds near all left
+Inv-loop near all first left₀ todo₀ left todo = (todo ⊑ left) × Holds near all left
 
 abbrev μ-loop : tie.MeasureT-loop
-μ-loop near all left₀ todo₀ left todo = ones todo
+μ-loop near all first left₀ todo₀ left todo = ones todo
 
 loop-holds : tie.Need-loop-holds Inv-loop μ-loop
-loop-holds c = (⊑-refl _, λ a r sub. sub)
+unfolding _∩_
+loop-holds c = (a∩b⊑b (c .args .first) (c .args .all), λ a r sub. sub)
 
 without-run-requires : tie.Need-without-run-requires Inv-loop μ-loop
 without-run-requires c κs =

@@ -1,10 +1,10 @@
 -- What counts and peeling decide of a graph without a plan, and what the judgement says of the verdict. Assumes nothing.
 use Prim.Native.Nat.{ℕ, _+_, _*_, _≤_, _<_}
 use native.Mathlib.Omega.{arith}
-use mathlib.Core.Path.{_≡_, refl, sym, ap, ap₂, _∙_, subst}
+use mathlib.Core.Path.{_≡_, refl, sym, ap, _∙_, subst}
 use mathlib.Core.Logic.{_≢_}
 use mathlib.Core.Bool.{Bool, true, false}
-use mathlib.Core.List.{List, []}
+use mathlib.Core.List.{List}
 use lib.Count.{ones}
 use lib.ListN.{length}
 use Rattle.theory.specs.Constraints.{NotOver}
@@ -21,10 +21,7 @@ use Rattle.theory.specs.Graph.{Graph, findingOf, verdictOf, listVerdict}
 use Rattle.theory.specs.Graph.Laws.{fine-finding, fine-verdict, fine-not-over}
 use Rattle.sheet.specs.Graph.{overFault}
 use Rattle.sheet.specs.Graph.Laws.{fine-fault, first-fault}
-use Rattle.theory.specs.Near.{Near}
 use Rattle.theory.specs.declared.Verdict.{Verdict}
-use Rattle.cycles.specs.Cycle.{HoldsBelow}
-use Rattle.cycles.specs.Cycle.Free.{no-plan, forest-under}
 use Rattle.theory.specs.Graph.Short.{not-angled, verdict-more, verdict-angle, verdict-fewer, verdict-one}
 use Rattle.graph.specs.Lent.{Sound}
 use Rattle.peeling.specs.Core.{Core, Told}
@@ -32,7 +29,7 @@ use Rattle.peeling.specs.Core.Peeling.{core-none}
 use Rattle.theory.specs.Over.Laws.{overOf-fine}
 use Rattle.theory.specs.Ring.Laws.{few-ringed, one-ringed}
 use Rattle.peeling.specs.Core.Merging.{loose-one}
-use Rattle.merges.specs.Run.{runOf, Merged, Planned}
+use Rattle.merges.specs.Run.{Merged, Planned}
 use Rattle.merges.specs.declared.Run.{Run}
 use Rattle.judge.specs.declared.Judged.{Judged}
 use Rattle.judge.specs.Judged.{listed, overFound, judgedBy, judgedOf}
@@ -105,29 +102,13 @@ module _ (g : Graph) (sound : Sound (g .n) (g .clusters)) where
       by Fine q = absurd (fine-not-over g q (more-is h))
       by (First c x) q = first-fault g q
 
-  -- fewer than 2n-3 constraints, and too few lines for a joint of three or a ring
-  pub fewer-is : ones (g .lines) ≤ 2 → findingOf g ≡ Fine → length cs + 3 < 2 * g .n → verdictOf g ≡ Under
-  fewer-is few fine h =
+  -- other than 2n-3 constraints, and too few lines for a joint of three or a ring
+  pub fewer-is : ones (g .lines) ≤ 2 → findingOf g ≡ Fine → length cs + 3 ≢ 2 * g .n → verdictOf g ≡ Under
+  fewer-is few fine ne =
       let pairs = sound .simple .pairs in
       let m = plan-of-maximal cs pairs in
       verdict-fewer g fine (not-angled (g .lines) few cs (planOf cs) (m .valid))
-      (few-ringed cs pairs (overOf-fine (g .n) cs pairs (sound .below) fine) (planOf cs) m (g .lines) (omega arith)) (λ e. omega (arith, e))
-
-  -- no constraints run round
-  module _ (near : List ℕ) (is-near : Near cs near) (none : HoldsBelow near (g .n) 0) (found : findingOf g ≡ Fine)
-      (ne : length cs + 3 ≢ 2 * g .n) where
-    fine-forest : NotOver cs
-    fine-forest = overOf-fine (g .n) cs (sound .simple .pairs) (sound .below) found
-
-    pub forest-is : verdictOf g ≡ Under
-    forest-is = forest-under g near (sound .simple) (sound .below) (sound .most) is-near none fine-forest found ne
-
-    pub forest-judged : {run : Run} → run ≡ runOf cs [] → record { verdict = Under; first = 0; set = 0; run = run } ≡ judgedOf g
-    unfolding judgedOf listed
-    forest-judged {run} e =
-        ap₂ {C = Judged} (λ (v : Verdict) (r : Run). record { verdict = v; first = 0; set = 0; run = r }) (sym forest-is ∙ fine-verdict g found)
-        (e ∙ ap (runOf cs) (sym (no-plan cs near (g .n) (sound .simple) (sound .below) (sound .most) is-near none)))
-        ∙ sym (ap (judgedBy g) found)
+      (few-ringed cs pairs (overOf-fine (g .n) cs pairs (sound .below) fine) (planOf cs) m (g .lines) (omega arith)) ne
 
   -- 2n-3 constraints that peel off to the last element
   module _ {left : ℕ} {angle : Bool} (full : length cs + 3 ≡ 2 * g .n) (t : Told cs (g .lines) left angle) (none : left ≡ 0) where

@@ -134,7 +134,7 @@ linked-in l c x h = by (decLe 2 (ones (c ∩ l)))
     by (yes t) = let r = ∈-∩⁻ x c l (ap (at x) (many l c t) ∙ h) in (r .0, r .1, t)
     by (no n) = absurd (omega (arith, ap (at x) (few l c (omega (arith, n))), at-zero x))
 
-in-linked : (l c x : ℕ) → x ∈ c → x ∈ l → 2 ≤ ones (c ∩ l) → x ∈ linked l c
+pub in-linked : (l c x : ℕ) → x ∈ c → x ∈ l → 2 ≤ ones (c ∩ l) → x ∈ linked l c
 unfolding _∩_
 in-linked l c x p q t = ap (at x) (sym (many l c t)) ∙ both x c l p q
 
@@ -282,6 +282,27 @@ module _ (lines : ℕ) (s : List ℕ) (l : ℕ) (w : Keeps lines s l) where
       by : (b : Bool) → T b → false ≡ not b
       by true t = refl
       by false t = absurd t
+
+-- ---- lines that may be left out
+
+-- what keeps all that no stripping takes off has a ring where they have one
+pub kept-same : (lines : ℕ) (s : List ℕ) (l : ℕ) → Keeps lines s l → ringed l s ≡ ringed lines s
+kept-same lines s l w = by (ℕ-discrete last 0)
+  where
+    last : ℕ
+    last = stripped (ones l) s l
+
+    last-kept : Keeps l s last
+    last-kept = record {
+      sub = stripped-sub (ones l) s l;
+      stays = λ g sub same. subst (λ (z : ℕ). z ⊑ last) (stripped-same (ones l) s g same) (stripped-mono (ones l) s g l sub);
+    }
+
+    by : Dec (last ≡ 0) → ringed l s ≡ ringed lines s
+    by (yes z) = sym (kept-none l s last last-kept z) ∙ kept-none lines s last (keep-on lines s l last w last-kept) z
+    by (no n) =
+        let ends = stripped-ends (ones l) s l (omega arith) in
+        sym (kept-some l s last last-kept n ends) ∙ kept-some lines s last (keep-on lines s l last w last-kept) n ends
 
 -- ---- one cluster
 

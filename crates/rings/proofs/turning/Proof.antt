@@ -1,0 +1,41 @@
+-- `rings::turning` meets its contract: neighbours and lines that share a merged cluster are noted, and what runs round among them stays. Assumes
+-- nothing.
+use Prim.Native.Nat.{_-_, _≤_}
+use native.Mathlib.Omega.{arith}
+use borrow.Author.Needs.{needs}
+use lib.ListN.{length}
+use Rattle.rings.specs.Rows.{Neighbours}
+use Rattle.rings.specs.Rows.Merged.{neighbours-start, neighbours-turn, neighbours-end}
+use Rattle.rings.proofs.turning.Statement.{statement}
+use Rattle.rings.proofs.turning.Tie as tie
+
+abbrev Inv-loop : tie.InvT-loop
+Inv-loop near merged lines among₀ i₀ among i = (i ≤ length merged) × Neighbours near merged lines among i
+
+abbrev μ-loop : tie.MeasureT-loop
+μ-loop near merged lines among₀ i₀ among i = length merged - i
+
+loop-holds : tie.Need-loop-holds Inv-loop μ-loop
+loop-holds c = (omega arith, neighbours-start _ _ _ (c .before .before .pre))
+
+join-requires : tie.Need-join-requires Inv-loop μ-loop
+join-requires c κs = c .before .before .before .before .loop .inv .1 .places
+
+loop-again : tie.Need-loop-again Inv-loop μ-loop
+loop-again c =
+    let l = c .before .before .before .before .before .loop in
+    let m = c .before .before .linked in (
+      search needs,
+      neighbours-turn _ _ _ (l .among) (l .i) (m .result) _ (c .join .result) (l .inv .1) (m .ensures) (c .join .ensures),
+    )
+
+returns : tie.Need-returns Inv-loop μ-loop
+returns c =
+    let l = c .before .before .before .loop in
+    neighbours-end _ _ _ (l .among) (l .i) (c .rounds-in .result) (l .inv .1) (omega (arith, c .before .before .loop-test .left)) (c .rounds-in .ensures)
+
+pub turning-spec : {M : Type 1} → statement M
+turning-spec =
+    tie.close
+    (tie.spec Inv-loop μ-loop loop-holds (λ c. search needs) (λ c. search needs) (λ c κs. search needs) join-requires (λ c. search needs)
+    (λ c. search needs) loop-again (λ c κs. search needs) returns)
