@@ -3,7 +3,7 @@
 ghost use mathlib.Core.Path.{_≡_};
 ghost use mathlib.Core.List.{List, []};
 ghost use Prim.Native.Nat.{ℕ, _≤_, _<_};
-ghost use lib.ListN.{length, take};
+ghost use lib.ListN.{length, take, replicate};
 ghost use Rattle.theory.specs.Block.{block};
 ghost use Rattle.theory.specs.Constraints.{NotOver};
 ghost use Rattle.theory.specs.Set.{_∩_};
@@ -85,17 +85,25 @@ pub fn joint3(a: u64, b: u64, c: u64) -> u64
 
 // ---- on lent arrays
 
-// The clusters before any merge: the first e of `start`.
-pub fn begin(start: &[u64; 200], e: usize) -> [u64; PLACES]
-    requires { ⌜ Start (now start) e ⌝ }
-    ensures { λ r. ⌜ r ≡ block places 0 (take e (now (start .entry))) ⌝ }
+// The clusters before any merge, the first e of `start`, into slots that were blank.
+pub fn lay(slots: &mut [u64; PLACES], start: &[u64; 200], e: usize)
+    requires { ⌜ Start (now start) e × (now slots ≡ replicate places 0) ⌝ }
+    ensures { λ r. ⌜ now (slots .exit) ≡ block places 0 (take e (now (start .entry))) ⌝ }
 {
-    let mut slots = [0u64; PLACES];
     let mut i: usize = 0;
     while i < e {
         slots[i] = start[i];
         i += 1;
     }
+}
+
+// The same by value.
+pub fn begin(start: &[u64; 200], e: usize) -> [u64; PLACES]
+    requires { ⌜ Start (now start) e ⌝ }
+    ensures { λ r. ⌜ r ≡ block places 0 (take e (now (start .entry))) ⌝ }
+{
+    let mut slots = [0u64; PLACES];
+    lay(&mut slots, start, e);
     slots
 }
 
@@ -288,7 +296,8 @@ pub fn merge_all(start: &[u64; 200], e: usize) -> Run
     requires { ⌜ Start (now start) e ⌝ }
     ensures { λ r. ⌜ Planned (take e (now (start .entry))) r ⌝ }
 {
-    let mut slots = begin(start, e);
+    let mut slots = [0u64; PLACES];
+    lay(&mut slots, start, e);
     let mut parts = [0u16; PLACES];
     let mut joints = [0u64; ELEMENTS];
     let mut links = [0u64; ELEMENTS];

@@ -145,7 +145,8 @@ pub fn check_plan(start: &[u64; 200], e: usize, plan: &[u16]) -> Checked
     if plan.len() % 3 != 0 {
         return refused(12);
     }
-    let mut slots = merges::begin(start, e);
+    let mut slots = [0u64; PLACES];
+    merges::lay(&mut slots, start, e);
     let mut parts = [0u16; PLACES];
     let mut joints = [0u64; ELEMENTS];
     let mut steps: usize = 0;

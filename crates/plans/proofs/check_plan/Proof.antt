@@ -1,5 +1,5 @@
 -- `plans::check_plan` meets its contract: the loop keeps `Checking`. Assumes nothing.
-use mathlib.Core.Path.{_≡_, sym, ap, _∙_}
+use mathlib.Core.Path.{_≡_, refl, sym, ap, _∙_}
 use mathlib.Core.List.{List, []}
 use Prim.Native.Nat.{ℕ, _-_, _%_}
 use native.Mathlib.Omega.{arith}
@@ -36,15 +36,15 @@ refused-by cs l h e = record {
 }
 
 -- the numbers are three a step
-mult : (c : tie.At-loop Inv-loop μ-loop) → length (c .before .before .before .before .args .plan .now) % 3 ≡ 0
-mult c = c .before .before .if1 .left
+mult : (c : tie.At-loop Inv-loop μ-loop) → length (c .before .before .before .before .before .args .plan .now) % 3 ≡ 0
+mult c = c .before .before .before .if1 .left
 
 -- the step named
 named-is : (c : tie.After-fault-at Inv-loop μ-loop)
     → let d = c .before .before .before .before .before .before .before .before .before in
     merge (c .before .before .before .before .before .before .wide .result) (c .before .before .before .before .wide2 .result)
     (c .before .before .wide3 .result)
-    ≡ named (d .before .before .before .before .args .plan .now) (d .loop .at)
+    ≡ named (d .before .before .before .before .before .args .plan .now) (d .loop .at)
 named-is c t =
     merge (c .before .before .before .before .before .before .wide .ensures t) (c .before .before .before .before .wide2 .ensures t)
     (c .before .before .wide3 .ensures t)
@@ -52,26 +52,26 @@ named-is c t =
 -- and its fault
 fault-is : (c : tie.After-fault-at Inv-loop μ-loop)
     → let d = c .before .before .before .before .before .before .before .before .before in
-    c .fault-at .result ≡ stepFault (d .loop .slots) (named (d .before .before .before .before .args .plan .now) (d .loop .at))
+    c .fault-at .result ≡ stepFault (d .loop .slots) (named (d .before .before .before .before .before .args .plan .now) (d .loop .at))
 fault-is c =
     c .fault-at .ensures ∙ ap (stepFault (c .before .before .before .before .before .before .before .before .before .loop .slots)) (named-is c)
 
 none-here : (c : tie.After-ascend Inv-loop μ-loop)
     → let d = c .before .before .before .before .before .before .before .before .before .before .before in
-    0 ≡ stepFault (d .loop .slots) (named (d .before .before .before .before .args .plan .now) (d .loop .at))
+    0 ≡ stepFault (d .loop .slots) (named (d .before .before .before .before .before .args .plan .now) (d .loop .at))
 none-here c = sym (c .before .if2 .left) ∙ fault-is (c .before .before)
 
 -- its parts ascend
 up : (c : tie.After-ascend Inv-loop μ-loop)
     → let d = c .before .before .before .before .before .before .before .before .before .before .before in
-    ascending (named (d .before .before .before .before .args .plan .now) (d .loop .at)) ≡ asMerge (c .ascend .result)
+    ascending (named (d .before .before .before .before .before .args .plan .now) (d .loop .at)) ≡ asMerge (c .ascend .result)
 up c = sym (c .ascend .ensures ∙ ap ascending (named-is (c .before .before)))
 
 returns : tie.Need-returns Inv-loop μ-loop
 returns c = refused-by _ _ (c .refused .ensures) (λ fine. fault-12 _ _ (c .before .if1 .taken))
 
 loop-holds : tie.Need-loop-holds Inv-loop μ-loop
-loop-holds c = checking-start (c .before .before .before .pre) (c .begin .ensures)
+loop-holds c = checking-start (c .before .before .before .before .pre) (c .lay .ensures)
 
 fault-at-requires : tie.Need-fault-at-requires Inv-loop μ-loop
 fault-at-requires c κs = slots-long (c .before .before .before .before .before .before .before .before .loop .inv .going .clusters)
@@ -90,7 +90,7 @@ step-requires c κs =
     let g = l .loop .inv .going in
     let o = open-here (l .loop .inv) (none-here d) in
     let f = going-fewer g o (up d) in
-    (below-i g o (up d), below-j g o (up d), below-k g o (up d), omega (arith, f, l .before .before .before .before .pre .few), f)
+    (below-i g o (up d), below-j g o (up d), below-k g o (up d), omega (arith, f, l .before .before .before .before .before .pre .few), f)
 
 loop-again : tie.Need-loop-again Inv-loop μ-loop
 loop-again c =
@@ -127,7 +127,7 @@ returns-4 c =
 pub check-plan-spec : {M : Type 1} → statement M
 check-plan-spec =
     tie.close
-    (tie.spec Inv-loop μ-loop (λ c κs. search needs) returns (λ c κs. search needs) loop-holds (λ c. search needs) (λ c. search needs)
+    (tie.spec Inv-loop μ-loop (λ c κs. search needs) returns (λ c κs. (c .before .before .before .pre, refl)) loop-holds (λ c. search needs) (λ c. search needs)
     (λ c κs. search needs) (λ c. search needs) (λ c. search needs) (λ c. search needs) (λ c κs. search needs) (λ c. search needs)
     (λ c. search needs) (λ c. search needs) (λ c κs. search needs) fault-at-requires (λ c κs. search needs) returns-2 (λ c κs. search needs)
     (λ c. search needs) step-requires (λ c. search needs) (λ c. search needs) (λ c. search needs) loop-again still-open-requires (λ c κs. search needs) returns-3 returns-4)
