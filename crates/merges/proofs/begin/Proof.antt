@@ -1,5 +1,4 @@
 -- `merges::begin` meets its contract. Assumes nothing.
-use borrow.Author.Needs.{needs}
 use mathlib.Core.Path.{refl}
 use Rattle.merges.proofs.begin.Statement.{statement}
 use Rattle.merges.proofs.begin.Tie as tie
