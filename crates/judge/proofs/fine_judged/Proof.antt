@@ -28,7 +28,8 @@ returns-2 c = λ z.
     let g = graphIn (s .args .h) (s .args .start .now) z in
     let o = drawn-fewer d fine ne z in
     let lines = ap (λ (h : Head). ones (h .lines)) (c .before .before .lines-in .ensures) in
-    run-judged g _ o (sym (few-angles g _ o (a .result) (a .ensures) (omega (arith, c .if2 .taken, lines)))) (planned-run g _ o (k .merge-all .ensures))
+    run-judged g _ o (sym (few-angles g _ o (a .result) (a .ensures) (omega (arith, c .if2 .taken, lines))))
+    (planned-run g _ o (k .merge-all .ensures))
 
 angle-or-under-requires : tie.Need-angle-or-under-requires
 angle-or-under-requires c κs =

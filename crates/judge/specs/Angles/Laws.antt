@@ -75,12 +75,16 @@ module _ (g : Graph) {held slots : List ℕ} {steps : ℕ} (a : PlanIn g held sl
   finals-in : take (e + steps) slots ≡ final (g .clusters) (planOf (g .clusters))
   finals-in = ap (λ (k : ℕ). take (k + steps) slots) (sym count) ∙ a .finals-are
 
+  merged-in : drop (length (g .clusters)) (final (g .clusters) (planOf (g .clusters))) ≡ take (e + steps - e) (drop e slots)
+  merged-in =
+      ap (λ (k : ℕ). drop k (final (g .clusters) (planOf (g .clusters)))) count ∙ ap (drop e) (sym finals-in)
+      ∙ drop-take e (e + steps - e) (e + steps) slots (omega arith)
+
   turned : {near : List ℕ} {lines l : ℕ} → g .lines ≡ lines → Turned near (take (e + steps - e) (drop e slots)) lines l
       → Turned near (drop (length (g .clusters)) (final (g .clusters) (planOf (g .clusters)))) (g .lines) l
   turned {near} {lines} {l} is t =
       subst (λ (k : ℕ). Turned near (drop (length (g .clusters)) (final (g .clusters) (planOf (g .clusters)))) k l) (sym is)
-      (subst (λ (s : List ℕ). Turned near s lines l)
-      (sym (ap (λ (k : ℕ). drop k (final (g .clusters) (planOf (g .clusters)))) count ∙ ap (drop e) (sym finals-in) ∙ drop-take e (e + steps - e) (e + steps) slots (omega arith))) t)
+      (subst (λ (s : List ℕ). Turned near s lines l) (sym merged-in) t)
 
 module _ (g : Graph) (near : List ℕ) (o : Fewer g near) where
   abbrev cs : List ℕ
@@ -165,8 +169,8 @@ module _ (g : Graph) (near : List ℕ) (o : Fewer g near) where
           sub = a∩b⊑a (g .lines) r;
           stays = λ l sub same.
               ∩-greatest sub
-              (lines-in cs near (g .n) (o .sound .simple) (o .sound .below) (o .sound .most) (o .is-near) fine r holds (final cs p) (good .0) (good .1)
-              l same);
+              (lines-in cs near (g .n) (o .sound .simple) (o .sound .below) (o .sound .most) (o .is-near) fine r holds (final cs p) (good .0)
+              (good .1) l same);
         }
 
     same-plan : listVerdict (linesIn g r) p ≡ listVerdict g p

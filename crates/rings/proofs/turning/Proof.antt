@@ -32,7 +32,8 @@ loop-again c =
 returns : tie.Need-returns Inv-loop μ-loop
 returns c =
     let l = c .before .before .before .loop in
-    neighbours-end _ _ _ (l .among) (l .i) (c .rounds-in .result) (l .inv .1) (omega (arith, c .before .before .loop-test .left)) (c .rounds-in .ensures)
+    neighbours-end _ _ _ (l .among) (l .i) (c .rounds-in .result) (l .inv .1) (omega (arith, c .before .before .loop-test .left))
+    (c .rounds-in .ensures)
 
 pub turning-spec : {M : Type 1} → statement M
 turning-spec =
