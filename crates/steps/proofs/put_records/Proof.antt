@@ -3,7 +3,7 @@ use Prim.Native.Nat.{_-_, _≤_}
 use native.Mathlib.Omega.{arith}
 use lib.ListN.{length, take, drop, length-take, length-map}
 use Rattle.theory.proofs.Step as T
-use Rattle.report.proofs.Going.{Going, start, put-next, put-last, place}
+use Rattle.steps.proofs.Going.{Going, start, put-next, put-last, place}
 use Rattle.steps.specs.Records.{stepNumbers}
 use Rattle.steps.specs.Records.Laws.{length-numbers, numbers-next, numbers-none}
 use Rattle.steps.proofs.put_records.Statement.{statement}
