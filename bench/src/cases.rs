@@ -196,6 +196,18 @@ pub fn for_plan() -> Vec<Case> {
     cases
 }
 
+/// Five shapes at any n from 4 on, for the picture of time against n.
+pub fn for_picture(n: usize) -> [Case; 5] {
+    let all = Dress { lines: 100, tags: 0 };
+    [
+        case("strip", PLAIN, false, |_| shapes::strip(n)),
+        case("Henneberg, no split", PLAIN, true, |random| shapes::henneberg(n, 0, random)),
+        case("Henneberg, 90 % split", PLAIN, true, |random| shapes::henneberg(n, 90, random)),
+        case("merge tree", PLAIN, true, |random| shapes::merge_tree(n, random)),
+        case("row, all lines", all, false, |_| shapes::row(n)),
+    ]
+}
+
 /// Sheets for chains: those for plans, and such as have long ones.
 pub fn for_chain() -> Vec<Case> {
     let mut cases = for_plan();

@@ -1,7 +1,7 @@
 //! The table that is printed.
 
 use crate::cases::Case;
-use crate::timing::{Contender, SAMPLES, TURNS, lowest_medians};
+use crate::timing::{Contender, SAMPLES, TURNS, lower, lowest_medians};
 use pattern_tests::tags;
 
 /// Times the contenders on each case and prints the table; a ratio is the first one's time to that one's.
@@ -37,13 +37,6 @@ pub fn print_less_reading(title: &str, cases: &[Case], contenders: &mut [Contend
     println!();
 }
 
-/// Keeps the lower time of each contender.
-fn lower(times: &mut [f64], again: Vec<f64>) {
-    for (time, again) in times.iter_mut().zip(again) {
-        *time = time.min(again);
-    }
-}
-
 /// The column heads.
 fn heading(contenders: &[Contender]) {
     print!("{:<34}{:>4}{:>5}", "sheets", "n", "e");
@@ -75,7 +68,7 @@ fn growth(rows: &[(&Case, f64)]) {
 }
 
 /// Ends the run where two contenders answer differently.
-fn agree(case: &Case, contenders: &mut [Contender]) {
+pub fn agree(case: &Case, contenders: &mut [Contender]) {
     for bytes in &case.pool {
         let kept = |contender: &Contender| if contender.keeps_tags { tags::length(bytes) as i32 } else { 0 };
         let answer = |contender: &mut Contender| (contender.call)(bytes) - kept(contender);

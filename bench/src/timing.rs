@@ -3,8 +3,12 @@
 use std::hint::black_box;
 use std::time::Instant;
 
+use crate::cases::Case;
+
 /// How often each contender has its turn; the lowest of its medians counts.
 pub const TURNS: usize = 6;
+/// How often all cases are gone through, where a disturbance of the machine is to spoil one round of a case alone.
+pub const ROUNDS: usize = 3;
 /// Samples a turn; their median counts.
 pub const SAMPLES: usize = 41;
 /// The least time of a sample.
@@ -27,6 +31,15 @@ impl Contender {
         Contender { name, call: Box::new(call), keeps_tags: false }
     }
 
+    /// A contender with lent space of its own.
+    pub fn lending<T: Default + Copy + 'static, const ROOM: usize>(
+        name: &'static str,
+        call: fn(&[u8], &mut [T]) -> i32,
+    ) -> Contender {
+        let mut out = [T::default(); ROOM];
+        Contender::new(name, move |bytes| call(bytes, &mut out))
+    }
+
     /// The contender as one that writes the tags that it reads.
     pub fn keeping_tags(self) -> Contender {
         Contender { keeps_tags: true, ..self }
@@ -42,6 +55,24 @@ pub fn lowest_medians(contenders: &mut [Contender], pool: &[Vec<u8>]) -> Vec<f64
         }
     }
     lowest
+}
+
+/// For each case the lowest medians of the contenders over all rounds.
+pub fn lowest_of_rounds(contenders: &mut [Contender], cases: &[Case]) -> Vec<Vec<f64>> {
+    let mut lowest = vec![vec![f64::INFINITY; contenders.len()]; cases.len()];
+    for _ in 0..ROUNDS {
+        for (case, lowest) in cases.iter().zip(&mut lowest) {
+            lower(lowest, lowest_medians(contenders, &case.pool));
+        }
+    }
+    lowest
+}
+
+/// Keeps the lower time of each contender.
+pub fn lower(times: &mut [f64], again: Vec<f64>) {
+    for (time, again) in times.iter_mut().zip(again) {
+        *time = time.min(again);
+    }
 }
 
 /// The median time of a call over some samples, each of several passes over the pool.

@@ -6,9 +6,12 @@ use pattern_tests::ffi;
 
 fn main() {
     let cases = cases::for_plan();
-    let mut contenders = vec![plan("proved", ffi::plan), plan("plain Rust", plain::plan::plan)];
+    let mut contenders = vec![
+        Contender::lending::<_, 256>("proved", ffi::plan),
+        Contender::lending::<_, 256>("plain Rust", plain::plan::plan),
+    ];
     #[cfg(feature = "yardstick")]
-    contenders.push(plan("yardstick", pattern_bench::yardstick::plan));
+    contenders.push(Contender::lending::<_, 256>("yardstick", pattern_bench::yardstick::plan));
     table::print("plan", &cases, &mut contenders);
     let mut contenders =
         vec![Contender::new("proved", ffi::verdict), Contender::new("plain Rust", plain::plan::verdict)];
@@ -31,10 +34,4 @@ fn steps() -> Contender {
 fn plan_alone() -> Contender {
     let mut out = [0; 256];
     Contender::new("plan", move |bytes| ffi::plan(bytes, &mut out) / 3)
-}
-
-/// A contender with lent numbers of its own.
-fn plan(name: &'static str, plan: fn(&[u8], &mut [u16]) -> i32) -> Contender {
-    let mut out = [0; 256];
-    Contender::new(name, move |bytes| plan(bytes, &mut out))
 }

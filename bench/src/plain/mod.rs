@@ -6,14 +6,15 @@ pub mod over;
 pub mod plan;
 pub mod report;
 pub mod sheet;
+pub mod sketch;
 
 #[cfg(test)]
 mod tests {
-    use pattern_tests::facts::Rule;
+    use pattern_tests::facts::{Constraint, Rule};
     use pattern_tests::interface::Found;
     use pattern_tests::random::Random;
     use pattern_tests::space::{Item, Space};
-    use pattern_tests::{damage, dress, interface, tags};
+    use pattern_tests::{damage, dress, ffi, interface, reader, sketch, tags};
 
     /// Sheets, sound and damaged.
     fn sheets() -> impl Iterator<Item = Vec<u8>> {
@@ -47,6 +48,38 @@ mod tests {
             same(&bytes, &found.chain(from, to), |bytes, out| super::chain::chain(bytes, from, to, out));
             let verdict = found.verdict().map_or_else(|rule| -i32::from(rule), i32::from);
             assert_eq!(super::plan::verdict(&bytes), verdict);
+        }
+    }
+
+    #[test]
+    fn saved_plans_as_the_reference() {
+        let mut random = Random::new(4);
+        for bytes in sheets().step_by(2) {
+            let plan = Found::of(&bytes).plan().unwrap_or_default();
+            let plan = if random.chance(50) { damage::plan(&plan, &mut random) } else { plan };
+            same(&bytes, &interface::check_plan(&bytes, &plan), |bytes, out| {
+                super::report::check_plan(bytes, &plan, out)
+            });
+        }
+    }
+
+    #[test]
+    fn held_sketches_as_the_reference() {
+        let mut random = Random::new(5);
+        for bytes in sheets() {
+            let Ok(sheet) = reader::read(&bytes) else { continue };
+            let more = damage::offered(&sheet, &mut random);
+            let Constraint { first, second, map, size } = more;
+            let plain = super::sheet::Constraint { first, second, map, size };
+            let count = (bytes.len() as u16).to_le_bytes();
+            let mut record: Vec<u8> = count.into_iter().chain(bytes).collect();
+            record.resize(record.len() + random.below(9), 0);
+            let answer = sketch::ask(&record, &more).map_or_else(|rule| -i32::from(rule), i32::from);
+            assert_eq!(super::sketch::ask(&record, &plain), answer, "{record:02x?}, {more:?}");
+            let told = sheet.e() + random.below(2);
+            let mut by_plain = record.clone();
+            let answer = ffi::place(&mut record, &more, told);
+            assert_eq!((super::sketch::place(&mut by_plain, &plain, told), by_plain), (answer, record), "{more:?}");
         }
     }
 }

@@ -5,7 +5,7 @@
 //! its own. The union of each block of clusters tells where to look for one that meets a set.
 
 use super::over::{self, Over, Peeling};
-use super::sheet::{Sheet, read};
+use super::sheet::{Rule, Sheet, read};
 
 /// Clusters in a block.
 const BLOCK: usize = 8;
@@ -106,6 +106,7 @@ impl Merging {
     }
 
     /// The first open merge, where below `from` only clusters that meet `last` take part in any.
+    #[inline(always)]
     fn first_open(&self, from: usize, last: u64) -> Option<[usize; 3]> {
         let i = self.lowest_reaching(from, last)?;
         let a = self.sets[i];
@@ -116,6 +117,7 @@ impl Merging {
     }
 
     /// Makes an open merge; the union.
+    #[inline(always)]
     fn merge(&mut self, parts: [usize; 3]) -> u64 {
         let [a, b, c] = parts.map(|i| std::mem::take(&mut self.sets[i]));
         let union = a | b | c;
@@ -133,6 +135,21 @@ impl Merging {
         self.made += 1;
         self.count += 1;
         union
+    }
+
+    /// Makes a step of a saved plan, by rules 13 and 15.
+    fn take(&mut self, mut parts: [usize; 3]) -> Result<(), Rule> {
+        parts.sort_unstable();
+        let living = parts.iter().all(|&part| part < self.made && self.sets[part] != 0);
+        if !living || parts[0] == parts[1] || parts[1] == parts[2] {
+            return Err(13);
+        }
+        let [a, b, c] = parts.map(|part| self.sets[part]);
+        if !open(a, b, c) {
+            return Err(15);
+        }
+        self.merge(parts);
+        Ok(())
     }
 
     /// The steps made.
@@ -159,6 +176,30 @@ pub fn merges_of(sheet: &Sheet) -> Result<Merging, Over> {
         Some(merging) if sheet.e == 2 * merging.count + 1 => Ok(merging),
         _ => over::find(sheet).map_or_else(|| Ok(merged.unwrap_or_else(|| merge_all(sheet))), Err),
     }
+}
+
+/// The merges of a saved plan, three numbers a step, or the rule that refuses it. Where there are 2n-3 constraints, steps that leave one cluster
+/// show that the sheet is not over.
+pub fn saved(sheet: &Sheet, plan: &[u16]) -> Result<Merging, Rule> {
+    let taken = (sheet.e + 3 == 2 * sheet.n).then(|| take_all(sheet, plan));
+    match taken {
+        Some(Ok(merging)) if sheet.e == 2 * merging.count + 1 => Ok(merging),
+        _ if sheet.e + 3 > 2 * sheet.n || over::find(sheet).is_some() => Err(11),
+        _ => taken.unwrap_or_else(|| take_all(sheet, plan)),
+    }
+}
+
+/// Takes the steps of a saved plan, by rules 12, 13, 15 and 16.
+fn take_all(sheet: &Sheet, plan: &[u16]) -> Result<Merging, Rule> {
+    if !plan.len().is_multiple_of(3) {
+        return Err(12);
+    }
+    let mut merging = Merging::initial(sheet);
+    for step in plan.chunks_exact(3) {
+        merging.take([step[0], step[1], step[2]].map(usize::from))?;
+    }
+    let whole = sheet.e == 2 * merging.count + 1;
+    if whole || merging.first_open(0, 0).is_none() { Ok(merging) } else { Err(16) }
 }
 
 /// Takes the first open merge until there is none.
@@ -210,7 +251,12 @@ pub fn verdict(bytes: &[u8]) -> i32 {
     if let Err(rule) = read(bytes, &mut sheet) {
         return -i32::from(rule);
     }
-    short_verdict(&sheet).unwrap_or_else(|| merges_of(&sheet).map_or(0, |merging| verdict_of(&sheet, &merging)))
+    judge(&sheet)
+}
+
+/// The verdict on a sheet.
+pub fn judge(sheet: &Sheet) -> i32 {
+    short_verdict(sheet).unwrap_or_else(|| merges_of(sheet).map_or(0, |merging| verdict_of(sheet, &merging)))
 }
 
 /// The verdict where counts, peeling or the search for an over set decide it. Two lines make no joint of three.

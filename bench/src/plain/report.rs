@@ -1,6 +1,6 @@
 //! The report.
 
-use super::plan::{Merging, Step, merges_of, verdict_of};
+use super::plan::{Merging, Step, merges_of, saved, verdict_of};
 use super::sheet::{Sheet, read};
 
 /// More bytes than any report has.
@@ -59,6 +59,7 @@ impl Text {
     }
 
     /// Adds the line of a step.
+    #[inline(always)]
     fn step(&mut self, sheet: &Sheet, made: usize, step: &Step) {
         let kind = (step.joint & sheet.lines).count_ones() as usize;
         self.list(b"step", [made].into_iter());
@@ -72,6 +73,7 @@ impl Text {
     }
 
     /// Adds the lines of steps and final clusters.
+    #[inline(always)]
     fn merges(&mut self, sheet: &Sheet, merging: &Merging) {
         for (k, step) in merging.steps().iter().enumerate() {
             self.step(sheet, sheet.e + k, step);
@@ -141,11 +143,33 @@ pub fn report(bytes: &[u8], out: &mut [u8]) -> i32 {
             text.set(b"\nset", over.set);
             text.put(b"\n");
         }
+        Ok(merging) => merged(&mut text, &sheet, &merging),
+    }
+    copied(&text, out)
+}
+
+/// The report for a saved plan into lent space: the count of bytes, or minus the rule.
+pub fn check_plan(bytes: &[u8], plan: &[u16], out: &mut [u8]) -> i32 {
+    let mut sheet = Sheet::blank();
+    match read(bytes, &mut sheet).and_then(|()| saved(&sheet, plan)) {
+        Err(rule) => -i32::from(rule),
         Ok(merging) => {
-            heading(&mut text, &sheet, verdict_of(&sheet, &merging) as usize);
-            text.merges(&sheet, &merging);
+            let mut text = Text { bytes: [0; MOST_BYTES], len: 0 };
+            merged(&mut text, &sheet, &merging);
+            copied(&text, out)
         }
     }
+}
+
+/// Adds the whole report of a sheet that is not over.
+#[inline(always)]
+fn merged(text: &mut Text, sheet: &Sheet, merging: &Merging) {
+    heading(text, sheet, verdict_of(sheet, merging) as usize);
+    text.merges(sheet, merging);
+}
+
+/// Copies the text into lent space: the count of bytes, or minus rule 17.
+fn copied(text: &Text, out: &mut [u8]) -> i32 {
     match out.get_mut(..text.len) {
         Some(space) => {
             space.copy_from_slice(&text.bytes[..text.len]);

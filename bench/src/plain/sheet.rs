@@ -41,6 +41,47 @@ impl Sheet {
     pub fn blank() -> Sheet {
         Sheet { opening: b'1', n: 0, e: 0, lines: 0, circles: 0, radii: [0; 64], constraints: [BLANK; 200] }
     }
+
+    /// Adds a constraint to fewer than 200, by rules 6, 7, 8, 20 and 9; bit 1 of its map has no influence, nor its size without bit 0.
+    pub fn add(&mut self, more: &Constraint) -> Result<(), Rule> {
+        let &Constraint { first, second, size, .. } = more;
+        let map = more.map & !2;
+        let elements = Elements { n: self.n, lines: self.lines, circles: self.circles, radii: &self.radii };
+        let mut pairs = Pairs([0; 64]);
+        if self.constraints[..self.e].iter().any(|c| c.first == first && c.second == second) {
+            pairs.take(first, second, self.n)?;
+        }
+        check(&Constraint { first, second, map, size }, elements, &mut pairs)?;
+        let size = match map {
+            0 => 0,
+            1 => size,
+            _ => elements.contact(first, second, map)?,
+        };
+        self.constraints[self.e] = Constraint { first, second, map, size };
+        self.e += 1;
+        Ok(())
+    }
+
+    /// Where the count of constraints stands in the sheet's bytes.
+    fn count_at(&self) -> usize {
+        let kinds = if self.opening == b'1' { self.n.div_ceil(8) } else { self.n.div_ceil(4) };
+        5 + kinds + 4 * self.circles.count_ones() as usize
+    }
+
+    /// Writes the sheet into space that begins with the `len` bytes it had before its last constraint was added; the count of bytes. Where they
+    /// have no tag, only that constraint is written.
+    pub fn write_last(&self, len: usize, out: &mut [u8]) -> Result<usize, Rule> {
+        let count_at = self.count_at();
+        let (last, before) = self.constraints[..self.e].split_last().expect("a constraint was added");
+        if count_at + 1 + before.iter().map(|c| length(c.map)).sum::<usize>() != len {
+            return write(self, out);
+        }
+        let mut bytes = [0; LONGEST_WRITTEN];
+        let added = write_constraint(last, &mut bytes);
+        out.get_mut(len..len + added).ok_or(17)?.copy_from_slice(&bytes[..added]);
+        out[count_at] = self.e as u8;
+        Ok(len + added)
+    }
 }
 
 /// The elements, as far as rules on constraints look at them.
