@@ -226,6 +226,54 @@ pub fn judge(h: Head, near: &[u64; 64], start: &[u64; 200]) -> Judged
     over_found(constraint, set)
 }
 
+// ---- the plan alone
+
+// The engine's plan of a sheet that is not over. Where nothing is left that runs round nothing merges.
+fn fine_plan(h: Head, near: &[u64; 64], start: &[u64; 200]) -> Run
+    requires { ⌜ Drawn h (now near) (now start) × (h .e + 3 ≢ 2 * h .n) × ((z : List ℤ) → findingOf (graphIn h (now start) z) ≡ Fine) ⌝ }
+    ensures { λ r. ⌜ ((z : List ℤ) → r ≡ judgedOf (graphIn h (now (start .entry)) z) .run) ⌝ }
+{
+    if around(h, near) == 0 {
+        return unmerged(start, h.e);
+    }
+    merges::merge_all(start, h.e)
+}
+
+// The engine's plan of a sheet with 2n-3 constraints, none of an over one. Merges that leave one cluster show that it is not over.
+fn full_plan(h: Head, near: &[u64; 64], start: &[u64; 200]) -> Run
+    requires { ⌜ Drawn h (now near) (now start) × (h .e + 3 ≡ 2 * h .n) ⌝ }
+    ensures { λ r. ⌜ ((z : List ℤ) → r ≡ judgedOf (graphIn h (now (start .entry)) z) .run) ⌝ }
+{
+    let run = merges::merge_all(start, h.e);
+    if h.e == 2 * run.steps + 1 {
+        return run;
+    }
+    match over_of(h, near, start) {
+        Finding::First { .. } => merges::no_run(),
+        Finding::Fine => run,
+    }
+}
+
+// The engine's plan of a sheet, none of an over one.
+pub fn plan_of(h: Head, near: &[u64; 64], start: &[u64; 200]) -> Run
+    requires { ⌜ Drawn h (now near) (now start) ⌝ }
+    ensures { λ r. ⌜ ((z : List ℤ) → r ≡ judgedOf (graphIn h (now (start .entry)) z) .run) ⌝ }
+{
+    let used = h.e + 3;
+    if 2 * h.n < used {
+        return merges::no_run();
+    }
+    if used == 2 * h.n {
+        return full_plan(h, near, start);
+    }
+    match over_of(h, near, start) {
+        Finding::First { .. } => merges::no_run(),
+        Finding::Fine => fine_plan(h, near, start),
+    }
+}
+
+// ---- the verdict alone
+
 // The verdict of a sheet that is not over, with fewer than 2n-3 constraints. Two lines or fewer are too few for a joint of three or a ring.
 pub fn fine_verdict(h: Head, near: &[u64; 64], start: &[u64; 200]) -> Verdict
     requires { ⌜ Drawn h (now near) (now start) × (h .e + 3 < 2 * h .n) × ((z : List ℤ) → findingOf (graphIn h (now start) z) ≡ Fine) ⌝ }

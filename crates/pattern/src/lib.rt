@@ -143,8 +143,7 @@ pub fn plan(bytes: &[u8], out: &mut [u16]) -> Written
     let GraphRead::Value(head) = got else {
         return Written::Refused(got.refusal());
     };
-    let judged = judge::judge(head, &near, &start);
-    let run = judged.run;
+    let run = judge::plan_of(head, &near, &start);
     engine::put_plan(run, out)
 }
 
@@ -196,8 +195,7 @@ pub fn clusters(bytes: &[u8], out: &mut [u64]) -> Written
     let GraphRead::Value(head) = got else {
         return Written::Refused(got.refusal());
     };
-    let judged = judge::judge(head, &near, &start);
-    let run = judged.run;
+    let run = judge::plan_of(head, &near, &start);
     let slots = run.slots;
     engine::put_clusters(&slots, 192, out)
 }

@@ -20,6 +20,7 @@ use Rattle.graph.specs.Lent.Sheets.{found-fine, fine-few}
 use Rattle.merges.specs.Run.{flat, runOf}
 use Rattle.merges.specs.Run.Laws.{length-numbers, length-final}
 use Rattle.engine.specs.Lists.{livingOf}
+use Rattle.merges.specs.declared.Run.{Run}
 use Rattle.judge.specs.declared.Judged.{Judged}
 use Rattle.judge.specs.Judged.{listed, planned, overFound, judgedBy, judgedOf, planBy, planNumbers, finalsBy, finalClusters}
 
@@ -83,3 +84,16 @@ module _ (g : Graph) (sound : Sound (g .n) (g .clusters)) where
       by-finding : (o : Finding) → findingOf g ≡ o → Held (judgedBy g (findingOf g))
       by-finding Fine q = subst (λ (o : Finding). Held (judgedBy g o)) (sym q) (plan-held q)
       by-finding (First c x) q = subst (λ (o : Finding). Held (judgedBy g o)) (sym q) (over-held c x q)
+
+  -- of its plan alone
+  pub record HeldRun (r : Run) : Type 0 where
+    pub few-steps : r .steps ≤ 62
+    pub all-parts : length (r .parts) ≡ 192
+    pub plan-is : take (3 * r .steps) (r .parts) ≡ planNumbers g
+    pub finals-are : livingOf (take 192 (r .slots)) ≡ finalClusters g
+
+  pub run-held : {r : Run} → r ≡ judgedOf g .run → HeldRun r
+  run-held e =
+      let h = judged-held refl in
+      subst HeldRun (sym e)
+      (record { few-steps = h .steps-most; all-parts = h .parts-long; plan-is = h .numbers; finals-are = h .finals })

@@ -4,7 +4,7 @@ use native.Mathlib.Omega.{arith}
 use mathlib.Core.Path.{_≡_, refl, sym, ap, _∙_, subst}
 use mathlib.Core.Logic.{_≢_}
 use mathlib.Core.Bool.{Bool, true, false}
-use mathlib.Core.List.{List}
+use mathlib.Core.List.{List, []}
 use lib.Count.{ones}
 use lib.ListN.{length}
 use Rattle.theory.specs.Constraints.{NotOver}
@@ -29,7 +29,7 @@ use Rattle.peeling.specs.Core.Peeling.{core-none}
 use Rattle.theory.specs.Over.Laws.{overOf-fine}
 use Rattle.theory.specs.Ring.Laws.{few-ringed, one-ringed}
 use Rattle.peeling.specs.Core.Merging.{loose-one}
-use Rattle.merges.specs.Run.{Merged, Planned}
+use Rattle.merges.specs.Run.{runOf, Merged, Planned}
 use Rattle.merges.specs.declared.Run.{Run}
 use Rattle.judge.specs.declared.Judged.{Judged}
 use Rattle.judge.specs.Judged.{listed, overFound, judgedBy, judgedOf}
@@ -52,6 +52,14 @@ module _ (g : Graph) (sound : Sound (g .n) (g .clusters)) where
   unfolding judgedOf
   fine-judged p fine =
       ap (listed g) (p .plan fine) ∙ sym (ap (judgedBy g) (fine-finding g (sound .simple .pairs) (sound .below) fine))
+
+  -- the plan of it
+  pub run-planned : {run : Run} → Planned cs run → NotOver cs → run ≡ judgedOf g .run
+  unfolding listed
+  run-planned p fine = p .merged .is ∙ ap (λ (j : Judged). j .run) (fine-judged p fine)
+
+  pub run-first : {c x : ℕ} → findingOf g ≡ First c x → runOf [] [] ≡ judgedOf g .run
+  run-first q = sym (ap (λ (j : Judged). j .run) (first-judged q))
 
   -- merges that leave one cluster show that it is not over
   pub one-left : {run : Run} → Merged cs run → 2 * run .steps + 1 ≡ length cs → NotOver cs
@@ -94,13 +102,19 @@ module _ (g : Graph) (sound : Sound (g .n) (g .clusters)) where
   pub more-is : 2 * g .n < length cs + 3 → verdictOf g ≡ Over
   more-is h = verdict-more g (sound .two) (sound .simple .pairs) (sound .below) h
 
-  -- rule 11 of them
-  pub more-fault : 2 * g .n < length cs + 3 → overFault g ≡ 11
-  more-fault h = by (findingOf g) refl
+  -- rule 11 of them, and no plan
+  more-found : 2 * g .n < length cs + 3 → (c : ℕ) × (x : ℕ) × (findingOf g ≡ First c x)
+  more-found h = by (findingOf g) refl
     where
-      by : (o : Finding) → findingOf g ≡ o → overFault g ≡ 11
+      by : (o : Finding) → findingOf g ≡ o → (c : ℕ) × (x : ℕ) × (findingOf g ≡ First c x)
       by Fine q = absurd (fine-not-over g q (more-is h))
-      by (First c x) q = first-fault g q
+      by (First c x) q = (c, x, q)
+
+  pub more-fault : 2 * g .n < length cs + 3 → overFault g ≡ 11
+  more-fault h = first-fault g (more-found h .2)
+
+  pub run-more : 2 * g .n < length cs + 3 → runOf [] [] ≡ judgedOf g .run
+  run-more h = run-first (more-found h .2)
 
   -- other than 2n-3 constraints, and too few lines for a joint of three or a ring
   pub fewer-is : ones (g .lines) ≤ 2 → findingOf g ≡ Fine → length cs + 3 ≢ 2 * g .n → verdictOf g ≡ Under

@@ -3,10 +3,11 @@ use borrow.Author.Needs.{needs}
 use mathlib.Core.Path.{refl, sym, ap, _∙_}
 use mathlib.Core.List.{List, []}
 use Prim.Native.Nat.{ℕ}
+use Rattle.theory.specs.Graph.{Graph}
 use Rattle.sheet.specs.Graph.{graphOf}
 use Rattle.graph.specs.Lent.Sheets.{accepted-sound}
 use Rattle.judge.specs.Judged.{judgedOf}
-use Rattle.judge.specs.Judged.Lists.{Held, judged-held}
+use Rattle.judge.specs.Judged.Lists.{HeldRun, run-held}
 use Rattle.sheet.specs.Field.{value}
 use Rattle.sheet.specs.Answer.Laws.{answers-refused, answers-items}
 use Rattle.pattern.specs.Entries.Reading.{FactsRead, refused-read, facts-read}
@@ -26,19 +27,20 @@ read : (c : tie.After-start2)
 read c =
     facts-read _ _ _ _ _ (c .before .before .before .before .before .read-graph .ensures) (c .before .before .before .got .given .1)
 
-judged : (c : tie.After-judge) → Held (graphOf (read (c .before) .facts)) (accepted-sound _ (read (c .before) .stands .accepted)) (c .judge .result)
-judged c =
+-- the plan of its graph
+held : (c : tie.After-plan-of) → HeldRun (graphOf (read (c .before) .facts)) (accepted-sound _ (read (c .before) .stands .accepted)) (c .plan-of .result)
+held c =
     let f = read (c .before) in
-    judged-held (graphOf (f .facts)) (accepted-sound _ (f .stands .accepted)) (c .judge .ensures _ ∙ ap judgedOf (f .graph-read))
+    run-held (graphOf (f .facts)) (accepted-sound _ (f .stands .accepted)) (c .plan-of .ensures _ ∙ ap (λ (g : Graph). judgedOf g .run) (f .graph-read))
 
 put-plan-requires : tie.Need-put-plan-requires
-put-plan-requires c κs = let j = judged (c .before .before) in (j .steps-most, j .parts-long)
+put-plan-requires c κs = let j = held (c .before) in (j .few-steps, j .all-parts)
 
 returns-2 : tie.Need-returns-2
 returns-2 c =
-    let k = c .before .before .before .before .before in
+    let k = c .before .before .before .before in
     answers-items (c .before .before .put-plan .ensures)
-    (rw (read (k .before) .reads) (ap (λ (l : List ℕ). value l []) (sym (judged k .numbers))))
+    (rw (read (k .before) .reads) (ap (λ (l : List ℕ). value l []) (sym (held k .plan-is))))
 
 pub plan-spec : {M : Type 1} → statement M
 plan-spec =
