@@ -259,11 +259,11 @@ pub fn plan_of(h: Head, near: &[u64; 64], start: &[u64; 200]) -> Run
     requires { ⌜ Drawn h (now near) (now start) ⌝ }
     ensures { λ r. ⌜ ((z : List ℤ) → r ≡ judgedOf (graphIn h (now (start .entry)) z) .run) ⌝ }
 {
-    let used = h.e + 3;
-    if 2 * h.n < used {
+    let held = h.e + 3;
+    if 2 * h.n < held {
         return merges::no_run();
     }
-    if used == 2 * h.n {
+    if held == 2 * h.n {
         return full_plan(h, near, start);
     }
     match over_of(h, near, start) {
