@@ -22,6 +22,7 @@ use merges::Run;
 use theory::Finding;
 use theory::Verdict;
 
+// The set of all 64 elements.
 const EVERY_ELEMENT: u64 = 18446744073709551615;
 
 // The first constraint that makes the sheet over, with the smallest set; Fine where it is not over.

@@ -7,13 +7,15 @@ use lib.ListN.{length, take, drop, getD}
 use Rattle.report.specs.Report.{slotLine, clusterLines}
 use Rattle.report.specs.Pieces.{wide}
 use Rattle.report.specs.Report.Laws.{clusters-next, clusters-none, length-wide, wide-at}
+use Rattle.report.specs.Block.{Stands}
+use Rattle.report.proofs.Standing.{stands}
 use Rattle.report.proofs.Going.{Going, start, put-next, put-last, place}
 use Rattle.report.proofs.put_clusters.Statement.{statement}
 use Rattle.report.proofs.put_clusters.Tie as tie
 
 abbrev Inv-loop : tie.InvT-loop
 Inv-loop out₀ at text slots low high used next₀ c₀ out next c =
-    (c ≤ used) × Going out₀ at (clusterLines 0 (take used slots) (take used (wide low high))) out next
+    (c ≤ used) × Going Stands out₀ at (clusterLines 0 (take used slots) (take used (wide low high))) out next
     (clusterLines c (drop c (take used slots)) (drop c (take used (wide low high))))
 
 abbrev μ-loop : tie.MeasureT-loop
@@ -34,7 +36,7 @@ put-slot-line-requires : tie.Need-put-slot-line-requires Inv-loop μ-loop
 put-slot-line-requires c κs =
     let s = c .before .before .before .before .before .before in
     let h = c .before .before .before .before .loop-test .taken in
-    (s .pre .0, omega (arith, h, s .pre .1), omega (arith, place (c .before .before .before .before .before .loop .inv .1), s .pre .5))
+    (s .pre .0, omega (arith, h, s .pre .1), omega (arith, place stands (c .before .before .before .before .before .loop .inv .1), s .pre .5))
 
 loop-again : tie.Need-loop-again Inv-loop μ-loop
 loop-again c =
@@ -42,14 +44,14 @@ loop-again c =
     let l = c .before .before .before .before .before .before .loop in
     let h = c .before .before .before .before .before .loop-test .taken in (
       omega (arith, h),
-      put-next (next-line (s .args .slots .now) (s .args .low .now) (s .args .high .now) (s .args .used) (l .c) (s .pre .2) (s .pre .3) (s .pre .4)
+      put-next stands (next-line (s .args .slots .now) (s .args .low .now) (s .args .high .now) (s .args .used) (l .c) (s .pre .2) (s .pre .3) (s .pre .4)
           (s .pre .1) h) (l .inv .1) (c .put-slot-line .ensures),
     )
 
 returns : tie.Need-returns Inv-loop μ-loop
 returns c =
     let a = c .before .before .args in
-    put-last (clusters-none (a .slots .now) (wide (a .low .now) (a .high .now)) (a .used) (c .before .loop .c) (c .loop-test .left))
+    put-last stands (clusters-none (a .slots .now) (wide (a .low .now) (a .high .now)) (a .used) (c .before .loop .c) (c .loop-test .left))
     (c .before .loop .inv .1)
 
 pub put-clusters-spec : {M : Type 1} → statement M

@@ -9,13 +9,15 @@ use Rattle.report.specs.Elements.{elements}
 use Rattle.report.specs.Pieces.{numbers, above}
 use Rattle.report.specs.Report.Laws.{above-lowest, above-none}
 use Rattle.report.specs.Report.Length.{above-most}
+use Rattle.report.specs.Block.{Stands}
+use Rattle.report.proofs.Standing.{stands}
 use Rattle.report.proofs.Going.{Going, start, put-next, put-last, place}
 use Rattle.report.proofs.put_set_from.Statement.{statement}
 use Rattle.report.proofs.put_set_from.Tie as tie
 
 abbrev Inv-loop : tie.InvT-loop
 Inv-loop out₀ at text first set next₀ rest₀ out next rest =
-    (rest < 2 ^ 64) × Going out₀ at (numbers (above first (elements set))) out next (numbers (above first (elements rest)))
+    (rest < 2 ^ 64) × Going Stands out₀ at (numbers (above first (elements set))) out next (numbers (above first (elements rest)))
 
 abbrev μ-loop : tie.MeasureT-loop
 μ-loop out₀ at text first set next₀ rest₀ out next rest = rest
@@ -26,20 +28,20 @@ put-number-requires c κs =
     let l = c .before .before .loop in (
       s .pre .0,
       omega (arith, trailing-le 64 (l .rest), s .pre .1),
-      omega (arith, place (l .inv .1), above-most (s .args .first) (s .args .set), s .pre .2),
+      omega (arith, place stands (l .inv .1), above-most (s .args .first) (s .args .set), s .pre .2),
     )
 
 loop-again : tie.Need-loop-again Inv-loop μ-loop
 loop-again c =
     let l = c .before .before .before .loop in (
       omega (arith, and-le-l (l .rest) (l .rest - 1)),
-      put-next (above-lowest _ (l .rest) (l .inv .0) (c .before .before .loop-test .taken)) (l .inv .1) (c .put-number .ensures .0),
+      put-next stands (above-lowest _ (l .rest) (l .inv .0) (c .before .before .loop-test .taken)) (l .inv .1) (c .put-number .ensures .0),
     )
 
 returns : tie.Need-returns Inv-loop μ-loop
 returns c =
     let a = c .before .before .args in
-    let put = put-last (ap (λ (x : ℕ). numbers (above (a .first) (elements x))) (search needs) ∙ above-none (a .first)) (c .before .loop .inv .1) in
+    let put = put-last stands (ap (λ (x : ℕ). numbers (above (a .first) (elements x))) (search needs) ∙ above-none (a .first)) (c .before .loop .inv .1) in
     (put, omega (arith, put .next-is, above-most (a .first) (a .set)))
 
 pub put-set-from-spec : {M : Type 1} → statement M

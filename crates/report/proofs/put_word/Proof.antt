@@ -9,12 +9,14 @@ use mathlib.Core.List.{[], _∷_}
 use lib.ListN.{length, getD, drop, drop-of-length-le}
 use lib.Seq.{drop-cons}
 use Rattle.report.specs.Block.Laws.{stands-all}
+use Rattle.report.specs.Block.{Stands}
+use Rattle.report.proofs.Standing.{stands}
 use Rattle.report.proofs.Going.{Going, start, put-next, put-last}
 use Rattle.report.proofs.put_word.Statement.{statement}
 use Rattle.report.proofs.put_word.Tie as tie
 
 abbrev Inv-loop : tie.InvT-loop
-Inv-loop out₀ at word i₀ out i = (i ≤ length word) × Going out₀ at word out (at + i) (drop i word)
+Inv-loop out₀ at word i₀ out i = (i ≤ length word) × Going Stands out₀ at word out (at + i) (drop i word)
 
 abbrev μ-loop : tie.MeasureT-loop
 μ-loop out₀ at word i₀ out i = length word - i
@@ -25,11 +27,11 @@ loop-again c =
     let l = c .before .before .loop in
     let h = c .before .loop-test .taken in (
       omega (arith, h),
-      put-next {ys = getD word (l .i) 0 ∷ []} (drop-cons word (l .i) 0 h ∙ rw add-one) (l .inv .1) (stands-all (omega arith) refl),
+      put-next stands {ys = getD word (l .i) 0 ∷ []} (drop-cons word (l .i) 0 h ∙ rw add-one) (l .inv .1) (stands-all (omega arith) refl),
     )
 
 returns : tie.Need-returns Inv-loop μ-loop
-returns c = put-last (drop-of-length-le (c .before .before .args .word .now) (c .loop-test .left)) (c .before .loop .inv .1)
+returns c = put-last stands (drop-of-length-le (c .before .before .args .word .now) (c .loop-test .left)) (c .before .loop .inv .1)
 
 pub put-word-spec : {M : Type 1} → statement M
 put-word-spec =

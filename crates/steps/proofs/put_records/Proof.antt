@@ -1,17 +1,25 @@
 -- `steps::put_records` meets its contract: the numbers of the records from `i` on are still to be put. Assumes nothing.
 use Prim.Native.Nat.{_-_, _≤_}
 use native.Mathlib.Omega.{arith}
+use mathlib.Core.Path.{refl}
 use lib.ListN.{length, take, drop, length-take, length-map}
 use Rattle.theory.proofs.Step as T
-use Rattle.steps.proofs.Going.{Going, start, put-next, put-last, place}
+use lib.Seq.{sets}
+use Rattle.space.specs.Space.{Put}
+use Rattle.space.specs.Space.Laws.{put-none, put-all, _then_}
+use Rattle.report.proofs.Going.{Composes, Going, start, put-next, put-last, place}
 use Rattle.steps.specs.Records.{stepNumbers}
 use Rattle.steps.specs.Records.Laws.{length-numbers, numbers-next, numbers-none}
 use Rattle.steps.proofs.put_records.Statement.{statement}
 use Rattle.steps.proofs.put_records.Tie as tie
 
+-- numbers put into lent space one after another are put together
+puts : Composes Put
+puts = record { none = put-none; both = λ p q. p then q; some = λ space at xs. (sets space at xs, put-all refl refl); next = λ p. p .next-is }
+
 abbrev Inv-loop : tie.InvT-loop
 Inv-loop out₀ count f next₀ i₀ out next i =
-    (i ≤ count) × Going out₀ 0 (stepNumbers (take count (f .list))) out next (stepNumbers (drop i (take count (f .list))))
+    (i ≤ count) × Going Put out₀ 0 (stepNumbers (take count (f .list))) out next (stepNumbers (drop i (take count (f .list))))
 
 abbrev μ-loop : tie.MeasureT-loop
 μ-loop out₀ count f next₀ i₀ out next i = count - i
@@ -25,14 +33,14 @@ put-record-requires c κs =
     let s = c .before .before .before .before .before in
     let l = c .before .before .before .loop in
     let xs = take (s .args .count) (s .args .t2 .list) in
-    omega (arith, place (l .inv .1), length-numbers xs, length-take (s .args .count) (s .args .t2 .list), s .pre)
+    omega (arith, place puts (l .inv .1), length-numbers xs, length-take (s .args .count) (s .args .t2 .list), s .pre)
 
 loop-again : tie.Need-loop-again Inv-loop μ-loop
 loop-again c =
     let s = c .before .before .before .before .before .before .before .before in
     let l = c .before .before .before .before .before .before .loop in (
       omega arith,
-      put-next (numbers-next (s .args .t2 .list) (s .args .count) (l .i) _ (long s) (c .before .before .before .before .before .loop-test .taken))
+      put-next puts (numbers-next (s .args .t2 .list) (s .args .count) (l .i) _ (long s) (c .before .before .before .before .before .loop-test .taken))
           (l .inv .1)
           (c .before .before .put-record .ensures),
     )
@@ -40,7 +48,7 @@ loop-again c =
 returns : tie.Need-returns Inv-loop μ-loop
 returns c =
     let a = c .before .before .before .args in
-    put-last (numbers-none (a .t2 .list) (a .count) (c .before .loop .i) (c .loop-test .left)) (c .before .loop .inv .1)
+    put-last puts (numbers-none (a .t2 .list) (a .count) (c .before .loop .i) (c .loop-test .left)) (c .before .loop .inv .1)
 
 pub put-records-spec : {M : Type 1} → statement M
 put-records-spec =
