@@ -1,11 +1,7 @@
 -- What the answers say of lists of merges. Document 01, "Every order of merging": the engine's plan and an accepted saved plan are such lists, and
 -- the verdict, final clusters, joints and count of steps in the answer are the list's own. Shown from the definitions that the contracts cite, for
 -- every accepted sheet, by `own-lists` of Own/Proof.antt.
-use Prim.Native.Nat.{ℕ, _%_}
-use mathlib.Core.Path.{_≡_}
-use mathlib.Core.Logic.{_≢_, _↔_}
-use mathlib.Core.List.{List, map}
-use lib.ListN.{length}
+use Rattle.theory.specs.Prelude.{ℕ, _%_, _≡_, _≢_, _↔_, List, map, length}
 use Rattle.theory.specs.Merge.{Merge, Maximal, final, joints}
 use Rattle.theory.specs.Plan.{planOf}
 use Rattle.theory.specs.Graph.{Graph, listVerdict, verdictOf, stepsOf}

@@ -1,9 +1,5 @@
 -- Document 01, "Sheets to try", and document 02, 2026-03 and 2026-04: the sheets marked P and rings of lines, each with its facts and the whole report that it prints, and one theorem over the table.
-use Prim.Native.Nat.{ℕ}
-use mathlib.Core.Path.{_≡_}
-use mathlib.Core.List.{List, [], _∷_, _++_, map}
-use lib.IntN.{pos}
-use lib.ListN.{replicate}
+use Rattle.theory.specs.Prelude.{ℕ, _≡_, List, [], _∷_, _++_, map, pos, replicate}
 use Rattle.space.specs.Text.{ascii}
 use Rattle.sheet.specs.declared.Opening.the-variants.{Pf01}
 use Rattle.sheet.specs.declared.Kind.the-variants.{Line}

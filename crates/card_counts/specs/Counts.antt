@@ -1,7 +1,5 @@
 -- How many of the sets of distances among two to five points are over, well, stuck and under, and the lines that say so (document 02, 2026-10).
-use mathlib.Core.Path.{_≡_}
-use mathlib.Core.List.{List, [], _∷_, _++_}
-use Prim.Native.Nat.{ℕ, zero, suc, _+_}
+use Rattle.theory.specs.Prelude.{_≡_, List, [], _∷_, _++_, ℕ, zero, suc, _+_}
 use Rattle.theory.specs.declared.Verdict.{Verdict}
 use Rattle.theory.specs.declared.Verdict.the-variants.{Over, Angle, Well, Stuck, Under}
 use Rattle.space.specs.Text.{ascii, decimal}

@@ -1,13 +1,6 @@
 -- What each loop has done so far. Assumes nothing.
-use mathlib.Core.Path.{_≡_, sym, ap, _∙_, subst}
-use mathlib.Core.Logic.{_≢_, _⊎_, inl, inr, ⊎-elim}
-use mathlib.Core.List.{List}
-use Prim.Native.Nat.{ℕ, zero, suc, _+_, _-_, _*_, _/_, _%_, _^_, _≤_, _<_}
-use native.Mathlib.Omega.{arith}
-use native.Mathlib.Decide.{ℕ-discrete, decLt}
-use lib.Bits.{bitAnd, bitOr, and-le-l}
-use lib.Count.{trailingZeros}
-use lib.ListN.{getD}
+use Rattle.theory.specs.Prelude.{_≡_, sym, ap, _∙_, subst, _≢_, _⊎_, inl, inr, ⊎-elim, List, ℕ, zero, suc, _+_, _-_, _*_, _/_, _%_, _^_, _≤_, _<_}
+use Rattle.theory.specs.Prelude.{arith, ℕ-discrete, decLt, bitAnd, bitOr, and-le-l, trailingZeros, getD}
 use Rattle.theory.specs.Set.{_∈_, _∩_, _∪_, at}
 use Rattle.theory.specs.Set.Laws.{at-zero, at-le, bit, ∈-∩⁻, ∈-∪⁻, ∈-∪ˡ, ∈-∪ʳ}
 use Rattle.theory.specs.Set.Lowest.{lowest-in, lowest-below, rest-other}

@@ -1,11 +1,6 @@
 -- What the search for the chain keeps: from the end outwards, the elements from which at most so many clusters lead to it, and in layers the clusters
 -- that came new at each turn. Sets of cluster numbers lie in three words, as in `search`. Assumes nothing.
-use mathlib.Core.Path.{_≡_}
-use mathlib.Core.Logic.{_≢_, _⊎_}
-use mathlib.Core.List.{List, _++_}
-use Prim.Native.Nat.{ℕ, suc, _+_, _-_, _*_, _/_, _%_, _^_, _≤_, _<_}
-use lib.Count.{ones}
-use lib.ListN.{length, getD, take, drop}
+use Rattle.theory.specs.Prelude.{_≡_, _≢_, _⊎_, List, _++_, ℕ, suc, _+_, _-_, _*_, _/_, _%_, _^_, _≤_, _<_, ones, length, getD, take, drop}
 use Rattle.theory.specs.Set.{_∈_, at}
 use Rattle.theory.specs.Merge.{slot}
 use Rattle.search.specs.State.{Rim, Links, Holds, Nearby}

@@ -1,9 +1,6 @@
 -- Constraints that run round: a set of elements each of which has two neighbours in it. Where there is none the constraint graph is a forest, and
 -- nothing merges (document 01, "Clusters and merges") and no angles run round (document 02, 2026-03). Assumes nothing.
-use mathlib.Core.Logic.{_≢_}
-use mathlib.Core.List.{List}
-use Prim.Native.Nat.{ℕ, _<_}
-use lib.ListN.{getD}
+use Rattle.theory.specs.Prelude.{_≢_, List, ℕ, _<_, getD}
 use Rattle.theory.specs.Set.{_∈_, _⊑_}
 pub mod Laws
 pub mod Tight

@@ -1,8 +1,5 @@
 -- What the reading of a sheet's elements answers, over the bytes s that it reads.
-use Prim.Native.Nat.{ℕ}
-use mathlib.Core.Path.{_≡_}
-use mathlib.Core.List.{List}
-use lib.ListN.{length, drop}
+use Rattle.theory.specs.Prelude.{ℕ, _≡_, List, length, drop}
 use Rattle.sheet.specs.declared.Opening.{Opening}
 use Rattle.sheet.specs.declared.Element.{Element}
 use Rattle.sheet.specs.Facts.Kinds.{KindsIn}

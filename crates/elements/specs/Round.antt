@@ -1,10 +1,5 @@
 -- The elements under PF02 in the bytes s: the kinds at a place, and the radii after them (document 02, 2026-01).
-use Prim.Native.Nat.{ℕ, _+_, _*_, _/_}
-use mathlib.Core.Path.{_≡_}
-use mathlib.Core.Bool.{Bool, true}
-use mathlib.Core.List.{List, [], _∷_}
-use lib.Dec.{eqb}
-use lib.ListN.{length, take, drop, getD}
+use Rattle.theory.specs.Prelude.{ℕ, _+_, _*_, _/_, _≡_, Bool, true, List, [], _∷_, eqb, length, take, drop, getD}
 use Rattle.sheet.specs.declared.Opening.the-variants.{Pf02}
 use Rattle.sheet.specs.declared.Element.{Element}
 use Rattle.sheet.specs.Facts.{kindsOf, bitOf, isCircle, radiusOf, kindAt}

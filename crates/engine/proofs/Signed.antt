@@ -1,12 +1,7 @@
 -- Signed numbers: how large sums and differences are, and the absolute value. Assumes nothing.
-use mathlib.Core.Path.{_≡_, sym, ap, _∙_, subst}
-use mathlib.Core.Bool.{Bool, true, false}
-use Prim.Native.Nat.{ℕ, zero, suc, _+_, _-_, _^_, _≤_}
-use native.Mathlib.Omega.{arith}
-use lib.Dec.{T, ltb}
-use lib.IntN.{ℤ, pos, negsuc, negℤ, subℕ, _+ℤ_, _-ℤ_, natAbs}
-use lib.Signed.{mag, ltZ, nonNeg}
-use borrow.Author.Tests.{ltb-true}
+use Rattle.theory.specs.Prelude.{_≡_, sym, ap, _∙_, subst, Bool, true, false, ℕ, zero, suc, _+_, _-_, _^_, _≤_, arith, T, ltb, ℤ, pos, negsuc, negℤ}
+use Rattle.theory.specs.Prelude.{_+ℤ_, _-ℤ_, natAbs, mag, ltZ, nonNeg, ltb-true}
+use lib.IntN.{subℕ}
 use mir.Syntax.{w32, w64}
 use mir.Val.{SFits, toZ, ofZ}
 use mir.Facts.{toZ-ofZ, sfits-widen}

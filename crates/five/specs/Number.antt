@@ -1,9 +1,6 @@
 -- The number of the pairs that points are constrained in, from who is constrained with whom. Document 02, 2026-10: pair (0,1) the lowest bit, then
 -- dictionary order.
-use mathlib.Core.Path.{_≡_}
-use mathlib.Core.List.{List, [], _∷_}
-use Prim.Native.Nat.{ℕ, _/_, _%_, _<_}
-use lib.ListN.{getD}
+use Rattle.theory.specs.Prelude.{_≡_, List, [], _∷_, ℕ, _/_, _%_, _<_, getD}
 use Rattle.theory.specs.Set.{at}
 use Rattle.sheet.specs.declared.Constraint.{Constraint}
 use Rattle.card.specs.Card.{eachTwo}

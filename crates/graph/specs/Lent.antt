@@ -1,11 +1,6 @@
 -- The constraint graph of a sheet's facts in lent arrays of numbers: who is constrained with whom, the initial clusters and the sizes, 0 beyond them.
 -- As they are read, a missing size is 0 and a contact a number that no size is (document 01, rule 9); sizes are measured from them and the radii.
-use Prim.Native.Nat.{ℕ, _<_, _≤_}
-use mathlib.Core.Path.{_≡_}
-use mathlib.Core.Logic.{_≢_}
-use mathlib.Core.List.{List, map}
-use lib.IntN.{ℤ, pos, negsuc}
-use lib.ListN.{length, take}
+use Rattle.theory.specs.Prelude.{ℕ, _<_, _≤_, _≡_, _≢_, List, map, ℤ, pos, negsuc, length, take}
 use Rattle.sheet.specs.declared.Constraint.{Constraint}
 use Rattle.sheet.specs.declared.Size.{Size}
 use Rattle.sheet.specs.declared.Size.the-variants.{Given, Missing, Tangent, OtherTangent, Unfit}

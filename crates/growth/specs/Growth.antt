@@ -1,11 +1,7 @@
 -- More dimensions, never a smaller part, of constraint graphs. Document 02, 2026-13: if constraints are added to a sheet and it is still not over,
 -- every final cluster of the old sheet lies inside one final cluster of the new, for each order of merging on either side. Shown by `grown-whole` of
 -- Growth/Proof.antt. Assumes nothing.
-use mathlib.Core.Path.{_≡_}
-use mathlib.Core.Logic.{_≢_}
-use mathlib.Core.List.{List, [], _∷_, _++_}
-use Prim.Native.Nat.{ℕ, zero, suc}
-use lib.ListN.{length}
+use Rattle.theory.specs.Prelude.{_≡_, _≢_, List, [], _∷_, _++_, ℕ, zero, suc, length}
 use Rattle.theory.specs.Set.{_∈_, _⊑_}
 use Rattle.theory.specs.Constraints.{Perm}
 use Rattle.theory.specs.Merge.{Merge, slot, final}

@@ -1,9 +1,7 @@
 -- More dimensions, never a smaller part, of sheets. Document 02, 2026-13. The clusters of a sheet are those of its constraint graph (`sheet`
 -- Graph.`graphOf`), whatever the kinds of its elements. Shown by `never-smaller` and, for placed dimensions, `placed-never-smaller` of
 -- Sheets/Proof.antt. Assumes nothing.
-use mathlib.Core.Path.{_≡_}
-use mathlib.Core.Logic.{_≢_}
-use mathlib.Core.List.{List}
+use Rattle.theory.specs.Prelude.{_≡_, _≢_, List}
 use Rattle.theory.specs.Merge.{Merge, Maximal}
 use Rattle.theory.specs.Graph.{verdictOf}
 use Rattle.theory.specs.declared.Verdict.the-variants.{Over}

@@ -1,9 +1,5 @@
 -- What a sheet's angles are looked for in. Document 02, 2026-03. Assumes nothing.
-use Prim.Native.Nat.{ℕ, _+_, _*_}
-use mathlib.Core.Path.{_≡_}
-use mathlib.Core.Logic.{_≢_}
-use mathlib.Core.List.{List}
-use lib.ListN.{length, take}
+use Rattle.theory.specs.Prelude.{ℕ, _+_, _*_, _≡_, _≢_, List, length, take}
 use Rattle.theory.specs.Set.{_∩_}
 use Rattle.theory.specs.Merge.{joints, final, left}
 use Rattle.theory.specs.Near.{Near}

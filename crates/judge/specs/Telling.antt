@@ -1,8 +1,5 @@
 -- What is told of a sheet's graph beside its verdict. Document 01, "Verdict names". Assumes nothing.
-use Prim.Native.Nat.{ℕ}
-use mathlib.Core.Path.{_≡_}
-use mathlib.Core.List.{List}
-use lib.ListN.{length}
+use Rattle.theory.specs.Prelude.{ℕ, _≡_, List, length}
 use Rattle.theory.specs.Merge.{Merge, Valid}
 use Rattle.theory.specs.Graph.{Graph, findingOf, verdictOf}
 use Rattle.theory.specs.declared.Finding.the-variants.{First}

@@ -1,8 +1,5 @@
 -- The least key of the lowest waiting cluster gives the first open merge, which goes by what stands in the slots. Assumes nothing.
-use mathlib.Core.Path.{_≡_, sym}
-use mathlib.Core.List.{List}
-use mathlib.Core.Option.{Option, none}
-use Prim.Native.Nat.{ℕ, _/_, _%_, _≤_, _<_}
+use Rattle.theory.specs.Prelude.{_≡_, sym, List, Option, none, ℕ, _/_, _%_, _≤_, _<_}
 use Rattle.theory.specs.Set.{_∩_}
 use Rattle.theory.specs.Merge.{slot, Merge, merge, OpenAt, Ended}
 use Rattle.theory.specs.Plan.{First, firstOf}

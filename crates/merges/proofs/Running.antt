@@ -1,11 +1,6 @@
 -- The engine's plan in arrays: merges that came first, until none is open or enough are made. Assumes nothing.
-use mathlib.Core.Path.{_≡_, refl, sym, ap, ap₂, _∙_, subst}
-use mathlib.Core.Logic.{_⊎_, inl, inr}
-use mathlib.Core.List.{List, [], _∷_, _++_}
-use mathlib.Core.Option.{none, some}
-use Prim.Native.Nat.{ℕ, zero, suc, _+_, _≤_, _<_}
-use native.Mathlib.Omega.{arith}
-use lib.ListN.{length, take, replicate, List·getD-eq-default}
+use Rattle.theory.specs.Prelude.{_≡_, refl, sym, ap, ap₂, _∙_, subst, _⊎_, inl, inr, List, [], _∷_, _++_, none, some, ℕ, zero, suc, _+_, _≤_, _<_}
+use Rattle.theory.specs.Prelude.{arith, length, take, replicate, List·getD-eq-default}
 use Rattle.theory.specs.Block.{block}
 use Rattle.theory.specs.Block.Laws.{take-block}
 use Rattle.theory.specs.Constraints.{Pairs, NotOver}

@@ -1,8 +1,5 @@
 -- Merges one after another in arrays that a caller lends. Assumes nothing.
-use mathlib.Core.Path.{_≡_}
-use mathlib.Core.List.{List, map}
-use Prim.Native.Nat.{ℕ, _+_, _*_, _≤_}
-use lib.ListN.{length, set}
+use Rattle.theory.specs.Prelude.{_≡_, List, map, ℕ, _+_, _*_, _≤_, length, set}
 use Rattle.theory.specs.Block.{block}
 use Rattle.theory.specs.Constraints.{Pairs}
 use Rattle.theory.specs.Merge.{Merge, three, union, joint, cleared, Valid, final, joints as jointsOf}

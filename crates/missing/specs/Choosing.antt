@@ -1,10 +1,5 @@
 -- The choice among pairs as numbers, and what the code keeps between two pairs. Assumes nothing.
-use mathlib.Core.Path.{_≡_}
-use mathlib.Core.Logic.{_≢_}
-use mathlib.Core.Bool.{true, false}
-use mathlib.Core.List.{List, [], _∷_}
-use Prim.Native.Nat.{ℕ, _/_, _%_, _<_}
-use lib.ListN.{length, getD}
+use Rattle.theory.specs.Prelude.{_≡_, _≢_, true, false, List, [], _∷_, ℕ, _/_, _%_, _<_, length, getD}
 use Rattle.theory.specs.Set.{_∈_, _⊑_, full}
 use Rattle.theory.specs.Constraints.{pair, Among, Pairs, Below}
 use Rattle.theory.specs.Over.{IsOver, isOver}

@@ -1,10 +1,6 @@
 -- What is shown of the list of the open merges. Document 02, 2026-07: each once and no other, by the lowest element of the joint, then by document
 -- 01's comparison.
-use Prim.Native.Nat.{ℕ, _+_, _≤_, _<_}
-use mathlib.Core.Path.{_≡_}
-use mathlib.Core.Logic.{_≢_, _↔_, _⊎_}
-use mathlib.Core.List.{List, [], _∷_}
-use lib.ListN.{length, take}
+use Rattle.theory.specs.Prelude.{ℕ, _+_, _≤_, _<_, _≡_, _≢_, _↔_, _⊎_, List, [], _∷_, length, take}
 use Rattle.theory.specs.Set.{_∈_}
 use Rattle.theory.specs.Merge.{Merge, OpenAt, three, joint, final}
 use Rattle.theory.specs.Plan.{planOf, ascending, NotAfter}

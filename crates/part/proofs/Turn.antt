@@ -1,8 +1,5 @@
 -- The steps of a made cluster, part by part: what each call of itself asks, and what all of them have put at the end. Assumes nothing.
-use Prim.Native.Nat.{ℕ, _+_, _-_, _≤_, _<_, _^_}
-use native.Mathlib.Omega.{arith}
-use mathlib.Core.Path.{_≡_, sym, ap, _∙_}
-use mathlib.Core.List.{List, [], _∷_, _++_}
+use Rattle.theory.specs.Prelude.{ℕ, _+_, _-_, _≤_, _<_, _^_, arith, _≡_, sym, ap, _∙_, List, [], _∷_, _++_}
 use Rattle.theory.specs.declared.Step.{Step}
 use Rattle.report.specs.Report.{stepLine}
 use Rattle.report.specs.Pieces.{Small}

@@ -1,12 +1,6 @@
 -- What is shown of the steps of one cluster. Document 02, 2026-14: they are those from which the cluster is made, down to the single constraints;
 -- each part's steps stand before the step that uses it.
-use Prim.Native.Nat.{ℕ, _+_, _-_, _≤_, _<_}
-use mathlib.Core.Path.{_≡_}
-use mathlib.Core.Logic.{_≢_, _↔_, _⊎_}
-use mathlib.Core.List.{List, [], _∷_}
-use lib.Dec.{eqb}
-use lib.Count.{ones}
-use lib.ListN.{length}
+use Rattle.theory.specs.Prelude.{ℕ, _+_, _-_, _≤_, _<_, _≡_, _≢_, _↔_, _⊎_, List, [], _∷_, eqb, ones, length}
 use Rattle.theory.specs.Constraints.{Among, Perm, one-if}
 use Rattle.theory.specs.Graph.{Graph, stepsOf}
 use Rattle.theory.specs.Merge.{slot, final, left}

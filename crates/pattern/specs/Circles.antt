@@ -1,11 +1,6 @@
 -- What is promised of circles of known radius (document 02, 2026-01): "A round light must get the verdict and plan of the sketch of its centres", and
 -- PF01 sheets stay what document 01 alone says. `round` Centres and First say what these are.
-use Prim.Native.Nat.{ℕ, _≤_, _<_}
-use mathlib.Core.Path.{_≡_}
-use mathlib.Core.Bool.{true, false}
-use mathlib.Core.List.{List, [], map}
-use lib.IntN.{natAbs}
-use lib.ListN.{length, getD}
+use Rattle.theory.specs.Prelude.{ℕ, _≤_, _<_, _≡_, true, false, List, [], map, natAbs, length, getD}
 use Rattle.theory.specs.Graph.{Graph, verdictOf}
 use Rattle.sheet.specs.declared.Opening.the-variants.{Pf01, Pf02}
 use Rattle.sheet.specs.declared.Constraint.{Constraint}

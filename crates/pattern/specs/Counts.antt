@@ -1,9 +1,6 @@
 -- How many items a call answers at most, whatever the bytes: a report, a sheet and a list are short, so that no count for C is cut (`asCount` of
 -- `pattern_c` Numbers). Document 01, "Refused", rule 17, asks for space of that length. Shown by `counts` of Counts/Proof.antt.
-use Prim.Native.Nat.{ℕ, _≤_}
-use mathlib.Core.Path.{_≡_}
-use mathlib.Core.List.{List}
-use lib.ListN.{length}
+use Rattle.theory.specs.Prelude.{ℕ, _≤_, _≡_, List, length}
 use Rattle.sheet.specs.declared.Constraint.{Constraint}
 use Rattle.sheet.specs.declared.Sheet.{Sheet}
 use Rattle.sheet.specs.Field.{Field, value, Bytes}

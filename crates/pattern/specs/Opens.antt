@@ -1,7 +1,5 @@
 -- What is promised of the merges that are open, over the bytes of a sheet that may be held. Document 02, 2026-07. `opens` Shown says what is listed.
-use Prim.Native.Nat.{ℕ}
-use mathlib.Core.Path.{_≡_}
-use mathlib.Core.List.{List, []}
+use Rattle.theory.specs.Prelude.{ℕ, _≡_, List, []}
 use Rattle.sheet.specs.Facts.{Facts}
 use Rattle.sheet.specs.Field.{value, Bytes}
 use Rattle.sheet.specs.Graph.{graphOf}

@@ -1,9 +1,6 @@
 -- What is promised of the steps of one cluster, over the bytes of a sheet that may be held. Document 02, 2026-14: its steps and bytes can be had
 -- beforehand and equal what is then written; a number not below e plus the steps is refused as 26. `part` Shown says what the steps are.
-use Prim.Native.Nat.{ℕ, _+_, _≤_, _<_}
-use mathlib.Core.Path.{_≡_}
-use mathlib.Core.List.{List, []}
-use lib.ListN.{length}
+use Rattle.theory.specs.Prelude.{ℕ, _+_, _≤_, _<_, _≡_, List, [], length}
 use Rattle.theory.specs.Plan.{planOf}
 use Rattle.space.specs.declared.Written.the-variants.{Done, Refused}
 use Rattle.sheet.specs.Facts.{Facts}

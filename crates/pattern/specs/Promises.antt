@@ -1,13 +1,7 @@
 -- The page a buyer reads: what is promised of every list of bytes that `readSheet` accepts, with its facts f. Document 01, "Verdict names", "Every
 -- order of merging", "Clusters and merges" and "The report"; document 02, 2026-04 and 2026-13. Shown by `promises` of Promises/Proof.antt; the
 -- contracts of the entry points cite the same fields (Entries).
-use Prim.Native.Nat.{ℕ, _+_, _*_, _%_, _≤_, _<_}
-use mathlib.Core.Path.{_≡_}
-use mathlib.Core.Logic.{_≢_, _↔_}
-use mathlib.Core.Bool.{true}
-use mathlib.Core.List.{List, [], _∷_, map}
-use lib.Count.{ones}
-use lib.ListN.{length}
+use Rattle.theory.specs.Prelude.{ℕ, _+_, _*_, _%_, _≤_, _<_, _≡_, _≢_, _↔_, true, List, [], _∷_, map, ones, length}
 use Rattle.theory.specs.Set.{_⊑_}
 use Rattle.theory.specs.Constraints.{Among, Perm}
 use Rattle.theory.specs.Over.{IsOver, FirstOver}

@@ -1,9 +1,5 @@
 -- Demand 1: nothing is refused except by a numbered rule. Which rules refuse a call of each entry point, for all bytes, plans and lent space.
-use Prim.Native.Nat.{ℕ, _≤_, _<_}
-use mathlib.Core.Path.{_≡_}
-use mathlib.Core.Logic.{_⊎_}
-use mathlib.Core.List.{List, [], _∷_}
-use lib.ListN.{length}
+use Rattle.theory.specs.Prelude.{ℕ, _≤_, _<_, _≡_, _⊎_, List, [], _∷_, length}
 use Rattle.theory.specs.Constraints.{Among}
 use Rattle.theory.specs.Graph.{Graph}
 use Rattle.space.specs.declared.Written.the-variants.{Refused}

@@ -1,7 +1,5 @@
 -- Tags are read and dropped (document 02, 2026-11): verdict, plan, report and saved plans are those of the sheet without its tags.
-use Prim.Native.Nat.{ℕ}
-use mathlib.Core.Path.{_≡_}
-use mathlib.Core.List.{List}
+use Rattle.theory.specs.Prelude.{ℕ, _≡_, List}
 use Rattle.theory.specs.Graph.{Graph}
 use Rattle.sheet.specs.Facts.{Facts}
 use Rattle.sheet.specs.Field.{value, Bytes}

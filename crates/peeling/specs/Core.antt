@@ -1,11 +1,5 @@
 -- Elements that are in the way of no over set, and the core that is left without them. Assumes nothing.
-use mathlib.Core.Path.{_≡_}
-use mathlib.Core.Bool.{Bool, true, false}
-use mathlib.Core.List.{List, [], _∷_}
-use Prim.Native.Nat.{ℕ, _+_, _*_, _-_, _^_, _≤_, _<_}
-use lib.Count.{ones}
-use lib.Dec.{eqb}
-use lib.ListN.{length, take, getD}
+use Rattle.theory.specs.Prelude.{_≡_, Bool, true, false, List, [], _∷_, ℕ, _+_, _*_, _-_, _^_, _≤_, _<_, ones, eqb, length, take, getD}
 use Rattle.theory.specs.Set.{_∈_, _∩_, _∪_, _⊑_, at, full}
 use Rattle.theory.specs.Constraints.{Below, carried, NotOver}
 use Rattle.theory.specs.Merge.{joints}

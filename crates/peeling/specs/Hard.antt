@@ -1,9 +1,5 @@
 -- Which constraints can close an over set: those with both ends in the core of the constraints up to them. Assumes nothing.
-use mathlib.Core.Path.{_≡_}
-use mathlib.Core.Logic.{_≢_}
-use mathlib.Core.List.{List}
-use Prim.Native.Nat.{ℕ, suc, _≤_, _<_}
-use lib.ListN.{length, take, getD}
+use Rattle.theory.specs.Prelude.{_≡_, _≢_, List, ℕ, suc, _≤_, _<_, length, take, getD}
 use Rattle.theory.specs.Set.{_∈_}
 use Rattle.theory.specs.Constraints.{NotOver}
 use Rattle.theory.specs.Near.{Near}

@@ -1,14 +1,6 @@
 -- A saved plan, step after step. Assumes nothing.
-use mathlib.Core.Path.{_≡_, refl, sym, ap, _∙_}
-use mathlib.Core.Logic.{_≢_}
-use mathlib.Core.Bool.{Bool, true, false}
-use mathlib.Core.List.{List, [], _∷_, _++_, append-assoc, append-nil}
-use Prim.Native.Nat.{ℕ, zero, suc, _+_, _*_, _%_, _≤_, _<_}
-use native.Mathlib.Omega.{arith}
-use lib.Dec.{eqb}
-use lib.ListN.{length, getD, take, drop, replicate, drop-of-length-le}
-use lib.Seq.{drop-cons}
-use borrow.Author.Tests.{eq-eqb, ne-eqb}
+use Rattle.theory.specs.Prelude.{_≡_, refl, sym, ap, _∙_, _≢_, Bool, true, false, List, [], _∷_, _++_, append-assoc, append-nil, ℕ, zero, suc, _+_}
+use Rattle.theory.specs.Prelude.{_*_, _%_, _≤_, _<_, arith, eqb, length, getD, take, drop, replicate, drop-of-length-le, drop-cons, eq-eqb, ne-eqb}
 use Rattle.theory.specs.Block.{block}
 use Rattle.theory.specs.Tests.{yes-branch, no-branch}
 use Rattle.theory.specs.Merge.{Merge, merge, OpenAt, put, final}

@@ -1,11 +1,6 @@
 -- The rest of a constraint after its ends, and the constraints that are left in a walk: which answer comes when. Assumes nothing.
-use Prim.Native.Nat.{ℕ, suc, _+_, _-_, _<_, _≤_}
-use native.Mathlib.Omega.{arith}
-use mathlib.Core.Path.{_≡_, refl, sym, ap, _∙_}
-use mathlib.Core.List.{List, [], _∷_, _++_}
-use lib.IntN.{ℤ}
-use lib.ListN.{length, drop, length-append, drop-of-length-le}
-use lib.Seq.{drop-cons}
+use Rattle.theory.specs.Prelude.{ℕ, suc, _+_, _-_, _<_, _≤_, arith, _≡_, refl, sym, ap, _∙_, List, [], _∷_, _++_, ℤ, length, drop, length-append}
+use Rattle.theory.specs.Prelude.{drop-of-length-le, drop-cons}
 use Rattle.sheet.specs.declared.Element.{Element}
 use Rattle.sheet.specs.declared.Size.{Size}
 use Rattle.sheet.specs.declared.Constraint.{Constraint}

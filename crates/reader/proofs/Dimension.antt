@@ -1,12 +1,6 @@
 -- What follows the map: without a contact by its bits 0 and 1, with one by the kinds of the ends. Assumes nothing.
-use Prim.Native.Nat.{ℕ, zero, suc, _/_, _%_, _<_, _≤_}
-use native.Mathlib.Omega.{arith}
-use mathlib.Core.Path.{_≡_, refl, ap, _∙_}
-use mathlib.Core.Bool.{Bool, true, false, cond}
-use mathlib.Core.List.{List, [], _∷_}
-use borrow.Author.Tests.{ne-eqb}
-use lib.Dec.{eqb}
-use lib.IntN.{ℤ, pos}
+use Rattle.theory.specs.Prelude.{ℕ, zero, suc, _/_, _%_, _<_, _≤_, arith, _≡_, refl, ap, _∙_, Bool, true, false, cond, List, [], _∷_, ne-eqb, eqb, ℤ}
+use Rattle.theory.specs.Prelude.{pos}
 use Rattle.sheet.specs.declared.Kind.{Kind}
 use Rattle.sheet.specs.declared.PairKind.{PairKind}
 use Rattle.sheet.specs.declared.Size.{Size}

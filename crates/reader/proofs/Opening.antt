@@ -1,12 +1,5 @@
 -- The comparison of the front of s with p, place by place: what is left at i, and at i + 1. Assumes nothing.
-use Prim.Native.Nat.{ℕ, _+_, _<_, _≤_}
-use native.Mathlib.Numerals.{add-one}
-use mathlib.Core.Path.{_≡_}
-use mathlib.Core.Bool.{true, false}
-use mathlib.Core.List.{List}
-use lib.ListN.{length, drop, getD, drop-of-length-le}
-use lib.Seq.{drop-cons}
-use borrow.Author.Tests.{eq-eqb, ne-eqb}
+use Rattle.theory.specs.Prelude.{ℕ, _+_, _<_, _≤_, add-one, _≡_, true, false, List, length, drop, getD, drop-of-length-le, drop-cons, eq-eqb, ne-eqb}
 use Rattle.sheet.specs.Field.{begins}
 
 module _ (p s : List ℕ) (i : ℕ) where

@@ -1,11 +1,5 @@
 -- All before the constraints, and the constraints: what is read of a list is read of its sheet. Assumes nothing.
-use Prim.Native.Nat.{ℕ, zero, suc, _+_}
-use native.Mathlib.Omega.{arith}
-use mathlib.Core.Path.{_≡_, refl, sym, _∙_}
-use mathlib.Core.Bool.{true}
-use mathlib.Core.List.{List, [], _∷_, _++_}
-use lib.IntN.{ℤ}
-use lib.ListN.{length, drop, length-append}
+use Rattle.theory.specs.Prelude.{ℕ, zero, suc, _+_, arith, _≡_, refl, sym, _∙_, true, List, [], _∷_, _++_, ℤ, length, drop, length-append}
 use Rattle.sheet.specs.declared.Element.{Element}
 use Rattle.sheet.specs.declared.Constraint.{Constraint}
 use Rattle.sheet.specs.Facts.{Facts}

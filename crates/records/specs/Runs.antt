@@ -1,9 +1,6 @@
 -- Runs of asks and placings on a record in lent bytes (document 02, 2026-05): they answer as the same run on a value that holds the same facts, and so
 -- as a plain list of constraints would (`sketch` Runs). `RecordRuns` is shown of every record and every run by `record-runs` of Runs/Proof.antt.
-use Prim.Native.Nat.{ℕ, _≤_}
-use mathlib.Core.Path.{_≡_}
-use mathlib.Core.List.{List, [], _∷_, map}
-use lib.ListN.{length}
+use Rattle.theory.specs.Prelude.{ℕ, _≤_, _≡_, List, [], _∷_, map, length}
 use Rattle.sheet.specs.declared.Sheet.{Sheet}
 use Rattle.sheet.specs.Facts.{factsOf}
 use Rattle.sheet.specs.Field.{value, refused}

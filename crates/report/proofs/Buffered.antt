@@ -1,9 +1,5 @@
 -- Lines put into a buffer that has room for them, then its part up to their end into lent space. Assumes nothing.
-use Prim.Native.Nat.{ℕ, _-_, _≤_}
-use native.Mathlib.Omega.{arith}
-use mathlib.Core.Path.{_≡_, ap, _∙_}
-use mathlib.Core.List.{List}
-use lib.ListN.{length, take}
+use Rattle.theory.specs.Prelude.{ℕ, _-_, _≤_, arith, _≡_, ap, _∙_, List, length, take}
 use Rattle.space.specs.declared.Written.{Written}
 use Rattle.space.specs.Space.{answer, after}
 use Rattle.report.specs.Block.{Stands}

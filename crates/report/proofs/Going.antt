@@ -1,8 +1,5 @@
 -- Writing piece by piece, into a block or into lent space: what is still to be put, from the place reached, leads to the whole. Assumes nothing.
-use Prim.Native.Nat.{ℕ, _+_}
-use mathlib.Core.Path.{_≡_}
-use mathlib.Core.List.{List, [], _++_}
-use lib.ListN.{length}
+use Rattle.theory.specs.Prelude.{ℕ, _+_, _≡_, List, [], _++_, length}
 
 -- how items stand: the space, the place they are put at, the items, the place after them, and the space after
 abbrev pub Standing : Type 1

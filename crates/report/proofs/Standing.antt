@@ -1,6 +1,5 @@
 -- Items in a block stand together where they stand one after another. Assumes nothing.
-use mathlib.Core.Path.{refl}
-use lib.Seq.{sets}
+use Rattle.theory.specs.Prelude.{refl, sets}
 use Rattle.report.specs.Block.{Stands}
 use Rattle.report.specs.Block.Laws.{stands-none, stands-all, _then_}
 use Rattle.report.proofs.Going.{Composes}

@@ -1,10 +1,5 @@
 -- The block that the lines of a report are put into, and the table that its numbers are taken from. No promise speaks of them. Assumes nothing.
-use Prim.Native.Nat.{ℕ, suc, _+_, _/_, _%_, _≤_}
-use mathlib.Core.Path.{_≡_}
-use mathlib.Core.Bool.{Bool, true, _&&_}
-use mathlib.Core.List.{List, [], _∷_, _++_}
-use lib.Dec.{T, eqb}
-use lib.ListN.{length, getD, take}
+use Rattle.theory.specs.Prelude.{ℕ, suc, _+_, _/_, _%_, _≤_, _≡_, Bool, true, _&&_, List, [], _∷_, _++_, T, eqb, length, getD, take}
 use Rattle.space.specs.Text.{decimal}
 pub mod Laws
 

@@ -1,6 +1,5 @@
 -- Pieces of the report's lines, as the code puts them one after another, and the bound it asks of a step's numbers. Assumes nothing.
-use Prim.Native.Nat.{ℕ, _+_, _*_, _^_, _<_}
-use mathlib.Core.List.{List, [], _∷_, _++_, map}
+use Rattle.theory.specs.Prelude.{ℕ, _+_, _*_, _^_, _<_, List, [], _∷_, _++_, map}
 use Rattle.space.specs.Text.{ascii, decimal}
 use Rattle.theory.specs.declared.JointKind.{JointKind}
 use Rattle.theory.specs.declared.Ways.{Ways}

@@ -1,9 +1,5 @@
 -- Lines that share a cluster, and what may be taken away at once. Document 02, 2026-03. Assumes nothing.
-use mathlib.Core.Path.{_≡_}
-use mathlib.Core.Logic.{_≢_}
-use mathlib.Core.List.{List}
-use Prim.Native.Nat.{ℕ, _<_}
-use lib.ListN.{length, getD}
+use Rattle.theory.specs.Prelude.{_≡_, _≢_, List, ℕ, _<_, length, getD}
 use Rattle.theory.specs.Set.{_∈_, _⊑_, at}
 use Rattle.theory.specs.Ring.{linked, strip}
 use Rattle.cycles.specs.Cycle.{Holds}

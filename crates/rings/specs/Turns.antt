@@ -1,8 +1,5 @@
 -- What each turn of the loops keeps. Document 02, 2026-03. Assumes nothing.
-use mathlib.Core.Path.{_≡_}
-use mathlib.Core.List.{List}
-use Prim.Native.Nat.{ℕ, _≤_}
-use lib.ListN.{length, drop}
+use Rattle.theory.specs.Prelude.{_≡_, List, ℕ, _≤_, length, drop}
 use Rattle.theory.specs.Ring.{once, strip}
 pub mod Laws
 

@@ -1,12 +1,6 @@
 -- The sketch of centres (document 02, 2026-01: "A round light must get the verdict and plan of the sketch of its centres"): circles are their centre
 -- points, and a contact is the distance that it means. `Centres/Laws` shows that its graph is the sheet's own. Assumes nothing.
-use Prim.Native.Nat.{ℕ, _+_, _-_, _≤_, _<_}
-use mathlib.Core.Path.{_≡_}
-use mathlib.Core.Logic.{_⊎_}
-use mathlib.Core.Bool.{Bool, true, false, cond}
-use mathlib.Core.List.{List, map}
-use lib.Dec.{leb}
-use lib.IntN.{ℤ, pos, negℤ, natAbs}
+use Rattle.theory.specs.Prelude.{ℕ, _+_, _-_, _≤_, _<_, _≡_, _⊎_, Bool, true, false, cond, List, map, leb, ℤ, pos, negℤ, natAbs}
 use Rattle.sheet.specs.declared.Opening.the-variants.{Pf01}
 use Rattle.sheet.specs.declared.Kind.{Kind}
 use Rattle.sheet.specs.declared.Kind.the-variants.{Point, Line, Circle}

@@ -1,11 +1,7 @@
 -- The sheet of document 01 alone ("The sheet in bytes" and "Refused": rules 1 to 10; document 02, 2026-11: tags are dropped): what its bytes say and
 -- what bytes its facts have, with no word of circles. `First/Laws` shows that PF01 sheets are read and written so. Assumes nothing.
-use Prim.Native.Nat.{ℕ, zero, suc, _+_, _/_, _%_, _^_}
-use mathlib.Core.Bool.{Bool, true, false, _&&_, _||_, not}
-use mathlib.Core.List.{List, [], _∷_, _++_}
-use lib.Dec.{eqb, ltb}
-use lib.IntN.{ℤ, pos}
-use lib.ListN.{length, drop}
+use Rattle.theory.specs.Prelude.{ℕ, zero, suc, _+_, _/_, _%_, _^_, Bool, true, false, _&&_, _||_, not, List, [], _∷_, _++_, eqb, ltb, ℤ, pos, length}
+use Rattle.theory.specs.Prelude.{drop}
 use Rattle.sheet.specs.declared.Opening.the-variants.{Pf01}
 use Rattle.sheet.specs.declared.Kind.{Kind}
 use Rattle.sheet.specs.declared.Kind.the-variants.{Point, Line}

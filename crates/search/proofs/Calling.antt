@@ -1,12 +1,6 @@
 -- What is stored in words says what becomes of the holders, the waiting clusters and the rim. Assumes nothing.
-use mathlib.Core.Path.{_≡_, ap, _∙_}
-use mathlib.Core.Logic.{_≢_, _⊎_, inl, inr}
-use mathlib.Core.List.{List}
-use Prim.Native.Nat.{ℕ, zero, suc, _+_, _*_, _/_, _%_, _<_}
-use native.Mathlib.Omega.{arith}
-use native.Mathlib.Decide.{ℕ-discrete}
-use lib.Bits.{bitOr}
-use lib.ListN.{length, getD, set, length-set}
+use Rattle.theory.specs.Prelude.{_≡_, ap, _∙_, _≢_, _⊎_, inl, inr, List, ℕ, zero, suc, _+_, _*_, _/_, _%_, _<_, arith, ℕ-discrete, bitOr, length}
+use Rattle.theory.specs.Prelude.{getD, set, length-set}
 use Rattle.theory.specs.Set.{_∈_, _∩_, _∪_, at}
 use Rattle.theory.specs.Set.Laws.{at-∪, at-le, ∈-∪⁻, ∈-∩⁻, ∈-∪ˡ, ∈-∪ʳ, out}
 use Rattle.theory.specs.Set.Lowest.{at-beyond}

@@ -1,12 +1,6 @@
 -- The elements that a cluster reaches by its part of the rim, gathered one element after another. Assumes nothing.
-use mathlib.Core.Path.{_≡_, sym, ap, _∙_, subst}
-use mathlib.Core.Logic.{_≢_, _⊎_, inl, inr}
-use mathlib.Core.List.{List}
-use Prim.Native.Nat.{ℕ, _-_, _^_, _<_}
-use native.Mathlib.Omega.{arith}
-use native.Mathlib.Decide.{ℕ-discrete}
-use lib.Bits.{bitAnd, bitOr, and-le-l}
-use lib.Count.{trailingZeros}
+use Rattle.theory.specs.Prelude.{_≡_, sym, ap, _∙_, subst, _≢_, _⊎_, inl, inr, List, ℕ, _-_, _^_, _<_, arith, ℕ-discrete, bitAnd, bitOr, and-le-l}
+use Rattle.theory.specs.Prelude.{trailingZeros}
 use Rattle.theory.specs.Set.{_∈_, _∩_, _∪_, at}
 use Rattle.theory.specs.Set.Laws.{at-∩, at-zero, at-le, both, ∈-∩⁻, ∈-∪⁻, ∈-∪ˡ, ∈-∪ʳ}
 use Rattle.theory.specs.Set.Lowest.{lowest-in, rest-lowest, rest-other, at-beyond}

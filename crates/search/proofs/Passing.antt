@@ -1,12 +1,6 @@
 -- A word of waiting clusters, looked through from below. Assumes nothing.
-use mathlib.Core.Path.{_≡_, refl, sym, ap, _∙_, subst}
-use mathlib.Core.Logic.{_≢_}
-use mathlib.Core.List.{List}
-use Prim.Native.Nat.{ℕ, _+_, _-_, _*_, _^_, _<_}
-use native.Mathlib.Omega.{arith}
-use native.Mathlib.Decide.{ℕ-discrete}
-use lib.Bits.{bitAnd, and-le-l}
-use lib.Count.{trailingZeros}
+use Rattle.theory.specs.Prelude.{_≡_, refl, sym, ap, _∙_, subst, _≢_, List, ℕ, _+_, _-_, _*_, _^_, _<_, arith, ℕ-discrete, bitAnd, and-le-l}
+use Rattle.theory.specs.Prelude.{trailingZeros}
 use Rattle.theory.specs.Set.{_∈_, _∩_, at}
 use Rattle.theory.specs.Set.Laws.{at-zero, ∈-∩⁻, filled}
 use Rattle.theory.specs.Merge.{slot}

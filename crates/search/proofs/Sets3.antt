@@ -1,10 +1,5 @@
 -- Sets of cluster numbers made of single ones. Assumes nothing.
-use mathlib.Core.Path.{_≡_, sym, ap, _∙_}
-use mathlib.Core.Logic.{_≢_, _⊎_, inl, inr, ⊎-elim}
-use Prim.Native.Nat.{ℕ, zero, suc, _+_, _*_, _/_, _%_, _^_, _<_}
-use native.Mathlib.Omega.{arith}
-use native.Mathlib.Decide.{ℕ-discrete}
-use lib.Bits.{bitOr}
+use Rattle.theory.specs.Prelude.{_≡_, sym, ap, _∙_, _≢_, _⊎_, inl, inr, ⊎-elim, ℕ, zero, suc, _+_, _*_, _/_, _%_, _^_, _<_, arith, ℕ-discrete, bitOr}
 use Rattle.theory.specs.Set.{_∈_, _∪_, at}
 use Rattle.theory.specs.Set.Laws.{at-zero, at-same, at-other, ∈-∪⁻, ∈-∪ˡ, ∈-∪ʳ}
 use Rattle.theory.specs.Merge.{Part, merge}

@@ -1,11 +1,6 @@
 -- The links, the holders and the waiting clusters before the first merge. Assumes nothing.
-use mathlib.Core.Path.{_≡_, refl, sym, ap, _∙_}
-use mathlib.Core.Logic.{_≢_, ⊎-elim}
-use mathlib.Core.List.{List}
-use Prim.Native.Nat.{ℕ, zero, suc, _+_, _-_, _*_, _/_, _%_, _≤_, _<_}
-use native.Mathlib.Omega.{arith}
-use native.Mathlib.Decide.{ℕ-discrete}
-use lib.ListN.{length, getD, set, replicate}
+use Rattle.theory.specs.Prelude.{_≡_, refl, sym, ap, _∙_, _≢_, ⊎-elim, List, ℕ, zero, suc, _+_, _-_, _*_, _/_, _%_, _≤_, _<_, arith, ℕ-discrete}
+use Rattle.theory.specs.Prelude.{length, getD, set, replicate}
 use Rattle.theory.specs.Block.Laws.{getD-blank}
 use Rattle.theory.specs.Set.{_∈_, _∪_, at, full}
 use Rattle.theory.specs.Set.Laws.{at-zero, at-∪, ∈-∪⁻, ∈-∪ˡ, ∈-∪ʳ, out}

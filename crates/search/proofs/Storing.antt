@@ -1,14 +1,7 @@
 -- Stores at the places base + p, for the elements p of a set one after another, and the elements linked within a set alone. Assumes nothing.
-use mathlib.Core.Path.{_≡_, refl, sym, ap, _∙_, subst}
-use mathlib.Core.Logic.{_≢_, _⊎_, inl, inr}
-use mathlib.Core.List.{List}
-use Prim.Native.Nat.{ℕ, zero, suc, _+_, _-_, _*_, _^_, _≤_, _<_}
-use native.Mathlib.Omega.{arith}
-use native.Mathlib.Decide.{ℕ-discrete, decLt}
-use lib.Bits.{bitAnd, bitOr, bitXor, and-le-l}
-use lib.Count.{trailingZeros}
-use lib.ListN.{length, getD, set, length-set, List·getD-eq-default}
-use lib.Seq.{getD-set-same, getD-set-other}
+use Rattle.theory.specs.Prelude.{_≡_, refl, sym, ap, _∙_, subst, _≢_, _⊎_, inl, inr, List, ℕ, zero, suc, _+_, _-_, _*_, _^_, _≤_, _<_, arith}
+use Rattle.theory.specs.Prelude.{ℕ-discrete, decLt, bitAnd, bitOr, bitXor, and-le-l, trailingZeros, length, getD, set, length-set}
+use Rattle.theory.specs.Prelude.{List·getD-eq-default, getD-set-same, getD-set-other}
 use Rattle.theory.specs.Set.{_∈_, _∩_, _∪_, at}
 use Rattle.theory.specs.Set.Laws.{at-zero, at-∩, ∈-∩⁻, ∈-∪⁻, ∈-∪ˡ}
 use Rattle.theory.specs.Set.Lowest.{at-below, lowest-in, lowest-below, rest-lowest, rest-other, at-beyond}

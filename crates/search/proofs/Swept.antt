@@ -1,13 +1,6 @@
 -- The waiting clusters, looked through word after word. Assumes nothing.
-use mathlib.Core.Path.{_≡_, sym, ap, _∙_, subst}
-use mathlib.Core.Logic.{_≢_, _⊎_, inl, inr}
-use mathlib.Core.List.{List}
-use Prim.Native.Nat.{ℕ, suc, _+_, _*_, _/_, _%_, _<_}
-use native.Mathlib.Omega.{arith}
-use native.Mathlib.Decide.{ℕ-discrete}
-use lib.Count.{trailingZeros}
-use lib.ListN.{length, getD, set, length-set}
-use lib.Seq.{getD-set-same, getD-set-other}
+use Rattle.theory.specs.Prelude.{_≡_, sym, ap, _∙_, subst, _≢_, _⊎_, inl, inr, List, ℕ, suc, _+_, _*_, _/_, _%_, _<_, arith, ℕ-discrete}
+use Rattle.theory.specs.Prelude.{trailingZeros, length, getD, set, length-set, getD-set-same, getD-set-other}
 use Rattle.theory.specs.Set.{_∈_, _∩_, at}
 use Rattle.theory.specs.Set.Laws.{at-zero, out, element}
 use Rattle.theory.specs.Merge.{slot}

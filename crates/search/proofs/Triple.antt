@@ -1,14 +1,7 @@
 -- Sets of cluster numbers in three words. Assumes nothing.
-use mathlib.Core.Path.{_≡_, refl, sym, ap, ap₂, _∙_, subst}
-use mathlib.Core.Logic.{_≢_}
-use mathlib.Core.List.{List}
-use Prim.Native.Nat.{ℕ, zero, suc, _+_, _*_, _/_, _%_, _^_, _<_}
-use native.Mathlib.Omega.{arith}
-use native.Mathlib.Decide.{decLt}
-use lib.Bits.{bitAnd, bitOr}
-use lib.Count.{trailingZeros, trailing-le, trailing-of-zero}
-use lib.ListN.{length, getD, set, length-set}
-use lib.Seq.{getD-set-same, getD-set-other}
+use Rattle.theory.specs.Prelude.{_≡_, refl, sym, ap, ap₂, _∙_, subst, _≢_, List, ℕ, zero, suc, _+_, _*_, _/_, _%_, _^_, _<_, arith, decLt, bitAnd}
+use Rattle.theory.specs.Prelude.{bitOr, trailingZeros, trailing-le, length, getD, set, length-set, getD-set-same, getD-set-other}
+use lib.Count.{trailing-of-zero}
 use Rattle.theory.specs.Set.{_∈_, _∩_, at}
 use Rattle.theory.specs.Set.Laws.{at-zero, both, ∈-∩⁻}
 use Rattle.theory.specs.Set.Lowest.{lowest-in, lowest-below}

@@ -1,12 +1,6 @@
 -- What the search for the first open merge keeps beside the slots: the rim, the links of the rim, the holders of each element and the clusters
 -- that wait to be looked at. Clusters by number, a dead one 0, as in `theory`. Assumes nothing.
-use mathlib.Core.Path.{_≡_}
-use mathlib.Core.Logic.{_≢_, _⊎_}
-use mathlib.Core.List.{List}
-use Prim.Native.Nat.{ℕ, _+_, _*_, _/_, _%_, _≤_, _<_, min, max}
-use lib.Bits.{bitAnd, bitXor}
-use lib.Count.{ones}
-use lib.ListN.{length, getD}
+use Rattle.theory.specs.Prelude.{_≡_, _≢_, _⊎_, List, ℕ, _+_, _*_, _/_, _%_, _≤_, _<_, min, max, bitAnd, bitXor, ones, length, getD}
 use Rattle.theory.specs.Set.{_∈_, _∩_, _∪_, at}
 use Rattle.theory.specs.Merge.{slot, Merge, merge, Three, OpenAt, ShareOne, Part, three, union}
 pub mod Triangle

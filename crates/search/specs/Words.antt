@@ -1,11 +1,5 @@
 -- Sets of cluster numbers below 192 in three words, and what the small functions on sets say. Assumes nothing.
-use mathlib.Core.Path.{_≡_}
-use mathlib.Core.Logic.{_≢_, _⊎_}
-use mathlib.Core.List.{List}
-use Prim.Native.Nat.{ℕ, zero, suc, _+_, _*_, _/_, _%_, _^_, _<_}
-use lib.Count.{trailingZeros}
-use lib.Bits.{bitOr}
-use lib.ListN.{length, getD}
+use Rattle.theory.specs.Prelude.{_≡_, _≢_, _⊎_, List, ℕ, zero, suc, _+_, _*_, _/_, _%_, _^_, _<_, trailingZeros, bitOr, length, getD}
 use Rattle.theory.specs.Set.{_∈_, _∩_, at}
 use Rattle.theory.specs.Merge.{slot}
 use Rattle.search.specs.State.{linked, beyond, Linking, Reaching, Outs, Best, Met, Joined}

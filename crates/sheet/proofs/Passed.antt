@@ -1,7 +1,5 @@
 -- A sheet that is passed by value: its blocks have all their places. Assumes nothing.
-use mathlib.Core.Path.{_≡_, sym, _∙_}
-use mathlib.Core.List.{[], _∷_}
-use lib.ListN.{length, length-map}
+use Rattle.theory.specs.Prelude.{_≡_, sym, _∙_, [], _∷_, length, length-map}
 use denote.Laws.{Is}
 use denote.Struct.Declared.{row}
 use denote.Struct.Laws.{val}

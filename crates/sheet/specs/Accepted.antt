@@ -1,8 +1,5 @@
 -- Facts that no rule refuses: what a sheet can say (document 01, "Refused, in checking order": rules 3 and 5 to 9; document 02, 2026-01: 18 to 20).
-use mathlib.Core.Path.{_≡_}
-use mathlib.Core.Bool.{true}
-use mathlib.Core.List.{[]}
-use lib.ListN.{length}
+use Rattle.theory.specs.Prelude.{_≡_, true, [], length}
 use Rattle.sheet.specs.Facts.{Facts}
 use Rattle.sheet.specs.Rules.{elementsInRange, elementsFault, constraintsInRange, constraintsFault}
 pub mod Laws

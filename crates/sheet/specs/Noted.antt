@@ -1,6 +1,5 @@
 -- Constraints noted for rule 7, as who is constrained with whom (theory, `Near`).
-use mathlib.Core.List.{List, [], _∷_, map}
-use Prim.Native.Nat.{ℕ, _<_}
+use Rattle.theory.specs.Prelude.{List, [], _∷_, map, ℕ, _<_}
 use Rattle.theory.specs.Near.{Near}
 use Rattle.sheet.specs.declared.Constraint.{Constraint}
 use Rattle.sheet.specs.Graph.{clusterOf}

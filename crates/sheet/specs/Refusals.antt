@@ -1,7 +1,5 @@
 -- Demand 1: nothing is refused except by a numbered rule. Which rules refuse a field, if any does.
-use Prim.Native.Nat.{ℕ, zero, suc, _≤_}
-use mathlib.Core.Logic.{_≢_, _⊎_}
-use mathlib.Core.List.{List}
+use Rattle.theory.specs.Prelude.{ℕ, zero, suc, _≤_, _≢_, _⊎_, List}
 use Rattle.sheet.specs.Field.{Field, value, refused}
 pub mod Laws
 

@@ -1,11 +1,7 @@
 -- Reading and writing a sheet (document 01, "The sheet in bytes" and "Refused"; document 02, 2026-11). The definitions are `readSheet` (Decode),
 -- `sheetBytes` (Encode), `withoutTags`, `untagged` (WithoutTags) and `Accepted`; what the reader and the writer answer is said by these, so that the
 -- theorems hold of them. Assumes nothing.
-use Prim.Native.Nat.{ℕ, _≤_}
-use mathlib.Core.Path.{_≡_, _∙_}
-use mathlib.Core.Bool.{true}
-use mathlib.Core.List.{List, []}
-use lib.ListN.{length}
+use Rattle.theory.specs.Prelude.{ℕ, _≤_, _≡_, _∙_, true, List, [], length}
 use Rattle.sheet.specs.Facts.{Facts}
 use Rattle.sheet.specs.Field.{value, Bytes}
 use Rattle.sheet.specs.Decode.{readSheet}

@@ -1,11 +1,5 @@
 -- A constraint placed in the arrays that hold a sheet's facts: what the inner functions answer and leave there.
-use Prim.Native.Nat.{ℕ, _+_}
-use mathlib.Core.Path.{_≡_}
-use mathlib.Core.Bool.{cond}
-use mathlib.Core.List.{List}
-use lib.Dec.{eqb}
-use lib.IntN.{ℤ}
-use lib.ListN.{length}
+use Rattle.theory.specs.Prelude.{ℕ, _+_, _≡_, cond, List, eqb, ℤ, length}
 use Rattle.theory.specs.Graph.{Graph, findingOf, verdictOf}
 use Rattle.theory.specs.declared.Finding.{Finding}
 use Rattle.theory.specs.declared.Finding.the-variants.{Fine, First}

@@ -1,10 +1,5 @@
 -- What the search keeps between two constraints, and what one more gives. Assumes nothing.
-use mathlib.Core.Path.{_≡_}
-use mathlib.Core.Logic.{_≢_}
-use mathlib.Core.List.{List}
-use Prim.Native.Nat.{ℕ, _+_, _*_, _^_, _≤_, _<_}
-use lib.Count.{ones}
-use lib.ListN.{getD}
+use Rattle.theory.specs.Prelude.{_≡_, _≢_, List, ℕ, _+_, _*_, _^_, _≤_, _<_, ones, getD}
 use Rattle.theory.specs.Set.{_∩_, _⊑_}
 use Rattle.theory.specs.Constraints.{pair, has, carried, NotOver}
 use Rattle.theory.specs.Over.{IsOver, Smallest}

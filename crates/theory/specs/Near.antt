@@ -1,10 +1,6 @@
 -- Who is constrained with whom: for each element the set of the elements that it shares a constraint with. Document 01, "Refused", rules 6 and 7.
 -- Assumes nothing.
-use mathlib.Core.Path.{_≡_}
-use mathlib.Core.Logic.{_↔_}
-use mathlib.Core.List.{List, [], _∷_}
-use Prim.Native.Nat.{ℕ, _≤_, _<_}
-use lib.ListN.{length, take, getD}
+use Rattle.theory.specs.Prelude.{_≡_, _↔_, List, [], _∷_, ℕ, _≤_, _<_, length, take, getD}
 use Rattle.theory.specs.Set.{_∈_}
 use Rattle.theory.specs.Constraints.{pair, Among, Pairs, Below}
 pub mod Laws

@@ -1,11 +1,6 @@
 -- Laws of tests that compute: a conjunction, an equality and a difference of numbers, one of three numbers, the branch taken. Assumes nothing.
-use mathlib.Core.Path.{_≡_, refl, subst}
-use mathlib.Core.Logic.{_≢_, _⊎_, inl, inr, ⊎-elim}
-use mathlib.Core.Bool.{Bool, true, false, not, _&&_}
-use Prim.Native.Nat.{ℕ}
-use native.Mathlib.Omega.{arith}
-use native.Mathlib.Decide.{ℕ-discrete}
-use lib.Dec.{T, eqb, eqb→eq, eqb-refl, T-not, not-T}
+use Rattle.theory.specs.Prelude.{_≡_, refl, subst, _≢_, _⊎_, inl, inr, ⊎-elim, Bool, true, false, not, _&&_, ℕ, arith, ℕ-discrete, T, eqb}
+use Rattle.theory.specs.Prelude.{eqb→eq, eqb-refl, T-not, not-T}
 
 pub and-intro : (a b : Bool) → T a → T b → T (a && b)
 and-intro true b p q = q

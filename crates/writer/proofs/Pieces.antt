@@ -1,10 +1,5 @@
 -- The bytes of a sheet, put one piece after another. Assumes nothing.
-use Prim.Native.Nat.{ℕ, _-_, _≤_, min}
-use native.Mathlib.Omega.{arith}
-use mathlib.Core.Path.{_≡_}
-use mathlib.Core.Bool.{true}
-use mathlib.Core.List.{List, [], _∷_, _++_, append-assoc}
-use lib.ListN.{length, length-append}
+use Rattle.theory.specs.Prelude.{ℕ, _-_, _≤_, min, arith, _≡_, true, List, [], _∷_, _++_, append-assoc, length, length-append}
 use Rattle.sheet.specs.declared.Opening.{Opening}
 use Rattle.sheet.specs.declared.Element.{Element}
 use Rattle.sheet.specs.Facts.{Facts, kindsNumber}

@@ -1,15 +1,9 @@
 -- Laws of the kinds in two numbers: their bytes, one after the other, are those of the one number. Assumes nothing.
-use Prim.Native.Nat.{ℕ, zero, suc, _+_, _*_, _-_, _/_, _%_, _^_, _≤_, _<_, min}
-use native.Mathlib.Nat.{pow-zero, pow-succ', pow-le-pow-right, mul-assoc, mul-add, add-assoc, zero-add, one-mul}
-use native.Mathlib.Numerals.{add-one}
-use native.Mathlib.Decide.{decLe}
-use native.Mathlib.Omega.{arith}
-use mathlib.Core.Path.{_≡_, refl, sym, ap, _∙_, subst}
-use mathlib.Core.Bool.{true}
-use mathlib.Core.List.{List, [], _∷_, _++_, append-nil, append-assoc}
-use lib.Dec.{T}
-use lib.ListN.{length, take, drop, getD, take-append-drop, drop-of-length-le, length-drop}
-use lib.Seq.{take-all, take-suc, take-take, length-take-le}
+use Rattle.theory.specs.Prelude.{ℕ, zero, suc, _+_, _*_, _-_, _/_, _%_, _^_, _≤_, _<_, min, pow-zero, pow-succ', pow-le-pow-right, mul-add, zero-add}
+use Rattle.theory.specs.Prelude.{one-mul, add-one, decLe, arith, _≡_, refl, sym, ap, _∙_, subst, true, List, [], _∷_, _++_, append-nil, append-assoc}
+use Rattle.theory.specs.Prelude.{T, length, take, drop, getD, take-append-drop, drop-of-length-le, length-drop, take-all, take-suc, take-take}
+use Rattle.theory.specs.Prelude.{length-take-le}
+use native.Mathlib.Nat.{mul-assoc, add-assoc}
 use Rattle.sheet.specs.declared.Opening.{Opening}
 use Rattle.sheet.specs.declared.Opening.the-variants.{Pf01, Pf02}
 use Rattle.sheet.specs.declared.Kind.{Kind}

@@ -1,15 +1,10 @@
 -- A sheet's bytes without their tags, walked constraint by constraint: what is put so far, the piece that is passed and not put yet, and what is left
 -- make the whole. Assumes nothing.
-use Prim.Native.Nat.{ℕ, zero, suc, _+_, _*_, _-_, _/_, _%_, _≤_, _<_, min}
-use native.Mathlib.Nat.{sub-zero, sub-self}
-use native.Mathlib.Decide.{decLt}
-use native.Mathlib.Omega.{arith}
-use mathlib.Core.Path.{_≡_, refl, sym, subst, _∙_}
-use mathlib.Core.Bool.{Bool, true, false}
-use mathlib.Core.List.{List, [], _∷_, _++_, append-nil, append-assoc}
-use lib.Dec.{eqb}
-use lib.ListN.{length, take, drop, getD, length-append, length-take, length-drop, take-append-drop}
-use lib.Seq.{drop-cons, drop-drop, take-add, take-all}
+use Rattle.theory.specs.Prelude.{ℕ, zero, suc, _+_, _*_, _-_, _/_, _%_, _≤_, _<_, min, sub-zero, decLt, arith, _≡_, refl, sym, subst, _∙_, Bool, true}
+use Rattle.theory.specs.Prelude.{false, List, [], _∷_, _++_, append-nil, append-assoc, eqb, length, take, drop, getD, length-append, length-take}
+use Rattle.theory.specs.Prelude.{length-drop, take-append-drop, drop-cons, drop-drop, take-all}
+use native.Mathlib.Nat.{sub-self}
+use lib.Seq.{take-add}
 use Rattle.sheet.specs.Rules.{withoutBit1}
 use Rattle.sheet.specs.declared.Opening.{Opening}
 use Rattle.sheet.specs.declared.Opening.the-variants.{Pf01, Pf02}

@@ -1,9 +1,6 @@
 -- The kinds of a sheet's elements as the code writes them (document 01, "The sheet in bytes"; document 02, 2026-01): up to 64 kinds of two bits make
 -- a number of 16 bytes, which goes out as two of eight.
-use Prim.Native.Nat.{ℕ}
-use mathlib.Core.Path.{_≡_}
-use mathlib.Core.List.{List}
-use lib.ListN.{take, drop}
+use Rattle.theory.specs.Prelude.{ℕ, _≡_, List, take, drop}
 use Rattle.sheet.specs.declared.Opening.{Opening}
 use Rattle.sheet.specs.declared.Opening.the-variants.{Pf01, Pf02}
 use Rattle.sheet.specs.declared.Element.{Element}

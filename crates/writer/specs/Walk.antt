@@ -1,9 +1,6 @@
 -- A sheet's bytes without their tags, walked constraint by constraint: i of e constraints are gone through, up to the place `at`. What is put so far,
 -- the piece from `from` that is passed and not put yet, and what is left make the whole. Assumes nothing.
-use Prim.Native.Nat.{ℕ, _+_, _-_, _≤_}
-use mathlib.Core.Path.{_≡_}
-use mathlib.Core.List.{List, _++_}
-use lib.ListN.{length, take, drop}
+use Rattle.theory.specs.Prelude.{ℕ, _+_, _-_, _≤_, _≡_, List, _++_, length, take, drop}
 use Rattle.space.specs.Space.{Put}
 use Rattle.sheet.specs.WithoutTags.{dropTags, withoutTags}
 

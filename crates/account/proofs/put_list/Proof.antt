@@ -1,10 +1,5 @@
 -- `account::put_list` meets its contract: what the arrays give is the list's own report, and no longer than its block. Assumes nothing.
-use borrow.Author.Needs.{needs}
-use Prim.Native.Nat.{ℕ, _*_, _≤_}
-use native.Mathlib.Omega.{arith}
-use mathlib.Core.Path.{_≡_, refl, ap, _∙_}
-use mathlib.Core.List.{List}
-use lib.ListN.{length}
+use Rattle.theory.specs.Prelude.{needs, ℕ, _*_, _≤_, arith, _≡_, refl, ap, _∙_, List, length}
 use Rattle.space.specs.Space.{answer, after}
 use Rattle.account.specs.Account.Laws.{room, reported, all-small, not-long}
 use Rattle.account.specs.Resting.Laws.{parts}

@@ -1,9 +1,5 @@
 -- `account::put_pairs` meets its contract: the words of the living clusters passed are put. Assumes nothing.
-use borrow.Author.Needs.{needs}
-use mathlib.Core.Path.{_≡_, sym, ap, _∙_}
-use Prim.Native.Nat.{ℕ, _-_, _*_, _≤_, _<_}
-use native.Mathlib.Omega.{arith}
-use lib.ListN.{length, take}
+use Rattle.theory.specs.Prelude.{needs, _≡_, sym, ap, _∙_, ℕ, _-_, _*_, _≤_, _<_, arith, length, take}
 use Rattle.space.specs.Space.{Put}
 use Rattle.space.specs.Space.Laws.{put-none, put-as, _then_}
 use Rattle.account.specs.Resting.Pairs.{pairsIn}

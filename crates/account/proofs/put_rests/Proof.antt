@@ -1,10 +1,5 @@
 -- `account::put_rests` meets its contract: measured over no space, then written. Assumes nothing.
-use borrow.Author.Needs.{needs}
-use mathlib.Core.Path.{_≡_}
-use mathlib.Core.List.{List, []}
-use Prim.Native.Nat.{ℕ, _≤_, _<_}
-use native.Mathlib.Nat.{zero-add}
-use lib.ListN.{length, take}
+use Rattle.theory.specs.Prelude.{needs, _≡_, List, [], ℕ, _≤_, _<_, zero-add, length, take}
 use Rattle.space.specs.Space.Laws.{none-left, put-refused, put-done}
 use Rattle.account.specs.Resting.Pairs.{pairsIn}
 use Rattle.account.proofs.put_rests.Statement.{statement}

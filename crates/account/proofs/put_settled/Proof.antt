@@ -1,10 +1,5 @@
 -- `account::put_settled` meets its contract: the verdict that the arrays give is the list's own. Assumes nothing.
-use borrow.Author.Needs.{needs}
-use Prim.Native.Nat.{ℕ}
-use native.Mathlib.Omega.{arith}
-use mathlib.Core.Path.{_≡_, ap, _∙_}
-use mathlib.Core.List.{List}
-use lib.ListN.{length}
+use Rattle.theory.specs.Prelude.{needs, ℕ, arith, _≡_, ap, _∙_, List, length}
 use Rattle.space.specs.Space.{answer, after}
 use Rattle.account.specs.Account.Laws.{room, settled-report}
 use Rattle.account.proofs.put_settled.Statement.{statement}

@@ -1,9 +1,5 @@
 -- `account::report` meets its contract: the verdict's number tells which report the definition gives. Assumes nothing.
-use borrow.Author.Needs.{needs}
-use Prim.Native.Nat.{ℕ}
-use native.Mathlib.Omega.{arith}
-use mathlib.Core.Path.{_≡_, sym, ap, _∙_}
-use mathlib.Core.List.{List}
+use Rattle.theory.specs.Prelude.{needs, ℕ, arith, _≡_, sym, ap, _∙_, List}
 use Rattle.theory.specs.Graph.{Graph}
 use Rattle.graph.specs.Lent.{graphIn}
 use Rattle.graph.specs.Lent.Sheets.{counted}

@@ -1,10 +1,5 @@
 -- `account::rests` meets its contract: the words in the arrays are those of the definition. Assumes nothing.
-use borrow.Author.Needs.{needs}
-use Prim.Native.Nat.{ℕ, _*_, _≤_}
-use native.Mathlib.Omega.{arith}
-use mathlib.Core.Path.{refl, sym, ap, _∙_}
-use mathlib.Core.List.{List, []}
-use lib.IntN.{ℤ}
+use Rattle.theory.specs.Prelude.{needs, ℕ, _*_, _≤_, arith, refl, sym, ap, _∙_, List, [], ℤ}
 use Rattle.theory.specs.Graph.{Graph}
 use Rattle.graph.specs.Lent.{graphIn}
 use Rattle.graph.specs.Lent.Sheets.{counted}

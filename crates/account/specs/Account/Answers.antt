@@ -1,10 +1,5 @@
 -- What a judgement and the check of a saved plan say of the report. Assumes nothing.
-use Prim.Native.Nat.{ℕ, zero, suc, _<_}
-use native.Mathlib.Omega.{arith}
-use mathlib.Core.Path.{_≡_, refl, sym, ap, _∙_}
-use mathlib.Core.Logic.{_≢_}
-use mathlib.Core.List.{List, []}
-use lib.ListN.{length}
+use Rattle.theory.specs.Prelude.{ℕ, zero, suc, _<_, arith, _≡_, refl, sym, ap, _∙_, _≢_, List, [], length}
 use Rattle.theory.specs.Constraints.{NotOver}
 use Rattle.theory.specs.Over.Laws.{overOf-first}
 use Rattle.theory.specs.Plan.{planOf}

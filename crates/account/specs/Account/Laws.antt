@@ -1,12 +1,6 @@
 -- The report of a list of merges, from the arrays that hold the graph and the list. Assumes nothing.
-use Prim.Native.Nat.{ℕ, _+_, _*_, _^_, _≤_}
-use native.Mathlib.Omega.{arith}
-use mathlib.Core.Path.{_≡_, refl, sym, ap, ap₂, _∙_, subst}
-use mathlib.Core.Logic.{_≢_}
-use mathlib.Core.List.{List}
-use lib.IntN.{ℤ}
-use lib.ListN.{length, getD, take, length-take}
-use lib.Seq.{getD-take}
+use Rattle.theory.specs.Prelude.{ℕ, _+_, _*_, _^_, _≤_, arith, _≡_, refl, sym, ap, ap₂, _∙_, subst, _≢_, List, ℤ, length, getD, take, length-take}
+use Rattle.theory.specs.Prelude.{getD-take}
 use Rattle.theory.specs.Merge.{slot, final}
 use Rattle.theory.specs.Merge.Numbered.{alive-lt}
 use Rattle.theory.specs.Constraints.{NotOver}

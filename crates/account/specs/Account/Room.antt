@@ -1,9 +1,5 @@
 -- Room for 4,667 bytes takes the report of every accepted sheet, and of every accepted saved plan: rule 17 is not met. Assumes nothing.
-use Prim.Native.Nat.{ℕ, _≤_}
-use native.Mathlib.Omega.{arith}
-use mathlib.Core.Path.{_≡_, refl}
-use mathlib.Core.List.{List}
-use lib.ListN.{length}
+use Rattle.theory.specs.Prelude.{ℕ, _≤_, arith, _≡_, refl, List, length}
 use Rattle.theory.specs.Constraints.{NotOver}
 use Rattle.theory.specs.Over.Laws.{overOf-fine}
 use Rattle.theory.specs.Merge.{Merge, Valid}

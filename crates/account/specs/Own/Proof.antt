@@ -1,9 +1,5 @@
 -- The answers are those of lists of merges. Assumes nothing.
-use Prim.Native.Nat.{ℕ, _%_}
-use mathlib.Core.Path.{_≡_, refl, ap, ap₂, _∙_}
-use mathlib.Core.Logic.{_≢_}
-use mathlib.Core.List.{List, [], _∷_, map}
-use lib.ListN.{length}
+use Rattle.theory.specs.Prelude.{ℕ, _%_, _≡_, refl, ap, ap₂, _∙_, _≢_, List, [], _∷_, map, length}
 use Rattle.theory.specs.Constraints.{Pairs, Below}
 use Rattle.theory.specs.Constraints.Perm.{same}
 use Rattle.theory.specs.Merge.{Merge, put, Maximal}

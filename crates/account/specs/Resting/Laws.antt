@@ -1,12 +1,6 @@
 -- The words in the arrays are those of what the final clusters rest on. Assumes nothing.
-use Prim.Native.Nat.{ℕ, zero, suc, _+_, _*_, _≤_, _<_}
-use native.Mathlib.Omega.{arith}
-use native.Mathlib.Numerals.{add-one}
-use mathlib.Core.Path.{_≡_, refl, ap, ap₂, _∙_, subst}
-use mathlib.Core.Logic.{_≢_}
-use mathlib.Core.List.{List, [], _∷_, _++_, map}
-use lib.ListN.{length, getD, take, length-take}
-use lib.Seq.{take-suc, getD-take}
+use Rattle.theory.specs.Prelude.{ℕ, zero, suc, _+_, _*_, _≤_, _<_, arith, add-one, _≡_, refl, ap, ap₂, _∙_, subst, _≢_, List, [], _∷_, _++_, map}
+use Rattle.theory.specs.Prelude.{length, getD, take, length-take, take-suc, getD-take}
 use Rattle.theory.specs.Constraints.{Pairs}
 use Rattle.theory.specs.Merge.{slot, final, left, total}
 use Rattle.theory.specs.Merge.Numbered.{alive-lt}

@@ -1,6 +1,5 @@
 -- Two words for each living cluster, from three arrays. Assumes nothing.
-use Prim.Native.Nat.{ℕ, zero, suc}
-use mathlib.Core.List.{List, [], _∷_}
+use Rattle.theory.specs.Prelude.{ℕ, zero, suc, List, [], _∷_}
 
 unfoldable pub pairsIn : List ℕ → List ℕ → List ℕ → List ℕ
 pairsIn [] low high = []

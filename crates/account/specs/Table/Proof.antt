@@ -1,7 +1,5 @@
 -- The sheets marked P print what the table says. Assumes nothing.
-use mathlib.Core.Path.{_≡_, refl}
-use mathlib.Core.List.{map}
-use lib.Count.{ones}
+use Rattle.theory.specs.Prelude.{_≡_, refl, map, ones}
 use Rattle.theory.specs.Set.{_∩_, _∪_, at}
 use Rattle.theory.specs.Constraints.{pair, has, carried}
 use Rattle.theory.specs.Over.{heavy, anyBelow, isOver, isTight, smaller, fewestBelow, smallestSet, next, overUpTo, overOf}

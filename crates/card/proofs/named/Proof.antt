@@ -1,9 +1,5 @@
 -- `card::named` meets its contract: no two names begin with the same letter. Assumes nothing.
-use mathlib.Core.Path.{_≡_, refl, sym, ap, _∙_}
-use mathlib.Core.Bool.{true, false}
-use Prim.Native.Nat.{ℕ}
-use native.Mathlib.Omega.{arith}
-use lib.Dec.{eqb}
+use Rattle.theory.specs.Prelude.{_≡_, refl, sym, ap, _∙_, true, false, ℕ, arith, eqb}
 use Rattle.theory.specs.declared.Verdict.{Verdict}
 use Rattle.theory.specs.declared.Verdict.the-variants.{Over, Angle, Well, Stuck, Under}
 use Rattle.card.specs.Card.{initial}

@@ -1,14 +1,7 @@
 -- The verdict of a set of distances is that of every sheet of those points with those pairs, whatever its sizes and the order in which it lists them.
 -- Assumes nothing.
-use mathlib.Core.Path.{_≡_, refl, sym, ap, _∙_, subst}
-use mathlib.Core.Logic.{_⊎_, inl, inr, ⊎-elim}
-use mathlib.Core.Bool.{Bool, true, false}
-use mathlib.Core.List.{List, [], _∷_, _++_, map}
-use Prim.Native.Nat.{ℕ, zero, suc, _+_, _/_, _%_, _^_, _≤_, _<_}
-use native.Mathlib.Omega.{arith}
-use lib.Count.{ones}
-use lib.Dec.{eqb}
-use lib.ListN.{length, replicate, length-replicate}
+use Rattle.theory.specs.Prelude.{_≡_, refl, sym, ap, _∙_, subst, _⊎_, inl, inr, ⊎-elim, Bool, true, false, List, [], _∷_, _++_, map, ℕ, zero, suc}
+use Rattle.theory.specs.Prelude.{_+_, _/_, _%_, _^_, _≤_, _<_, arith, ones, eqb, length, replicate, length-replicate}
 use Rattle.theory.specs.Constraints.{Among, Pairs, Below, Perm}
 use Rattle.theory.specs.Constraints.Laws.{pairs-perm, below-perm, fine-perm, carried-perm, size-pair, pair-below}
 use Rattle.theory.specs.Over.Laws.{overOf-fine, overOf-over}

@@ -1,11 +1,6 @@
 -- The rule at each entry, from the test over the whole table. Assumes nothing.
-use mathlib.Core.Path.{_≡_}
-use mathlib.Core.List.{List, [], _∷_}
-use Prim.Native.Nat.{ℕ, zero, suc, _+_, _<_}
-use native.Mathlib.Omega.{arith}
-use native.Mathlib.Nat.{add-zero, zero-add, add-suc, suc-add}
-use lib.Dec.{T, eqb, eqb→eq}
-use lib.ListN.{length, getD}
+use Rattle.theory.specs.Prelude.{_≡_, List, [], _∷_, ℕ, zero, suc, _+_, _<_, arith, add-zero, zero-add, add-suc, suc-add, T, eqb, eqb→eq, length}
+use Rattle.theory.specs.Prelude.{getD}
 use Rattle.theory.specs.Tests.{and-both}
 use Rattle.card.specs.Card.{setVerdict, initial, allRight}
 

@@ -1,9 +1,5 @@
 -- The checker computes the verdict of every set of distances among two to five points, and counts. Assumes nothing.
-use mathlib.Core.Path.{_≡_}
-use mathlib.Core.Bool.{Bool, _&&_}
-use Prim.Native.Nat.{ℕ}
-use lib.Count.{ones}
-use lib.Dec.{T, eqb, eqb→eq}
+use Rattle.theory.specs.Prelude.{_≡_, Bool, _&&_, ℕ, ones, T, eqb, eqb→eq}
 use Rattle.theory.specs.Tests.{and-both}
 use Rattle.theory.specs.Set.{_∩_, _∪_}
 use Rattle.theory.specs.Constraints.{pair, has, carried}

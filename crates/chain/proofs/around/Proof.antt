@@ -1,9 +1,5 @@
 -- `chain::around` meets its contract: the loop keeps `Looked`. Assumes nothing.
-use mathlib.Core.Path.{sym, subst}
-use mathlib.Core.Logic.{⊎-elim}
-use Prim.Native.Nat.{ℕ, _+_, _-_, _<_}
-use native.Mathlib.Omega.{arith}
-use borrow.Author.Needs.{needs}
+use Rattle.theory.specs.Prelude.{sym, subst, ⊎-elim, ℕ, _+_, _-_, _<_, arith, needs}
 use Rattle.chain.proofs.Loops.{shares, shares-none, Looked, looked-none, looked-yes, looked-no, looked-all}
 use Rattle.chain.proofs.around.Statement.{statement}
 use Rattle.chain.proofs.around.Tie as tie

@@ -1,6 +1,5 @@
 -- `chain::ask` meets its contract: 25, else the chain. Assumes nothing.
-use native.Mathlib.Omega.{arith}
-use borrow.Author.Needs.{needs}
+use Rattle.theory.specs.Prelude.{arith, needs}
 use Rattle.chain.specs.Answer.Merged.{start-beyond, end-beyond, both-below}
 use Rattle.chain.proofs.ask.Statement.{statement}
 use Rattle.chain.proofs.ask.Tie as tie

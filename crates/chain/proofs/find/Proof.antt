@@ -1,7 +1,5 @@
 -- `chain::find` meets its contract: from an element to itself, by none, or by the run that the search finds. Assumes nothing.
-use mathlib.Core.Path.{refl}
-use native.Mathlib.Omega.{arith}
-use borrow.Author.Needs.{needs}
+use Rattle.theory.specs.Prelude.{refl, arith, needs}
 use Rattle.chain.specs.Answer.Laws.{answered-same, answered-none, found-way, found-short, found-run}
 use Rattle.chain.proofs.find.Statement.{statement}
 use Rattle.chain.proofs.find.Tie as tie

@@ -1,8 +1,5 @@
 -- `chain::fine_chain` meets its contract: the chain of what the merges leave. Assumes nothing.
-use mathlib.Core.Path.{refl}
-use mathlib.Core.List.{[]}
-use native.Mathlib.Omega.{arith}
-use borrow.Author.Needs.{needs}
+use Rattle.theory.specs.Prelude.{refl, [], arith, needs}
 use Rattle.graph.specs.Lent.{graphIn}
 use Rattle.merges.proofs.Running.{begins}
 use Rattle.chain.specs.Answer.Merged.{few-steps, left-begun, asked-left}

@@ -1,7 +1,5 @@
 -- `chain::first_both` meets its contract: the loop keeps `Tried`. Assumes nothing.
-use Prim.Native.Nat.{_-_, _<_}
-use native.Mathlib.Omega.{arith}
-use borrow.Author.Needs.{needs}
+use Rattle.theory.specs.Prelude.{_-_, _<_, arith, needs}
 use Rattle.chain.proofs.Loops.{shares, shares-none, Tried, tried-none, tried-next, tried-here, tried-end}
 use Rattle.chain.proofs.first_both.Statement.{statement}
 use Rattle.chain.proofs.first_both.Tie as tie

@@ -1,9 +1,5 @@
 -- `chain::first_in` meets its contract: the loop keeps `Passed`. Assumes nothing.
-use Prim.Native.Nat.{_-_, _<_}
-use native.Mathlib.Omega.{arith}
-use borrow.Author.Needs.{needs}
-use lib.Bits.{and-le-r}
-use lib.Count.{trailingZeros}
+use Rattle.theory.specs.Prelude.{_-_, _<_, arith, needs, and-le-r, trailingZeros}
 use Rattle.chain.proofs.Loops.{shares, shares-none, Passed, passed-none, passed-low, passed-next, passed-here, passed-end}
 use Rattle.chain.proofs.first_in.Statement.{statement}
 use Rattle.chain.proofs.first_in.Tie as tie

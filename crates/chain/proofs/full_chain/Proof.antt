@@ -1,10 +1,5 @@
 -- `chain::full_chain` meets its contract: one cluster left shows that the graph is not over, else what is found decides. Assumes nothing.
-use mathlib.Core.Path.{_≡_, refl, sym, _∙_}
-use mathlib.Core.List.{List, []}
-use Prim.Native.Nat.{ℕ, _+_, _*_}
-use native.Mathlib.Omega.{arith}
-use borrow.Author.Needs.{needs}
-use lib.ListN.{take}
+use Rattle.theory.specs.Prelude.{_≡_, refl, sym, _∙_, List, [], ℕ, _+_, _*_, arith, needs, take}
 use Rattle.theory.specs.Constraints.{NotOver}
 use Rattle.theory.specs.Graph.Laws.{fine-finding}
 use Rattle.sheet.specs.Graph.Laws.{fault-none, fine-fault}

@@ -1,8 +1,5 @@
 -- `chain::put_run` meets its contract: the loop keeps `Going`. Assumes nothing.
-use mathlib.Core.Path.{sym, subst}
-use Prim.Native.Nat.{ℕ, suc, _+_, _*_, _-_, _<_}
-use native.Mathlib.Omega.{arith}
-use borrow.Author.Needs.{needs}
+use Rattle.theory.specs.Prelude.{sym, subst, ℕ, suc, _+_, _*_, _-_, _<_, arith, needs}
 use Rattle.chain.specs.Chain.Lead.{Nearer}
 use Rattle.chain.specs.Layers.{Going}
 use Rattle.chain.specs.Layers.Forward.{going-start, going-nearer, going-last, going-next, going-end}

@@ -1,8 +1,5 @@
 -- `chain::single` meets its contract. Assumes nothing.
-use borrow.Author.Needs.{needs}
-use Prim.Native.Nat.{_<_, _^_}
-use native.Mathlib.Nat.{one-mul, mod-eq-of-lt}
-use lib.Pow.{pow-lt}
+use Rattle.theory.specs.Prelude.{needs, _<_, _^_, one-mul, mod-eq-of-lt, pow-lt}
 use Rattle.chain.proofs.single.Statement.{statement}
 use Rattle.chain.proofs.single.Tie as tie
 

@@ -1,7 +1,5 @@
 -- `chain::spread` meets its contract: the loop keeps `Spreading`. Assumes nothing.
-use Prim.Native.Nat.{_-_, _≤_}
-use native.Mathlib.Omega.{arith}
-use borrow.Author.Needs.{needs}
+use Rattle.theory.specs.Prelude.{_-_, _≤_, arith, needs}
 use Rattle.theory.specs.Set.{_∩_}
 use Rattle.chain.specs.Layers.{Spreading}
 use Rattle.chain.specs.Layers.Laws.{met, unmet, spread-begin, spread-next, spread-low, spread-found, spread-none}

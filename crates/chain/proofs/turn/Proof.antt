@@ -1,9 +1,5 @@
 -- `chain::turn` meets its contract: the loop keeps `Turning`. Assumes nothing.
-use Prim.Native.Nat.{_-_, _<_}
-use native.Mathlib.Omega.{arith}
-use borrow.Author.Needs.{needs}
-use lib.Bits.{and-le-r}
-use lib.Count.{trailingZeros}
+use Rattle.theory.specs.Prelude.{_-_, _<_, arith, needs, and-le-r, trailingZeros}
 use Rattle.theory.specs.Set.Lowest.{lowest-below}
 use Rattle.chain.proofs.Loops.{Turning, turning-none, turning-next, turning-all}
 use Rattle.chain.proofs.turn.Statement.{statement}

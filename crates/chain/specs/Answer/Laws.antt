@@ -1,12 +1,6 @@
 -- The answers, from what the search finds. Assumes nothing.
-use mathlib.Core.Path.{_≡_, refl, sym, ap, _∙_, subst}
-use mathlib.Core.Logic.{_≢_}
-use mathlib.Core.List.{List, [], _∷_, _++_}
-use mathlib.Core.Option.{none, some}
-use Prim.Native.Nat.{ℕ, suc, _-_, _^_, _≤_, _<_}
-use native.Mathlib.Omega.{arith}
-use borrow.Author.Tests.{le-ltb, lt-ltb}
-use lib.ListN.{length, take, drop, take-append-drop}
+use Rattle.theory.specs.Prelude.{_≡_, refl, sym, ap, _∙_, subst, _≢_, List, [], _∷_, _++_, none, some, ℕ, suc, _-_, _^_, _≤_, _<_, arith, le-ltb}
+use Rattle.theory.specs.Prelude.{lt-ltb, length, take, drop, take-append-drop}
 use Rattle.space.specs.Space.{answer, after}
 use Rattle.theory.specs.Merge.{slot}
 use Rattle.chain.specs.Chain.{Run, First, same, Shortest}

@@ -1,13 +1,6 @@
 -- The chain of a graph: of the clusters that its merges have left in arrays. Assumes nothing.
-use mathlib.Core.Path.{_≡_, refl, sym, ap, _∙_, subst}
-use mathlib.Core.Bool.{Bool, _&&_, cond}
-use mathlib.Core.List.{List, [], _∷_}
-use mathlib.Core.Option.{Option, none, some}
-use Prim.Native.Nat.{ℕ, zero, suc, _+_, _*_, _≤_, _<_}
-use native.Mathlib.Omega.{arith}
-use borrow.Author.Tests.{le-ltb, lt-ltb}
-use lib.Dec.{ltb}
-use lib.ListN.{length, take}
+use Rattle.theory.specs.Prelude.{_≡_, refl, sym, ap, _∙_, subst, Bool, _&&_, cond, List, [], _∷_, Option, none, some, ℕ, zero, suc, _+_, _*_, _≤_}
+use Rattle.theory.specs.Prelude.{_<_, arith, le-ltb, lt-ltb, ltb, length, take}
 use Rattle.theory.specs.Set.{_∈_}
 use Rattle.theory.specs.Block.{block}
 use Rattle.theory.specs.Block.Laws.{getD-block, take-block}

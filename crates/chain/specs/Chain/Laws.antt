@@ -1,9 +1,5 @@
 -- There is exactly one chain: two that are both shortest and first are the same, and "none" is said if and only if there is no run. Assumes nothing.
-use mathlib.Core.Path.{_≡_, refl, ap}
-use mathlib.Core.List.{List, _∷_}
-use mathlib.Core.Option.{Option, none, some}
-use Prim.Native.Nat.{ℕ}
-use native.Mathlib.Omega.{arith}
+use Rattle.theory.specs.Prelude.{_≡_, refl, ap, List, _∷_, Option, none, some, ℕ, arith}
 use Rattle.chain.specs.Chain.{First, same, here, next, Shortest, Chain}
 
 first-antisym : {r q : List ℕ} → First r q → First q r → r ≡ q

@@ -1,11 +1,5 @@
 -- How many clusters lead from a set to the end, and the way forward: the lowest cluster one step nearer. Assumes nothing.
-use mathlib.Core.Path.{_≡_, refl, sym, ap, _∙_, subst}
-use mathlib.Core.Logic.{_⊎_, inl, inr}
-use mathlib.Core.List.{List, [], _∷_}
-use Prim.Native.Nat.{ℕ, zero, suc, _^_, _≤_, _<_}
-use native.Mathlib.Omega.{arith}
-use native.Mathlib.Decide.{ℕ-discrete}
-use lib.ListN.{length}
+use Rattle.theory.specs.Prelude.{_≡_, refl, sym, ap, _∙_, subst, _⊎_, inl, inr, List, [], _∷_, ℕ, zero, suc, _^_, _≤_, _<_, arith, ℕ-discrete, length}
 use Rattle.theory.specs.Set.{_∈_, _∩_}
 use Rattle.theory.specs.Set.Laws.{at-same, at-other, element, meets, ∈-∩⁻}
 use Rattle.theory.specs.Merge.{slot}

@@ -1,13 +1,7 @@
 -- The way forward: from each set the lowest cluster of its layer, and the answer. Assumes nothing.
-use mathlib.Core.Path.{_≡_, refl, sym, ap, _∙_, subst}
-use mathlib.Core.Logic.{⊎-elim}
-use mathlib.Core.List.{List, [], _∷_, _++_, append-assoc}
-use Prim.Native.Nat.{ℕ, zero, suc, _+_, _-_, _*_, _/_, _%_, _^_, _≤_, _<_}
-use native.Mathlib.Omega.{arith}
-use native.Mathlib.Decide.{ℕ-discrete, decLt}
-use native.Mathlib.Numerals.{add-one}
-use lib.ListN.{length, take, drop, getD, set, length-set}
-use lib.Seq.{take-suc-set, drop-set-lt, drop-drop}
+use Rattle.theory.specs.Prelude.{_≡_, refl, sym, ap, _∙_, subst, ⊎-elim, List, [], _∷_, _++_, append-assoc, ℕ, zero, suc, _+_, _-_, _*_, _/_, _%_}
+use Rattle.theory.specs.Prelude.{_^_, _≤_, _<_, arith, ℕ-discrete, decLt, add-one, length, take, drop, getD, set, length-set, take-suc-set}
+use Rattle.theory.specs.Prelude.{drop-set-lt, drop-drop}
 use Rattle.theory.specs.Set.{_∈_, _∩_, at}
 use Rattle.theory.specs.Set.Laws.{at-same, at-zero}
 use Rattle.theory.specs.Merge.{slot}

@@ -1,15 +1,7 @@
 -- From the end outwards, one layer after another. Assumes nothing.
-use mathlib.Core.Path.{_≡_, refl, sym, ap, _∙_, subst}
-use mathlib.Core.Logic.{_≢_, _⊎_, inl, inr, ⊎-elim}
-use mathlib.Core.List.{List}
-use Prim.Native.Nat.{ℕ, zero, suc, _+_, _*_, _/_, _%_, _^_, _≤_, _<_}
-use native.Mathlib.Omega.{arith}
-use native.Mathlib.Decide.{ℕ-discrete}
-use lib.Bits.{bitAnd, bitOr, bitXor, or-lt}
-use lib.Count.{ones, ones-le}
-use lib.ListN.{length, getD, set, length-set}
-use lib.Pow.{pow-lt}
-use lib.Seq.{getD-set-same, getD-set-other}
+use Rattle.theory.specs.Prelude.{_≡_, refl, sym, ap, _∙_, subst, _≢_, _⊎_, inl, inr, ⊎-elim, List, ℕ, zero, suc, _+_, _*_, _/_, _%_, _^_, _≤_, _<_}
+use Rattle.theory.specs.Prelude.{arith, ℕ-discrete, bitAnd, bitOr, bitXor, or-lt, ones, ones-le, length, getD, set, length-set, pow-lt, getD-set-same}
+use Rattle.theory.specs.Prelude.{getD-set-other}
 use Rattle.theory.specs.Set.{_∈_, _∩_, _∪_, at}
 use Rattle.theory.specs.Set.Laws.{at-same, at-le, at-zero, bit, ∈-∩⁻, ∈-∪⁻, ∈-∪ˡ, ∈-∪ʳ, both, element, ⊑⇒size≤, ⊑-size-≡, a⊑a∪b}
 use Rattle.theory.specs.Set.Lowest.{at-beyond}

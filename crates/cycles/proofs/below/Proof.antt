@@ -1,8 +1,5 @@
 -- `cycles::below` meets its contract: the highest element and all lower ones. Assumes nothing.
-use Prim.Native.Nat.{_-_, _≤_}
-use native.Mathlib.Omega.{arith}
-use borrow.Author.Needs.{needs}
-use lib.Pow.{pow-pos, pow-mono}
+use Rattle.theory.specs.Prelude.{_-_, _≤_, arith, needs, pow-pos, pow-mono}
 use Rattle.cycles.specs.Cycle.Laws.{all-below}
 use Rattle.cycles.proofs.below.Statement.{statement}
 use Rattle.cycles.proofs.below.Tie as tie

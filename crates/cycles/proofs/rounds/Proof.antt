@@ -1,7 +1,5 @@
 -- `cycles::rounds` meets its contract: a set of elements below n lies in all of them. Assumes nothing.
-use borrow.Author.Needs.{needs}
-use mathlib.Core.Path.{sym, subst}
-use Prim.Native.Nat.{ℕ}
+use Rattle.theory.specs.Prelude.{needs, sym, subst, ℕ}
 use Rattle.theory.specs.Set.{_⊑_}
 use Rattle.cycles.specs.Cycle.Laws.{within}
 use Rattle.cycles.proofs.rounds.Statement.{statement}

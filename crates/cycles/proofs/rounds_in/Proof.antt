@@ -1,7 +1,5 @@
 -- `cycles::rounds_in` meets its contract: what runs round stays in what is left. Assumes nothing.
-use native.Mathlib.Omega.{arith}
-use borrow.Author.Needs.{needs}
-use lib.Count.{ones}
+use Rattle.theory.specs.Prelude.{arith, needs, ones}
 use Rattle.theory.specs.Set.{_∩_, _⊑_}
 use Rattle.theory.specs.Set.Laws.{a∩b⊑b, at-le}
 use Rattle.theory.specs.Set.Less.{at-room}

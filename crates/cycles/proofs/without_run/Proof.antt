@@ -1,9 +1,5 @@
 -- `cycles::without_run` meets its contract: what runs round stays in what is left. Assumes nothing.
-use Prim.Native.Nat.{_-_, _<_}
-use native.Mathlib.Omega.{arith}
-use borrow.Author.Needs.{needs}
-use lib.ListN.{getD}
-use lib.Pow.{pow-pos}
+use Rattle.theory.specs.Prelude.{_-_, _<_, arith, needs, getD, pow-pos}
 use Rattle.theory.specs.Set.{_∈_, _∩_}
 use Rattle.theory.specs.Set.Laws.{∈-∩⁻}
 use Rattle.theory.specs.Set.Less.{at-room}

@@ -1,15 +1,7 @@
 -- Taking elements away: what runs round stays. Assumes nothing.
-use mathlib.Core.Path.{_≡_, sym, ap, _∙_, subst}
-use mathlib.Core.Logic.{_≢_, _⊎_, inl, inr}
-use mathlib.Core.List.{List}
-use Prim.Native.Nat.{ℕ, zero, suc, _+_, _-_, _^_, _≤_, _<_}
-use native.Mathlib.Omega.{arith}
-use native.Mathlib.Decide.{ℕ-discrete}
+use Rattle.theory.specs.Prelude.{_≡_, sym, ap, _∙_, subst, _≢_, _⊎_, inl, inr, List, ℕ, zero, suc, _+_, _-_, _^_, _≤_, _<_, arith, ℕ-discrete, bitAnd}
+use Rattle.theory.specs.Prelude.{ones, getD, pow-lt, pow-pos}
 use native.Mathlib.Nat.{pow-suc}
-use lib.Bits.{bitAnd}
-use lib.Count.{ones}
-use lib.ListN.{getD}
-use lib.Pow.{pow-lt, pow-pos}
 use Rattle.theory.specs.Set.{_∈_, _∩_, _⊑_, at, full}
 use Rattle.theory.specs.Set.Laws.{at-le, bit, out, both, two-in, a∩b⊑a, a∩b⊑b, ⊑⇒size≤, below-full, at-same, size-zero}
 use Rattle.theory.specs.Set.Less.{drop-low, less-other, size-less, sub-less}

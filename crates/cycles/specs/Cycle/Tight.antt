@@ -1,13 +1,7 @@
 -- On a sheet that is not over every element of a tight set has two neighbours in it, so that merged clusters run round, and rings of lines with the
 -- clusters that make them: what holds all that runs round holds both. Assumes nothing.
-use mathlib.Core.Path.{_≡_, refl, sym, ap, _∙_, subst}
-use mathlib.Core.Logic.{_≢_, _⊎_, inl, inr, ⊎-elim, Ne·symm}
-use mathlib.Core.List.{List, [], _∷_}
-use Prim.Native.Nat.{ℕ, zero, suc, _+_, _-_, _*_, _^_, _≤_, _<_}
-use native.Mathlib.Omega.{arith}
-use native.Mathlib.Decide.{decLe}
-use lib.Count.{ones}
-use lib.ListN.{getD}
+use Rattle.theory.specs.Prelude.{_≡_, refl, sym, ap, _∙_, subst, _≢_, _⊎_, inl, inr, ⊎-elim, Ne·symm, List, [], _∷_, ℕ, zero, suc, _+_, _-_, _*_, _^_}
+use Rattle.theory.specs.Prelude.{_≤_, _<_, arith, decLe, ones, getD}
 use Rattle.theory.specs.Set.{_∈_, _∩_, _∪_, _⊑_, at, full}
 use Rattle.theory.specs.Set.Laws.{at-le, at-zero, bit, both, some, two, two-in, filled, size-pow, at-same, size-zero, ∈-∩⁻, ∈-∪⁻}
 use Rattle.theory.specs.Set.Laws.{⊑-trans, ⊑⇒size≤, ⊑-size-≡, a⊑a∪b, b⊑a∪b, a∩b⊑a, ∪-least, cut-below}

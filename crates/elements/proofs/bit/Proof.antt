@@ -1,6 +1,5 @@
 -- `elements::bit` meets its contract. Assumes nothing.
-use mathlib.Core.Path.{sym, ap}
-use borrow.Author.Tests.{eq-eqb, ne-eqb}
+use Rattle.theory.specs.Prelude.{sym, ap, eq-eqb, ne-eqb}
 use Rattle.sheet.specs.Facts.{bitOf}
 use Rattle.elements.proofs.bit.Statement.{statement}
 use Rattle.elements.proofs.bit.Tie as tie

@@ -1,7 +1,5 @@
 -- `elements::kind_in` meets its contract: a shift and a remainder are two bits. Assumes nothing.
-use borrow.Author.Needs.{needs}
-use Prim.Native.Nat.{_%_}
-use native.Mathlib.Omega.{arith}
+use Rattle.theory.specs.Prelude.{needs, _%_, arith}
 use Rattle.elements.specs.Round.Laws.{two-bits}
 use Rattle.elements.proofs.kind_in.Statement.{statement}
 use Rattle.elements.proofs.kind_in.Tie as tie

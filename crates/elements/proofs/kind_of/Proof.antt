@@ -1,6 +1,5 @@
 -- `elements::kind_of` meets its contract: the element's byte is one of the number's. Assumes nothing.
-use borrow.Author.Needs.{needs}
-use mathlib.Core.Path.{sym, _∙_}
+use Rattle.theory.specs.Prelude.{needs, sym, _∙_}
 use Rattle.elements.specs.Round.Laws.{round-kind}
 use Rattle.elements.proofs.kind_of.Statement.{statement}
 use Rattle.elements.proofs.kind_of.Tie as tie

@@ -1,10 +1,5 @@
 -- `elements::read_element` meets its contract: a point and a line have no field, a circle has its radius. Assumes nothing.
-use borrow.Author.Needs.{needs}
-use native.Mathlib.Omega.{arith}
-use mathlib.Core.Path.{sym, ap, _∙_}
-use mathlib.Core.List.{[]}
-use borrow.Author.Tests.{not-true, not-false}
-use lib.ListN.{drop}
+use Rattle.theory.specs.Prelude.{needs, arith, sym, ap, _∙_, [], not-true, not-false, drop}
 use Rattle.sheet.specs.declared.Kind.the-variants.{Circle}
 use Rattle.sheet.specs.Field.{refused}
 use Rattle.fields.specs.declared.NumberRead.{NumberRead}

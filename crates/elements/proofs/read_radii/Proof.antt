@@ -1,9 +1,5 @@
 -- `elements::read_radii` meets its contract: i elements are read, and their radii stand. Assumes nothing.
-use borrow.Author.Needs.{needs}
-use Prim.Native.Nat.{ℕ, _+_, _-_, _/_, _≤_}
-use native.Mathlib.Omega.{arith}
-use mathlib.Core.Path.{_≡_, sym, ap, _∙_}
-use lib.ListN.{length, drop}
+use Rattle.theory.specs.Prelude.{needs, ℕ, _+_, _-_, _/_, _≤_, arith, _≡_, sym, ap, _∙_, length, drop}
 use Rattle.sheet.specs.declared.Opening.the-variants.{Pf02}
 use Rattle.sheet.specs.Facts.Laws.{kindsOf-length}
 use Rattle.sheet.specs.Decode.{element}

@@ -1,12 +1,5 @@
 -- `elements::read_round` meets its contract: rules 2, 4 and 18 of the kinds, then the radii. Assumes nothing.
-use borrow.Author.Needs.{needs}
-use Prim.Native.Nat.{_+_, _/_, _≤_}
-use native.Mathlib.Omega.{arith}
-use mathlib.Core.Path.{_≡_, sym, ap, _∙_}
-use mathlib.Core.Bool.{true}
-use mathlib.Core.List.{[]}
-use borrow.Author.Tests.{leb-true, leb-false, not-true, not-false}
-use lib.ListN.{length, drop}
+use Rattle.theory.specs.Prelude.{needs, _+_, _/_, _≤_, arith, _≡_, sym, ap, _∙_, true, [], leb-true, leb-false, not-true, not-false, length, drop}
 use Rattle.sheet.specs.Field.{refused}
 use Rattle.sheet.specs.Rules.{kindBitsUsed}
 use Rattle.sheet.specs.declared.Opening.the-variants.{Pf02}

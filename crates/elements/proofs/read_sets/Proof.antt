@@ -1,10 +1,5 @@
 -- `elements::read_sets` meets its contract: the sets of the kinds from i on; the numbers stay below 2 ^ 64. Assumes nothing.
-use borrow.Author.Needs.{needs}
-use Prim.Native.Nat.{ℕ, _+_, _*_, _-_, _<_, _≤_, _^_}
-use native.Mathlib.Omega.{arith}
-use mathlib.Core.Path.{_≡_}
-use lib.Dec.{eqb}
-use lib.ListN.{length, drop, drop-of-length-le}
+use Rattle.theory.specs.Prelude.{needs, ℕ, _+_, _*_, _-_, _<_, _≤_, _^_, arith, _≡_, eqb, length, drop, drop-of-length-le}
 use Rattle.sheet.specs.declared.Opening.the-variants.{Pf02}
 use Rattle.sheet.specs.Facts.Laws.{kindsOf-length}
 use Rattle.elements.specs.Round.{roundNumber, roundKinds, placesOf, SetsOf}

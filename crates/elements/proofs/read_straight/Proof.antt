@@ -1,10 +1,5 @@
 -- `elements::read_straight` meets its contract: a number, and then rule 4. Assumes nothing.
-use borrow.Author.Needs.{needs}
-use native.Mathlib.Omega.{arith}
-use mathlib.Core.Path.{sym, ap, _∙_}
-use mathlib.Core.List.{[]}
-use borrow.Author.Tests.{ltb-true, not-true, not-false}
-use lib.ListN.{drop}
+use Rattle.theory.specs.Prelude.{needs, arith, sym, ap, _∙_, [], ltb-true, not-true, not-false, drop}
 use Rattle.sheet.specs.Field.{refused}
 use Rattle.fields.specs.declared.NumberRead.{NumberRead}
 use Rattle.fields.specs.Answers.{ruleOf, asNumber}

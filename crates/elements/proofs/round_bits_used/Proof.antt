@@ -1,8 +1,5 @@
 -- `elements::round_bits_used` meets its contract: the last byte decides. Assumes nothing.
-use borrow.Author.Needs.{needs}
-use Prim.Native.Nat.{ℕ, _+_, _*_, _-_, _/_, _%_, _^_}
-use mathlib.Core.Path.{sym, ap, _∙_}
-use lib.Dec.{eqb}
+use Rattle.theory.specs.Prelude.{needs, ℕ, _+_, _*_, _-_, _/_, _%_, _^_, sym, ap, _∙_, eqb}
 use Rattle.sheet.specs.Field.{Bytes}
 use Rattle.elements.specs.Round.Laws.{last-used}
 use Rattle.elements.proofs.round_bits_used.Statement.{statement}

@@ -1,14 +1,8 @@
 -- The elements under PF02, read one after the other: each radius in its place, and the sets of what was read. Assumes nothing.
-use Prim.Native.Nat.{ℕ, zero, suc, _+_, _<_, _≤_}
-use native.Mathlib.Decide.{ℕ-discrete}
-use native.Mathlib.Omega.{arith}
-use mathlib.Core.Path.{_≡_, refl, sym, ap, _∙_, subst}
-use mathlib.Core.Bool.{true, false}
-use mathlib.Core.List.{List, [], _∷_, _++_, append-nil, append-assoc}
-use borrow.Author.Tests.{ltb-true}
-use lib.Dec.{T, eqb, ltb}
-use lib.ListN.{length, drop, set, getD, length-append, length-set, drop-of-length-le}
-use lib.Seq.{drop-cons, getD-append-seam, getD-set-same, getD-set-other}
+use Rattle.theory.specs.Prelude.{ℕ, zero, suc, _+_, _<_, _≤_, ℕ-discrete, arith, _≡_, refl, sym, ap, _∙_, subst, true, false, List, [], _∷_, _++_}
+use Rattle.theory.specs.Prelude.{append-nil, append-assoc, ltb-true, T, eqb, ltb, length, drop, set, getD, length-append, length-set}
+use Rattle.theory.specs.Prelude.{drop-of-length-le, drop-cons, getD-set-same, getD-set-other}
+use lib.Seq.{getD-append-seam}
 use Rattle.sheet.specs.declared.Kind.{Kind}
 use Rattle.sheet.specs.declared.Kind.the-variants.{Point, Line, Circle}
 use Rattle.sheet.specs.declared.Element.{Element}

@@ -1,15 +1,7 @@
 -- The kinds under PF02 in their bytes, rule 4 in the last of them, and the sets from the last element down. Assumes nothing.
-use Prim.Native.Nat.{ℕ, zero, suc, _+_, _*_, _-_, _/_, _%_, _^_, _<_, _≤_}
-use native.Mathlib.Nat.{pow-zero, pow-succ', pow-le-pow-right}
-use native.Mathlib.Decide.{decLt}
-use native.Mathlib.Omega.{arith}
-use mathlib.Core.Path.{_≡_, refl, sym, ap, _∙_}
-use mathlib.Core.Bool.{Bool, true, false, _&&_}
-use mathlib.Core.List.{List, [], _∷_}
-use borrow.Author.Tests.{lt-ltb, le-ltb, eq-eqb, ne-eqb}
-use lib.Dec.{eqb, ltb}
-use lib.ListN.{length, take, drop, getD, length-drop}
-use lib.Seq.{drop-cons, drop-drop, getD-take, getD-drop, length-take-le}
+use Rattle.theory.specs.Prelude.{ℕ, zero, suc, _+_, _*_, _-_, _/_, _%_, _^_, _<_, _≤_, pow-zero, pow-succ', pow-le-pow-right, decLt, arith, _≡_, refl}
+use Rattle.theory.specs.Prelude.{sym, ap, _∙_, Bool, true, false, _&&_, List, [], _∷_, lt-ltb, le-ltb, eq-eqb, ne-eqb, eqb, ltb, length, take, drop}
+use Rattle.theory.specs.Prelude.{getD, length-drop, drop-cons, drop-drop, getD-take, getD-drop, length-take-le}
 use Rattle.theory.specs.Set.{at}
 use Rattle.sheet.specs.declared.Opening.the-variants.{Pf02}
 use Rattle.sheet.specs.Facts.{bitOf}

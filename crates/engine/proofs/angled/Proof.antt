@@ -1,14 +1,6 @@
 -- `engine::angled` meets its contract: what is left of the joints decides. Assumes nothing.
-use mathlib.Core.Path.{_≡_, refl, sym, ap, _∙_}
-use mathlib.Core.Bool.{Bool, _||_}
-use mathlib.Core.List.{List, _∷_}
-use Prim.Native.Nat.{ℕ, suc, _+_, _-_, _≤_, _<_}
-use native.Mathlib.Omega.{arith}
-use native.Mathlib.Numerals.{add-one}
-use borrow.Author.Needs.{needs}
-use borrow.Author.Tests.{eq-eqb, ne-eqb}
-use lib.ListN.{length, take, drop, getD, length-take, drop-of-length-le}
-use lib.Seq.{drop-cons, getD-take}
+use Rattle.theory.specs.Prelude.{_≡_, refl, sym, ap, _∙_, Bool, _||_, List, _∷_, ℕ, suc, _+_, _-_, _≤_, _<_, arith, add-one, needs, eq-eqb, ne-eqb}
+use Rattle.theory.specs.Prelude.{length, take, drop, getD, length-take, drop-of-length-le, drop-cons, getD-take}
 use Rattle.theory.specs.Set.{_∩_}
 use Rattle.theory.specs.Verdict.{angled, allLines}
 use Rattle.engine.proofs.angled.Statement.{statement}

@@ -1,7 +1,5 @@
 -- `engine::joint_kind` meets its contract: the count of lines among the joint's elements decides. Assumes nothing.
-use mathlib.Core.Path.{_≡_, refl, sym, ap}
-use mathlib.Core.Logic.{_≢_}
-use Prim.Native.Nat.{ℕ, zero, suc}
+use Rattle.theory.specs.Prelude.{_≡_, refl, sym, ap, _≢_, ℕ, zero, suc}
 use Rattle.theory.specs.Set.{_∩_}
 use Rattle.theory.specs.Placement.{withLines, jointKind}
 use Rattle.theory.specs.declared.JointKind.the-variants.{Lll}

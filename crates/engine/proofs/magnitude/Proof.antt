@@ -1,10 +1,5 @@
 -- `engine::magnitude` meets its contract. Assumes nothing.
-use mathlib.Core.Path.{_≡_, sym, ap, _∙_, subst}
-use native.Mathlib.Omega.{arith}
-use borrow.Author.Needs.{needs}
-use lib.IntN.{ℤ, pos, natAbs, _-ℤ_}
-use lib.Signed.{ltZ, nonNeg}
-use lib.Dec.{T}
+use Rattle.theory.specs.Prelude.{_≡_, sym, ap, _∙_, subst, arith, needs, ℤ, pos, natAbs, _-ℤ_, ltZ, nonNeg, T}
 use mir.Syntax.{w64}
 use mir.Val.{Fits, SFits, toZ, ofZ}
 use mir.Facts.{toZ-ofZ}

@@ -1,10 +1,5 @@
 -- `engine::put_clusters` meets its contract: measured over no space, then written. Assumes nothing.
-use borrow.Author.Needs.{needs}
-use mathlib.Core.Path.{_≡_}
-use mathlib.Core.List.{[]}
-use Prim.Native.Nat.{_≤_, _<_}
-use native.Mathlib.Nat.{zero-add}
-use lib.ListN.{length, take}
+use Rattle.theory.specs.Prelude.{needs, _≡_, [], _≤_, _<_, zero-add, length, take}
 use Rattle.space.specs.Space.Laws.{none-left, put-refused, put-done}
 use Rattle.engine.specs.Lists.{livingOf}
 use Rattle.engine.proofs.put_clusters.Statement.{statement}

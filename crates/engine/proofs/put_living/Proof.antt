@@ -1,9 +1,5 @@
 -- `engine::put_living` meets its contract: nothing of a dead cluster, else its set. Assumes nothing.
-use borrow.Author.Needs.{needs}
-use mathlib.Core.Path.{_≡_, refl, sym, ap}
-use mathlib.Core.Logic.{_≢_}
-use mathlib.Core.List.{[], _∷_}
-use Prim.Native.Nat.{ℕ, zero, suc}
+use Rattle.theory.specs.Prelude.{needs, _≡_, refl, sym, ap, _≢_, [], _∷_, ℕ, zero, suc}
 use Rattle.space.specs.Space.Laws.{put-none, put-as}
 use Rattle.engine.specs.Lists.{livingOf}
 use Rattle.engine.proofs.put_living.Statement.{statement}

@@ -1,12 +1,6 @@
 -- `engine::put_plan` meets its contract: the numbers passed are put. Assumes nothing.
-use mathlib.Core.Path.{_≡_, sym, ap, _∙_, subst}
-use mathlib.Core.List.{List}
-use Prim.Native.Nat.{ℕ, _+_, _-_, _*_, _≤_, _<_}
-use native.Mathlib.Omega.{arith}
-use native.Mathlib.Numerals.{add-one}
-use borrow.Author.Needs.{needs}
-use lib.ListN.{length, take, length-take}
-use lib.Seq.{take-suc}
+use Rattle.theory.specs.Prelude.{_≡_, sym, ap, _∙_, subst, List, ℕ, _+_, _-_, _*_, _≤_, _<_, arith, add-one, needs, length, take, length-take}
+use Rattle.theory.specs.Prelude.{take-suc}
 use Rattle.space.specs.declared.Written.the-variants.{Done}
 use Rattle.space.specs.Space.{Put, answer, after}
 use Rattle.space.specs.Space.Laws.{put-none, put-as, _then_, put-refused, put-done}

@@ -1,11 +1,7 @@
 -- `engine::round` meets its contract: one cluster makes no ring, and the part of the slots that is looked at are the final clusters. Assumes nothing.
-use mathlib.Core.Path.{_≡_, ap, _∙_}
-use Prim.Native.Nat.{ℕ, _+_, _-_}
-use lib.ListN.{take}
-use native.Mathlib.Omega.{arith}
+use Rattle.theory.specs.Prelude.{_≡_, ap, _∙_, ℕ, _+_, _-_, take, arith, needs}
 use Rattle.theory.specs.Ring.{ringed}
 use Rattle.rings.specs.Rows.Laws.{lone-ringed}
-use borrow.Author.Needs.{needs}
 use Rattle.engine.proofs.round.Statement.{statement}
 use Rattle.engine.proofs.round.Tie as tie
 

@@ -1,11 +1,7 @@
 -- `engine::settle` meets its contract: the names are tried in the paper's order. Assumes nothing.
-use mathlib.Core.Path.{_≡_, sym, _∙_}
-use mathlib.Core.Logic.{_≢_}
-use native.Mathlib.Omega.{arith}
-use borrow.Author.Tests.{eq-eqb, ne-eqb}
+use Rattle.theory.specs.Prelude.{_≡_, sym, _∙_, _≢_, arith, eq-eqb, ne-eqb, needs}
 use Rattle.theory.specs.Merge.{left}
 use Rattle.theory.specs.Verdict.{judged, angled}
-use borrow.Author.Needs.{needs}
 use Rattle.engine.proofs.settle.Statement.{statement}
 use Rattle.engine.proofs.settle.Tie as tie
 

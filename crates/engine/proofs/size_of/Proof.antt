@@ -1,8 +1,5 @@
 -- `engine::size_of` meets its contract. Assumes nothing.
-use mathlib.Core.Path.{_≡_, sym, ap, _∙_, subst}
-use Prim.Native.Nat.{_<_}
-use native.Mathlib.Omega.{arith}
-use lib.IntN.{ℤ, natAbs}
+use Rattle.theory.specs.Prelude.{_≡_, sym, ap, _∙_, subst, _<_, arith, ℤ, natAbs}
 use Rattle.engine.proofs.Signed.{abs-mag, wide, widened}
 use Rattle.engine.proofs.size_of.Statement.{statement}
 use Rattle.engine.proofs.size_of.Tie as tie

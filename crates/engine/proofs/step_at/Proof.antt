@@ -1,10 +1,7 @@
 -- `engine::step_at` meets its contract. Assumes nothing.
-use mathlib.Core.Path.{_∙_}
-use Prim.Native.Nat.{_+_}
-use lib.ListN.{getD}
+use Rattle.theory.specs.Prelude.{_∙_, _+_, getD, needs}
 use Rattle.theory.specs.Merge.{merge}
 use Rattle.engine.specs.Steps.{waysBy, stepFrom}
-use borrow.Author.Needs.{needs}
 use Rattle.engine.proofs.step_at.Statement.{statement}
 use Rattle.engine.proofs.step_at.Tie as tie
 

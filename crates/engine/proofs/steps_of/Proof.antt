@@ -1,13 +1,6 @@
 -- `engine::steps_of` meets its contract: the steps passed stand, and the rest is blank. Assumes nothing.
-use mathlib.Core.Path.{_≡_, refl, sym, ap, _∙_}
-use mathlib.Core.List.{List}
-use Prim.Native.Nat.{ℕ, zero, suc, _+_, _-_, _≤_, _<_}
-use native.Mathlib.Omega.{arith}
-use native.Mathlib.Decide.{ℕ-discrete}
-use borrow.Author.Needs.{needs}
-use lib.IntN.{ℤ}
-use lib.ListN.{length, getD, set, replicate, length-set}
-use lib.Seq.{getD-set-same, getD-set-other}
+use Rattle.theory.specs.Prelude.{_≡_, refl, sym, ap, _∙_, List, ℕ, zero, suc, _+_, _-_, _≤_, _<_, arith, ℕ-discrete, needs, ℤ, length, getD, set}
+use Rattle.theory.specs.Prelude.{replicate, length-set, getD-set-same, getD-set-other}
 use Rattle.theory.specs.declared.Step.{Step}
 use Rattle.engine.specs.Steps.{stepAt, blankStep}
 use Rattle.engine.proofs.steps_of.Statement.{statement}

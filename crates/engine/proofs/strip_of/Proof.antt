@@ -1,9 +1,8 @@
 -- `engine::strip_of` meets its contract: which constraint is of the two points decides. Assumes nothing.
 use mir.Facts.{toZ-ofZ}
-use borrow.Author.Tests.{eq-eqb, ne-eqb}
+use Rattle.theory.specs.Prelude.{eq-eqb, ne-eqb, needs}
 use Rattle.theory.specs.Set.{_∩_}
 use Rattle.theory.specs.Placement.{strip, stripOf}
-use borrow.Author.Needs.{needs}
 use Rattle.engine.proofs.strip_of.Statement.{statement}
 use Rattle.engine.proofs.strip_of.Tie as tie
 

@@ -1,10 +1,6 @@
 -- `engine::triangle` meets its contract. Assumes nothing.
-use mathlib.Core.Path.{_≡_, ap, _∙_}
-use mathlib.Core.Logic.{⊎-elim}
-use Prim.Native.Nat.{ℕ, _+_, _-_, max}
-use native.Mathlib.Omega.{arith}
+use Rattle.theory.specs.Prelude.{_≡_, ap, _∙_, ⊎-elim, ℕ, _+_, _-_, max, arith, needs}
 use Rattle.theory.specs.Placement.{against, triangle}
-use borrow.Author.Needs.{needs}
 use Rattle.engine.proofs.triangle.Statement.{statement}
 use Rattle.engine.proofs.triangle.Tie as tie
 

@@ -1,12 +1,9 @@
 -- `engine::ways_of` meets its contract: known only if all three parts are initial clusters. Assumes nothing.
-use borrow.Author.Tests.{lt-ltb, le-ltb}
-use lib.IntN.{pos}
-use lib.ListN.{getD}
+use Rattle.theory.specs.Prelude.{lt-ltb, le-ltb, pos, getD, needs}
 use mir.Syntax.{w32}
 use mir.Val.{SFits}
 use mir.Facts.{toZ-ofZ}
 use Rattle.engine.specs.Steps.{waysBy}
-use borrow.Author.Needs.{needs}
 use Rattle.engine.proofs.ways_of.Statement.{statement}
 use Rattle.engine.proofs.ways_of.Tie as tie
 

@@ -1,12 +1,6 @@
 -- The living clusters as a list: one cluster more is listed, if it lives; and it holds what lives. Assumes nothing.
-use mathlib.Core.Path.{_≡_, refl, sym, ap, _∙_}
-use mathlib.Core.Logic.{_≢_, _↔_, inl, inr}
-use mathlib.Core.List.{List, [], _∷_, _++_}
-use Prim.Native.Nat.{ℕ, zero, suc, _+_, _<_}
-use native.Mathlib.Omega.{arith}
-use native.Mathlib.Numerals.{add-one}
-use lib.ListN.{length, getD, take}
-use lib.Seq.{take-suc}
+use Rattle.theory.specs.Prelude.{_≡_, refl, sym, ap, _∙_, _≢_, _↔_, inl, inr, List, [], _∷_, _++_, ℕ, zero, suc, _+_, _<_, arith, add-one, length}
+use Rattle.theory.specs.Prelude.{getD, take, take-suc}
 use Rattle.theory.specs.Constraints.{Among}
 use Rattle.theory.specs.Merge.{slot, live, left, total}
 use Rattle.engine.specs.Lists.{livingOf}

@@ -1,15 +1,6 @@
 -- The steps that the arrays give are those of the list of merges they hold. Assumes nothing.
-use mathlib.Core.Path.{_≡_, refl, sym, ap, ap₂, _∙_}
-use mathlib.Core.Logic.{_≢_}
-use mathlib.Core.Bool.{Bool, true, false, _&&_}
-use mathlib.Core.List.{List, [], _∷_, map}
-use Prim.Native.Nat.{ℕ, zero, suc, _+_, _*_, _≤_, _<_}
-use native.Mathlib.Omega.{arith}
-use lib.Dec.{ltb}
-use lib.IntN.{ℤ, pos}
-use lib.ListN.{length, getD, take, length-take}
-use lib.Seq.{ext-getD, getD-take}
-use borrow.Author.Tests.{ltb-true}
+use Rattle.theory.specs.Prelude.{_≡_, refl, sym, ap, ap₂, _∙_, _≢_, Bool, true, false, _&&_, List, [], _∷_, map, ℕ, zero, suc, _+_, _*_, _≤_, _<_}
+use Rattle.theory.specs.Prelude.{arith, ltb, ℤ, pos, length, getD, take, length-take, ext-getD, getD-take, ltb-true}
 use Rattle.theory.specs.Block.{block}
 use Rattle.theory.specs.Block.Laws.{getD-block}
 use Rattle.theory.specs.Merge.{slot, Merge, merge, three, joint, OpenAt, put, Valid, joints}

@@ -1,8 +1,7 @@
 -- `five::number` meets its contract: each of the ten bits is computed. Assumes nothing.
-use native.Mathlib.Omega.{arith}
+use Rattle.theory.specs.Prelude.{arith, needs}
 use Rattle.theory.specs.Set.{at}
 use Rattle.card.specs.Card.{withEach, eachTwo}
-use borrow.Author.Needs.{needs}
 use Rattle.five.proofs.number.Statement.{statement}
 use Rattle.five.proofs.number.Tie as tie
 

@@ -1,10 +1,7 @@
 -- `five::verdict` meets its contract: the entry of the number is the verdict of the graph. Assumes nothing.
-use mathlib.Core.Path.{_≡_, ap, _∙_}
-use Prim.Native.Nat.{_%_}
-use native.Mathlib.Omega.{arith}
+use Rattle.theory.specs.Prelude.{_≡_, ap, _∙_, _%_, arith, needs}
 use Rattle.card.specs.Card.{setVerdict}
 use Rattle.five.specs.Number.Laws.{five-verdict}
-use borrow.Author.Needs.{needs}
 use Rattle.five.proofs.verdict.Statement.{statement}
 use Rattle.five.proofs.verdict.Tie as tie
 

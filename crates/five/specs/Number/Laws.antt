@@ -1,16 +1,7 @@
 -- The verdict of the set whose number stands in who is constrained with whom is that of the graph: both list the same pairs, each once, and the order
 -- has no influence. Assumes nothing.
-use mathlib.Core.Path.{_≡_, refl, sym, ap, _∙_, subst}
-use mathlib.Core.Logic.{_↔_, inl, inr, ⊎-elim}
-use mathlib.Core.Bool.{Bool, true, false, not, _&&_, _||_}
-use mathlib.Core.List.{List, [], _∷_, map}
-use Prim.Native.Nat.{ℕ, zero, suc, _/_, _%_, _<_}
-use native.Mathlib.Omega.{arith}
-use native.Mathlib.Decide.{ℕ-discrete}
-use lib.Count.{ones}
-use lib.Dec.{T, eqb, leb, eqb→eq, leb→le, T-not}
-use lib.IntN.{ℤ}
-use lib.ListN.{take}
+use Rattle.theory.specs.Prelude.{_≡_, refl, sym, ap, _∙_, subst, _↔_, inl, inr, ⊎-elim, Bool, true, false, not, _&&_, _||_, List, [], _∷_, map, ℕ}
+use Rattle.theory.specs.Prelude.{zero, suc, _/_, _%_, _<_, arith, ℕ-discrete, ones, T, eqb, leb, eqb→eq, leb→le, T-not, ℤ, take}
 use Rattle.theory.specs.Tests.{and-both, eq-test, false-ne}
 use Rattle.theory.specs.Set.{_∪_}
 use Rattle.theory.specs.Constraints.{pair, Among, Pairs, Below, Perm, same, skip, swap, then}

@@ -1,6 +1,5 @@
 -- `graph::code_of` meets its contract: each size has its number. Assumes nothing.
-use borrow.Author.Needs.{needs}
-use mathlib.Core.Path.{sym, ap, _∙_}
+use Rattle.theory.specs.Prelude.{needs, sym, ap, _∙_}
 use mir.Facts.{toZ-ofZ}
 use mir.Syntax.{w32}
 use Rattle.graph.specs.Lent.{codeOf}

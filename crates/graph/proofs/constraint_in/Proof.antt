@@ -1,9 +1,6 @@
 -- `graph::constraint_in` meets its contract: the constraint that was packed comes out. Assumes nothing.
-use borrow.Author.Needs.{needs}
-use native.Mathlib.Omega.{arith}
-use mathlib.Core.Path.{sym, ap, _∙_}
+use Rattle.theory.specs.Prelude.{needs, arith, sym, ap, _∙_, trailingZeros, trailing-le}
 use mir.Facts.{toZ-ofZ}
-use lib.Count.{trailingZeros, trailing-le}
 use Rattle.graph.specs.Lent.Laws.{pair-lowest, constraint-is}
 use Rattle.graph.proofs.constraint_in.Statement.{statement}
 use Rattle.graph.proofs.constraint_in.Tie as tie

@@ -1,14 +1,8 @@
 -- `graph::fill` meets its contract: after i turns the arrays hold the first i constraints. Assumes nothing.
-use borrow.Author.Needs.{needs}
-use Prim.Native.Nat.{ℕ, _-_, _<_, _≤_}
-use native.Mathlib.Omega.{arith}
-use native.Mathlib.Numerals.{add-one}
-use mathlib.Core.Path.{_≡_, refl, sym, _∙_}
-use lib.IntN.{pos}
+use Rattle.theory.specs.Prelude.{needs, ℕ, _-_, _<_, _≤_, arith, add-one, _≡_, refl, sym, _∙_, pos, length, take, getD, length-map, take-suc}
+use Rattle.theory.specs.Prelude.{getD-take, length-take-le}
 use mir.Facts.{toZ-ofZ}
 use mir.Syntax.{w32}
-use lib.ListN.{length, take, getD, length-map}
-use lib.Seq.{take-suc, getD-take, length-take-le}
 use Rattle.sheet.specs.declared.Constraint.{Constraint}
 use Rattle.sheet.specs.declared.Size.the-variants.{Given}
 use Rattle.sheet.specs.Facts.{factsOf}

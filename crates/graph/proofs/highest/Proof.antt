@@ -1,6 +1,5 @@
 -- `graph::highest` meets its contract: the leading zeros of a pair tell its higher element. Assumes nothing.
-use borrow.Author.Needs.{needs}
-use native.Mathlib.Omega.{arith}
+use Rattle.theory.specs.Prelude.{needs, arith}
 use lib.Count.{leading-top}
 use Rattle.graph.specs.Lent.Laws.{pair-some, pair-highest}
 use Rattle.graph.proofs.highest.Statement.{statement}

@@ -1,18 +1,10 @@
 -- `graph::measure` meets its contract: after i turns the first i places hold sizes, the others numbers still. Assumes nothing.
-use borrow.Author.Needs.{needs}
-use Prim.Native.Nat.{ℕ, _+_, _-_, _<_, _≤_}
-use native.Mathlib.Omega.{arith}
-use native.Mathlib.Nat.{add-zero}
-use native.Mathlib.Numerals.{add-one}
-use mathlib.Core.Bool.{true}
-use mathlib.Core.Path.{_≡_, refl, sym, ap, ap₂, _∙_}
-use mathlib.Core.List.{List, map, _++_}
-use lib.IntN.{ℤ, pos}
+use Rattle.theory.specs.Prelude.{needs, ℕ, _+_, _-_, _<_, _≤_, arith, add-zero, add-one, true, _≡_, refl, sym, ap, ap₂, _∙_, List, map, _++_, ℤ, pos}
+use Rattle.theory.specs.Prelude.{length, take, drop, replicate, getD, length-set, length-map, take-append-drop, List·getD-append, take-suc}
+use Rattle.theory.specs.Prelude.{take-suc-set, drop-set-lt, drop-drop, drop-at, getD-drop}
 use mir.Facts.{toZ-ofZ}
 use mir.Syntax.{w32}
 use mir.Val.{toZ, ofZ}
-use lib.ListN.{length, take, drop, replicate, getD, length-set, length-map, take-append-drop, List·getD-append}
-use lib.Seq.{take-suc, take-suc-set, drop-set-lt, drop-drop, drop-at, getD-drop}
 use Rattle.theory.specs.Block.Laws.{length-block}
 use Rattle.sheet.specs.declared.Constraint.{Constraint}
 use Rattle.sheet.specs.declared.Kind.{Kind}

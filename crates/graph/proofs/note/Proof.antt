@@ -1,6 +1,5 @@
 -- `graph::note` meets its contract: each array holds one constraint more. Assumes nothing.
-use borrow.Author.Needs.{needs}
-use mathlib.Core.Path.{_∙_, sym}
+use Rattle.theory.specs.Prelude.{needs, _∙_, sym}
 use mir.Facts.{toZ-ofZ}
 use mir.Syntax.{w32}
 use Rattle.graph.specs.Lent.Laws.{ends-in, codes-in, in-arrays}

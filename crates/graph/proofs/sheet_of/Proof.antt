@@ -1,15 +1,8 @@
 -- `graph::sheet_of` meets its contract: the first i places hold the first i constraints of the facts, the others are blank. Assumes nothing.
-use borrow.Author.Needs.{needs}
-use Prim.Native.Nat.{ℕ, _-_, _<_, _≤_}
-use native.Mathlib.Omega.{arith}
-use native.Mathlib.Numerals.{add-one}
-use mathlib.Core.Path.{_≡_, refl, sym, ap, _∙_}
-use mathlib.Core.List.{List}
-use lib.IntN.{ℤ, pos}
+use Rattle.theory.specs.Prelude.{needs, ℕ, _-_, _<_, _≤_, arith, add-one, _≡_, refl, sym, ap, _∙_, List, ℤ, pos, length, take, drop, replicate, getD}
+use Rattle.theory.specs.Prelude.{length-set, take-suc, take-suc-set, take-all}
 use mir.Facts.{toZ-ofZ}
 use mir.Syntax.{w32}
-use lib.ListN.{length, take, drop, replicate, getD, length-set}
-use lib.Seq.{take-suc, take-suc-set, take-all}
 use Rattle.sheet.specs.declared.Constraint.{Constraint}
 use Rattle.sheet.specs.Facts.{Facts, blankConstraint, sheetOf}
 use Rattle.sheet.specs.Facts.Laws.{still-blank, filled}

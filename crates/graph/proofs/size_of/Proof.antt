@@ -1,10 +1,6 @@
 -- `graph::size_of` meets its contract: a given size is its own, a contact is made of the radii. Assumes nothing.
-use borrow.Author.Needs.{needs}
-use Prim.Native.Nat.{ℕ, zero, suc, _+_, _-_, _^_, _<_}
-use native.Mathlib.Omega.{arith}
-use mathlib.Core.Path.{_≡_, sym, ap, _∙_}
-use mathlib.Core.Bool.{Bool, true, false, _&&_, cond}
-use lib.IntN.{ℤ, pos, negℤ, +ℤ-idl, _-ℤ_}
+use Rattle.theory.specs.Prelude.{needs, ℕ, zero, suc, _+_, _-_, _^_, _<_, arith, _≡_, sym, ap, _∙_, Bool, true, false, _&&_, cond, ℤ, pos, negℤ, _-ℤ_}
+use lib.IntN.{+ℤ-idl}
 use mir.Facts.{toZ-ofZ, toZ-pos, sfits-lit, yes-ltb}
 use mir.Val.{SFits, toZ}
 use mir.Syntax.{w32}

@@ -1,18 +1,9 @@
 -- Laws of the constraint graph in lent arrays: one constraint more, and each constraint out again. Assumes nothing.
-use Prim.Native.Nat.{ℕ, zero, suc, _+_, _-_, _%_, _/_, _<_, _≤_}
-use native.Mathlib.Nat.{le-of-suc-le-suc, pow-succ'}
-use native.Mathlib.Omega.{arith}
-use mathlib.Core.Path.{_≡_, refl, sym, ap, _∙_, subst}
-use mathlib.Core.Logic.{_≢_, ⊎-elim}
-use mathlib.Core.Bool.{true, false, _||_, not}
-use mathlib.Core.List.{List, [], _∷_, _++_, map, map-append, append-assoc}
-use borrow.Author.Tests.{leb-true}
-use lib.Dec.{leb}
-use lib.IntN.{ℤ, pos, negsuc}
-use lib.Pow.{pow-pos}
-use lib.Count.{trailingZeros, under, leadingZeros, leading-unique}
-use lib.ListN.{length, getD, set, replicate, length-map, length-append, List·getD-append}
-use lib.Seq.{set-append-seam}
+use Rattle.theory.specs.Prelude.{ℕ, zero, suc, _+_, _-_, _%_, _/_, _<_, _≤_, le-of-suc-le-suc, pow-succ', arith, _≡_, refl, sym, ap, _∙_, subst, _≢_}
+use Rattle.theory.specs.Prelude.{⊎-elim, true, false, _||_, not, List, [], _∷_, _++_, map, map-append, append-assoc, leb-true, leb, ℤ, pos, negsuc}
+use Rattle.theory.specs.Prelude.{pow-pos, trailingZeros, under, length, getD, set, replicate, length-map, length-append, List·getD-append}
+use Rattle.theory.specs.Prelude.{set-append-seam}
+use lib.Count.{leadingZeros, leading-unique}
 use Rattle.theory.specs.Set.{_∈_, at}
 use Rattle.theory.specs.Set.Less.{trailing-at, at-room}
 use Rattle.theory.specs.Constraints.{pair}

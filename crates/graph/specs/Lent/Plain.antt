@@ -1,11 +1,5 @@
 -- A sheet without circles has no contacts: the numbers of its sizes are the sizes. Assumes nothing.
-use Prim.Native.Nat.{ℕ}
-use native.Mathlib.Omega.{arith}
-use mathlib.Core.Path.{_≡_, refl, sym, ap, ap₂, _∙_}
-use mathlib.Core.Bool.{true, false}
-use mathlib.Core.List.{List, [], _∷_, _++_, map}
-use lib.Dec.{eqb}
-use lib.IntN.{ℤ, pos}
+use Rattle.theory.specs.Prelude.{ℕ, arith, _≡_, refl, sym, ap, ap₂, _∙_, true, false, List, [], _∷_, _++_, map, eqb, ℤ, pos}
 use Rattle.theory.specs.Block.{block}
 use Rattle.theory.specs.Set.{at}
 use Rattle.theory.specs.Set.Laws.{at-zero}

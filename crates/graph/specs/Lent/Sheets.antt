@@ -1,17 +1,7 @@
 -- The arrays that hold an accepted sheet's facts are drawn, and hold its constraint graph: rules 6 and 7 make its constraints a simple graph. Assumes
 -- nothing.
-use Prim.Native.Nat.{ℕ, _<_, _≤_}
-use native.Mathlib.Omega.{arith}
-use borrow.Author.Tests.{eq-eqb}
-use mathlib.Core.Path.{_≡_, refl, sym, ap, ap₂, _∙_, subst}
-use mathlib.Core.Logic.{inl, inr}
-use mathlib.Core.Bool.{Bool, true, false, _&&_, _||_}
-use mathlib.Core.List.{List, [], _∷_, _++_, map}
-use lib.Dec.{T, eqb}
-use lib.IntN.{ℤ, pos}
-use lib.ListN.{length, take, length-map}
-use lib.Pow.{pow-mono}
-use lib.Seq.{length-take-le}
+use Rattle.theory.specs.Prelude.{ℕ, _<_, _≤_, arith, eq-eqb, _≡_, refl, sym, ap, ap₂, _∙_, subst, inl, inr, Bool, true, false, _&&_, _||_, List, []}
+use Rattle.theory.specs.Prelude.{_∷_, _++_, map, T, eqb, ℤ, pos, length, take, length-map, pow-mono, length-take-le}
 use Rattle.theory.specs.Block.Laws.{length-block, take-block}
 use Rattle.theory.specs.Constraints.{pair, Among, Below, NotOver}
 use Rattle.theory.specs.Constraints.Laws.{pair-one}

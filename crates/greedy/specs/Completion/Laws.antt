@@ -1,11 +1,6 @@
 -- The greedy choice is the cheapest completion, first among equals; and there is a completion only if it is one. Assumes nothing.
-use mathlib.Core.Path.{_≡_, refl, sym, ap, ap₂, _∙_, subst}
-use mathlib.Core.Logic.{_↔_, _⊎_, inl, inr, ⊎-elim}
-use mathlib.Core.List.{List, [], _∷_, _++_, append-assoc}
-use Prim.Native.Nat.{ℕ, _+_, _*_, _^_, _≤_, _<_}
-use native.Mathlib.Omega.{arith}
-use lib.Count.{ones}
-use lib.ListN.{length, length-append}
+use Rattle.theory.specs.Prelude.{_≡_, refl, sym, ap, ap₂, _∙_, subst, _↔_, _⊎_, inl, inr, ⊎-elim, List, [], _∷_, _++_, append-assoc, ℕ, _+_, _*_, _^_}
+use Rattle.theory.specs.Prelude.{_≤_, _<_, arith, ones, length, length-append}
 use Rattle.theory.specs.Set.{_⊑_}
 use Rattle.theory.specs.Set.Laws.{⊑-refl}
 use Rattle.theory.specs.Constraints.{Among, Pairs, Below, has, carried, NotOver}

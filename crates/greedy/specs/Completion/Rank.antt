@@ -1,13 +1,7 @@
 -- Of two lists of constraints that are not over, one is not longer than the other if each of its constraints lies in a set that is tight in the
 -- other. (Not being over makes a matroid.) Assumes nothing.
-use mathlib.Core.Path.{_≡_, refl, sym, ap, subst}
-use mathlib.Core.Logic.{_⊎_, inl, inr, ⊎-elim}
-use mathlib.Core.List.{List, [], _∷_}
-use Prim.Native.Nat.{ℕ, zero, suc, _+_, _*_, _≤_, min}
-use native.Mathlib.Omega.{arith}
-use native.Mathlib.Decide.{decLe}
-use lib.Count.{ones}
-use lib.ListN.{length}
+use Rattle.theory.specs.Prelude.{_≡_, refl, sym, ap, subst, _⊎_, inl, inr, ⊎-elim, List, [], _∷_, ℕ, zero, suc, _+_, _*_, _≤_, min, arith, decLe}
+use Rattle.theory.specs.Prelude.{ones, length}
 use Rattle.theory.specs.Set.{_∩_, _∪_, _⊑_}
 use Rattle.theory.specs.Set.Laws.{size-∪, ⊑⇒size≤, ⊑-refl, ⊑-trans, a⊑a∪b, b⊑a∪b, a∩b⊑a, a∩b⊑b, ∩-greatest}
 use Rattle.theory.specs.Constraints.{Among, Pairs, has, carried, NotOver}

@@ -1,10 +1,5 @@
 -- A list and one with more, anywhere and in any order: what it has, what its sets carry, at which numbers it stands. Assumes nothing.
-use mathlib.Core.Path.{_≡_, sym, ap}
-use mathlib.Core.Logic.{inl, inr}
-use mathlib.Core.List.{List, [], _∷_, _++_, map, map-append}
-use Prim.Native.Nat.{ℕ, zero, suc, _≤_, _<_}
-use native.Mathlib.Omega.{arith}
-use lib.ListN.{length}
+use Rattle.theory.specs.Prelude.{_≡_, sym, ap, inl, inr, List, [], _∷_, _++_, map, map-append, ℕ, zero, suc, _≤_, _<_, arith, length}
 use Rattle.theory.specs.Constraints.{Among, Pairs, Below, Perm, same, skip, swap, then, carried, NotOver}
 use Rattle.theory.specs.Constraints.Laws.{among-perm, carried-perm, perm-map}
 use Rattle.theory.specs.Merge.{slot}

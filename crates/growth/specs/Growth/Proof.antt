@@ -1,13 +1,6 @@
 -- A graph with more constraints that isn't over: every cluster of the old graph lies inside one final cluster of the new, and what it rests on stays
 -- in that part. Assumes nothing.
-use mathlib.Core.Path.{_≡_, refl, sym, _∙_, subst}
-use mathlib.Core.Logic.{_≢_}
-use mathlib.Core.List.{List}
-use Prim.Native.Nat.{ℕ, _≤_, _<_}
-use native.Mathlib.Decide.{ℕ-discrete}
-use native.Mathlib.Omega.{arith}
-use lib.Count.{ones}
-use lib.ListN.{length}
+use Rattle.theory.specs.Prelude.{_≡_, refl, sym, _∙_, subst, _≢_, List, ℕ, _≤_, _<_, ℕ-discrete, arith, ones, length}
 use Rattle.theory.specs.Set.{_∩_, _⊑_}
 use Rattle.theory.specs.Set.Laws.{⊑-trans, ⊑⇒size≤, ∩-greatest}
 use Rattle.theory.specs.Merge.{Merge, slot, Valid, final, Maximal}

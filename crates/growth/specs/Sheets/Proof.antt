@@ -1,8 +1,6 @@
 -- A sheet with more dimensions that isn't over, and a held sketch after any run of asks and placings: the parts of the old sheet stay whole. Assumes
 -- nothing.
-use mathlib.Core.Path.{sym, _∙_, subst}
-use mathlib.Core.Logic.{_≢_}
-use mathlib.Core.List.{List}
+use Rattle.theory.specs.Prelude.{sym, _∙_, subst, _≢_, List}
 use Rattle.theory.specs.Constraints.{Perm, same}
 use Rattle.theory.specs.Merge.{Merge, Valid, Maximal}
 use Rattle.theory.specs.Graph.{verdictOf}

@@ -1,7 +1,5 @@
 -- `judge::angle_or_under` meets its contract: a joint of three lines, else a ring among the lines that turn. Assumes nothing.
-use borrow.Author.Needs.{needs}
-use native.Mathlib.Omega.{arith}
-use mathlib.Core.Path.{sym, _∙_}
+use Rattle.theory.specs.Prelude.{needs, arith, sym, _∙_}
 use Rattle.judge.specs.Angles.Laws.{joint-angle, turned-verdict}
 use Rattle.judge.proofs.angle_or_under.Statement.{statement}
 use Rattle.judge.proofs.angle_or_under.Tie as tie

@@ -1,7 +1,5 @@
 -- `judge::any_verdict` meets its contract: more than 2n-3 constraints are over, and each other way is one function's. Assumes nothing.
-use borrow.Author.Needs.{needs}
-use native.Mathlib.Omega.{arith}
-use mathlib.Core.Path.{sym}
+use Rattle.theory.specs.Prelude.{needs, arith, sym}
 use Rattle.graph.specs.Lent.Sheets.{counted}
 use Rattle.judge.specs.Judged.Short.{more-is}
 use Rattle.judge.proofs.any_verdict.Statement.{statement}

@@ -1,8 +1,5 @@
 -- `judge::around` meets its contract: every element is below 64. Assumes nothing.
-use borrow.Author.Needs.{needs}
-use Prim.Native.Nat.{ℕ, _≤_}
-use native.Mathlib.Omega.{arith}
-use mathlib.Core.List.{List}
+use Rattle.theory.specs.Prelude.{needs, ℕ, _≤_, arith, List}
 use Rattle.theory.specs.Set.{full}
 use Rattle.cycles.specs.Cycle.{HoldsBelow}
 use Rattle.cycles.specs.Cycle.Laws.{within}

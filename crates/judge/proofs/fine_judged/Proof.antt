@@ -1,9 +1,6 @@
 -- `judge::fine_judged` meets its contract: where nothing runs round there is no plan, with two lines or fewer that do no angle, and else the engine's
 -- merges are judged. Assumes nothing.
-use borrow.Author.Needs.{needs}
-use native.Mathlib.Omega.{arith}
-use mathlib.Core.Path.{sym, ap}
-use lib.Count.{ones}
+use Rattle.theory.specs.Prelude.{needs, arith, sym, ap, ones}
 use Rattle.graph.specs.declared.Head.{Head}
 use Rattle.graph.specs.Lent.{graphIn}
 use Rattle.judge.specs.Angles.Laws.{run-judged, planned-run, few-angles, none-judged}

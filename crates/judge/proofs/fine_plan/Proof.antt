@@ -1,6 +1,5 @@
 -- `judge::fine_plan` meets its contract: where nothing runs round there is no plan. Assumes nothing.
-use borrow.Author.Needs.{needs}
-use mathlib.Core.Path.{ap}
+use Rattle.theory.specs.Prelude.{needs, ap}
 use Rattle.graph.specs.Lent.{graphIn}
 use Rattle.graph.specs.Lent.Sheets.{found-fine}
 use Rattle.judge.specs.declared.Judged.{Judged}

@@ -1,8 +1,5 @@
 -- `judge::fine_verdict` meets its contract: under with two lines or fewer that run round, else as the engine's merges are judged. Assumes nothing.
-use borrow.Author.Needs.{needs}
-use native.Mathlib.Omega.{arith}
-use mathlib.Core.Path.{sym, ap}
-use lib.Count.{ones}
+use Rattle.theory.specs.Prelude.{needs, arith, sym, ap, ones}
 use Rattle.graph.specs.declared.Head.{Head}
 use Rattle.graph.specs.Lent.{graphIn}
 use Rattle.judge.specs.Angles.Laws.{few-angles}

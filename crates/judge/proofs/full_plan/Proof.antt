@@ -1,8 +1,5 @@
 -- `judge::full_plan` meets its contract: one cluster left shows that it is not over, else what is found decides. Assumes nothing.
-use borrow.Author.Needs.{needs}
-use Prim.Native.Nat.{_*_, _≤_}
-use native.Mathlib.Omega.{arith}
-use mathlib.Core.Path.{sym, _∙_}
+use Rattle.theory.specs.Prelude.{needs, _*_, _≤_, arith, sym, _∙_}
 use Rattle.graph.specs.Lent.{graphIn}
 use Rattle.graph.specs.Lent.Sheets.{counted, found-fine}
 use Rattle.judge.specs.Judged.Laws.{starts, steps-few}

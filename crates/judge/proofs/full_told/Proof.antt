@@ -1,7 +1,6 @@
 -- `judge::full_told` meets its contract: what peels off to the last element is well, or angle where three lines went so; else the merges tell.
 -- Assumes nothing.
-use borrow.Author.Needs.{needs}
-use native.Mathlib.Omega.{arith}
+use Rattle.theory.specs.Prelude.{needs, arith}
 use Rattle.graph.specs.Lent.Sheets.{counted}
 use Rattle.judge.specs.Judged.Short.{angle-peeled, well-peeled}
 use Rattle.judge.proofs.full_told.Statement.{statement}

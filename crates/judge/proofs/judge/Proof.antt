@@ -1,6 +1,5 @@
 -- `judge::judge` meets its contract: what is found decides. Assumes nothing.
-use borrow.Author.Needs.{needs}
-use mathlib.Core.Path.{sym, _∙_}
+use Rattle.theory.specs.Prelude.{needs, sym, _∙_}
 use Rattle.judge.specs.Judged.Short.{first-judged}
 use Rattle.judge.proofs.judge.Statement.{statement}
 use Rattle.judge.proofs.judge.Tie as tie

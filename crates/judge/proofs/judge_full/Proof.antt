@@ -1,11 +1,5 @@
 -- `judge::judge_full` meets its contract: one cluster left shows that it is not over, else what is found decides. Assumes nothing.
-use borrow.Author.Needs.{needs}
-use Prim.Native.Nat.{_*_, _≤_}
-use native.Mathlib.Omega.{arith}
-use mathlib.Core.Path.{_≡_, refl, sym, _∙_}
-use mathlib.Core.List.{List}
-use lib.IntN.{ℤ}
-use lib.ListN.{take}
+use Rattle.theory.specs.Prelude.{needs, _*_, _≤_, arith, _≡_, refl, sym, _∙_, List, ℤ, take}
 use Rattle.theory.specs.Constraints.{NotOver}
 use Rattle.graph.specs.Lent.{graphIn}
 use Rattle.graph.specs.Lent.Sheets.{counted, found-fine}

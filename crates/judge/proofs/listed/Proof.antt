@@ -1,6 +1,5 @@
 -- `judge::listed` meets its contract: the verdict that is settled is the list's own. Assumes nothing.
-use borrow.Author.Needs.{needs}
-use mathlib.Core.Path.{ap₂}
+use Rattle.theory.specs.Prelude.{needs, ap₂}
 use Rattle.theory.specs.declared.Verdict.{Verdict}
 use Rattle.merges.specs.declared.Run.{Run}
 use Rattle.judge.specs.declared.Judged.{Judged}

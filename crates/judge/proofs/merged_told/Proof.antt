@@ -1,10 +1,5 @@
 -- `judge::merged_told` meets its contract: one cluster left shows that it is not over, else what is found decides. Assumes nothing.
-use borrow.Author.Needs.{needs}
-use Prim.Native.Nat.{_*_, _≤_}
-use native.Mathlib.Omega.{arith}
-use mathlib.Core.Path.{_≡_, refl, sym, _∙_}
-use mathlib.Core.List.{List}
-use lib.IntN.{ℤ}
+use Rattle.theory.specs.Prelude.{needs, _*_, _≤_, arith, _≡_, refl, sym, _∙_, List, ℤ}
 use Rattle.theory.specs.Graph.{Graph, listVerdict}
 use Rattle.graph.specs.Lent.{graphIn}
 use Rattle.graph.specs.Lent.Sheets.{counted, found-fine}

@@ -1,9 +1,5 @@
 -- `judge::over_after` meets its contract: one cluster left shows that the sheet is not over. Assumes nothing.
-use borrow.Author.Needs.{needs}
-use Prim.Native.Nat.{_*_, _≤_}
-use native.Mathlib.Omega.{arith}
-use mathlib.Core.Path.{sym, _∙_}
-use mathlib.Core.List.{[]}
+use Rattle.theory.specs.Prelude.{needs, _*_, _≤_, arith, sym, _∙_, []}
 use Rattle.graph.specs.Lent.{graphIn}
 use Rattle.graph.specs.Lent.Sheets.{counted}
 use Rattle.judge.specs.Judged.Short.{reached-few, one-fault}

@@ -1,7 +1,5 @@
 -- `judge::over_fault` meets its contract: 11 of more than 2n-3 constraints, and where a first constraint is found. Assumes nothing.
-use borrow.Author.Needs.{needs}
-use native.Mathlib.Omega.{arith}
-use mathlib.Core.Path.{sym, _∙_}
+use Rattle.theory.specs.Prelude.{needs, arith, sym, _∙_}
 use Rattle.sheet.specs.Graph.Laws.{fine-fault, first-fault}
 use Rattle.graph.specs.Lent.Sheets.{counted}
 use Rattle.judge.specs.Judged.Short.{more-fault}

@@ -1,5 +1,4 @@
-use borrow.Author.Needs.{needs}
-use mathlib.Core.Path.{ap}
+use Rattle.theory.specs.Prelude.{needs, ap}
 use Rattle.theory.specs.declared.Verdict.the-variants.{Over}
 use Rattle.merges.specs.declared.Run.{Run}
 use Rattle.judge.proofs.over_found.Statement.{statement}

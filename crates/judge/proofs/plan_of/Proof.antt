@@ -1,7 +1,5 @@
 -- `judge::plan_of` meets its contract: more than 2n-3 constraints are over, and each other way is one function's. Assumes nothing.
-use borrow.Author.Needs.{needs}
-use native.Mathlib.Omega.{arith}
-use mathlib.Core.Path.{sym, _∙_}
+use Rattle.theory.specs.Prelude.{needs, arith, sym, _∙_}
 use Rattle.graph.specs.Lent.{graphIn}
 use Rattle.graph.specs.Lent.Sheets.{counted}
 use Rattle.judge.specs.Judged.Short.{run-first, run-more}

@@ -1,6 +1,5 @@
 -- `judge::sparse_verdict` meets its contract: over where a first constraint is found. Assumes nothing.
-use borrow.Author.Needs.{needs}
-use mathlib.Core.Path.{sym, _∙_}
+use Rattle.theory.specs.Prelude.{needs, sym, _∙_}
 use Rattle.theory.specs.Graph.Laws.{first-verdict}
 use Rattle.judge.proofs.sparse_verdict.Statement.{statement}
 use Rattle.judge.proofs.sparse_verdict.Tie as tie

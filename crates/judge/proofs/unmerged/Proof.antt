@@ -1,9 +1,5 @@
 -- `judge::unmerged` meets its contract: the constraints stand in the slots, and all else is blank. Assumes nothing.
-use borrow.Author.Needs.{needs}
-use mathlib.Core.Path.{ap}
-use mathlib.Core.List.{List}
-use Prim.Native.Nat.{ℕ}
-use lib.ListN.{replicate}
+use Rattle.theory.specs.Prelude.{needs, ap, List, ℕ, replicate}
 use Rattle.theory.specs.Merge.{joints}
 use Rattle.merges.specs.Run.{flat, runOf}
 use Rattle.judge.proofs.unmerged.Statement.{statement}

@@ -1,11 +1,5 @@
 -- The arrays of a sheet that is not over and has fewer than 2n-3 constraints, and of the engine's merges of it. Assumes nothing.
-use mathlib.Core.Path.{_≡_, sym, ap, _∙_}
-use mathlib.Core.Logic.{_≢_}
-use mathlib.Core.List.{List, []}
-use Prim.Native.Nat.{ℕ, _+_, _*_, _≤_}
-use native.Mathlib.Omega.{arith}
-use lib.IntN.{ℤ}
-use lib.ListN.{length, take}
+use Rattle.theory.specs.Prelude.{_≡_, sym, ap, _∙_, _≢_, List, [], ℕ, _+_, _*_, _≤_, arith, ℤ, length, take}
 use Rattle.theory.specs.Block.Laws.{length-block}
 use Rattle.theory.specs.Merge.{joints, final}
 use Rattle.theory.specs.Graph.{findingOf, verdictOf}

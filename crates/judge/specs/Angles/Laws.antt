@@ -1,13 +1,6 @@
 -- Lines that run round alone make angles: the verdict, and the judgement, with the other lines left out. Assumes nothing.
-use mathlib.Core.Path.{_≡_, refl, sym, ap, ap₂, _∙_, subst}
-use mathlib.Core.Logic.{inl, inr}
-use mathlib.Core.Bool.{Bool, true, false, _||_}
-use mathlib.Core.List.{List, [], _∷_}
-use Prim.Native.Nat.{ℕ, zero, suc, _+_, _-_, _*_, _≤_}
-use native.Mathlib.Omega.{arith}
-use lib.Count.{ones}
-use lib.Dec.{eqb}
-use lib.ListN.{length, take, drop}
+use Rattle.theory.specs.Prelude.{_≡_, refl, sym, ap, ap₂, _∙_, subst, inl, inr, Bool, true, false, _||_, List, [], _∷_, ℕ, zero, suc, _+_, _-_, _*_}
+use Rattle.theory.specs.Prelude.{_≤_, arith, ones, eqb, length, take, drop}
 use lib.Seq.{take-nil}
 use Rattle.theory.specs.Block.Laws.{take-block}
 use Rattle.theory.specs.Set.{_∩_, _⊑_, at}

@@ -1,9 +1,5 @@
 -- A list of merges in arrays: how many steps it has, and its own verdict from what they hold. Assumes nothing.
-use Prim.Native.Nat.{ℕ, _+_, _*_, _≤_}
-use native.Mathlib.Omega.{arith}
-use mathlib.Core.Path.{_≡_, sym, ap, _∙_}
-use mathlib.Core.List.{List}
-use lib.ListN.{length, take}
+use Rattle.theory.specs.Prelude.{ℕ, _+_, _*_, _≤_, arith, _≡_, sym, ap, _∙_, List, length, take}
 use Rattle.theory.specs.Block.Laws.{take-block}
 use Rattle.theory.specs.Constraints.{Pairs}
 use Rattle.theory.specs.Merge.{final, joints, left}

@@ -1,10 +1,6 @@
 -- What the arrays of a judgement hold: the plan's numbers, the final clusters, and the verdict of the definition. Assumes nothing.
-use Prim.Native.Nat.{ℕ, zero, suc, _+_, _-_, _*_, _≤_}
-use native.Mathlib.Omega.{arith}
-use mathlib.Core.Path.{_≡_, refl, sym, ap, _∙_, subst}
-use mathlib.Core.List.{List, [], _∷_, _++_, map}
-use lib.ListN.{length, take, replicate}
-use lib.Seq.{take-all}
+use Rattle.theory.specs.Prelude.{ℕ, zero, suc, _+_, _-_, _*_, _≤_, arith, _≡_, refl, sym, ap, _∙_, subst, List, [], _∷_, _++_, map, length, take}
+use Rattle.theory.specs.Prelude.{replicate, take-all}
 use Rattle.theory.specs.Block.{block}
 use Rattle.theory.specs.Block.Laws.{length-block, take-block}
 use Rattle.theory.specs.Merge.{final, joints}

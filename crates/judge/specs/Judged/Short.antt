@@ -1,12 +1,5 @@
 -- What counts and peeling decide of a graph without a plan, and what the judgement says of the verdict. Assumes nothing.
-use Prim.Native.Nat.{ℕ, _+_, _*_, _≤_, _<_}
-use native.Mathlib.Omega.{arith}
-use mathlib.Core.Path.{_≡_, refl, sym, ap, _∙_, subst}
-use mathlib.Core.Logic.{_≢_}
-use mathlib.Core.Bool.{Bool, true, false}
-use mathlib.Core.List.{List, []}
-use lib.Count.{ones}
-use lib.ListN.{length}
+use Rattle.theory.specs.Prelude.{ℕ, _+_, _*_, _≤_, _<_, arith, _≡_, refl, sym, ap, _∙_, subst, _≢_, Bool, true, false, List, [], ones, length}
 use Rattle.theory.specs.Constraints.{NotOver}
 use Rattle.theory.specs.Merge.{final, joints, left}
 use Rattle.theory.specs.Merge.One.{one-fine}

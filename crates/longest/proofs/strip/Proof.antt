@@ -1,10 +1,5 @@
 -- `longest::strip` meets its contract. The loop's invariant: the front of the block is the strip for as many k as have been passed. Assumes nothing.
-use mathlib.Core.Path.{_≡_, refl, ap, subst}
-use mathlib.Core.List.{[], _∷_}
-use Prim.Native.Nat.{ℕ, _≤_, _+_, _*_, _-_}
-use native.Mathlib.Omega.{arith}
-use borrow.Author.Needs.{needs}
-use lib.ListN.{length, take, length-set}
+use Rattle.theory.specs.Prelude.{_≡_, refl, ap, subst, [], _∷_, ℕ, _≤_, _+_, _*_, _-_, arith, needs, length, take, length-set}
 use Rattle.sheet.specs.declared.Constraint.{Constraint}
 use Rattle.longest.specs.Longest.{strip}
 use Rattle.longest.specs.Longest.Block.{strip-next}

@@ -1,7 +1,5 @@
 -- `longest::write` meets its contract: rule 3 comes first. Assumes nothing.
-use mathlib.Core.Path.{sym, _∙_}
-use borrow.Author.Needs.{needs}
-use borrow.Author.Tests.{not-true, not-false}
+use Rattle.theory.specs.Prelude.{sym, _∙_, needs, not-true, not-false}
 use Rattle.sheet.specs.Answer.Laws.{answers-refused, answers-items}
 use Rattle.sheet.specs.Rules.Laws.{elements-range}
 use Rattle.longest.specs.Longest.{longestField}

@@ -1,9 +1,6 @@
 -- `longest::write_strip` meets its contract: the blocks hold the facts of the sheet, which no rule refuses. Assumes nothing.
-use mathlib.Core.Path.{refl, ap, _∙_}
-use Prim.Native.Nat.{_*_, _-_}
-use native.Mathlib.Omega.{arith}
+use Rattle.theory.specs.Prelude.{refl, ap, _∙_, _*_, _-_, arith, needs}
 use denote.Ref.{now}
-use borrow.Author.Needs.{needs}
 use Rattle.space.specs.Space.{answer, after}
 use Rattle.sheet.specs.declared.Opening.the-variants.{Pf01}
 use Rattle.sheet.specs.Facts.{Facts}

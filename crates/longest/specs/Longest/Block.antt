@@ -1,12 +1,6 @@
 -- The strip in a block of constraints, and the sheet in blocks. Assumes nothing.
-use mathlib.Core.Path.{_≡_, refl, sym, ap, _∙_}
-use mathlib.Core.Bool.{true}
-use mathlib.Core.List.{List, [], _∷_, _++_}
-use Prim.Native.Nat.{ℕ, zero, suc, _+_, _*_, _-_, _≤_, _<_}
-use native.Mathlib.Omega.{arith}
-use borrow.Author.Tests.{le-leb}
-use lib.ListN.{length, take, set, length-set}
-use lib.Seq.{take-suc-set}
+use Rattle.theory.specs.Prelude.{_≡_, refl, sym, ap, _∙_, true, List, [], _∷_, _++_, ℕ, zero, suc, _+_, _*_, _-_, _≤_, _<_, arith, le-leb, length}
+use Rattle.theory.specs.Prelude.{take, set, length-set, take-suc-set}
 use Rattle.sheet.specs.declared.Opening.the-variants.{Pf01}
 use Rattle.sheet.specs.declared.Element.{Element}
 use Rattle.sheet.specs.declared.Constraint.{Constraint}

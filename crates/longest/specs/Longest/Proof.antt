@@ -1,12 +1,7 @@
 -- What is promised of the sheet with the longest plan. Every maximal list of merges of it leaves one cluster, since it peels off to its last element;
 -- so it has (e - 1) / 2 = n - 2 steps, and no list of a sheet that isn't over has more. Assumes nothing.
-use mathlib.Core.Path.{_≡_, refl, sym, ap, subst}
-use mathlib.Core.Bool.{true}
-use mathlib.Core.List.{List}
-use Prim.Native.Nat.{ℕ, zero, suc, _+_, _*_, _-_, _≤_}
-use native.Mathlib.Omega.{arith}
-use lib.Count.{ones}
-use lib.ListN.{length, length-map, length-replicate}
+use Rattle.theory.specs.Prelude.{_≡_, refl, sym, ap, subst, true, List, ℕ, zero, suc, _+_, _*_, _-_, _≤_, arith, ones, length, length-map}
+use Rattle.theory.specs.Prelude.{length-replicate}
 use Rattle.theory.specs.Set.Laws.{size-zero}
 use Rattle.theory.specs.Constraints.{Below}
 use Rattle.theory.specs.Merge.{final, left, Maximal}

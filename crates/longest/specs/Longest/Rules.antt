@@ -1,13 +1,7 @@
 -- No rule refuses the facts of the strip: each constraint joins the next element to one of the two before it, as none before it does.
 -- Assumes nothing.
-use mathlib.Core.Path.{_≡_, refl, sym, ap, ap₂, _∙_, subst}
-use mathlib.Core.Bool.{Bool, true, false, _&&_}
-use mathlib.Core.List.{List, [], _∷_, _++_, append-assoc, append-nil}
-use Prim.Native.Nat.{ℕ, zero, suc, _+_, _*_, _-_, _<_}
-use native.Mathlib.Omega.{arith}
-use borrow.Author.Tests.{lt-ltb, le-leb, ne-eqb}
-use lib.Dec.{eqb}
-use lib.ListN.{length, getD, length-append, length-replicate}
+use Rattle.theory.specs.Prelude.{_≡_, refl, sym, ap, ap₂, _∙_, subst, Bool, true, false, _&&_, List, [], _∷_, _++_, append-assoc, append-nil, ℕ, zero}
+use Rattle.theory.specs.Prelude.{suc, _+_, _*_, _-_, _<_, arith, lt-ltb, le-leb, ne-eqb, eqb, length, getD, length-append, length-replicate}
 use Rattle.sheet.specs.declared.Element.{Element}
 use Rattle.sheet.specs.declared.Constraint.{Constraint}
 use Rattle.sheet.specs.declared.Opening.the-variants.{Pf01}

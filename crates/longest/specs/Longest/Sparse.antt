@@ -1,14 +1,7 @@
 -- The strip is not over, and each set of elements has one with at most two constraints in it, its highest: every constraint joins an element to one
 -- of the two before it. Assumes nothing.
-use mathlib.Core.Path.{_≡_, ap, _∙_}
-use mathlib.Core.Logic.{_⊎_, inl, inr}
-use mathlib.Core.List.{List, [], _∷_, _++_, map}
-use Prim.Native.Nat.{ℕ, zero, suc, _+_, _*_, _-_, _^_, _≤_, _<_}
-use native.Mathlib.Omega.{arith}
-use native.Mathlib.Decide.{decLe}
-use lib.Count.{ones}
-use lib.ListN.{length-replicate}
-use lib.Pow.{pow-lt}
+use Rattle.theory.specs.Prelude.{_≡_, ap, _∙_, _⊎_, inl, inr, List, [], _∷_, _++_, map, ℕ, zero, suc, _+_, _*_, _-_, _^_, _≤_, _<_, arith, decLe}
+use Rattle.theory.specs.Prelude.{ones, length-replicate, pow-lt}
 use Rattle.theory.specs.Set.{_∈_, _∩_, _⊑_, at, full}
 use Rattle.theory.specs.Set.Laws.{at-le, bit, ⊑⇒size≤, some, two-in, both, counted, a∩b⊑a, at-same, below-full, cut-below, out}
 use Rattle.theory.specs.Set.Less.{at-below, size-less, sub-less}

@@ -1,10 +1,5 @@
 -- `merges::advance` meets its contract: the loop keeps `Running`. Assumes nothing.
-use mathlib.Core.Path.{sym, ap, _∙_, subst}
-use mathlib.Core.Logic.{inl, inr}
-use Prim.Native.Nat.{_+_, _-_, _≤_, _<_}
-use native.Mathlib.Omega.{arith}
-use borrow.Author.Needs.{needs}
-use lib.ListN.{take}
+use Rattle.theory.specs.Prelude.{sym, ap, _∙_, subst, inl, inr, _+_, _-_, _≤_, _<_, arith, needs, take}
 use Rattle.merges.specs.Search.{hitOf, Tested, Running}
 use Rattle.merges.specs.declared.Hit.the-variants.{At}
 use Rattle.merges.proofs.Running.{running-few, running-kept, running-ended, running-fewer, running-next}

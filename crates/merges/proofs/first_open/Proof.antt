@@ -1,9 +1,5 @@
 -- `merges::first_open` meets its contract: what it finds is tested, and by `Finding` it is the first. Assumes nothing.
-use mathlib.Core.Path.{sym, _∙_, subst}
-use Prim.Native.Nat.{_/_, _%_, _<_}
-use native.Mathlib.Omega.{arith}
-use borrow.Author.Needs.{needs}
-use lib.Dec.{T}
+use Rattle.theory.specs.Prelude.{sym, _∙_, subst, _/_, _%_, _<_, arith, needs, T}
 use Rattle.theory.specs.Merge.{slot, merge}
 use Rattle.theory.specs.Merge.Threes.{open-at}
 use Rattle.theory.specs.Plan.{First}

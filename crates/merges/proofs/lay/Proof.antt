@@ -1,12 +1,6 @@
 -- `merges::lay` meets its contract: the clusters passed stand in the array. Assumes nothing.
-use mathlib.Core.Path.{_≡_, sym, ap, _∙_}
-use mathlib.Core.List.{List}
-use Prim.Native.Nat.{ℕ, _+_, _-_, _≤_, _<_}
-use native.Mathlib.Omega.{arith}
-use native.Mathlib.Numerals.{add-one}
-use borrow.Author.Needs.{needs}
-use lib.ListN.{length, getD, set, take, length-take}
-use lib.Seq.{take-suc}
+use Rattle.theory.specs.Prelude.{_≡_, sym, ap, _∙_, List, ℕ, _+_, _-_, _≤_, _<_, arith, add-one, needs, length, getD, set, take, length-take}
+use Rattle.theory.specs.Prelude.{take-suc}
 use Rattle.theory.specs.Block.{block}
 use Rattle.theory.specs.Block.Laws.{store-block}
 use Rattle.merges.specs.Run.{Start}

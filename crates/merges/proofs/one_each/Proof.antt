@@ -1,6 +1,5 @@
 -- `merges::one_each` meets its contract: each test is one part of `openTest`. Assumes nothing.
-use mathlib.Core.Path.{sym}
-use borrow.Author.Tests.{eq-eqb, ne-eqb}
+use Rattle.theory.specs.Prelude.{sym, eq-eqb, ne-eqb}
 use Rattle.theory.specs.Plan.{openTest}
 use Rattle.merges.proofs.one_each.Statement.{statement}
 use Rattle.merges.proofs.one_each.Tie as tie

@@ -1,8 +1,5 @@
 -- `merges::some_open` meets its contract: the search is ready, so that the first open merge is found. Assumes nothing.
-use mathlib.Core.Path.{_≡_, sym, ap, _∙_}
-use mathlib.Core.List.{List}
-use Prim.Native.Nat.{ℕ, _<_}
-use borrow.Author.Needs.{needs}
+use Rattle.theory.specs.Prelude.{_≡_, sym, ap, _∙_, List, ℕ, _<_, needs}
 use Rattle.theory.specs.Constraints.{NotOver}
 use Rattle.theory.specs.Merge.{Merge, final}
 use Rattle.theory.specs.Plan.{firstOf, isSome}

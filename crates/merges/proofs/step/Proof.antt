@@ -1,7 +1,5 @@
 -- `merges::step` meets its contract: what it stores is what `Made` says. Assumes nothing.
-use mathlib.Core.Path.{refl, ap}
-use borrow.Author.Needs.{needs}
-use lib.ListN.{set}
+use Rattle.theory.specs.Prelude.{refl, ap, needs, set}
 use Rattle.theory.specs.Set.{_∪_}
 use Rattle.theory.specs.Merge.{union, cleared, merge, three}
 use Rattle.merges.proofs.step.Statement.{statement}

@@ -1,10 +1,6 @@
 -- Arrays that hold a list of merges: at the start, merge after merge, and at the end. Assumes nothing.
-use mathlib.Core.Path.{_≡_, refl, sym, ap, ap₂, _∙_, subst}
-use mathlib.Core.Logic.{_≢_}
-use mathlib.Core.List.{List, [], _∷_, _++_, map}
-use Prim.Native.Nat.{ℕ, _+_, _*_, _≤_, _<_}
-use native.Mathlib.Omega.{arith}
-use lib.ListN.{length, set, take, replicate, length-append}
+use Rattle.theory.specs.Prelude.{_≡_, refl, sym, ap, ap₂, _∙_, subst, _≢_, List, [], _∷_, _++_, map, ℕ, _+_, _*_, _≤_, _<_, arith, length, set, take}
+use Rattle.theory.specs.Prelude.{replicate, length-append}
 use Rattle.theory.specs.Block.{block}
 use Rattle.theory.specs.Block.Laws.{length-block, getD-block, store-block}
 use Rattle.theory.specs.Merge.{slot, Merge, three, OpenAt, union, joint, cleared, put, final, joints as jointsOf}

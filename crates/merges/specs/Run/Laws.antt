@@ -1,9 +1,6 @@
 -- Lists of merges: one merge more at the end, how many numbers, and one merge in an array. Assumes nothing.
-use mathlib.Core.Path.{_≡_, refl, sym, ap, _∙_}
-use mathlib.Core.List.{List, [], _∷_, _++_, map, append-assoc, map-append}
-use Prim.Native.Nat.{ℕ, suc, _+_, _*_, _<_}
-use native.Mathlib.Omega.{arith}
-use lib.ListN.{length, set, length-append, length-map, length-set}
+use Rattle.theory.specs.Prelude.{_≡_, refl, sym, ap, _∙_, List, [], _∷_, _++_, map, append-assoc, map-append, ℕ, suc, _+_, _*_, _<_, arith, length}
+use Rattle.theory.specs.Prelude.{set, length-append, length-map, length-set}
 use Rattle.theory.specs.Block.{block}
 use Rattle.theory.specs.Block.Laws.{getD-block, set-block, store-block}
 use Rattle.theory.specs.Merge.{Merge, three, OpenAt, union, joint, cleared, put, Valid, final, joints}

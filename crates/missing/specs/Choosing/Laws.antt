@@ -1,15 +1,7 @@
 -- Laws of the choice: one pair more among all elements, pairs of tight sets, and the choice of numbers. Assumes nothing.
-use mathlib.Core.Path.{_≡_, refl, sym, ap, ap₂, _∙_, subst}
-use mathlib.Core.Logic.{_≢_, inl, inr, ⊎-elim}
-use mathlib.Core.Bool.{Bool, true, false}
-use mathlib.Core.List.{List, [], _∷_, map}
-use Prim.Native.Nat.{ℕ, _+_, _*_, _-_, _/_, _%_, _^_, _≤_, _<_}
-use native.Mathlib.Omega.{arith}
-use native.Mathlib.Decide.{ℕ-discrete}
-use lib.Bits.{bitAnd}
-use lib.Count.{ones}
-use lib.ListN.{length, getD, set, length-set}
-use lib.Seq.{getD-set-same, getD-set-other}
+use Rattle.theory.specs.Prelude.{_≡_, refl, sym, ap, ap₂, _∙_, subst, _≢_, inl, inr, ⊎-elim, Bool, true, false, List, [], _∷_, map, ℕ, _+_, _*_, _-_}
+use Rattle.theory.specs.Prelude.{_/_, _%_, _^_, _≤_, _<_, arith, ℕ-discrete, bitAnd, ones, length, getD, set, length-set, getD-set-same}
+use Rattle.theory.specs.Prelude.{getD-set-other}
 use Rattle.theory.specs.Set.{_∈_, _∩_, _∪_, _⊑_, at, full}
 use Rattle.theory.specs.Set.Laws.{⊑⇒size≤, a∩b⊑a, below-full, two-in, ∈-∪⁻, at-zero}
 use Rattle.theory.specs.Constraints.{pair, Pairs, Below, has, carried, NotOver, NotOverIn}

@@ -1,14 +1,6 @@
 -- The answer is the cheapest list, of which there is one, or 23 where there is none. Assumes nothing.
-use mathlib.Core.Path.{_≡_, refl, sym, ap, _∙_, subst}
-use mathlib.Core.Logic.{_≢_, inl, inr}
-use mathlib.Core.Bool.{Bool, true, false}
-use mathlib.Core.List.{List, [], _∷_, map}
-use mathlib.Core.Option.{Option, none, some}
-use Prim.Native.Nat.{ℕ, _+_, _*_, _≤_}
-use native.Mathlib.Omega.{arith}
-use borrow.Author.Tests.{eq-eqb, ne-eqb}
-use lib.Dec.{T, eqb, eqb→eq}
-use lib.ListN.{length}
+use Rattle.theory.specs.Prelude.{_≡_, refl, sym, ap, _∙_, subst, _≢_, inl, inr, Bool, true, false, List, [], _∷_, map, Option, none, some, ℕ, _+_}
+use Rattle.theory.specs.Prelude.{_*_, _≤_, arith, eq-eqb, ne-eqb, T, eqb, eqb→eq, length}
 use Rattle.theory.specs.Constraints.{Among, Pairs, Below, NotOver}
 use Rattle.theory.specs.Graph.{Graph}
 use Rattle.sheet.specs.Field.{Field, value, refused, demand}

@@ -1,11 +1,7 @@
 -- At most n-2 merges are open among the clusters of n elements: they have different joints, and each stays open, with its joint, once another is
 -- made, so that all of them can be made one after another. Assumes nothing.
-use mathlib.Core.Path.{_≡_, refl, sym, ap, _∙_, subst}
-use mathlib.Core.Logic.{_≢_, _⊎_, inl, inr}
-use mathlib.Core.List.{List, [], _∷_, _++_, map}
-use Prim.Native.Nat.{ℕ, _+_, _≤_, _<_}
-use native.Mathlib.Omega.{arith}
-use lib.ListN.{length, length-append, length-map}
+use Rattle.theory.specs.Prelude.{_≡_, refl, sym, ap, _∙_, subst, _≢_, _⊎_, inl, inr, List, [], _∷_, _++_, map, ℕ, _+_, _≤_, _<_, arith, length}
+use Rattle.theory.specs.Prelude.{length-append, length-map}
 use Rattle.theory.specs.Set.{_∈_, _∩_, _∪_}
 use Rattle.theory.specs.Set.Laws.{two-in, both, ∈-∪ˡ, ∈-∪ʳ, ∈-∪⁻, ∈-∩⁻}
 use Rattle.theory.specs.Constraints.{Among, Pairs, Below, NotOver}

@@ -1,11 +1,6 @@
 -- What is shown of the list of open merges holds of every graph that is not over. Assumes nothing.
-use Prim.Native.Nat.{ℕ, zero, suc, _≤_, _<_}
-use native.Mathlib.Omega.{arith}
-use native.Mathlib.Decide.{decLt}
-use mathlib.Core.Path.{_≡_, refl, sym, ap, _∙_, subst}
-use mathlib.Core.Logic.{_≢_, _⊎_, inl, inr}
-use mathlib.Core.List.{List, [], _∷_, map}
-use lib.ListN.{length, take, length-map}
+use Rattle.theory.specs.Prelude.{ℕ, zero, suc, _≤_, _<_, arith, decLt, _≡_, refl, sym, ap, _∙_, subst, _≢_, _⊎_, inl, inr, List, [], _∷_, map, length}
+use Rattle.theory.specs.Prelude.{take, length-map}
 use Rattle.theory.specs.Constraints.{Pairs, NotOver}
 use Rattle.theory.specs.Merge.{Merge, OpenAt, three, joint, put, Valid, Ended, final}
 use Rattle.theory.specs.Merge.Count.{steps-most}

@@ -1,8 +1,6 @@
 -- `part::put_part` and `part::put_made` meet their contracts. The parts of a cluster have lower numbers, and `put_part` calls `put_made` for the same
 -- cluster, so its measure lies between: 2c for `put_made`, 2c + 1 for `put_part`. Assumes nothing.
-use Prim.Native.Nat.{ℕ, _+_, _≤_, _<_}
-use native.Mathlib.Omega.{arith}
-use mathlib.Core.Path.{sym, ap}
+use Rattle.theory.specs.Prelude.{ℕ, _+_, _≤_, _<_, arith, sym, ap}
 use Rattle.theory.specs.declared.Step.{Step}
 use Rattle.engine.specs.Steps.{stepFrom, stepAt}
 use Rattle.report.specs.Pieces.{Small}

@@ -1,9 +1,5 @@
 -- `part::list` meets its contract: the lines are put into a block that has room for them, and from there into the lent space. Assumes nothing.
-use borrow.Author.Needs.{needs}
-use native.Mathlib.Omega.{arith}
-use Prim.Native.Nat.{_≤_}
-use mathlib.Core.Path.{ap}
-use lib.ListN.{length}
+use Rattle.theory.specs.Prelude.{needs, arith, _≤_, ap, length}
 use Rattle.theory.specs.Graph.{Graph}
 use Rattle.sheet.specs.Answer.Laws.{answers-refused, answers-items}
 use Rattle.graph.specs.Lent.{graphIn}

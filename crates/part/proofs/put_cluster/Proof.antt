@@ -1,8 +1,6 @@
 -- `part::put_cluster` meets its contract: the verdict's number tells 11, the count of clusters 26, and the arrays hold the plan's steps. Assumes
 -- nothing.
-use borrow.Author.Needs.{needs}
-use native.Mathlib.Omega.{arith}
-use mathlib.Core.Path.{sym, _∙_}
+use Rattle.theory.specs.Prelude.{needs, arith, sym, _∙_}
 use Rattle.theory.specs.Graph.{Graph}
 use Rattle.graph.specs.Lent.{graphIn}
 use Rattle.graph.specs.Lent.Sheets.{counted}

@@ -1,12 +1,7 @@
 -- How many steps a cluster has: twice as many and one are 2m-3, m being its elements; so twice its steps are at most e. Each step stands in one
 -- living cluster, once. Assumes nothing.
-use Prim.Native.Nat.{ℕ, suc, _+_, _-_, _*_, _≤_, _<_}
-use native.Mathlib.Decide.{ℕ-discrete}
-use native.Mathlib.Omega.{arith}
-use mathlib.Core.Path.{_≡_, refl, sym, ap, _∙_, subst}
-use mathlib.Core.Logic.{_≢_}
-use mathlib.Core.List.{List, [], _∷_, _++_}
-use lib.ListN.{length, getD, length-append}
+use Rattle.theory.specs.Prelude.{ℕ, suc, _+_, _-_, _*_, _≤_, _<_, ℕ-discrete, arith, _≡_, refl, sym, ap, _∙_, subst, _≢_, List, [], _∷_, _++_, length}
+use Rattle.theory.specs.Prelude.{getD, length-append}
 use Rattle.theory.specs.Constraints.{Pairs, Perm, same, then}
 use Rattle.theory.specs.Merge.{Merge, slot, three, union, OpenAt, put, Valid, final, weight, weights}
 use Rattle.theory.specs.Merge.Count.{total-set, weights-run, weights-kept}

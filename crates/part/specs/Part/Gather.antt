@@ -1,16 +1,8 @@
 -- The steps of the living clusters, one cluster after another: a merge adds its own step to them, and moves no other to another cluster. So no step
 -- stands in two clusters, nor twice in one. Assumes nothing.
-use Prim.Native.Nat.{ℕ, zero, suc, _+_, _≤_, _<_}
-use native.Mathlib.Decide.{ℕ-discrete}
-use native.Mathlib.Omega.{arith}
-use borrow.Author.Tests.{eq-eqb, ne-eqb}
-use mathlib.Core.Path.{_≡_, refl, sym, ap, _∙_, subst}
-use mathlib.Core.Logic.{_≢_, Ne·symm}
-use mathlib.Core.List.{List, [], _∷_, _++_, append-assoc, append-nil}
-use lib.Dec.{eqb}
-use lib.Count.{ones}
-use lib.ListN.{length, set, getD, length-append, List·getD-append}
-use lib.Seq.{getD-set-other, getD-append-add, ext-getD}
+use Rattle.theory.specs.Prelude.{ℕ, zero, suc, _+_, _≤_, _<_, ℕ-discrete, arith, eq-eqb, ne-eqb, _≡_, refl, sym, ap, _∙_, subst, _≢_, Ne·symm, List}
+use Rattle.theory.specs.Prelude.{[], _∷_, _++_, append-assoc, append-nil, eqb, ones, length, set, getD, length-append, List·getD-append}
+use Rattle.theory.specs.Prelude.{getD-set-other, getD-append-add, ext-getD}
 use Rattle.theory.specs.Set.Laws.{size-zero, ⊑⇒size≤}
 use Rattle.theory.specs.Constraints.{Perm, same, skip, swap, then, one-if}
 use Rattle.theory.specs.Merge.{Merge, slot, three, union, OpenAt, cleared, put, total, living, left}

@@ -1,11 +1,6 @@
 -- Laws of a cluster's steps: none of an initial one; those of the three parts and then its own; they depend on lower steps alone. Assumes nothing.
-use Prim.Native.Nat.{ℕ, zero, suc, _+_, _-_, _≤_, _<_}
-use native.Mathlib.Omega.{arith}
-use borrow.Author.Tests.{lt-ltb, le-ltb, ltb-false}
-use mathlib.Core.Path.{_≡_, refl, ap, _∙_}
-use mathlib.Core.Bool.{Bool, true, false}
-use mathlib.Core.List.{List, [], _∷_, _++_}
-use lib.Dec.{ltb}
+use Rattle.theory.specs.Prelude.{ℕ, zero, suc, _+_, _-_, _≤_, _<_, arith, lt-ltb, le-ltb, ltb-false, _≡_, refl, ap, _∙_, Bool, true, false, List, []}
+use Rattle.theory.specs.Prelude.{_∷_, _++_, ltb}
 use Rattle.theory.specs.declared.Step.{Step}
 use Rattle.part.specs.Part.{under, partSteps}
 use Rattle.part.specs.Tallies.{Lower}

@@ -1,11 +1,6 @@
 -- The steps of a cluster are those from which it is made, in order. Assumes nothing.
-use Prim.Native.Nat.{ℕ, zero, suc, _+_, _-_, _≤_, _<_}
-use native.Mathlib.Decide.{decLt}
-use native.Mathlib.Omega.{arith}
-use mathlib.Core.Path.{_≡_, refl, sym, ap, _∙_, subst}
-use mathlib.Core.Logic.{_⊎_, inl, inr}
-use mathlib.Core.List.{List, [], _∷_, _++_}
-use lib.ListN.{length}
+use Rattle.theory.specs.Prelude.{ℕ, zero, suc, _+_, _-_, _≤_, _<_, decLt, arith, _≡_, refl, sym, ap, _∙_, subst, _⊎_, inl, inr, List, [], _∷_, _++_}
+use Rattle.theory.specs.Prelude.{length}
 use Rattle.theory.specs.Constraints.{Pairs, Among, Perm, then}
 use Rattle.theory.specs.Graph.{Graph, stepsOf}
 use Rattle.theory.specs.Graph.Laws.{length-steps}

@@ -1,9 +1,5 @@
 -- What a measure says of the steps, and the space after it. Assumes nothing.
-use Prim.Native.Nat.{ℕ, _≤_}
-use native.Mathlib.Omega.{arith}
-use mathlib.Core.Path.{_≡_, refl, sym, ap, _∙_}
-use mathlib.Core.List.{List, []}
-use lib.ListN.{length}
+use Rattle.theory.specs.Prelude.{ℕ, _≤_, arith, _≡_, refl, sym, ap, _∙_, List, [], length}
 use Rattle.theory.specs.declared.Step.{Step}
 use Rattle.sheet.specs.Field.{Field, value, refused}
 use Rattle.sheet.specs.Field.Laws.{refused-value}

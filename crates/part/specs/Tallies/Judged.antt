@@ -1,11 +1,5 @@
 -- What a judgement says of a cluster number, and what the answers are then. Assumes nothing.
-use Prim.Native.Nat.{ℕ, _+_, _≤_, _<_}
-use borrow.Author.Tests.{lt-ltb, le-ltb}
-use mathlib.Core.Path.{_≡_, refl, sym, ap, _∙_}
-use mathlib.Core.Logic.{_≢_}
-use mathlib.Core.Bool.{Bool, cond}
-use mathlib.Core.List.{[]}
-use lib.ListN.{length}
+use Rattle.theory.specs.Prelude.{ℕ, _+_, _≤_, _<_, lt-ltb, le-ltb, _≡_, refl, sym, ap, _∙_, _≢_, Bool, cond, [], length}
 use Rattle.theory.specs.Constraints.{NotOver}
 use Rattle.theory.specs.Plan.{planOf}
 use Rattle.theory.specs.Verdict.{verdictNumber}

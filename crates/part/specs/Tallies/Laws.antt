@@ -1,9 +1,6 @@
 -- One list of steps after another. Assumes nothing.
-use Prim.Native.Nat.{ℕ, _+_, _≤_, _<_, _^_}
-use native.Mathlib.Omega.{arith}
-use mathlib.Core.Path.{_≡_, refl, sym, ap, _∙_}
-use mathlib.Core.List.{List, [], _∷_, _++_, append-assoc, append-nil}
-use lib.ListN.{length, length-append}
+use Rattle.theory.specs.Prelude.{ℕ, _+_, _≤_, _<_, _^_, arith, _≡_, refl, sym, ap, _∙_, List, [], _∷_, _++_, append-assoc, append-nil, length}
+use Rattle.theory.specs.Prelude.{length-append}
 use Rattle.theory.specs.declared.Step.{Step}
 use Rattle.report.specs.Report.{stepLine, stepLines}
 use Rattle.report.specs.Block.{block, Stands}

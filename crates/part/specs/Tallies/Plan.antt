@@ -1,13 +1,6 @@
 -- The arrays of a graph and of its plan give a cluster's steps, which are few. Assumes nothing.
-use Prim.Native.Nat.{ℕ, zero, suc, _+_, _-_, _*_, _≤_, _<_}
-use native.Mathlib.Omega.{arith}
-use mathlib.Core.Path.{_≡_, refl, sym, ap, _∙_}
-use mathlib.Core.Logic.{_≢_}
-use mathlib.Core.List.{List, [], _∷_, _++_, map}
-use lib.Count.{ones}
-use lib.IntN.{ℤ, pos}
-use lib.ListN.{length, getD, take, length-append}
-use lib.Seq.{getD-take}
+use Rattle.theory.specs.Prelude.{ℕ, zero, suc, _+_, _-_, _*_, _≤_, _<_, arith, _≡_, refl, sym, ap, _∙_, _≢_, List, [], _∷_, _++_, map, ones, ℤ, pos}
+use Rattle.theory.specs.Prelude.{length, getD, take, length-append, getD-take}
 use Rattle.theory.specs.Constraints.{Pairs, NotOver}
 use Rattle.theory.specs.Merge.{Merge, slot, Valid, final, joints}
 use Rattle.theory.specs.Merge.Count.{steps-left}

@@ -1,6 +1,5 @@
 -- `pattern::chain` meets its contract: the chain of the graph that is read. Assumes nothing.
-use borrow.Author.Needs.{needs}
-use mathlib.Core.Path.{refl}
+use Rattle.theory.specs.Prelude.{needs, refl}
 use Rattle.pattern.specs.Entries.{heldSheet}
 use Rattle.pattern.specs.Entries.Reading.{FactsRead, refused-read, facts-read}
 use Rattle.pattern.specs.Entries.Chains.{chain-read}

@@ -1,8 +1,5 @@
 -- `pattern::check_plan` meets its contract: 11 and the plan check, of the graph that is read. Assumes nothing.
-use borrow.Author.Needs.{needs}
-use Prim.Native.Nat.{ℕ}
-use mathlib.Core.Path.{_≡_, refl, subst}
-use mathlib.Core.List.{List}
+use Rattle.theory.specs.Prelude.{needs, ℕ, _≡_, refl, subst, List}
 use Rattle.theory.specs.Graph.{Graph}
 use Rattle.sheet.specs.Answer.{byRule, Answers}
 use Rattle.space.specs.declared.Written.{Written}

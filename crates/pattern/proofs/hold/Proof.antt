@@ -1,6 +1,5 @@
 -- `pattern::hold` meets its contract: 11 of the graph that is read, else the sheet out of the arrays. Assumes nothing.
-use borrow.Author.Needs.{needs}
-use mathlib.Core.Path.{_≡_, refl, sym, ap, _∙_}
+use Rattle.theory.specs.Prelude.{needs, _≡_, refl, sym, ap, _∙_}
 use Rattle.sheet.specs.declared.Sheet.{Sheet}
 use Rattle.sheet.specs.Graph.{graphOf, overFault}
 use Rattle.sheet.specs.Answer.Laws.{rule-some}

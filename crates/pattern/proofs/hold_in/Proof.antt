@@ -1,6 +1,5 @@
 -- `pattern::hold_in` meets its contract: 11 of the graph that is read, else the record of the sheet out of the arrays. Assumes nothing.
-use borrow.Author.Needs.{needs}
-use mathlib.Core.Path.{_≡_, refl, sym, ap, _∙_}
+use Rattle.theory.specs.Prelude.{needs, _≡_, refl, sym, ap, _∙_}
 use Rattle.sheet.specs.Facts.{factsOf}
 use Rattle.sheet.specs.Field.{value}
 use Rattle.sheet.specs.Rules.{sheetFault}

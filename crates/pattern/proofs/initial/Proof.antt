@@ -1,7 +1,5 @@
 -- `pattern::initial` meets its contract: the clusters of the graph that is read. Assumes nothing.
-use borrow.Author.Needs.{needs}
-use mathlib.Core.Path.{refl, sym, ap}
-use mathlib.Core.List.{[]}
+use Rattle.theory.specs.Prelude.{needs, refl, sym, ap, []}
 use Rattle.theory.specs.Graph.{Graph}
 use Rattle.sheet.specs.Field.{value}
 use Rattle.sheet.specs.Answer.Laws.{answers-refused, answers-items}

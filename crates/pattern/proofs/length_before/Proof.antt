@@ -1,9 +1,5 @@
 -- `pattern::length_before` meets its contract, by the opening. Assumes nothing.
-use borrow.Author.Needs.{needs}
-use Prim.Native.Nat.{_+_, _*_, _≤_}
-use native.Mathlib.Omega.{arith}
-use mathlib.Core.Path.{sym, ap}
-use lib.Count.{ones, ones-le}
+use Rattle.theory.specs.Prelude.{needs, _+_, _*_, _≤_, arith, sym, ap, ones, ones-le}
 use Rattle.sheet.specs.declared.Opening.{Opening}
 use Rattle.sheet.specs.Field.{kindBytes}
 use Rattle.pattern.proofs.length_before.Statement.{statement}

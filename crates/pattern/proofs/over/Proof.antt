@@ -1,8 +1,5 @@
 -- `pattern::over` meets its contract: what is found of the graph that is read. Assumes nothing.
-use borrow.Author.Needs.{needs}
-use native.Mathlib.Omega.{arith}
-use mathlib.Core.Path.{_≡_, refl, sym, ap, _∙_}
-use mathlib.Core.List.{[]}
+use Rattle.theory.specs.Prelude.{needs, arith, _≡_, refl, sym, ap, _∙_, []}
 use Rattle.theory.specs.Graph.{Graph, findingOf}
 use Rattle.sheet.specs.Graph.{graphOf}
 use Rattle.sheet.specs.Answer.Laws.{answers-refused, answers-items}

@@ -1,8 +1,5 @@
 -- `pattern::part` meets its contract: 11, 26 and 17 of the graph that is read. Assumes nothing.
-use borrow.Author.Needs.{needs}
-use Prim.Native.Nat.{ℕ}
-use mathlib.Core.Path.{_≡_, refl, subst}
-use mathlib.Core.List.{List}
+use Rattle.theory.specs.Prelude.{needs, ℕ, _≡_, refl, subst, List}
 use Rattle.space.specs.declared.Written.{Written}
 use Rattle.theory.specs.Graph.{Graph}
 use Rattle.sheet.specs.Answer.{Answers}

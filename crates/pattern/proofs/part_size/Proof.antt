@@ -1,6 +1,5 @@
 -- `pattern::part_size` meets its contract: 11 and 26 of the graph that is read. Assumes nothing.
-use borrow.Author.Needs.{needs}
-use mathlib.Core.Path.{refl, sym, ap, _∙_}
+use Rattle.theory.specs.Prelude.{needs, refl, sym, ap, _∙_}
 use Rattle.theory.specs.Graph.{Graph}
 use Rattle.part.specs.Part.{heldField}
 use Rattle.part.specs.Tallies.{measureOf}

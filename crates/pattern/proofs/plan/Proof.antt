@@ -1,8 +1,5 @@
 -- `pattern::plan` meets its contract: the numbers of the judgement of the graph that is read. Assumes nothing.
-use borrow.Author.Needs.{needs}
-use mathlib.Core.Path.{refl, sym, ap, _∙_}
-use mathlib.Core.List.{List, []}
-use Prim.Native.Nat.{ℕ}
+use Rattle.theory.specs.Prelude.{needs, refl, sym, ap, _∙_, List, [], ℕ}
 use Rattle.theory.specs.Graph.{Graph}
 use Rattle.sheet.specs.Graph.{graphOf}
 use Rattle.graph.specs.Lent.Sheets.{accepted-sound}

@@ -1,7 +1,5 @@
 -- `pattern::plan_listing` meets its contract: 11, or the steps of the engine's plan, of the graph that is read. Assumes nothing.
-use borrow.Author.Needs.{needs}
-use mathlib.Core.Path.{refl}
-use mathlib.Core.List.{[]}
+use Rattle.theory.specs.Prelude.{needs, refl, []}
 use Rattle.sheet.specs.Field.{value}
 use Rattle.steps.specs.Records.{planSteps}
 use Rattle.pattern.specs.Entries.Reading.{FactsRead, refused-read, facts-read}

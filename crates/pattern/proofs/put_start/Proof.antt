@@ -1,11 +1,5 @@
 -- `pattern::put_start` meets its contract: the numbers passed are put. Assumes nothing.
-use mathlib.Core.Path.{_≡_, sym, ap, _∙_, subst}
-use Prim.Native.Nat.{ℕ, _+_, _-_, _≤_, _<_}
-use native.Mathlib.Omega.{arith}
-use native.Mathlib.Numerals.{add-one}
-use borrow.Author.Needs.{needs}
-use lib.ListN.{length, take, length-take}
-use lib.Seq.{take-suc}
+use Rattle.theory.specs.Prelude.{_≡_, sym, ap, _∙_, subst, ℕ, _+_, _-_, _≤_, _<_, arith, add-one, needs, length, take, length-take, take-suc}
 use Rattle.space.specs.declared.Written.the-variants.{Done}
 use Rattle.space.specs.Space.{Put, answer, after}
 use Rattle.space.specs.Space.Laws.{put-none, put-as, _then_, put-refused, put-done}

@@ -1,7 +1,4 @@
-use borrow.Author.Needs.{needs}
-use borrow.Author.Tests.{lt-ltb}
-use mathlib.Core.Path.{refl}
-use mathlib.Core.List.{[], _∷_}
+use Rattle.theory.specs.Prelude.{needs, lt-ltb, refl, [], _∷_}
 use Rattle.space.specs.Space.{answer, after}
 use Rattle.pattern.specs.Entries.Reading.{stored-items}
 use Rattle.pattern.proofs.put_two.Statement.{statement}

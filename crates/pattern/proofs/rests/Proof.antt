@@ -1,7 +1,5 @@
 -- `pattern::rests` meets its contract: what the final clusters of the graph that is read rest on. Assumes nothing.
-use borrow.Author.Needs.{needs}
-use mathlib.Core.Path.{refl, sym, ap}
-use mathlib.Core.List.{[]}
+use Rattle.theory.specs.Prelude.{needs, refl, sym, ap, []}
 use Rattle.theory.specs.Graph.{Graph}
 use Rattle.account.specs.Resting.{restNumbers}
 use Rattle.sheet.specs.Field.{value}

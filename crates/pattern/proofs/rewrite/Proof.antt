@@ -1,6 +1,5 @@
 -- `pattern::rewrite` meets its contract: the reader accepts the bytes, and they are copied without their tags. Assumes nothing.
-use borrow.Author.Needs.{needs}
-use mathlib.Core.Path.{refl, _∙_}
+use Rattle.theory.specs.Prelude.{needs, refl, _∙_}
 use Rattle.sheet.specs.Answer.Laws.{answers-refused, answers-items}
 use Rattle.pattern.specs.Entries.Reading.{SheetFound, refused-sheet, sheet-found}
 use Rattle.pattern.specs.Entries.Rewriting.{before-found}

@@ -1,6 +1,5 @@
 -- `pattern::saved_listing` meets its contract: 11, and the check of the saved plan, of the graph that is read. Assumes nothing.
-use borrow.Author.Needs.{needs}
-use mathlib.Core.Path.{refl}
+use Rattle.theory.specs.Prelude.{needs, refl}
 use Rattle.steps.specs.Records.{savedRecords}
 use Rattle.pattern.specs.Entries.Reading.{FactsRead, refused-read, facts-read}
 use Rattle.pattern.specs.Entries.Steps.{refused-listed, read-listed}

@@ -1,6 +1,5 @@
 -- `pattern::verdict` meets its contract: the verdict of the graph that is read. Assumes nothing.
-use borrow.Author.Needs.{needs}
-use mathlib.Core.Path.{refl, ap, _∙_}
+use Rattle.theory.specs.Prelude.{needs, refl, ap, _∙_}
 use Rattle.theory.specs.Graph.{verdictOf}
 use Rattle.sketch.specs.declared.Judgement.the-variants.{Is}
 use Rattle.pattern.specs.Entries.Reading.{FactsRead, refused-read, facts-read}

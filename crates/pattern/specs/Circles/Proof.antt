@@ -1,7 +1,5 @@
 -- The promises of circles hold: every answer goes through the graph, which is that of the centres. Assumes nothing.
-use Prim.Native.Nat.{ℕ}
-use mathlib.Core.Path.{_≡_, sym, ap, _∙_}
-use mathlib.Core.List.{List, []}
+use Rattle.theory.specs.Prelude.{ℕ, _≡_, sym, ap, _∙_, List, []}
 use Rattle.theory.specs.Graph.{Graph, verdictOf}
 use Rattle.sheet.specs.Facts.{Facts}
 use Rattle.sheet.specs.Field.{value, Bytes}

@@ -1,9 +1,5 @@
 -- What a call answers is short: the bounds of reports and sheets, and of the merges of constraints that are not over. Assumes nothing.
-use Prim.Native.Nat.{ℕ, zero, suc, _+_, _*_, _≤_}
-use native.Mathlib.Omega.{arith}
-use mathlib.Core.Path.{_≡_, refl, sym, ap, _∙_}
-use mathlib.Core.List.{List, [], map}
-use lib.ListN.{length, length-map}
+use Rattle.theory.specs.Prelude.{ℕ, zero, suc, _+_, _*_, _≤_, arith, _≡_, refl, sym, ap, _∙_, List, [], map, length, length-map}
 use Rattle.theory.specs.Constraints.{NotOver}
 use Rattle.theory.specs.Over.Laws.{overOf-fine, fine-most}
 use Rattle.theory.specs.Merge.{Merge, Valid, final, left}

@@ -1,7 +1,5 @@
 -- The chain of a sheet that is read is that of its graph. Assumes nothing.
-use Prim.Native.Nat.{ℕ}
-use mathlib.Core.Path.{_≡_, sym, subst}
-use mathlib.Core.List.{List}
+use Rattle.theory.specs.Prelude.{ℕ, _≡_, sym, subst, List}
 use Rattle.theory.specs.Graph.{Graph}
 use Rattle.sheet.specs.Facts.{Facts}
 use Rattle.sheet.specs.Field.{Field, value}

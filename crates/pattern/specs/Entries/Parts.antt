@@ -1,11 +1,5 @@
 -- The steps of one cluster of a sheet that is read: 11 and 26 go by its graph; what is had beforehand is what is then written. Assumes nothing.
-use Prim.Native.Nat.{ℕ, _+_, _≤_, _<_}
-use mathlib.Core.Path.{_≡_, refl, sym, ap, _∙_}
-use mathlib.Core.Bool.{Bool, true, false, cond}
-use mathlib.Core.List.{List, []}
-use borrow.Author.Tests.{ltb-true}
-use lib.Dec.{ltb}
-use lib.ListN.{length}
+use Rattle.theory.specs.Prelude.{ℕ, _+_, _≤_, _<_, _≡_, refl, sym, ap, _∙_, Bool, true, false, cond, List, [], ltb-true, ltb, length}
 use Rattle.theory.specs.Graph.{Graph}
 use Rattle.theory.specs.Plan.{planOf}
 use Rattle.theory.specs.declared.Step.{Step}

@@ -1,10 +1,5 @@
 -- What a sheet that is read into arrays says of the field that it answers. Assumes nothing.
-use Prim.Native.Nat.{ℕ, _≤_}
-use mathlib.Core.Path.{_≡_, refl, sym, ap, _∙_, subst}
-use mathlib.Core.List.{List}
-use lib.IntN.{ℤ}
-use lib.ListN.{length}
-use lib.Seq.{sets}
+use Rattle.theory.specs.Prelude.{ℕ, _≤_, _≡_, refl, sym, ap, _∙_, subst, List, ℤ, length, sets}
 use Rattle.space.specs.Space.Laws.{put-all, put-after, long-answer}
 use Rattle.space.specs.declared.Written.the-variants.{Done}
 use Rattle.space.specs.Space.{answer, after}

@@ -1,14 +1,6 @@
 -- How many bytes precede the constraints of a sheet that is read, by its facts. Assumes nothing.
-use Prim.Native.Nat.{ℕ, zero, suc, _+_, _*_, _<_}
-use native.Mathlib.Omega.{arith}
-use borrow.Author.Tests.{ltb-true}
-use mathlib.Core.Path.{_≡_, refl, sym, ap, ap₂, _∙_}
-use mathlib.Core.Bool.{Bool, true, false, cond}
-use mathlib.Core.List.{List, [], _∷_, _++_}
-use lib.Count.{ones, ones-step}
-use lib.Dec.{eqb, ltb}
-use lib.IntN.{ℤ}
-use lib.ListN.{length, take, drop}
+use Rattle.theory.specs.Prelude.{ℕ, zero, suc, _+_, _*_, _<_, arith, ltb-true, _≡_, refl, sym, ap, ap₂, _∙_, Bool, true, false, cond, List, [], _∷_}
+use Rattle.theory.specs.Prelude.{_++_, ones, ones-step, eqb, ltb, ℤ, length, take, drop}
 use Rattle.sheet.specs.declared.Opening.{Opening}
 use Rattle.sheet.specs.declared.Opening.the-variants.{Pf01, Pf02}
 use Rattle.sheet.specs.declared.Element.{Element}

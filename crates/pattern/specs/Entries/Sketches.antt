@@ -1,7 +1,5 @@
 -- What is held, and what a saved plan is checked against. Assumes nothing.
-use Prim.Native.Nat.{ℕ, zero, suc}
-use mathlib.Core.Path.{_≡_, refl, sym, ap, _∙_}
-use mathlib.Core.List.{List, []}
+use Rattle.theory.specs.Prelude.{ℕ, zero, suc, _≡_, refl, sym, ap, _∙_, List, []}
 use Rattle.sheet.specs.Facts.{Facts}
 use Rattle.sheet.specs.Field.{value, Bytes}
 use Rattle.sheet.specs.Field.Laws.{next-value, refused-value}

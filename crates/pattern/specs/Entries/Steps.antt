@@ -1,11 +1,5 @@
 -- The steps of a sheet that is read, by value: what the arrays give is what the bytes stand for. Assumes nothing.
-use Prim.Native.Nat.{ℕ}
-use native.Mathlib.Omega.{arith}
-use mathlib.Core.Path.{_≡_, refl, sym, ap, _∙_, subst}
-use mathlib.Core.Logic.{⊎-elim}
-use mathlib.Core.List.{List}
-use lib.IntN.{ℤ}
-use lib.ListN.{length, replicate}
+use Rattle.theory.specs.Prelude.{ℕ, arith, _≡_, refl, sym, ap, _∙_, subst, ⊎-elim, List, ℤ, length, replicate}
 use Rattle.theory.specs.Graph.{Graph}
 use Rattle.theory.specs.declared.Step.{Step}
 use Rattle.space.specs.declared.Written.{Written}

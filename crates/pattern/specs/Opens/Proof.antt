@@ -1,9 +1,5 @@
 -- The promises of the open merges hold. Assumes nothing.
-use Prim.Native.Nat.{ℕ, _≤_}
-use native.Mathlib.Omega.{arith}
-use mathlib.Core.Path.{_≡_, ap}
-use mathlib.Core.List.{List}
-use lib.ListN.{length}
+use Rattle.theory.specs.Prelude.{ℕ, _≤_, arith, _≡_, ap, List, length}
 use Rattle.sheet.specs.Facts.{Facts}
 use Rattle.sheet.specs.Field.{Field, value, next, Bytes}
 use Rattle.sheet.specs.Field.Laws.{next-value}

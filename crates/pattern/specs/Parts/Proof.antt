@@ -1,12 +1,5 @@
 -- The promises of one cluster's steps hold. Assumes nothing.
-use Prim.Native.Nat.{ℕ, _≤_, _<_}
-use native.Mathlib.Omega.{arith}
-use borrow.Author.Tests.{lt-ltb, le-ltb}
-use mathlib.Core.Path.{_≡_, ap, _∙_}
-use mathlib.Core.Bool.{Bool, true, false, cond}
-use mathlib.Core.List.{List, []}
-use lib.Dec.{ltb}
-use lib.ListN.{length}
+use Rattle.theory.specs.Prelude.{ℕ, _≤_, _<_, arith, lt-ltb, le-ltb, _≡_, ap, _∙_, Bool, true, false, cond, List, [], ltb, length}
 use Rattle.space.specs.declared.Written.the-variants.{Done, Refused}
 use Rattle.space.specs.Space.{answer}
 use Rattle.space.specs.Space.Laws.{long-answer}

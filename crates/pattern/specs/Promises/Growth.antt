@@ -1,8 +1,5 @@
 -- More dimensions, never a smaller part, of what the entry points answer (document 02, 2026-13): `growth` Sheets brought to bytes. Assumes nothing.
-use Prim.Native.Nat.{ℕ}
-use mathlib.Core.Path.{_≡_, refl, sym, ap, _∙_, subst}
-use mathlib.Core.Logic.{_≢_, _↔_}
-use mathlib.Core.List.{List, []}
+use Rattle.theory.specs.Prelude.{ℕ, _≡_, refl, sym, ap, _∙_, subst, _≢_, _↔_, List, []}
 use Rattle.theory.specs.Set.{_⊑_}
 use Rattle.theory.specs.Constraints.{Among}
 use Rattle.theory.specs.Merge.{final, live, slot}

@@ -1,11 +1,7 @@
 -- The promises hold: over is one finding that every answer goes by, demand 3 is brought to every two orders of the sheet's constraints, and the
 -- answers' lists are those of `account` Own. Assumes nothing.
-use Prim.Native.Nat.{ℕ, zero, suc, _+_, _*_, _%_, _≤_, _<_}
-use mathlib.Core.Path.{_≡_, refl, sym, ap, _∙_, subst}
-use mathlib.Core.Logic.{_≢_, _↔_, Iff·trans}
-use mathlib.Core.List.{List, [], _∷_, _++_}
-use native.Mathlib.Omega.{arith}
-use lib.ListN.{length, getD}
+use Rattle.theory.specs.Prelude.{ℕ, zero, suc, _+_, _*_, _%_, _≤_, _<_, _≡_, refl, sym, ap, _∙_, subst, _≢_, _↔_, Iff·trans, List, [], _∷_, _++_}
+use Rattle.theory.specs.Prelude.{arith, length, getD}
 use Rattle.theory.specs.Constraints.{Among, Pairs, Below, Perm, NotOver}
 use Rattle.theory.specs.Constraints.Perm.{same, skip, swap, then}
 use Rattle.theory.specs.Over.{IsOver}

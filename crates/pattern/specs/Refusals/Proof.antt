@@ -1,14 +1,6 @@
 -- Each entry point refuses by its numbered rules alone: those of the fields that it reads, one after another. Assumes nothing.
-use Prim.Native.Nat.{ℕ, zero, suc, _≤_}
-use native.Mathlib.Omega.{arith}
-use borrow.Author.Tests.{ltb-true}
-use mathlib.Core.Path.{_≡_, refl, sym, _∙_, subst}
-use mathlib.Core.Logic.{_⊎_, inl, inr}
-use mathlib.Core.Bool.{Bool, true, false, cond, _&&_}
-use mathlib.Core.List.{List, [], _∷_}
-use lib.Dec.{eqb, ltb}
-use mathlib.Core.Option.{Option, none, some}
-use lib.ListN.{length}
+use Rattle.theory.specs.Prelude.{ℕ, zero, suc, _≤_, arith, ltb-true, _≡_, refl, sym, _∙_, subst, _⊎_, inl, inr, Bool, true, false, cond, _&&_, List}
+use Rattle.theory.specs.Prelude.{[], _∷_, eqb, ltb, Option, none, some, length}
 use Rattle.theory.specs.declared.Finding.{Finding}
 use Rattle.theory.specs.declared.Finding.the-variants.{Fine, First}
 use Rattle.theory.specs.Graph.{Graph, findingOf, stepsOf}

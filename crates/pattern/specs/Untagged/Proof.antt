@@ -1,7 +1,5 @@
 -- Every entry point goes through `readSheet`, so that sheets which read alike are answered alike. Assumes nothing.
-use Prim.Native.Nat.{ℕ}
-use mathlib.Core.Path.{_≡_, sym}
-use mathlib.Core.List.{List}
+use Rattle.theory.specs.Prelude.{ℕ, _≡_, sym, List}
 use Rattle.sheet.specs.Decode.{readSheet}
 use Rattle.sheet.specs.WithoutTags.{withoutTags}
 use Rattle.sheet.specs.RoundTrip.{read-without-tags, without-tags-again}

@@ -1,6 +1,5 @@
 -- `pattern_c::chain_items` meets its contract, by cases. Assumes nothing.
-use borrow.Author.Needs.{needs}
-use mathlib.Core.Path.{sym, ap}
+use Rattle.theory.specs.Prelude.{needs, sym, ap}
 use Rattle.pattern_c.specs.Numbers.{asItems}
 use Rattle.pattern_c.proofs.chain_items.Statement.{statement}
 use Rattle.pattern_c.proofs.chain_items.Tie as tie

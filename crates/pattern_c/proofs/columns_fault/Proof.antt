@@ -1,7 +1,5 @@
 -- `pattern_c::columns_fault` meets its contract, rule by rule. Assumes nothing.
-use borrow.Author.Needs.{needs}
-use borrow.Author.Tests.{le-leb, lt-leb, not-true, not-false}
-use mathlib.Core.Path.{sym, _∙_}
+use Rattle.theory.specs.Prelude.{needs, le-leb, lt-leb, not-true, not-false, sym, _∙_}
 use Rattle.pattern_c.proofs.columns_fault.Statement.{statement}
 use Rattle.pattern_c.proofs.columns_fault.Tie as tie
 

@@ -1,7 +1,5 @@
 -- Each branch is one law of `constraintIn`: a list that ends before the place, or all that the map needs.
-use borrow.Author.Needs.{needs}
-use mathlib.Core.Path.{sym, ap, _∙_}
-use lib.ListN.{getD}
+use Rattle.theory.specs.Prelude.{needs, sym, ap, _∙_, getD}
 use mir.Syntax.{w32}
 use mir.Facts.{toZ-ofZ}
 use Rattle.pattern_c.specs.Columns.{constraintFrom}

@@ -1,8 +1,5 @@
 -- The first i places hold the constraints of the columns: `Filling`.
-use borrow.Author.Needs.{needs}
-use Prim.Native.Nat.{_-_}
-use native.Mathlib.Omega.{arith}
-use mathlib.Core.Path.{refl}
+use Rattle.theory.specs.Prelude.{needs, _-_, arith, refl}
 use Rattle.pattern_c.specs.Columns.{constraintIn}
 use Rattle.pattern_c.specs.Columns.Laws.{Filling, filling-none, filling-more, filling-all}
 use Rattle.pattern_c.proofs.constraints_in.Statement.{statement}

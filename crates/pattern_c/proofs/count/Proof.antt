@@ -1,9 +1,4 @@
-use borrow.Author.Needs.{needs}
-use borrow.Author.Tests.{lt-ltb, le-ltb}
-use Prim.Native.Nat.{_<_}
-use native.Mathlib.Omega.{arith}
-use mathlib.Core.Path.{_≡_, sym, ap, _∙_}
-use lib.IntN.{pos, _-ℤ_}
+use Rattle.theory.specs.Prelude.{needs, lt-ltb, le-ltb, _<_, arith, _≡_, sym, ap, _∙_, pos, _-ℤ_}
 use mir.Syntax.{w32}
 use mir.Val.{toZ}
 use mir.Facts.{toZ-pos, toZ-ofZ}

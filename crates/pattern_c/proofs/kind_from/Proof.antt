@@ -1,7 +1,5 @@
 -- `pattern_c::kind_from` meets its contract, by the kind's number. Assumes nothing.
-use borrow.Author.Needs.{needs}
-use Prim.Native.Nat.{ℕ, zero, suc}
-use mathlib.Core.Path.{_≡_, refl}
+use Rattle.theory.specs.Prelude.{needs, ℕ, zero, suc, _≡_, refl}
 use Rattle.sheet.specs.declared.Kind.the-variants.{Circle}
 use Rattle.pattern_c.specs.Columns.{kindFrom}
 use Rattle.pattern_c.proofs.kind_from.Statement.{statement}

@@ -1,7 +1,5 @@
 -- `pattern_c::kind_number` meets its contract. Assumes nothing.
-use borrow.Author.Needs.{needs}
-use mathlib.Core.Path.{sym}
-use lib.ListN.{List·getD-eq-default}
+use Rattle.theory.specs.Prelude.{needs, sym, List·getD-eq-default}
 use Rattle.pattern_c.specs.Columns.Laws.{within-list}
 use Rattle.pattern_c.proofs.kind_number.Statement.{statement}
 use Rattle.pattern_c.proofs.kind_number.Tie as tie

@@ -1,9 +1,5 @@
 -- `pattern_c::kinds_listed` meets its contract: the kinds before i are listed. Assumes nothing.
-use borrow.Author.Needs.{needs}
-use Prim.Native.Nat.{_-_, _≤_}
-use native.Mathlib.Omega.{arith}
-use mathlib.Core.Path.{_≡_, sym, ap, _∙_}
-use mathlib.Core.Bool.{true}
+use Rattle.theory.specs.Prelude.{needs, _-_, _≤_, arith, _≡_, sym, ap, _∙_, true}
 use Rattle.pattern_c.specs.Columns.{kindsListed}
 use Rattle.pattern_c.specs.Columns.Laws.{kinds-none-listed, kinds-more, kinds-none}
 use Rattle.pattern_c.proofs.kinds_listed.Statement.{statement}

@@ -1,6 +1,5 @@
 -- `pattern_c::pattern_card` meets its contract, as `pattern_verdict` does. Assumes nothing.
-use borrow.Author.Needs.{needs}
-use mathlib.Core.Path.{ap, _∙_}
+use Rattle.theory.specs.Prelude.{needs, ap, _∙_}
 use Rattle.sketch.specs.declared.Judgement.the-variants.{Is}
 use Rattle.pattern_c.specs.Numbers.{asNumber}
 use Rattle.pattern_c.specs.Numbers.Laws.{counted}

@@ -1,6 +1,5 @@
 -- `pattern_c::pattern_place` meets its contract: the constraint's numbers, the answer as a number, and the record as it is left. Assumes nothing.
-use borrow.Author.Needs.{needs}
-use mathlib.Core.Path.{ap, _∙_}
+use Rattle.theory.specs.Prelude.{needs, ap, _∙_}
 use mir.Syntax.{w32}
 use mir.Facts.{toZ-ofZ}
 use Rattle.sheet.specs.declared.Constraint.{Constraint}

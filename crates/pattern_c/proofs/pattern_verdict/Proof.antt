@@ -1,5 +1,4 @@
-use borrow.Author.Needs.{needs}
-use mathlib.Core.Path.{ap, _∙_}
+use Rattle.theory.specs.Prelude.{needs, ap, _∙_}
 use Rattle.pattern_c.specs.Numbers.{asNumber}
 use Rattle.pattern_c.specs.Numbers.Laws.{counted}
 use Rattle.pattern_c.proofs.pattern_verdict.Statement.{statement}

@@ -1,6 +1,5 @@
 -- `pattern_c::pattern_write` meets its contract: the rules of the columns, then what the writer answers of their sheet. Assumes nothing.
-use borrow.Author.Needs.{needs}
-use mathlib.Core.Path.{sym, _∙_}
+use Rattle.theory.specs.Prelude.{needs, sym, _∙_}
 use Rattle.sheet.specs.Answer.Laws.{answers-refused}
 use Rattle.pattern_c.specs.Columns.Laws.{columns-refused, columns-taken}
 use Rattle.pattern_c.specs.Numbers.Laws.{counts}

@@ -1,7 +1,5 @@
 -- `pattern_c::radius_at` meets its contract. Assumes nothing.
-use borrow.Author.Needs.{needs}
-use mathlib.Core.Path.{sym}
-use lib.ListN.{List·getD-eq-default}
+use Rattle.theory.specs.Prelude.{needs, sym, List·getD-eq-default}
 use Rattle.pattern_c.proofs.radius_at.Statement.{statement}
 use Rattle.pattern_c.proofs.radius_at.Tie as tie
 

@@ -1,8 +1,5 @@
 -- `pattern_c::size_at` meets its contract. Assumes nothing.
-use borrow.Author.Needs.{needs}
-use mathlib.Core.Path.{sym}
-use lib.IntN.{pos}
-use lib.ListN.{List·getD-eq-default}
+use Rattle.theory.specs.Prelude.{needs, sym, pos, List·getD-eq-default}
 use Rattle.pattern_c.proofs.size_at.Statement.{statement}
 use Rattle.pattern_c.proofs.size_at.Tie as tie
 

@@ -1,5 +1,4 @@
-use borrow.Author.Needs.{needs}
-use mathlib.Core.Path.{sym, ap, _∙_}
+use Rattle.theory.specs.Prelude.{needs, sym, ap, _∙_}
 use Rattle.space.specs.declared.Written.the-variants.{Done}
 use Rattle.pattern_c.specs.Numbers.{asNumber}
 use Rattle.pattern_c.proofs.verdict_number.Statement.{statement}

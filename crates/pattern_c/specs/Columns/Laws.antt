@@ -1,16 +1,7 @@
 -- The blocks of a sheet that its columns give: each constraint by the lists that reach it, and a block filled from the front. Assumes nothing.
-use Prim.Native.Nat.{ℕ, zero, suc, _+_, _%_, _≤_, _<_}
-use native.Mathlib.Nat.{le-of-suc-le-suc}
-use native.Mathlib.Numerals.{add-one}
-use native.Mathlib.Omega.{arith}
-use mathlib.Core.Path.{_≡_, refl, sym, ap, _∙_}
-use mathlib.Core.Bool.{Bool, true, false, _&&_}
-use mathlib.Core.List.{List, [], _∷_}
-use borrow.Author.Tests.{eq-eqb, ne-eqb, lt-ltb, le-ltb, ltb-true, ltb-false}
-use lib.Dec.{ltb}
-use lib.IntN.{ℤ, pos}
-use lib.ListN.{length, getD, take, set, length-set}
-use lib.Seq.{take-suc-set, take-all}
+use Rattle.theory.specs.Prelude.{ℕ, zero, suc, _+_, _%_, _≤_, _<_, le-of-suc-le-suc, add-one, arith, _≡_, refl, sym, ap, _∙_, Bool, true, false, _&&_}
+use Rattle.theory.specs.Prelude.{List, [], _∷_, eq-eqb, ne-eqb, lt-ltb, le-ltb, ltb-true, ltb-false, ltb, ℤ, pos, length, getD, take, set, length-set}
+use Rattle.theory.specs.Prelude.{take-suc-set, take-all}
 use Rattle.sheet.specs.declared.Opening.{Opening}
 use Rattle.sheet.specs.declared.Element.{Element}
 use Rattle.sheet.specs.declared.Constraint.{Constraint}

@@ -1,11 +1,5 @@
 -- No answer is cut at 2^31-1: its items are at most some thousand (`pattern` Counts). Assumes nothing.
-use Prim.Native.Nat.{ℕ, _<_}
-use native.Mathlib.Omega.{arith}
-use mathlib.Core.Path.{_≡_}
-use mathlib.Core.List.{List}
-use borrow.Author.Tests.{lt-ltb}
-use lib.IntN.{pos}
-use lib.ListN.{length}
+use Rattle.theory.specs.Prelude.{ℕ, _<_, arith, _≡_, List, lt-ltb, pos, length}
 use Rattle.space.specs.declared.Written.the-variants.{Done}
 use Rattle.sheet.specs.Field.{Field, value}
 use Rattle.pattern.specs.Counts.{AtMost}

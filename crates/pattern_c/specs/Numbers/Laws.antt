@@ -1,10 +1,5 @@
 -- A rule's number with its sign, and a count, in 32 bits. Assumes nothing.
-use Prim.Native.Nat.{ℕ, zero, suc, _<_}
-use native.Mathlib.Omega.{arith}
-use mathlib.Core.Path.{_≡_, refl, ap, _∙_}
-use mathlib.Core.List.{List}
-use borrow.Author.Tests.{lt-ltb}
-use lib.IntN.{ℤ, pos, negsuc, _-ℤ_}
+use Rattle.theory.specs.Prelude.{ℕ, zero, suc, _<_, arith, _≡_, refl, ap, _∙_, List, lt-ltb, ℤ, pos, negsuc, _-ℤ_}
 use mir.Syntax.{w32}
 use mir.Val.{SFits, toZ, ofZ}
 use mir.Facts.{toZ-ofZ}

@@ -1,7 +1,6 @@
 -- `drop_pair` meets its contract. Assumes nothing.
-use mathlib.Core.Path.{refl}
+use Rattle.theory.specs.Prelude.{refl, needs}
 use Rattle.peeling.specs.Hard.Laws.{two-pos, drop-first, drop-second, left-dropped, left-shrunk}
-use borrow.Author.Needs.{needs}
 use Rattle.peeling.proofs.drop_pair.Statement.{statement}
 use Rattle.peeling.proofs.drop_pair.Tie as tie
 

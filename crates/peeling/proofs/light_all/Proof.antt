@@ -1,15 +1,8 @@
 -- `light_all` meets its contract. The loop's invariant: the elements found are light. Assumes nothing.
-use mathlib.Core.Path.{_≡_, ap, _∙_, subst}
-use mathlib.Core.Logic.{inl, inr, ⊎-elim}
-use Prim.Native.Nat.{ℕ, _-_, _≤_, _<_}
-use native.Mathlib.Omega.{arith}
-use lib.Bits.{bitOr}
-use lib.Count.{ones}
-use lib.ListN.{getD}
+use Rattle.theory.specs.Prelude.{_≡_, ap, _∙_, subst, inl, inr, ⊎-elim, ℕ, _-_, _≤_, _<_, arith, bitOr, ones, getD, needs}
 use Rattle.theory.specs.Set.{at, full}
 use Rattle.peeling.specs.Core.{Light}
 use Rattle.peeling.specs.Core.Neighbours.{light-none, light-all-code, light-same, two-most, three-least, heavy-tried}
-use borrow.Author.Needs.{needs}
 use Rattle.peeling.proofs.light_all.Statement.{statement}
 use Rattle.peeling.proofs.light_all.Tie as tie
 

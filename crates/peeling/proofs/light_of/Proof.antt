@@ -1,18 +1,10 @@
 -- `light_of` meets its contract. The loop's invariant: the elements found are light, and those to be tried are left. Assumes nothing.
-use mathlib.Core.Path.{_≡_, sym, ap, _∙_, subst}
-use mathlib.Core.Logic.{inl, inr, ⊎-elim}
-use Prim.Native.Nat.{ℕ, _-_, _≤_}
-use native.Mathlib.Omega.{arith}
-use lib.Bits.{bitAnd, bitOr}
-use lib.Count.{ones}
-use lib.ListN.{getD}
-use lib.Pow.{pow-pos}
+use Rattle.theory.specs.Prelude.{_≡_, sym, ap, _∙_, subst, inl, inr, ⊎-elim, ℕ, _-_, _≤_, arith, bitAnd, bitOr, ones, getD, pow-pos, needs}
 use Rattle.theory.specs.Set.{_∈_, _∩_, _⊑_, at}
 use Rattle.theory.specs.Set.Laws.{at-le, at-zero, ⊑-trans}
 use Rattle.theory.specs.Set.Less.{at-room, less-other, less-sub}
 use Rattle.peeling.specs.Core.{Light}
 use Rattle.peeling.specs.Core.Neighbours.{light-none, light-code, light-same, two-most, three-least, heavy-tried}
-use borrow.Author.Needs.{needs}
 use Rattle.peeling.proofs.light_of.Statement.{statement}
 use Rattle.peeling.proofs.light_of.Tie as tie
 

@@ -1,9 +1,5 @@
 -- `mark_hard` meets its contract. The loop's invariant: left is the core of the first c constraints, and those from c on are noted. Assumes nothing.
-use mathlib.Core.Path.{_≡_, sym, subst}
-use Prim.Native.Nat.{ℕ, suc, _-_, _≤_, _<_}
-use native.Mathlib.Omega.{arith}
-use lib.ListN.{take}
-use native.Mathlib.Nat.{le-refl}
+use Rattle.theory.specs.Prelude.{_≡_, sym, subst, ℕ, suc, _-_, _≤_, _<_, arith, take, le-refl}
 use Rattle.theory.specs.Set.{_⊑_}
 use Rattle.theory.specs.Near.Laws.{standing-count, standing-item, standing-two}
 use Rattle.peeling.specs.Hard.{Linked, Left, Marks}

@@ -1,10 +1,7 @@
 -- `other_end` meets its contract. Assumes nothing.
-use mathlib.Core.Path.{sym, subst}
-use Prim.Native.Nat.{ℕ, _-_, _^_, _<_}
-use native.Mathlib.Omega.{arith}
+use Rattle.theory.specs.Prelude.{sym, subst, ℕ, _-_, _^_, _<_, arith, needs}
 use Rattle.theory.specs.Set.{_∈_}
 use Rattle.theory.specs.Set.Less.{at-room, less-in, less-some}
-use borrow.Author.Needs.{needs}
 use Rattle.peeling.proofs.other_end.Statement.{statement}
 use Rattle.peeling.proofs.other_end.Tie as tie
 

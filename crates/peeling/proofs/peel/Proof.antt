@@ -1,15 +1,11 @@
 -- `peel` meets its contract. The loop's invariant: elements are taken away down to left, and todo are light there. Assumes nothing.
-use mathlib.Core.Path.{_≡_, ap, _∙_}
-use Prim.Native.Nat.{_-_}
-use native.Mathlib.Omega.{arith}
-use lib.ListN.{getD}
+use Rattle.theory.specs.Prelude.{_≡_, ap, _∙_, _-_, arith, getD, needs}
 use Rattle.peeling.specs.Core.{Light, Heavy, Mutual, Taken}
 use Rattle.peeling.specs.Core.Neighbours.{heavy-start}
 use Rattle.peeling.specs.Core.Peeling.{peeled-small, peel-room, todo-room, peel-less, light-next, heavy-left}
 use Rattle.peeling.specs.Core.Angle.{taken-start, taken-next}
 use Rattle.theory.specs.Set.{_∩_, _∪_, at, full}
 use Rattle.theory.specs.Set.Laws.{at-zero, a∩b⊑b}
-use borrow.Author.Needs.{needs}
 use Rattle.peeling.proofs.peel.Statement.{statement}
 use Rattle.peeling.proofs.peel.Tie as tie
 

@@ -1,15 +1,11 @@
 -- `shrink` meets its contract. The loop's invariant: todo are light, and what is left can be taken down to so far. Assumes nothing.
-use mathlib.Core.List.{List}
-use Prim.Native.Nat.{ℕ, _-_}
-use native.Mathlib.Omega.{arith}
-use lib.ListN.{getD}
+use Rattle.theory.specs.Prelude.{List, ℕ, _-_, arith, getD, needs}
 use Rattle.theory.specs.Set.{_∩_, _∪_}
 use Rattle.theory.specs.Set.Laws.{a∩b⊑b}
 use Rattle.peeling.specs.Core.{Light, Peeled}
 use Rattle.peeling.specs.Core.Peeling.{peel-room, todo-room, peel-less, light-next}
 use Rattle.peeling.specs.Hard.{Shown}
 use Rattle.peeling.specs.Hard.Laws.{shown-next}
-use borrow.Author.Needs.{needs}
 use Rattle.peeling.proofs.shrink.Statement.{statement}
 use Rattle.peeling.proofs.shrink.Tie as tie
 

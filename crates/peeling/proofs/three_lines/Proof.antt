@@ -1,9 +1,5 @@
 -- `three_lines` meets its contract. Assumes nothing.
-use mathlib.Core.Path.{_≡_, refl, sym, ap, _∙_}
-use mathlib.Core.Bool.{Bool, true, false, _&&_}
-use borrow.Author.Tests.{eq-eqb, ne-eqb}
-use lib.Count.{ones}
-use lib.Dec.{eqb}
+use Rattle.theory.specs.Prelude.{_≡_, refl, sym, ap, _∙_, Bool, true, false, _&&_, eq-eqb, ne-eqb, ones, eqb}
 use Rattle.theory.specs.Set.{_∩_}
 use Rattle.peeling.proofs.three_lines.Statement.{statement}
 use Rattle.peeling.proofs.three_lines.Tie as tie

@@ -1,11 +1,5 @@
 -- `peeling::used` meets its contract: the elements passed have no neighbour. Assumes nothing.
-use borrow.Author.Needs.{needs}
-use Prim.Native.Nat.{ℕ, _-_, _≤_, _<_}
-use native.Mathlib.Decide.{ℕ-discrete}
-use native.Mathlib.Omega.{arith}
-use mathlib.Core.Path.{_≡_, ap, _∙_}
-use mathlib.Core.List.{List}
-use lib.ListN.{getD}
+use Rattle.theory.specs.Prelude.{needs, ℕ, _-_, _≤_, _<_, ℕ-discrete, arith, _≡_, ap, _∙_, List, getD}
 use Rattle.peeling.specs.Core.{Beyond}
 use Rattle.peeling.proofs.used.Statement.{statement}
 use Rattle.peeling.proofs.used.Tie as tie

@@ -1,14 +1,6 @@
 -- Three lines among the corners are three lines in a joint of the plan. Assumes nothing.
-use mathlib.Core.Path.{_≡_, refl, sym, ap, ap₂, _∙_, subst}
-use mathlib.Core.Logic.{Iff·symm}
-use mathlib.Core.Bool.{Bool, true, false, _||_, _&&_}
-use mathlib.Core.List.{List, _∷_}
-use Prim.Native.Nat.{ℕ, zero, suc, _+_, _*_, _^_, _-_, _≤_}
-use native.Mathlib.Omega.{arith}
-use lib.Count.{ones}
-use lib.Dec.{eqb}
-use lib.ListN.{length, getD}
-use lib.Pow.{pow-pos}
+use Rattle.theory.specs.Prelude.{_≡_, refl, sym, ap, ap₂, _∙_, subst, Iff·symm, Bool, true, false, _||_, _&&_, List, _∷_, ℕ, zero, suc, _+_, _*_, _^_}
+use Rattle.theory.specs.Prelude.{_-_, _≤_, arith, ones, eqb, length, getD, pow-pos}
 use Rattle.theory.specs.Set.{_∈_, _∩_, _∪_, full}
 use Rattle.theory.specs.Set.Laws.{size-zero, size-pow, size-∪, ⊑⇒size≤, a∩b⊑a, a∩b⊑b}
 use Rattle.theory.specs.Constraints.{Below}

@@ -1,13 +1,7 @@
 -- An element put back on what is left without it: with the two constraints at it, the rest merges, and the joint is the element with its two
 -- neighbours. Assumes nothing.
-use mathlib.Core.Path.{_≡_, sym, ap, _∙_, subst}
-use mathlib.Core.Logic.{_≢_, _⊎_, inl, inr, ⊎-elim, Ne·symm}
-use mathlib.Core.List.{List}
-use Prim.Native.Nat.{ℕ, _-_, _^_, _≤_, _<_}
-use native.Mathlib.Omega.{arith}
-use native.Mathlib.Decide.{ℕ-discrete}
-use lib.Count.{ones}
-use lib.ListN.{getD}
+use Rattle.theory.specs.Prelude.{_≡_, sym, ap, _∙_, subst, _≢_, _⊎_, inl, inr, ⊎-elim, Ne·symm, List, ℕ, _-_, _^_, _≤_, _<_, arith, ℕ-discrete, ones}
+use Rattle.theory.specs.Prelude.{getD}
 use Rattle.theory.specs.Set.{_∈_, _∩_, _∪_, _⊑_, at}
 use Rattle.theory.specs.Set.Laws.{at-∪, at-le, at-same, at-other, bit, ext, zero-ext, ⊑-size-≡, size-pow, size-∪, ⊑-trans, ⊑-antisym, ∪-least}
 use Rattle.theory.specs.Set.Laws.{other, two-in, both, ∈-∩⁻, ∈-∪⁻, ∈-∪ˡ, ∈-∪ʳ}

@@ -1,16 +1,8 @@
 -- Of 2n-3 constraints that peel off to the last element, the joints of every list of merges are the elements taken away with two neighbours, each
 -- with these: put back in turn, each merges with what is there. Assumes nothing.
-use mathlib.Core.Path.{_≡_, refl, sym, ap, ap₂, _∙_, subst}
-use mathlib.Core.Logic.{_≢_, _⊎_, inl, inr, ⊎-elim, _↔_, Iff·rfl, Iff·trans, Iff·symm}
-use mathlib.Core.Bool.{Bool, true, false}
-use mathlib.Core.List.{List, [], _∷_}
-use Prim.Native.Nat.{ℕ, zero, suc, _+_, _*_, _-_, _^_, _≤_, _<_}
-use native.Mathlib.Omega.{arith}
-use native.Mathlib.Decide.{ℕ-discrete, decLe}
-use lib.Count.{ones}
-use lib.Dec.{T, eqb, eqb→eq}
-use lib.ListN.{length, getD}
-use lib.Pow.{pow-pos, pow-mono}
+use Rattle.theory.specs.Prelude.{_≡_, refl, sym, ap, ap₂, _∙_, subst, _≢_, _⊎_, inl, inr, ⊎-elim, _↔_, Iff·rfl, Iff·trans, Iff·symm, Bool, true}
+use Rattle.theory.specs.Prelude.{false, List, [], _∷_, ℕ, zero, suc, _+_, _*_, _-_, _^_, _≤_, _<_, arith, ℕ-discrete, decLe, ones, T, eqb, eqb→eq}
+use Rattle.theory.specs.Prelude.{length, getD, pow-pos, pow-mono}
 use Rattle.theory.specs.Tests.{eq-test}
 use Rattle.theory.specs.Set.{_∈_, _∩_, _⊑_, at, full}
 use Rattle.theory.specs.Set.Laws.{at-∩, at-le, at-other, bit, ⊑⇒size≤, ⊑-size-≡, size-zero, size-full, size-pow, size-∪, ⊑-refl, ⊑-trans}

@@ -1,15 +1,7 @@
 -- Constraints that are peeled off to the last element: 2n-3 of them on n elements end in one cluster, whatever list of merges is made.
 -- Assumes nothing.
-use mathlib.Core.Path.{_≡_, refl, sym, ap, _∙_, subst}
-use mathlib.Core.Logic.{_≢_, _⊎_, inl, inr, Ne·symm}
-use mathlib.Core.List.{List, [], _∷_}
-use Prim.Native.Nat.{ℕ, zero, suc, _+_, _*_, _-_, _^_, _≤_, _<_}
-use native.Mathlib.Omega.{arith}
-use native.Mathlib.Decide.{ℕ-discrete, decLe}
-use lib.Count.{ones}
-use lib.ListN.{length, set}
-use lib.Pow.{pow-pos, pow-mono}
-use lib.Seq.{getD-set-other}
+use Rattle.theory.specs.Prelude.{_≡_, refl, sym, ap, _∙_, subst, _≢_, _⊎_, inl, inr, Ne·symm, List, [], _∷_, ℕ, zero, suc, _+_, _*_, _-_, _^_, _≤_}
+use Rattle.theory.specs.Prelude.{_<_, arith, ℕ-discrete, decLe, ones, length, set, pow-pos, pow-mono, getD-set-other}
 use Rattle.theory.specs.Set.{_∈_, _∩_, _⊑_, at, full}
 use Rattle.theory.specs.Set.Laws.{at-le, at-zero, bit, zero-ext, ⊑⇒size≤, ⊑-size-≡, size-zero, size-full, ⊑-refl, other, two-in, both, ∈-∩⁻}
 use Rattle.theory.specs.Constraints.{Among, Pairs, Below, carried, NotOver}

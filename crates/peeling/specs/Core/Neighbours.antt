@@ -1,14 +1,6 @@
 -- Elements with two neighbours at most. Assumes nothing.
-use mathlib.Core.Path.{_≡_, sym, ap, _∙_, subst}
-use mathlib.Core.Logic.{_≢_, _⊎_, inl, inr, ⊎-elim}
-use mathlib.Core.List.{List}
-use Prim.Native.Nat.{ℕ, zero, suc, _-_, _^_, _≤_, _<_}
-use native.Mathlib.Decide.{ℕ-discrete, decLe}
-use native.Mathlib.Omega.{arith}
-use lib.Bits.{bitAnd, bitOr}
-use lib.Count.{ones}
-use lib.ListN.{getD}
-use lib.Pow.{pow-lt}
+use Rattle.theory.specs.Prelude.{_≡_, sym, ap, _∙_, subst, _≢_, _⊎_, inl, inr, ⊎-elim, List, ℕ, zero, suc, _-_, _^_, _≤_, _<_, ℕ-discrete, decLe}
+use Rattle.theory.specs.Prelude.{arith, bitAnd, bitOr, ones, getD, pow-lt}
 use Rattle.theory.specs.Set.{_∈_, _∩_, _∪_, _⊑_, at, full}
 use Rattle.theory.specs.Set.Laws.{at-∪, at-le, at-zero, at-same, at-other, bit, size-zero, size-none, ⊑⇒size≤, ⊑-refl, a∩b⊑a, ∩-comm, ∩-mono}
 use Rattle.theory.specs.Set.Laws.{⊑⇒∩≡, both, out, cut-below, below-full}

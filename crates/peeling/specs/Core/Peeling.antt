@@ -1,16 +1,7 @@
 -- Elements with at most two constraints are taken away one by one: what is left is a core. A least over set has three constraints at each element, so
 -- none loses any. Assumes nothing.
-use mathlib.Core.Path.{_≡_, sym, ap, subst}
-use mathlib.Core.Logic.{_⊎_, inl, inr}
-use mathlib.Core.List.{List}
-use Prim.Native.Nat.{ℕ, _+_, _*_, _-_, _^_, _≤_, _<_}
-use native.Mathlib.Decide.{decLe}
-use native.Mathlib.Omega.{arith}
-use lib.Bits.{bitAnd, bitOr}
-use lib.Count.{ones}
-use lib.ListN.{length, take, getD}
-use lib.Seq.{take-length}
-use lib.Pow.{pow-pos}
+use Rattle.theory.specs.Prelude.{_≡_, sym, ap, subst, _⊎_, inl, inr, List, ℕ, _+_, _*_, _-_, _^_, _≤_, _<_, decLe, arith, bitAnd, bitOr, ones, length}
+use Rattle.theory.specs.Prelude.{take, getD, take-length, pow-pos}
 use Rattle.theory.specs.Set.{_∈_, _∩_, _∪_, _⊑_, at, full}
 use Rattle.theory.specs.Set.Laws.{at-∩, at-le, bit, size-zero, ⊑⇒size≤, ⊑-trans, a∩b⊑a, a∩b⊑b, ∩-comm, out, below-full}
 use Rattle.theory.specs.Set.Less.{at-below, at-room, less-same, less-sub, less-and, less-out, size-less, sub-less}

@@ -1,16 +1,8 @@
 -- From the last constraint to the first: what is left without it, and that a constraint which does not lie in what is left closes no over set.
 -- Assumes nothing.
-use mathlib.Core.Path.{_≡_, refl, sym, ap, ap₂, _∙_, subst}
-use mathlib.Core.Logic.{_≢_, inl, inr}
-use mathlib.Core.List.{List, [], _∷_, _++_}
-use Prim.Native.Nat.{ℕ, zero, suc, _-_, _^_, _≤_, _<_}
-use native.Mathlib.Decide.{ℕ-discrete, decLt}
-use native.Mathlib.Nat.{le-refl}
-use native.Mathlib.Omega.{arith}
-use lib.Bits.{bitAnd}
-use lib.Count.{ones, trailingZeros}
-use lib.ListN.{length, take, getD, set, length-set, replicate}
-use lib.Seq.{take-suc, take-take, take-all, getD-set-same, getD-set-other}
+use Rattle.theory.specs.Prelude.{_≡_, refl, sym, ap, ap₂, _∙_, subst, _≢_, inl, inr, List, [], _∷_, _++_, ℕ, zero, suc, _-_, _^_, _≤_, _<_}
+use Rattle.theory.specs.Prelude.{ℕ-discrete, decLt, le-refl, arith, bitAnd, ones, trailingZeros, length, take, getD, set, length-set, replicate}
+use Rattle.theory.specs.Prelude.{take-suc, take-take, take-all, getD-set-same, getD-set-other}
 use Rattle.theory.specs.Set.{_∈_, _∩_, _⊑_, at}
 use Rattle.theory.specs.Set.Laws.{at-∩, at-le, bit, ⊑⇒size≤, ⊑-trans, ∩≡⇒⊑, ⊑⇒∩≡, size-zero}
 use Rattle.theory.specs.Set.Less.{at-below, at-room, less-other, less-sub, trailing-at}

@@ -1,8 +1,6 @@
 -- `plans::ascend` meets its contract. Assumes nothing.
-use mathlib.Core.Path.{ap, ap₂, _∙_}
-use Prim.Native.Nat.{ℕ, min, max}
+use Rattle.theory.specs.Prelude.{ap, ap₂, _∙_, ℕ, min, max, needs}
 use Rattle.theory.specs.Plan.{ascending}
-use borrow.Author.Needs.{needs}
 use Rattle.plans.proofs.ascend.Statement.{statement}
 use Rattle.plans.proofs.ascend.Tie as tie
 

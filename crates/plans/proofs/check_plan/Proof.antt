@@ -1,10 +1,5 @@
 -- `plans::check_plan` meets its contract: the loop keeps `Checking`. Assumes nothing.
-use mathlib.Core.Path.{_≡_, refl, sym, ap, _∙_}
-use mathlib.Core.List.{List, []}
-use Prim.Native.Nat.{ℕ, _-_, _%_}
-use native.Mathlib.Omega.{arith}
-use borrow.Author.Needs.{needs}
-use lib.ListN.{length, take}
+use Rattle.theory.specs.Prelude.{_≡_, refl, sym, ap, _∙_, List, [], ℕ, _-_, _%_, arith, needs, length, take}
 use Rattle.theory.specs.Constraints.{NotOver}
 use Rattle.theory.specs.Merge.{merge}
 use Rattle.theory.specs.Plan.{ascending}

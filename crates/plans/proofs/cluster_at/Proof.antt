@@ -1,9 +1,5 @@
 -- `plans::cluster_at` meets its contract. Assumes nothing.
-use mathlib.Core.Path.{sym}
-use native.Mathlib.Omega.{arith}
-use lib.ListN.{length, List·getD-eq-default}
-use Prim.Native.Nat.{_≤_}
-use borrow.Author.Needs.{needs}
+use Rattle.theory.specs.Prelude.{sym, arith, length, List·getD-eq-default, _≤_, needs}
 use Rattle.plans.proofs.cluster_at.Statement.{statement}
 use Rattle.plans.proofs.cluster_at.Tie as tie
 

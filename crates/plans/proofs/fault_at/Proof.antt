@@ -1,8 +1,7 @@
 -- `plans::fault_at` meets its contract. Assumes nothing.
-use mathlib.Core.Path.{_∙_}
+use Rattle.theory.specs.Prelude.{_∙_, needs}
 use Rattle.theory.specs.Merge.{merge}
 use Rattle.plans.specs.Check.{faultOf, stepFault}
-use borrow.Author.Needs.{needs}
 use Rattle.plans.proofs.fault_at.Statement.{statement}
 use Rattle.plans.proofs.fault_at.Tie as tie
 

@@ -1,8 +1,5 @@
 -- `plans::misnamed` meets its contract: each test is one part of rule 13. Assumes nothing.
-use mathlib.Core.Path.{sym}
-use mathlib.Core.Bool.{_||_}
-use lib.Dec.{eqb}
-use borrow.Author.Tests.{eq-eqb, ne-eqb}
+use Rattle.theory.specs.Prelude.{sym, _||_, eqb, eq-eqb, ne-eqb}
 use Rattle.plans.specs.Check.{misnamed}
 use Rattle.plans.proofs.misnamed.Statement.{statement}
 use Rattle.plans.proofs.misnamed.Tie as tie

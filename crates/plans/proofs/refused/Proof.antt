@@ -1,9 +1,5 @@
 -- `plans::refused` meets its contract. Assumes nothing.
-use mathlib.Core.Path.{_≡_, ap}
-use mathlib.Core.List.{[]}
-use Prim.Native.Nat.{ℕ, zero, suc, _<_}
-use native.Mathlib.Omega.{arith}
-use borrow.Author.Needs.{needs}
+use Rattle.theory.specs.Prelude.{_≡_, ap, [], ℕ, zero, suc, _<_, arith, needs}
 use Rattle.merges.specs.Run.{runOf}
 use Rattle.merges.specs.declared.Run.{Run}
 use Rattle.plans.specs.Check.{answerOf}

@@ -1,7 +1,6 @@
 -- `plans::step_fault` meets its contract: the rules are tried in the paper's order. Assumes nothing.
-use mathlib.Core.Path.{sym, _∙_}
+use Rattle.theory.specs.Prelude.{sym, _∙_, needs}
 use Rattle.plans.specs.Check.{faultOf}
-use borrow.Author.Needs.{needs}
 use Rattle.plans.proofs.step_fault.Statement.{statement}
 use Rattle.plans.proofs.step_fault.Tie as tie
 

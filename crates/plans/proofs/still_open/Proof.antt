@@ -1,9 +1,5 @@
 -- `plans::still_open` meets its contract: a merge takes two clusters away. Assumes nothing.
-use borrow.Author.Needs.{needs}
-use Prim.Native.Nat.{ℕ}
-use native.Mathlib.Omega.{arith}
-use mathlib.Core.Path.{_≡_, sym, ap}
-use mathlib.Core.List.{List}
+use Rattle.theory.specs.Prelude.{needs, ℕ, arith, _≡_, sym, ap, List}
 use Rattle.theory.specs.Merge.{final, left, Ended}
 use Rattle.theory.specs.Merge.Count.{left-put, steps-left}
 use Rattle.theory.specs.Plan.{isSome}

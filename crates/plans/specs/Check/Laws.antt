@@ -1,14 +1,6 @@
 -- A saved plan is accepted if and only if it is a maximal list of merges, and which rule refuses it when. Assumes nothing.
-use mathlib.Core.Path.{_≡_, refl, sym, ap, _∙_, subst}
-use mathlib.Core.Logic.{_≢_, _↔_}
-use mathlib.Core.Bool.{Bool, true, false, _||_}
-use mathlib.Core.List.{List, [], _∷_, _++_}
-use mathlib.Core.Option.{Option}
-use Prim.Native.Nat.{ℕ, zero, suc, _%_, _≤_}
-use native.Mathlib.Omega.{arith}
-use lib.Dec.{T, eqb}
-use lib.ListN.{length}
-use borrow.Author.Tests.{eqb-true, eqb-false, ne-eqb, eq-eqb}
+use Rattle.theory.specs.Prelude.{_≡_, refl, sym, ap, _∙_, subst, _≢_, _↔_, Bool, true, false, _||_, List, [], _∷_, _++_, Option, ℕ, zero, suc, _%_}
+use Rattle.theory.specs.Prelude.{_≤_, arith, T, eqb, length, eqb-true, eqb-false, ne-eqb, eq-eqb}
 use Rattle.theory.specs.Merge.{slot, Merge, OpenAt, put, Valid, final, Maximal}
 use Rattle.theory.specs.Plan.{openTest, firstOf, isSome}
 use Rattle.theory.specs.Plan.Search.{Found, found, nothing, first-found, open-test, test-open}

@@ -1,13 +1,5 @@
 -- The check answers every list of numbers as it would with rule 14, where two living clusters share at most one element. Assumes nothing.
-use mathlib.Core.Path.{_≡_, refl, ap, _∙_}
-use mathlib.Core.Bool.{Bool, true, false, _||_}
-use mathlib.Core.List.{List, [], _∷_}
-use Prim.Native.Nat.{ℕ, zero, suc, _%_}
-use native.Mathlib.Omega.{arith}
-use lib.Dec.{eqb}
-use lib.Count.{ones}
-use lib.ListN.{length}
-use borrow.Author.Tests.{lt-leb}
+use Rattle.theory.specs.Prelude.{_≡_, refl, ap, _∙_, Bool, true, false, _||_, List, [], _∷_, ℕ, zero, suc, _%_, arith, eqb, ones, length, lt-leb}
 use Rattle.theory.specs.Set.{_∩_}
 use Rattle.theory.specs.Merge.{slot, Merge, put, Valid, final, ShareOne}
 use Rattle.theory.specs.Plan.{openTest}

@@ -1,9 +1,5 @@
 -- `reader::opens` meets its contract. Assumes nothing.
-use Prim.Native.Nat.{_-_, _≤_}
-use native.Mathlib.Omega.{arith}
-use mathlib.Core.Path.{_≡_, refl, _∙_}
-use borrow.Author.Needs.{needs}
-use lib.ListN.{drop}
+use Rattle.theory.specs.Prelude.{_-_, _≤_, arith, _≡_, refl, _∙_, needs, drop}
 use Rattle.sheet.specs.Field.{begins}
 use Rattle.reader.proofs.Opening.{begins-short, begins-differs, begins-agrees, begins-all}
 use Rattle.reader.proofs.opens.Statement.{statement}

@@ -1,14 +1,7 @@
 -- `reader::pass_tag` meets its contract: a tag is twice the bit's bytes, all there or cut. Assumes nothing.
-use Prim.Native.Nat.{ℕ, zero, suc, _+_, _*_, _-_, _<_, _≤_}
-use native.Mathlib.Nat.{add-zero}
-use native.Mathlib.Omega.{arith}
-use mathlib.Core.Path.{_≡_}
+use Rattle.theory.specs.Prelude.{ℕ, zero, suc, _+_, _*_, _-_, _<_, _≤_, add-zero, arith, _≡_, List, needs, eqb, length, drop}
 use mir.Facts.{toZ-ofZ}
 use mir.Syntax.{w32}
-use mathlib.Core.List.{List}
-use borrow.Author.Needs.{needs}
-use lib.Dec.{eqb}
-use lib.ListN.{length, drop}
 use Rattle.sheet.specs.Field.{value, refused}
 use Rattle.sheet.specs.Decode.{tag}
 use Rattle.fields.specs.Answers.Numbers.{field-short, field-whole}

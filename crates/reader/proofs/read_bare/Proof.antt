@@ -1,9 +1,5 @@
 -- `reader::read_bare` meets its contract: rule 8, the size and the tag, one after another. Assumes nothing.
-use borrow.Author.Needs.{needs}
-use native.Mathlib.Omega.{arith}
-use mathlib.Core.Path.{sym, ap, _∙_}
-use borrow.Author.Tests.{not-true, not-false}
-use lib.ListN.{drop}
+use Rattle.theory.specs.Prelude.{needs, arith, sym, ap, _∙_, not-true, not-false, drop}
 use mir.Facts.{toZ-ofZ}
 use mir.Syntax.{w32}
 use Rattle.reader.specs.Answers.{asSize}

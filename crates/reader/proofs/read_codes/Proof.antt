@@ -1,11 +1,5 @@
 -- `reader::read_codes` meets its contract: all before the constraints, and then the constraints from none on. Assumes nothing.
-use Prim.Native.Nat.{ℕ}
-use native.Mathlib.Nat.{sub-zero}
-use native.Mathlib.Omega.{arith}
-use mathlib.Core.Path.{_≡_, refl, sym, ap, _∙_, subst}
-use mathlib.Core.List.{List, []}
-use borrow.Author.Needs.{needs}
-use lib.ListN.{drop}
+use Rattle.theory.specs.Prelude.{ℕ, sub-zero, arith, _≡_, refl, sym, ap, _∙_, subst, List, [], needs, drop}
 use Rattle.sheet.specs.Field.{refused, Bytes}
 use Rattle.sheet.specs.Decode.{constraints, readSheet}
 use Rattle.graph.specs.declared.Front.{Front}

@@ -1,11 +1,6 @@
 -- `reader::read_constraints` meets its contract: whatever the elements and the constraints before are, what is left gives the answer (`Turn`).
 -- Assumes nothing.
-use Prim.Native.Nat.{_-_, _<_, _≤_}
-use native.Mathlib.Omega.{arith}
-use mathlib.Core.List.{List}
-use mathlib.Core.Path.{_≡_, refl, sym, ap, _∙_}
-use borrow.Author.Needs.{needs}
-use lib.ListN.{length, drop}
+use Rattle.theory.specs.Prelude.{_-_, _<_, _≤_, arith, List, _≡_, refl, sym, ap, _∙_, needs, length, drop}
 use mir.Facts.{toZ-ofZ}
 use mir.Syntax.{w32}
 use Rattle.sheet.specs.declared.Element.{Element}

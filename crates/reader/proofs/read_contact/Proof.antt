@@ -1,9 +1,5 @@
 -- `reader::read_contact` meets its contract: rules 8 and 20 of what the map announces, and the tag. Assumes nothing.
-use borrow.Author.Needs.{needs}
-use native.Mathlib.Omega.{arith}
-use mathlib.Core.Path.{_≡_, sym, _∙_}
-use mathlib.Core.Bool.{true}
-use borrow.Author.Tests.{not-true, not-false}
+use Rattle.theory.specs.Prelude.{needs, arith, _≡_, sym, _∙_, true, not-true, not-false}
 use mir.Facts.{toZ-ofZ}
 use mir.Syntax.{w32}
 use Rattle.sheet.specs.Rules.{sizeAllowed, radiiDiffer}

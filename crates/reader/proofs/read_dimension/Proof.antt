@@ -1,6 +1,5 @@
 -- `reader::read_dimension` meets its contract: the map, and then what follows it with a contact or without one. Assumes nothing.
-use borrow.Author.Needs.{needs}
-use mathlib.Core.Path.{sym, _∙_}
+use Rattle.theory.specs.Prelude.{needs, sym, _∙_}
 use Rattle.sheet.specs.Facts.{kindAt}
 use Rattle.sheet.specs.Facts.Laws.{kind-in}
 use Rattle.sheet.specs.Rules.Laws.{pair-lines}

@@ -1,10 +1,5 @@
 -- `reader::read_ends` meets its contract: the rules in their order, each after the bytes that it needs. Assumes nothing.
-use Prim.Native.Nat.{_<_}
-use native.Mathlib.Omega.{arith}
-use mathlib.Core.Bool.{true}
-use mathlib.Core.Path.{_≡_, sym, _∙_}
-use borrow.Author.Tests.{not-true, not-false}
-use borrow.Author.Needs.{needs}
+use Rattle.theory.specs.Prelude.{_<_, arith, true, _≡_, sym, _∙_, not-true, not-false, needs}
 use Rattle.sheet.specs.Rules.Laws.{ends-true}
 use Rattle.sheet.specs.Rules.{endsAscend}
 use Rattle.sheet.specs.Decode.{constraint}

@@ -1,12 +1,5 @@
 -- `reader::read_front` meets its contract: the fields before the constraints, one after another. Assumes nothing.
-use Prim.Native.Nat.{ℕ}
-use native.Mathlib.Omega.{arith}
-use mathlib.Core.Bool.{true}
-use mathlib.Core.Path.{_≡_, sym, ap, _∙_, subst}
-use mathlib.Core.List.{List}
-use borrow.Author.Tests.{not-true, not-false}
-use borrow.Author.Needs.{needs}
-use lib.ListN.{length, drop}
+use Rattle.theory.specs.Prelude.{ℕ, arith, true, _≡_, sym, ap, _∙_, subst, List, not-true, not-false, needs, length, drop}
 use Rattle.sheet.specs.declared.Opening.{Opening}
 use Rattle.sheet.specs.declared.Element.{Element}
 use Rattle.sheet.specs.Facts.Kinds.{KindsIn}

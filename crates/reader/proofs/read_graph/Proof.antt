@@ -1,9 +1,5 @@
 -- `reader::read_graph` meets its contract: the sheet in the arrays, and its sizes where it has circles. Assumes nothing.
-use mathlib.Core.Path.{_≡_, refl, sym, ap, _∙_, subst}
-use mathlib.Core.Logic.{⊎-elim}
-use mathlib.Core.List.{List}
-use Prim.Native.Nat.{ℕ}
-use borrow.Author.Needs.{needs}
+use Rattle.theory.specs.Prelude.{_≡_, refl, sym, ap, _∙_, subst, ⊎-elim, List, ℕ, needs}
 use Rattle.sheet.specs.Field.{refused}
 use Rattle.sheet.specs.Decode.{readSheet}
 use Rattle.graph.specs.Lent.Sheets.{stands-in}

@@ -1,6 +1,5 @@
 -- `reader::read_opening` meets its contract: one opening, else the other. Assumes nothing.
-use borrow.Author.Needs.{needs}
-use mathlib.Core.Path.{sym, _∙_}
+use Rattle.theory.specs.Prelude.{needs, sym, _∙_}
 use Rattle.sheet.specs.Decode.{opening}
 use Rattle.reader.proofs.read_opening.Statement.{statement}
 use Rattle.reader.proofs.read_opening.Tie as tie

@@ -1,10 +1,7 @@
 -- `reader::read_size` meets its contract. Assumes nothing.
-use mathlib.Core.Path.{_≡_, sym, ap, _∙_}
-use borrow.Author.Tests.{not-true, not-false}
-use borrow.Author.Needs.{needs}
+use Rattle.theory.specs.Prelude.{_≡_, sym, ap, _∙_, not-true, not-false, needs, drop}
 use mir.Syntax.{w32}
 use mir.Facts.{toZ-ofZ}
-use lib.ListN.{drop}
 use Rattle.sheet.specs.Field.{value, field, signed32}
 use Rattle.sheet.specs.Rules.{sizeInRange}
 use Rattle.sheet.specs.Decode.{size}

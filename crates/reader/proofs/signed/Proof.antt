@@ -1,13 +1,8 @@
 -- `reader::signed` meets its contract. Assumes nothing.
-use Prim.Native.Nat.{ℕ, suc, _-_, _<_, _≤_, _^_}
-use native.Mathlib.Omega.{arith}
-use mathlib.Core.Path.{_≡_, ap}
-use borrow.Author.Needs.{needs}
-use borrow.Author.Tests.{lt-ltb, le-ltb}
+use Rattle.theory.specs.Prelude.{ℕ, suc, _-_, _<_, _≤_, _^_, arith, _≡_, ap, needs, lt-ltb, le-ltb, negsuc, _+ℤ_}
 use mir.Syntax.{w32}
 use mir.Val.{toZ, SFits}
 use mir.Facts.{toZ-pos, toZ-ofZ}
-use lib.IntN.{negsuc, _+ℤ_}
 use Rattle.reader.proofs.signed.Statement.{statement}
 use Rattle.reader.proofs.signed.Tie as tie
 

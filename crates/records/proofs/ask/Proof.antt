@@ -1,7 +1,5 @@
 -- `records::ask` meets its contract: the sheet that is read, and placing by the number that it holds. Assumes nothing.
-use borrow.Author.Needs.{needs}
-use mathlib.Core.Path.{refl, sym, ap, _∙_}
-use Prim.Native.Nat.{ℕ}
+use Rattle.theory.specs.Prelude.{needs, refl, sym, ap, _∙_, ℕ}
 use Rattle.theory.specs.Graph.{verdictOf}
 use Rattle.sheet.specs.Graph.{graphOf}
 use Rattle.graph.specs.declared.Head.{Head}

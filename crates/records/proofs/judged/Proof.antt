@@ -1,6 +1,5 @@
 -- `records::judged` meets its contract, by what was written. Assumes nothing.
-use borrow.Author.Needs.{needs}
-use mathlib.Core.Path.{sym, ap}
+use Rattle.theory.specs.Prelude.{needs, sym, ap}
 use Rattle.space.specs.declared.Written.{Written}
 use Rattle.records.specs.Record.{placeJudged}
 use Rattle.records.proofs.judged.Statement.{statement}

@@ -1,7 +1,5 @@
 -- `records::place` meets its contract: the sheet that is read, the constraint placed in its arrays, and the record of both. Assumes nothing.
-use borrow.Author.Needs.{needs}
-use native.Mathlib.Omega.{arith}
-use mathlib.Core.Path.{_≡_, refl, ap, _∙_}
+use Rattle.theory.specs.Prelude.{needs, arith, _≡_, refl, ap, _∙_}
 use Rattle.sheet.specs.Facts.{Facts, factsOf}
 use Rattle.sheet.specs.Rules.{sheetFault}
 use Rattle.sheet.specs.Accepted.Laws.{factsOf-sheetOf, sheetOf-fault}

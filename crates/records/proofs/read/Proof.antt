@@ -1,10 +1,5 @@
 -- `records::read` meets its contract: the count in the first two bytes, and the sheet of so many that follow. Assumes nothing.
-use borrow.Author.Needs.{needs}
-use Prim.Native.Nat.{ℕ, _+_, _*_, _-_, _≤_}
-use native.Mathlib.Omega.{arith}
-use mathlib.Core.Path.{_≡_, sym, ap, _∙_, subst}
-use mathlib.Core.List.{List}
-use lib.ListN.{length, take, drop}
+use Rattle.theory.specs.Prelude.{needs, ℕ, _+_, _*_, _-_, _≤_, arith, _≡_, sym, ap, _∙_, subst, List, length, take, drop}
 use Rattle.sheet.specs.Decode.{readSheet}
 use Rattle.reader.specs.declared.CodesRead.{CodesRead}
 use Rattle.reader.specs.Answers.{SheetRead}

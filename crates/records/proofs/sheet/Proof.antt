@@ -1,6 +1,5 @@
 -- `records::sheet` meets its contract: the sheet that is read, unless it is over, written. Assumes nothing.
-use borrow.Author.Needs.{needs}
-use mathlib.Core.Path.{_≡_, refl, sym, ap, _∙_}
+use Rattle.theory.specs.Prelude.{needs, _≡_, refl, sym, ap, _∙_}
 use Rattle.sheet.specs.Facts.{factsOf}
 use Rattle.sheet.specs.Rules.{sheetFault}
 use Rattle.sheet.specs.Accepted.Laws.{factsOf-sheetOf, sheetOf-fault}

@@ -1,6 +1,5 @@
 -- `records::write` meets its contract: the sheet after two bytes, and then its length in them. Assumes nothing.
-use borrow.Author.Needs.{needs}
-use native.Mathlib.Omega.{arith}
+use Rattle.theory.specs.Prelude.{needs, arith}
 use Rattle.space.specs.Space.Laws.{put-refused}
 use Rattle.sheet.specs.Facts.{factsOf}
 use Rattle.records.specs.Record.{recordBytes}

@@ -1,14 +1,7 @@
 -- What stands in a record, and what a call over it answers. Assumes nothing.
-use Prim.Native.Nat.{ℕ, zero, suc, _+_, _*_, _-_, _/_, _%_, _≤_, _<_}
-use native.Mathlib.Omega.{arith}
-use mathlib.Core.Path.{_≡_, refl, sym, ap, _∙_, subst}
-use mathlib.Core.List.{List, [], _∷_, _++_, append-assoc, append-nil}
-use native.Mathlib.Decide.{decLt}
-use borrow.Author.Tests.{lt-ltb, le-ltb, le-leb, lt-leb}
-use lib.IntN.{ℤ}
-use lib.Dec.{leb}
-use lib.ListN.{length, getD, take, drop, length-append, length-drop, length-take, take-append-drop}
-use lib.Seq.{take-all, drop-length, drop-at}
+use Rattle.theory.specs.Prelude.{ℕ, zero, suc, _+_, _*_, _-_, _/_, _%_, _≤_, _<_, arith, _≡_, refl, sym, ap, _∙_, subst, List, [], _∷_, _++_}
+use Rattle.theory.specs.Prelude.{append-assoc, append-nil, decLt, lt-ltb, le-ltb, le-leb, lt-leb, ℤ, leb, length, getD, take, drop, length-append}
+use Rattle.theory.specs.Prelude.{length-drop, length-take, take-append-drop, take-all, drop-length, drop-at}
 use Rattle.theory.specs.declared.Verdict.{Verdict}
 use Rattle.theory.specs.Graph.{verdictOf}
 use Rattle.space.specs.declared.Written.{Written}

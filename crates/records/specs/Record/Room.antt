@@ -1,10 +1,5 @@
 -- How many bytes a record takes: a held sketch has at most 125 constraints. Assumes nothing.
-use Prim.Native.Nat.{ℕ, zero, suc, _≤_}
-use native.Mathlib.Omega.{arith}
-use mathlib.Core.Path.{_≡_, refl}
-use mathlib.Core.List.{List, []}
-use lib.Dec.{eqb}
-use lib.ListN.{length, length-append}
+use Rattle.theory.specs.Prelude.{ℕ, zero, suc, _≤_, arith, _≡_, refl, List, [], eqb, length, length-append}
 use Rattle.sheet.specs.declared.Constraint.{Constraint}
 use Rattle.sheet.specs.Facts.{Facts}
 use Rattle.sheet.specs.Field.{value, Bytes}

@@ -1,11 +1,6 @@
 -- A record and a value that hold the same facts answer alike, event after event. Assumes nothing.
-use Prim.Native.Nat.{ℕ, zero, suc, _^_, _≤_, _<_}
-use native.Mathlib.Omega.{arith}
-use mathlib.Core.Path.{_≡_, refl, sym, ap, _∙_}
-use mathlib.Core.List.{List, [], _∷_, _++_, map, append-assoc}
-use borrow.Author.Tests.{le-leb, le-ltb}
-use lib.ListN.{length, drop, length-append, length-drop}
-use lib.Seq.{take-at}
+use Rattle.theory.specs.Prelude.{ℕ, zero, suc, _^_, _≤_, _<_, arith, _≡_, refl, sym, ap, _∙_, List, [], _∷_, _++_, map, append-assoc, le-leb, le-ltb}
+use Rattle.theory.specs.Prelude.{length, drop, length-append, length-drop, take-at}
 use Rattle.space.specs.Space.{after}
 use Rattle.space.specs.Space.Laws.{long-answer}
 use Rattle.sheet.specs.declared.Sheet.{Sheet}

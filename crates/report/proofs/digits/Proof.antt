@@ -1,6 +1,5 @@
 -- `report::digits` meets its contract, by the size of the number. Assumes nothing.
-use mathlib.Core.Path.{sym, ap}
-use lib.ListN.{length}
+use Rattle.theory.specs.Prelude.{sym, ap, length}
 use Rattle.space.specs.Text.Laws.{decimal-1, decimal-2, decimal-3}
 use Rattle.report.proofs.digits.Statement.{statement}
 use Rattle.report.proofs.digits.Tie as tie

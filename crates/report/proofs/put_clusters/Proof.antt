@@ -1,9 +1,5 @@
 -- `report::put_clusters` meets its contract: the lines of the clusters from `c` on are still to be put. Assumes nothing.
-use Prim.Native.Nat.{ℕ, _+_, _-_, _*_, _^_, _≤_, _<_}
-use native.Mathlib.Omega.{arith}
-use mathlib.Core.Path.{_≡_, sym, ap, _∙_}
-use mathlib.Core.List.{List, _++_}
-use lib.ListN.{length, take, drop, getD}
+use Rattle.theory.specs.Prelude.{ℕ, _+_, _-_, _*_, _^_, _≤_, _<_, arith, _≡_, sym, ap, _∙_, List, _++_, length, take, drop, getD}
 use Rattle.report.specs.Report.{slotLine, clusterLines}
 use Rattle.report.specs.Pieces.{wide}
 use Rattle.report.specs.Report.Laws.{clusters-next, clusters-none, length-wide, wide-at}

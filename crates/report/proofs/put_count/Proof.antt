@@ -1,6 +1,5 @@
 -- `report::put_count` meets its contract: a count has at most three digits. Assumes nothing.
-use borrow.Author.Needs.{needs}
-use native.Mathlib.Omega.{arith}
+use Rattle.theory.specs.Prelude.{needs, arith}
 use Rattle.space.specs.Text.Laws.{decimal-length}
 use Rattle.report.specs.Block.Laws.{stands-put, _then_}
 use Rattle.report.proofs.put_count.Statement.{statement}

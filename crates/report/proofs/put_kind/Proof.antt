@@ -1,6 +1,5 @@
 -- `report::put_kind` meets its contract: one text for each kind. Assumes nothing.
-use borrow.Author.Needs.{needs}
-use mathlib.Core.Path.{sym, ap}
+use Rattle.theory.specs.Prelude.{needs, sym, ap}
 use Rattle.report.specs.Block.Laws.{stands-as}
 use Rattle.report.specs.Pieces.{kindWords}
 use Rattle.report.proofs.put_kind.Statement.{statement}

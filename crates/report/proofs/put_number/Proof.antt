@@ -1,12 +1,5 @@
 -- `report::put_number` meets its contract: the four bytes of the table begin with the number. Assumes nothing.
-use borrow.Author.Needs.{needs}
-use Prim.Native.Nat.{ℕ, suc, _+_, _*_, _-_, _<_}
-use native.Mathlib.Nat.{add-zero}
-use native.Mathlib.Omega.{arith}
-use mathlib.Core.Path.{_≡_, ap}
-use mathlib.Core.List.{List, _∷_}
-use lib.ListN.{length, getD, set, replicate}
-use lib.Seq.{sets}
+use Rattle.theory.specs.Prelude.{needs, ℕ, suc, _+_, _*_, _-_, _<_, add-zero, arith, _≡_, ap, List, _∷_, length, getD, set, replicate, sets}
 use Rattle.space.specs.Text.{decimal}
 use Rattle.space.specs.Text.Laws.{decimal-length}
 use Rattle.report.specs.Block.{Stands, Numerals}

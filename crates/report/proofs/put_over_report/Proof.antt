@@ -1,6 +1,5 @@
 -- `report::put_over_report` meets its contract: its pieces make the report. Assumes nothing.
-use borrow.Author.Needs.{needs}
-use mathlib.Core.Path.{sym}
+use Rattle.theory.specs.Prelude.{needs, sym}
 use Rattle.report.specs.Block.Laws.{stands-as, _then_}
 use Rattle.report.specs.Report.Laws.{over-pieces}
 use Rattle.report.proofs.put_over_report.Statement.{statement}

@@ -1,10 +1,5 @@
 -- `report::put_report` meets its contract: its lines make the report. Assumes nothing.
-use borrow.Author.Needs.{needs}
-use native.Mathlib.Omega.{arith}
-use Prim.Native.Nat.{ℕ, _+_}
-use mathlib.Core.Path.{_≡_}
-use mathlib.Core.List.{List}
-use lib.ListN.{length, take}
+use Rattle.theory.specs.Prelude.{needs, arith, ℕ, _+_, _≡_, List, length, take}
 use Rattle.theory.specs.declared.Step.{Step}
 use Rattle.engine.specs.Steps.{stepsIn}
 use Rattle.report.specs.Block.Laws.{_then_}

@@ -1,7 +1,5 @@
 -- `report::put_set` meets its contract: an element's number has at most two digits. Assumes nothing.
-use borrow.Author.Needs.{needs}
-use native.Mathlib.Omega.{arith}
-use mathlib.Core.Path.{ap}
+use Rattle.theory.specs.Prelude.{needs, arith, ap}
 use Rattle.report.specs.Block.Laws.{stands-as}
 use Rattle.report.specs.Elements.{elements}
 use Rattle.report.specs.Pieces.{numbers}

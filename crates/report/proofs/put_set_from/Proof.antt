@@ -1,10 +1,5 @@
 -- `report::put_set_from` meets its contract: the elements of `rest` are still to be put. Assumes nothing.
-use borrow.Author.Needs.{needs}
-use Prim.Native.Nat.{ℕ, _-_, _^_, _<_}
-use native.Mathlib.Omega.{arith}
-use mathlib.Core.Path.{ap, _∙_}
-use lib.Bits.{and-le-l, and-le-r}
-use lib.Count.{trailing-le}
+use Rattle.theory.specs.Prelude.{needs, ℕ, _-_, _^_, _<_, arith, ap, _∙_, and-le-l, and-le-r, trailing-le}
 use Rattle.report.specs.Elements.{elements}
 use Rattle.report.specs.Pieces.{numbers, above}
 use Rattle.report.specs.Report.Laws.{above-lowest, above-none}

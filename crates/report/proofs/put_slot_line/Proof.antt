@@ -1,6 +1,5 @@
 -- `report::put_slot_line` meets its contract: no line for a dead cluster, else its pieces. Assumes nothing.
-use borrow.Author.Needs.{needs}
-use mathlib.Core.Path.{sym}
+use Rattle.theory.specs.Prelude.{needs, sym}
 use Rattle.report.specs.Block.Laws.{stands-none, stands-as, _then_}
 use Rattle.report.specs.Report.Laws.{slot-dead, slot-living}
 use Rattle.report.proofs.put_slot_line.Statement.{statement}

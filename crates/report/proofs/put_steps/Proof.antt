@@ -1,8 +1,5 @@
 -- `report::put_steps` meets its contract: the lines of the steps from `t` on are still to be put. Assumes nothing.
-use Prim.Native.Nat.{ℕ, _-_, _≤_}
-use native.Mathlib.Omega.{arith}
-use mathlib.Core.Path.{sym, ap, subst}
-use mathlib.Core.List.{List}
+use Rattle.theory.specs.Prelude.{ℕ, _-_, _≤_, arith, sym, ap, subst, List}
 use Rattle.theory.specs.declared.Step.{Step}
 use Rattle.report.specs.Block.Laws.{stands-as}
 use Rattle.engine.specs.Steps.{stepAt, stepsFor, stepsIn}

@@ -1,6 +1,5 @@
 -- `report::put_verdict_line` meets its contract: one text for each verdict. Assumes nothing.
-use borrow.Author.Needs.{needs}
-use mathlib.Core.Path.{sym, ap}
+use Rattle.theory.specs.Prelude.{needs, sym, ap}
 use Rattle.report.specs.Block.Laws.{stands-as}
 use Rattle.report.specs.Report.{verdictLine}
 use Rattle.report.proofs.put_verdict_line.Statement.{statement}

@@ -1,6 +1,5 @@
 -- `report::put_ways` meets its contract: a number or a text. Assumes nothing.
-use borrow.Author.Needs.{needs}
-use mathlib.Core.Path.{sym, ap}
+use Rattle.theory.specs.Prelude.{needs, sym, ap}
 use Rattle.report.specs.Block.Laws.{stands-as, _then_}
 use Rattle.report.specs.Pieces.{waysWords}
 use Rattle.report.proofs.put_ways.Statement.{statement}

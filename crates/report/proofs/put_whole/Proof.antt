@@ -1,6 +1,5 @@
 -- `report::put_whole` meets its contract: measured first, then written. Assumes nothing.
-use borrow.Author.Needs.{needs}
-use mathlib.Core.Path.{sym}
+use Rattle.theory.specs.Prelude.{needs, sym}
 use Rattle.space.specs.Space.Laws.{put-refused, put-after, long-answer}
 use Rattle.report.proofs.put_whole.Statement.{statement}
 use Rattle.report.proofs.put_whole.Tie as tie

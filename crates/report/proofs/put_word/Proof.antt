@@ -1,13 +1,5 @@
 -- `report::put_word` meets its contract: the bytes from `i` on are still to be put. Assumes nothing.
-use borrow.Author.Needs.{needs}
-use Prim.Native.Nat.{_+_, _-_, _≤_}
-use native.Mathlib.Nat.{add-zero}
-use native.Mathlib.Numerals.{add-one}
-use native.Mathlib.Omega.{arith}
-use mathlib.Core.Path.{refl, _∙_}
-use mathlib.Core.List.{[], _∷_}
-use lib.ListN.{length, getD, drop, drop-of-length-le}
-use lib.Seq.{drop-cons}
+use Rattle.theory.specs.Prelude.{needs, _+_, _-_, _≤_, add-zero, add-one, arith, refl, _∙_, [], _∷_, length, getD, drop, drop-of-length-le, drop-cons}
 use Rattle.report.specs.Block.Laws.{stands-all}
 use Rattle.report.specs.Block.{Stands}
 use Rattle.report.proofs.Standing.{stands}

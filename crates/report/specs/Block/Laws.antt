@@ -1,13 +1,8 @@
 -- Laws of the block: one piece of writing after another is the writing of both; what the table holds of a number. Assumes nothing.
-use Prim.Native.Nat.{ℕ, zero, suc, _+_, _*_, _-_, _/_, _%_, _≤_, _<_}
-use native.Mathlib.Nat.{add-zero, zero-add, add-suc, suc-add}
-use native.Mathlib.Omega.{arith}
-use mathlib.Core.Path.{_≡_, refl, sym, ap, ap₂, _∙_}
-use mathlib.Core.Bool.{Bool, true, false, cond}
-use mathlib.Core.List.{List, [], _∷_, _++_, append-assoc, append-nil}
-use lib.Dec.{T, ltb, eqb, eqb→eq}
-use lib.ListN.{length, getD, take, set, length-append, replicate}
-use lib.Seq.{sets, sets-eq, length-sets, length-take-le, take-set-le, take-at}
+use Rattle.theory.specs.Prelude.{ℕ, zero, suc, _+_, _*_, _-_, _/_, _%_, _≤_, _<_, add-zero, zero-add, add-suc, suc-add, arith, _≡_, refl, sym, ap}
+use Rattle.theory.specs.Prelude.{ap₂, _∙_, Bool, true, false, cond, List, [], _∷_, _++_, append-assoc, append-nil, T, ltb, eqb, eqb→eq, length, getD}
+use Rattle.theory.specs.Prelude.{take, set, length-append, replicate, sets, length-take-le, take-at}
+use lib.Seq.{sets-eq, length-sets, take-set-le}
 use Rattle.theory.specs.Tests.{and-both}
 use Rattle.space.specs.Space.{Put}
 use Rattle.space.specs.Space.Laws.{put-none, sets-append}

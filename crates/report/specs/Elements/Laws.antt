@@ -1,13 +1,8 @@
 -- Laws of a set's elements, listed: the lowest comes first, and those of the set without it follow; they are not more than the set's size,
 -- and not more than 64. Assumes nothing.
-use Prim.Native.Nat.{ℕ, zero, suc, _+_, _-_, _*_, _/_, _%_, _^_, _≤_, _<_}
-use native.Mathlib.Omega.{arith}
-use mathlib.Core.Path.{_≡_, refl, sym, ap, ap₂, _∙_}
-use mathlib.Core.Logic.{_≢_}
-use mathlib.Core.List.{List, [], _∷_, _++_, map, append-nil}
-use lib.Bits.{bitAnd, and-step, and-self, block-half, block-odd}
-use lib.Count.{ones, ones-step, trailingZeros, under}
-use lib.ListN.{length, length-map}
+use Rattle.theory.specs.Prelude.{ℕ, zero, suc, _+_, _-_, _*_, _/_, _%_, _^_, _≤_, _<_, arith, _≡_, refl, sym, ap, ap₂, _∙_, _≢_, List, [], _∷_, _++_}
+use Rattle.theory.specs.Prelude.{map, append-nil, bitAnd, and-step, and-self, ones, ones-step, trailingZeros, under, length, length-map}
+use lib.Bits.{block-half, block-odd}
 use Rattle.theory.specs.Set.{at}
 use Rattle.theory.specs.Set.Laws.{at-zero, at-le, out}
 use Rattle.theory.specs.Set.Less.{at-below}

@@ -1,16 +1,8 @@
 -- A bound on the report's length: 42 + 37 * e - 6 * steps bytes for every list of merges, at most 4,667 on a sheet that is not over. A step line
 -- has at most 57 bytes; the line of a cluster of m elements has 27 + 3m at most, and 4 for each of the 2m - 3 constraints it rests on; e is the
 -- clusters left and twice the steps, and the sum of 2m - 3. Assumes nothing.
-use Prim.Native.Nat.{ℕ, zero, suc, _+_, _*_, _≤_, _<_}
-use native.Mathlib.Omega.{arith}
-use mathlib.Core.Path.{_≡_}
-use mathlib.Core.Logic.{_≢_}
-use mathlib.Core.Bool.{Bool, true, false}
-use mathlib.Core.List.{List, [], _∷_}
-use lib.Dec.{ltb, eqb}
-use lib.Count.{ones}
-use lib.IntN.{ℤ, natAbs, _-ℤ_}
-use lib.ListN.{length, length-append}
+use Rattle.theory.specs.Prelude.{ℕ, zero, suc, _+_, _*_, _≤_, _<_, arith, _≡_, _≢_, Bool, true, false, List, [], _∷_, ltb, eqb, ones, ℤ, natAbs, _-ℤ_}
+use Rattle.theory.specs.Prelude.{length, length-append}
 use Rattle.theory.specs.Set.{_∩_, full}
 use Rattle.theory.specs.Set.Laws.{size-full}
 use Rattle.theory.specs.Constraints.{NotOver, Below, Pairs}

@@ -1,15 +1,7 @@
 -- Laws of the report's bytes: pieces of its lines. Assumes nothing.
-use Prim.Native.Nat.{ℕ, zero, suc, _+_, _-_, _*_, _^_, _≤_, _<_}
-use native.Mathlib.Numerals.{add-one}
-use native.Mathlib.Omega.{arith}
-use mathlib.Core.Path.{_≡_, refl, sym, ap, ap₂, _∙_, subst}
-use mathlib.Core.Logic.{_≢_}
-use mathlib.Core.List.{List, [], _∷_, _++_, map, append-assoc, append-nil}
-use borrow.Author.Tests.{eq-eqb, ne-eqb}
-use lib.Bits.{bitAnd}
-use lib.Count.{trailingZeros}
-use lib.ListN.{length, getD, take, drop, length-take, drop-of-length-le}
-use lib.Seq.{drop-cons, getD-take}
+use Rattle.theory.specs.Prelude.{ℕ, zero, suc, _+_, _-_, _*_, _^_, _≤_, _<_, add-one, arith, _≡_, refl, sym, ap, ap₂, _∙_, subst, _≢_, List, [], _∷_}
+use Rattle.theory.specs.Prelude.{_++_, map, append-assoc, append-nil, eq-eqb, ne-eqb, bitAnd, trailingZeros, length, getD, take, drop, length-take}
+use Rattle.theory.specs.Prelude.{drop-of-length-le, drop-cons, getD-take}
 use Rattle.space.specs.Text.{ascii, decimal}
 use Rattle.theory.specs.declared.Verdict.the-variants.{Over}
 use Rattle.theory.specs.declared.JointKind.{JointKind}

@@ -1,12 +1,6 @@
 -- How long a report is. Document 01, "Refused", rule 17, asks for space of that length. Assumes nothing.
-use Prim.Native.Nat.{ℕ, zero, suc, _+_, _*_, _/_, _%_, _≤_, _<_}
-use native.Mathlib.Omega.{arith}
-use borrow.Author.Tests.{lt-ltb}
-use mathlib.Core.Path.{_≡_, refl, ap, _∙_}
-use mathlib.Core.Bool.{Bool, true, false, cond}
-use mathlib.Core.List.{List, [], _∷_, _++_}
-use lib.Dec.{ltb}
-use lib.ListN.{length, length-append, length-map}
+use Rattle.theory.specs.Prelude.{ℕ, zero, suc, _+_, _*_, _/_, _%_, _≤_, _<_, arith, lt-ltb, _≡_, refl, ap, _∙_, Bool, true, false, cond, List, []}
+use Rattle.theory.specs.Prelude.{_∷_, _++_, ltb, length, length-append, length-map}
 use Rattle.theory.specs.Set.{at}
 use Rattle.theory.specs.Merge.{living}
 use Rattle.theory.specs.declared.Verdict.{Verdict}

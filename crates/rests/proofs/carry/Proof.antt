@@ -1,10 +1,5 @@
 -- `rests::carry` meets its contract: after each step the words are those of the clusters that live then. Assumes nothing.
-use mathlib.Core.Path.{_≡_, sym, _∙_, subst}
-use mathlib.Core.List.{List}
-use Prim.Native.Nat.{ℕ, _+_, _-_, _*_, _≤_, _<_}
-use native.Mathlib.Omega.{arith}
-use borrow.Author.Needs.{needs}
-use lib.ListN.{getD, set, take}
+use Rattle.theory.specs.Prelude.{_≡_, sym, _∙_, subst, List, ℕ, _+_, _-_, _*_, _≤_, _<_, arith, needs, getD, set, take}
 use Rattle.theory.specs.Set.{_∪_}
 use Rattle.rests.specs.Words.{Listed, Told}
 use Rattle.rests.specs.Words.Laws.{alone-low, alone-high, below, told-start, told-next, told-end}

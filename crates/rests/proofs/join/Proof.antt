@@ -1,6 +1,5 @@
 -- `rests::join` meets its contract: what it stores is the union. Assumes nothing.
-use mathlib.Core.Path.{refl}
-use borrow.Author.Needs.{needs}
+use Rattle.theory.specs.Prelude.{refl, needs}
 use Rattle.theory.specs.Set.{_∪_}
 use Rattle.rests.proofs.join.Statement.{statement}
 use Rattle.rests.proofs.join.Tie as tie

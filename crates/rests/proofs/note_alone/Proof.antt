@@ -1,12 +1,6 @@
 -- `rests::note_alone` meets its contract: the words of the numbers passed stand. Assumes nothing.
-use mathlib.Core.Path.{_≡_, refl, sym, ap, _∙_}
-use mathlib.Core.List.{List}
-use Prim.Native.Nat.{ℕ, _+_, _-_, _^_, _≤_, _<_}
-use native.Mathlib.Omega.{arith}
-use native.Mathlib.Decide.{ℕ-discrete}
-use borrow.Author.Needs.{needs}
-use lib.ListN.{getD, set, length-set}
-use lib.Seq.{getD-set-same, getD-set-other}
+use Rattle.theory.specs.Prelude.{_≡_, refl, sym, ap, _∙_, List, ℕ, _+_, _-_, _^_, _≤_, _<_, arith, ℕ-discrete, needs, getD, set, length-set}
+use Rattle.theory.specs.Prelude.{getD-set-same, getD-set-other}
 use Rattle.theory.specs.Block.Laws.{getD-blank}
 use Rattle.rests.specs.Words.{Alone}
 use Rattle.rests.proofs.note_alone.Statement.{statement}

@@ -1,14 +1,8 @@
 -- What clusters rest on is kept by every merge: each constraint stands in one living cluster, which holds both its ends, and a cluster of m elements has
 -- 2m-3 of them. Assumes nothing.
-use mathlib.Core.Path.{_≡_, refl, sym, ap, _∙_, subst}
-use mathlib.Core.Logic.{_≢_, _⊎_, inl, inr}
-use mathlib.Core.List.{List, [], _∷_}
-use Prim.Native.Nat.{ℕ, zero, suc, _+_, _*_, _^_, _≤_, _<_}
-use native.Mathlib.Omega.{arith}
-use native.Mathlib.Decide.{ℕ-discrete, decLt}
-use lib.Count.{ones}
-use lib.ListN.{length, List·getD-eq-default}
-use lib.Pow.{pow-lt, ones-lt}
+use Rattle.theory.specs.Prelude.{_≡_, refl, sym, ap, _∙_, subst, _≢_, _⊎_, inl, inr, List, [], _∷_, ℕ, zero, suc, _+_, _*_, _^_, _≤_, _<_, arith}
+use Rattle.theory.specs.Prelude.{ℕ-discrete, decLt, ones, length, List·getD-eq-default, pow-lt}
+use lib.Pow.{ones-lt}
 use Rattle.theory.specs.Set.{_∩_, _∪_, _∈_, _⊑_, at, full}
 use Rattle.theory.specs.Set.Laws.{at-zero, at-le, bit, below-full, at-same, at-other, size-pow, size-zero, size-∪, size-none, some, filled, ∈-∪⁻, ∈-∪ˡ, ∈-∪ʳ, ∈-∩⁻, ⊑-refl, ⊑-trans, ⊑⇒size≤, ∩-greatest}
 use Rattle.theory.specs.Set.Less.{sub-below}

@@ -1,15 +1,9 @@
 -- The words of what clusters rest on, merge after merge. Assumes nothing.
-use mathlib.Core.Path.{_≡_, refl, sym, ap, ap₂, _∙_, subst}
-use mathlib.Core.Logic.{_≢_}
-use mathlib.Core.List.{List, [], _∷_, map}
-use Prim.Native.Nat.{ℕ, zero, suc, _+_, _-_, _*_, _/_, _%_, _^_, _≤_, _<_}
-use native.Mathlib.Omega.{arith}
-use native.Mathlib.Numerals.{add-one}
-use native.Mathlib.Decide.{decLt}
+use Rattle.theory.specs.Prelude.{_≡_, refl, sym, ap, ap₂, _∙_, subst, _≢_, List, [], _∷_, map, ℕ, zero, suc, _+_, _-_, _*_, _/_, _%_, _^_, _≤_, _<_}
+use Rattle.theory.specs.Prelude.{arith, add-one, decLt, pow-lt, pow-add, length, getD, set, take, length-set, length-take, length-map, List·getD-map}
+use Rattle.theory.specs.Prelude.{getD-set-same, getD-set-other, take-suc, take-all}
 use lib.Bits.{or-shr, or-mod}
-use lib.Pow.{pow-lt, pow-add, shl-shr, recompose}
-use lib.ListN.{length, getD, set, take, length-set, length-take, length-map, List·getD-map}
-use lib.Seq.{getD-set-same, getD-set-other, take-suc, take-all}
+use lib.Pow.{shl-shr, recompose}
 use Rattle.theory.specs.Block.{block}
 use Rattle.theory.specs.Block.Laws.{getD-block}
 use Rattle.theory.specs.Set.{_∪_}

@@ -1,7 +1,5 @@
 -- `rings::join` meets its contract: line after line is noted. Assumes nothing.
-use native.Mathlib.Omega.{arith}
-use borrow.Author.Needs.{needs}
-use lib.Pow.{pow-pos}
+use Rattle.theory.specs.Prelude.{arith, needs, pow-pos}
 use Rattle.theory.specs.Set.{_∈_}
 use Rattle.theory.specs.Set.Laws.{at-le}
 use Rattle.theory.specs.Set.Less.{at-room}

@@ -1,14 +1,8 @@
 -- `rings::linked` meets its contract: what is left without the lowest line tells whether there are two. Assumes nothing.
-use mathlib.Core.Path.{_≡_, ap}
-use mathlib.Core.Logic.{⊎-elim}
-use Prim.Native.Nat.{ℕ, _-_}
-use native.Mathlib.Omega.{arith}
-use lib.Bits.{bitAnd}
-use lib.Count.{ones}
+use Rattle.theory.specs.Prelude.{_≡_, ap, ⊎-elim, ℕ, _-_, arith, bitAnd, ones, needs}
 use Rattle.theory.specs.Set.Laws.{size-zero}
 use Rattle.theory.specs.Set.Less.{drop-low}
 use Rattle.rings.specs.Turns.Laws.{many, few, one-in, two-in}
-use borrow.Author.Needs.{needs}
 use Rattle.rings.proofs.linked.Statement.{statement}
 use Rattle.rings.proofs.linked.Tie as tie
 

@@ -1,8 +1,5 @@
 -- `rings::ringed` meets its contract: what no stripping takes off is kept by every turn, and a turn that takes nothing off ends it. Assumes nothing.
-use mathlib.Core.Path.{sym, ap, _∙_, subst}
-use native.Mathlib.Omega.{arith}
-use borrow.Author.Needs.{needs}
-use lib.Count.{ones}
+use Rattle.theory.specs.Prelude.{sym, ap, _∙_, subst, arith, needs, ones}
 use Rattle.theory.specs.Set.Laws.{⊑⇒size≤}
 use Rattle.theory.specs.Ring.{strip}
 use Rattle.rings.specs.Rows.{Keeps}

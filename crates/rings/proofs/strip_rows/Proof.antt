@@ -1,9 +1,5 @@
 -- `rings::strip_rows` meets its contract: what runs round through the clusters stays. Assumes nothing.
-use mathlib.Core.Path.{refl}
-use Prim.Native.Nat.{_-_, _≤_}
-use native.Mathlib.Omega.{arith}
-use borrow.Author.Needs.{needs}
-use lib.ListN.{length}
+use Rattle.theory.specs.Prelude.{refl, _-_, _≤_, arith, needs, length}
 use Rattle.rings.specs.Rows.{Noted}
 use Rattle.rings.specs.Rows.Laws.{note-start, note-turn, rows-keep, all-kept}
 use Rattle.rings.proofs.strip_rows.Statement.{statement}

@@ -1,9 +1,6 @@
 -- `rings::turning` meets its contract: neighbours and lines that share a merged cluster are noted, and what runs round among them stays. Assumes
 -- nothing.
-use Prim.Native.Nat.{_-_, _≤_}
-use native.Mathlib.Omega.{arith}
-use borrow.Author.Needs.{needs}
-use lib.ListN.{length}
+use Rattle.theory.specs.Prelude.{_-_, _≤_, arith, needs, length}
 use Rattle.rings.specs.Rows.{Neighbours}
 use Rattle.rings.specs.Rows.Merged.{neighbours-start, neighbours-turn, neighbours-end}
 use Rattle.rings.proofs.turning.Statement.{statement}

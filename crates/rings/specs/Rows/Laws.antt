@@ -1,16 +1,7 @@
 -- Each turn of the loops. Assumes nothing.
-use mathlib.Core.Path.{_≡_, refl, sym, ap, _∙_, subst}
-use mathlib.Core.Logic.{_≢_, _⊎_, inl, inr, ⊎-elim}
-use mathlib.Core.Bool.{Bool, true, false, not}
-use mathlib.Core.List.{List, [], _∷_}
-use Prim.Native.Nat.{ℕ, zero, suc, _+_, _-_, _*_, _^_, _≤_, _<_}
-use native.Mathlib.Omega.{arith}
-use native.Mathlib.Decide.{ℕ-discrete, decLe}
-use lib.Bits.{bitAnd, bitOr}
-use lib.Count.{ones}
-use lib.Dec.{T, eqb}
-use lib.ListN.{length, getD, set, length-set, List·getD-eq-default}
-use lib.Seq.{getD-set-same, getD-set-other}
+use Rattle.theory.specs.Prelude.{_≡_, refl, sym, ap, _∙_, subst, _≢_, _⊎_, inl, inr, ⊎-elim, Bool, true, false, not, List, [], _∷_, ℕ, zero, suc, _+_}
+use Rattle.theory.specs.Prelude.{_-_, _*_, _^_, _≤_, _<_, arith, ℕ-discrete, decLe, bitAnd, bitOr, ones, T, eqb, length, getD, set, length-set}
+use Rattle.theory.specs.Prelude.{List·getD-eq-default, getD-set-same, getD-set-other}
 use Rattle.theory.specs.Set.{_∈_, _∩_, _∪_, _⊑_, at}
 use Rattle.theory.specs.Set.Laws.{at-le, at-zero, at-∪, at-∩, ext, zero-ext, size-zero, bit, both, other, ∈-∩⁻, ∈-∪⁻, ∈-∪ˡ, ∈-∪ʳ}
 use Rattle.theory.specs.Set.Laws.{⊑-refl, ⊑-trans, ⊑⇒size≤, ∩-mono, ∪-mono, ∩-greatest, a∩b⊑a, a∩b⊑b}

@@ -1,14 +1,6 @@
 -- Lines that share a constraint or a merged cluster. Assumes nothing.
-use mathlib.Core.Path.{_≡_, refl, sym, ap, _∙_, subst}
-use mathlib.Core.Logic.{_≢_, Ne·symm}
-use mathlib.Core.List.{List, [], _∷_}
-use Prim.Native.Nat.{ℕ, _+_, _-_, _≤_, _<_}
-use native.Mathlib.Omega.{arith}
-use native.Mathlib.Decide.{ℕ-discrete, decLt}
-use lib.Bits.{bitAnd}
-use lib.Count.{ones}
-use lib.ListN.{length, getD, drop, length-drop}
-use lib.Seq.{getD-drop}
+use Rattle.theory.specs.Prelude.{_≡_, refl, sym, ap, _∙_, subst, _≢_, Ne·symm, List, [], _∷_, ℕ, _+_, _-_, _≤_, _<_, arith, ℕ-discrete, decLt, bitAnd}
+use Rattle.theory.specs.Prelude.{ones, length, getD, drop, length-drop, getD-drop}
 use Rattle.theory.specs.Set.{_∈_, _∩_, _⊑_, at}
 use Rattle.theory.specs.Set.Laws.{at-le, both, other, two-in, ∈-∩⁻, ⊑-refl, ⊑⇒size≤, ∩-mono, a∩b⊑b, ∩-greatest}
 use Rattle.theory.specs.Set.Less.{at-below}

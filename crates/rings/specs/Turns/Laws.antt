@@ -1,16 +1,6 @@
 -- One turn of each loop. Assumes nothing.
-use mathlib.Core.Path.{_≡_, refl, sym, ap, ap₂, _∙_, subst}
-use mathlib.Core.Logic.{_≢_}
-use mathlib.Core.Bool.{Bool, true, false, cond}
-use mathlib.Core.List.{List, _∷_}
-use Prim.Native.Nat.{ℕ, zero, suc, _-_, _≤_, _<_}
-use native.Mathlib.Omega.{arith}
-use native.Mathlib.Decide.{decLe}
-use lib.Bits.{bitAnd, bitOr}
-use lib.Count.{ones}
-use lib.Dec.{T, leb, leb→le, le→leb}
-use lib.ListN.{length, drop, getD}
-use lib.Seq.{drop-cons, drop-length}
+use Rattle.theory.specs.Prelude.{_≡_, refl, sym, ap, ap₂, _∙_, subst, _≢_, Bool, true, false, cond, List, _∷_, ℕ, zero, suc, _-_, _≤_, _<_, arith}
+use Rattle.theory.specs.Prelude.{decLe, bitAnd, bitOr, ones, T, leb, leb→le, le→leb, length, drop, getD, drop-cons, drop-length}
 use Rattle.theory.specs.Set.{_∩_, _∪_}
 use Rattle.theory.specs.Set.Laws.{⊑-size-≡, size-none, size-zero}
 use Rattle.theory.specs.Ring.{linked, once, strip}

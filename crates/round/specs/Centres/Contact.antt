@@ -1,15 +1,6 @@
 -- What a contact means, and that the distance derived from it is 1 to 80,000 in magnitude on a sheet that no rule refuses. Assumes nothing.
-use Prim.Native.Nat.{ℕ, zero, suc, _+_, _-_, _≤_, _<_}
-use native.Mathlib.Omega.{arith}
-use native.Mathlib.Decide.{decLt}
-use borrow.Author.Tests.{leb-true, eqb-false, not-true}
-use mathlib.Core.Path.{_≡_, refl, sym, ap, subst}
-use mathlib.Core.Logic.{inl, inr}
-use mathlib.Core.Bool.{Bool, true, false, cond, not, _&&_, _||_}
-use mathlib.Core.List.{List, [], _∷_, _++_}
-use lib.Dec.{T, eqb, leb}
-use lib.IntN.{ℤ, pos, negℤ, natAbs}
-use lib.ListN.{length, getD}
+use Rattle.theory.specs.Prelude.{ℕ, zero, suc, _+_, _-_, _≤_, _<_, arith, decLt, leb-true, eqb-false, not-true, _≡_, refl, sym, ap, subst, inl, inr}
+use Rattle.theory.specs.Prelude.{Bool, true, false, cond, not, _&&_, _||_, List, [], _∷_, _++_, T, eqb, leb, ℤ, pos, negℤ, natAbs, length, getD}
 use Rattle.sheet.specs.declared.Kind.{Kind}
 use Rattle.sheet.specs.declared.Kind.the-variants.{Point, Line, Circle}
 use Rattle.sheet.specs.declared.Element.{Element}

@@ -1,13 +1,6 @@
 -- The graph of the sketch of centres is the sheet's own, so that all that is found of the graph is the same. Assumes nothing.
-use Prim.Native.Nat.{ℕ, _+_, _-_, _≤_}
-use native.Mathlib.Omega.{arith}
-use mathlib.Core.Path.{_≡_, refl, sym, ap, ap₂}
-use mathlib.Core.Bool.{Bool, true, false, cond}
-use mathlib.Core.List.{List, [], _∷_, map}
-use borrow.Author.Tests.{leb-true, leb-false}
-use lib.Dec.{leb}
-use lib.IntN.{pos, negℤ}
-use lib.ListN.{length-map}
+use Rattle.theory.specs.Prelude.{ℕ, _+_, _-_, _≤_, arith, _≡_, refl, sym, ap, ap₂, Bool, true, false, cond, List, [], _∷_, map, leb-true, leb-false}
+use Rattle.theory.specs.Prelude.{leb, pos, negℤ, length-map}
 use Rattle.sheet.specs.declared.Kind.{Kind}
 use Rattle.sheet.specs.declared.Kind.the-variants.{Point, Line, Circle}
 use Rattle.sheet.specs.declared.Element.{Element}

@@ -1,8 +1,6 @@
 -- What goes through the graph is the same for a round light and for the sketch of its centres: the verdict, the plan, the final clusters, the over
 -- answer, the check of a saved plan and the whole report are each one instance of `answer`. Assumes nothing.
-use Prim.Native.Nat.{ℕ, zero, suc}
-use mathlib.Core.Path.{_≡_, refl, sym, ap}
-use mathlib.Core.List.{List, []}
+use Rattle.theory.specs.Prelude.{ℕ, zero, suc, _≡_, refl, sym, ap, List, []}
 use Rattle.theory.specs.Graph.{Graph}
 use Rattle.sheet.specs.Facts.{Facts}
 use Rattle.sheet.specs.Field.{Field, value, next}

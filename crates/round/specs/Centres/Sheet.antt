@@ -1,13 +1,6 @@
 -- The sketch of centres is a PF01 sheet itself where no derived distance is above 40,000: no rule refuses its facts. Assumes nothing.
-use Prim.Native.Nat.{ℕ, zero, suc, _≤_, _<_}
-use native.Mathlib.Omega.{arith}
-use borrow.Author.Tests.{le-leb}
-use mathlib.Core.Path.{_≡_, refl, sym, ap, ap₂, _∙_, subst}
-use mathlib.Core.Bool.{true}
-use mathlib.Core.List.{List, [], _∷_, _++_, map}
-use lib.Dec.{T}
-use lib.IntN.{ℤ, pos, negℤ, natAbs}
-use lib.ListN.{length, getD, length-map, List·getD-map}
+use Rattle.theory.specs.Prelude.{ℕ, zero, suc, _≤_, _<_, arith, le-leb, _≡_, refl, sym, ap, ap₂, _∙_, subst, true, List, [], _∷_, _++_, map, T, ℤ}
+use Rattle.theory.specs.Prelude.{pos, negℤ, natAbs, length, getD, length-map, List·getD-map}
 use Rattle.sheet.specs.declared.Opening.the-variants.{Pf01}
 use Rattle.sheet.specs.declared.Kind.{Kind}
 use Rattle.sheet.specs.declared.Kind.the-variants.{Point, Line, Circle}

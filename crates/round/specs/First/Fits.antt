@@ -1,11 +1,6 @@
 -- A PF01 sheet is refused by one of rules 1 to 10 alone, and one that is read has at most 1,814 bytes. Assumes nothing.
-use Prim.Native.Nat.{ℕ, zero, suc, _+_, _*_, _/_, _^_, _≤_}
-use native.Mathlib.Omega.{arith}
-use mathlib.Core.Path.{_≡_, refl, sym, ap, _∙_, subst}
-use mathlib.Core.Bool.{Bool, true, false, cond, not, _&&_}
-use mathlib.Core.List.{List, [], _∷_, _++_}
-use lib.Dec.{ltb, leb}
-use lib.ListN.{length, take, drop, length-drop}
+use Rattle.theory.specs.Prelude.{ℕ, zero, suc, _+_, _*_, _/_, _^_, _≤_, arith, _≡_, refl, sym, ap, _∙_, subst, Bool, true, false, cond, not, _&&_}
+use Rattle.theory.specs.Prelude.{List, [], _∷_, _++_, ltb, leb, length, take, drop, length-drop}
 use Rattle.sheet.specs.declared.Opening.the-variants.{Pf01}
 use Rattle.sheet.specs.declared.Element.{Element}
 use Rattle.sheet.specs.declared.PairKind.{PairKind}

@@ -1,12 +1,6 @@
 -- Bytes that begin with PF01, and all that do not begin with PF02, are read as document 01 alone reads them. Assumes nothing.
-use Prim.Native.Nat.{ℕ, zero, suc, _+_, _/_, _%_, _^_, _<_, _≤_}
-use native.Mathlib.Omega.{arith}
-use borrow.Author.Tests.{ne-eqb, le-ltb}
-use mathlib.Core.Path.{_≡_, refl, sym, _∙_}
-use mathlib.Core.Bool.{Bool, true, false, cond, _&&_}
-use mathlib.Core.List.{List, [], _∷_, _++_}
-use lib.Dec.{eqb, ltb}
-use lib.ListN.{drop}
+use Rattle.theory.specs.Prelude.{ℕ, zero, suc, _+_, _/_, _%_, _^_, _<_, _≤_, arith, ne-eqb, le-ltb, _≡_, refl, sym, _∙_, Bool, true, false, cond}
+use Rattle.theory.specs.Prelude.{_&&_, List, [], _∷_, _++_, eqb, ltb, drop}
 use Rattle.sheet.specs.declared.Opening.the-variants.{Pf01, Pf02}
 use Rattle.sheet.specs.declared.Kind.{Kind}
 use Rattle.sheet.specs.declared.Element.{Element}

@@ -1,12 +1,7 @@
 -- Accepted facts with the opening PF01 are written as document 01 alone writes them, in at most 1,414 bytes, and their graph has the sizes given.
 -- Assumes nothing.
-use Prim.Native.Nat.{ℕ, zero, suc, _≤_}
-use native.Mathlib.Omega.{arith}
-use mathlib.Core.Path.{_≡_, refl, sym, ap₂, subst}
-use mathlib.Core.Bool.{Bool, true, false, not}
-use mathlib.Core.List.{List, [], _∷_, _++_, map}
-use lib.Dec.{T}
-use lib.ListN.{length, length-append}
+use Rattle.theory.specs.Prelude.{ℕ, zero, suc, _≤_, arith, _≡_, refl, sym, ap₂, subst, Bool, true, false, not, List, [], _∷_, _++_, map, T, length}
+use Rattle.theory.specs.Prelude.{length-append}
 use Rattle.sheet.specs.declared.Opening.the-variants.{Pf01}
 use Rattle.sheet.specs.declared.Kind.{Kind}
 use Rattle.sheet.specs.declared.Kind.the-variants.{Point, Line, Circle}

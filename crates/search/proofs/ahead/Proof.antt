@@ -1,12 +1,7 @@
 -- `search::ahead` meets its contract: none, all or the lowest digits. Assumes nothing.
-use mathlib.Core.Path.{_≡_, refl, ap, _∙_}
-use Prim.Native.Nat.{ℕ, _*_, _%_, _-_, _^_, _<_}
-use native.Mathlib.Nat.{one-mul, lt-suc-self}
-use native.Mathlib.Omega.{arith}
-use lib.Pow.{shl-exact, pow-pos}
+use Rattle.theory.specs.Prelude.{_≡_, refl, ap, _∙_, ℕ, _*_, _%_, _-_, _^_, _<_, one-mul, lt-suc-self, arith, shl-exact, pow-pos, needs}
 use Rattle.theory.specs.Set.{full}
 use Rattle.search.proofs.Starting.{ahead-all, ahead-some}
-use borrow.Author.Needs.{needs}
 use Rattle.search.proofs.ahead.Statement.{statement}
 use Rattle.search.proofs.ahead.Tie as tie
 

@@ -1,12 +1,8 @@
 -- `search::best` meets its contract: two elements, or the links. Assumes nothing.
-use Prim.Native.Nat.{_-_, _^_, _<_}
-use native.Mathlib.Omega.{arith}
-use lib.Bits.{bitAnd, and-le-l}
-use lib.Count.{trailingZeros, trailing-le}
+use Rattle.theory.specs.Prelude.{_-_, _^_, _<_, arith, bitAnd, and-le-l, trailingZeros, trailing-le, needs}
 use Rattle.theory.specs.Set.Lowest.{lowest-below}
 use Rattle.search.specs.Words.{by-two, by-links}
 use Rattle.search.proofs.Two.{double}
-use borrow.Author.Needs.{needs}
 use Rattle.search.proofs.best.Statement.{statement}
 use Rattle.search.proofs.best.Tie as tie
 

@@ -1,11 +1,5 @@
 -- `search::best_of_two` meets its contract: the loop keeps `Leading`. Assumes nothing.
-use mathlib.Core.Path.{sym, subst}
-use mathlib.Core.Logic.{⊎-elim}
-use Prim.Native.Nat.{_-_}
-use native.Mathlib.Omega.{arith}
-use borrow.Author.Needs.{needs}
-use lib.Bits.{bitAnd, and-le-r}
-use lib.Count.{trailing-le}
+use Rattle.theory.specs.Prelude.{sym, subst, ⊎-elim, _-_, arith, needs, bitAnd, and-le-r, trailing-le}
 use Rattle.theory.specs.Set.Lowest.{lowest-below}
 use Rattle.search.specs.State.{Met}
 use Rattle.search.proofs.Two.{Leading, leading-one, leading-new, leading-same, leading-best}

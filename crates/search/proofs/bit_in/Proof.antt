@@ -1,11 +1,6 @@
 -- `search::bit_in` meets its contract: one digit. Assumes nothing.
-use mathlib.Core.Path.{_∙_}
-use Prim.Native.Nat.{_*_, _%_, _^_}
-use native.Mathlib.Nat.{one-mul, lt-suc-self}
-use native.Mathlib.Omega.{arith}
-use lib.Pow.{shl-exact}
+use Rattle.theory.specs.Prelude.{_∙_, _*_, _%_, _^_, one-mul, lt-suc-self, arith, shl-exact, needs}
 use Rattle.search.proofs.Sets3.{alone-one, alone-none}
-use borrow.Author.Needs.{needs}
 use Rattle.search.proofs.bit_in.Statement.{statement}
 use Rattle.search.proofs.bit_in.Tie as tie
 

@@ -1,10 +1,6 @@
 -- `search::first_reaching` meets its contract: the loop keeps `Passed`. Assumes nothing.
 use Rattle.theory.specs.Set.{_∩_}
-use Prim.Native.Nat.{_-_, _<_}
-use native.Mathlib.Omega.{arith}
-use borrow.Author.Needs.{needs}
-use lib.Bits.{and-le-r}
-use lib.Count.{trailingZeros}
+use Rattle.theory.specs.Prelude.{_-_, _<_, arith, needs, and-le-r, trailingZeros}
 use Rattle.theory.specs.Set.Lowest.{lowest-below}
 use Rattle.search.proofs.Passing.{Passed, passed-none, passed-next, passed-here, passed-end}
 use Rattle.search.proofs.first_reaching.Statement.{statement}

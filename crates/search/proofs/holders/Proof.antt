@@ -1,11 +1,5 @@
 -- `search::holders` meets its contract: the loop keeps `Nearly` for each of the three words. Assumes nothing.
-use mathlib.Core.Path.{_≡_, subst, ap, _∙_}
-use Prim.Native.Nat.{ℕ, _-_, _<_}
-use native.Mathlib.Omega.{arith}
-use borrow.Author.Needs.{needs}
-use lib.Bits.{bitAnd, bitOr, and-le-r}
-use lib.Count.{trailingZeros}
-use lib.ListN.{getD}
+use Rattle.theory.specs.Prelude.{_≡_, subst, ap, _∙_, ℕ, _-_, _<_, arith, needs, bitAnd, bitOr, and-le-r, trailingZeros, getD}
 use Rattle.theory.specs.Set.{at}
 use Rattle.theory.specs.Set.Laws.{at-zero}
 use Rattle.theory.specs.Set.Lowest.{lowest-below}

@@ -1,9 +1,5 @@
 -- `search::inner` meets its contract: the loop keeps `Innerly`. Assumes nothing.
-use Prim.Native.Nat.{_-_, _<_}
-use native.Mathlib.Omega.{arith}
-use borrow.Author.Needs.{needs}
-use lib.Bits.{and-le-r}
-use lib.Count.{trailingZeros}
+use Rattle.theory.specs.Prelude.{_-_, _<_, arith, needs, and-le-r, trailingZeros}
 use Rattle.theory.specs.Set.Lowest.{lowest-below}
 use Rattle.search.proofs.Storing.{Innerly, innerly-none, innerly-left, innerly-more}
 use Rattle.search.proofs.inner.Statement.{statement}

@@ -1,10 +1,5 @@
 -- `search::join` meets its contract: the loop keeps `Joining`. Assumes nothing.
-use mathlib.Core.Path.{refl}
-use Prim.Native.Nat.{_-_, _<_}
-use native.Mathlib.Omega.{arith}
-use borrow.Author.Needs.{needs}
-use lib.Bits.{and-le-r}
-use lib.Count.{trailingZeros}
+use Rattle.theory.specs.Prelude.{refl, _-_, _<_, arith, needs, and-le-r, trailingZeros}
 use Rattle.theory.specs.Set.Lowest.{lowest-below}
 use Rattle.search.proofs.Storing.{Joining, joining-none, joining-next, joining-all}
 use Rattle.search.proofs.join.Statement.{statement}

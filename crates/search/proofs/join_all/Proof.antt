@@ -1,9 +1,5 @@
 -- `search::join_all` meets its contract: the loop keeps `Begun` of the clusters passed. Assumes nothing.
-use mathlib.Core.Path.{sym, subst}
-use mathlib.Core.List.{List}
-use Prim.Native.Nat.{ℕ, _-_, _≤_}
-use native.Mathlib.Omega.{arith}
-use borrow.Author.Needs.{needs}
+use Rattle.theory.specs.Prelude.{sym, subst, List, ℕ, _-_, _≤_, arith, needs}
 use Rattle.search.specs.State.{Begun}
 use Rattle.search.proofs.Starting.{begun-none, begun-next}
 use Rattle.search.proofs.join_all.Statement.{statement}

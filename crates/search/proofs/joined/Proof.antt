@@ -1,13 +1,8 @@
 -- `search::joined` meets its contract: the two elements that z is linked with. Assumes nothing.
-use Prim.Native.Nat.{_-_, _^_, _<_}
-use native.Mathlib.Omega.{arith}
-use lib.Bits.{bitAnd, and-le-l, and-le-r}
-use lib.Count.{trailing-le}
-use lib.ListN.{getD}
+use Rattle.theory.specs.Prelude.{_-_, _^_, _<_, arith, bitAnd, and-le-l, and-le-r, trailing-le, getD, needs}
 use Rattle.theory.specs.Set.{_∩_}
 use Rattle.theory.specs.Set.Lowest.{lowest-below}
 use Rattle.search.proofs.Two.{joined-none, joined-one, joined-two}
-use borrow.Author.Needs.{needs}
 use Rattle.search.proofs.joined.Statement.{statement}
 use Rattle.search.proofs.joined.Tie as tie
 

@@ -1,7 +1,5 @@
 -- `search::least` meets its contract: the lowest element of the first word that has one. Assumes nothing.
-use native.Mathlib.Omega.{arith}
-use borrow.Author.Needs.{needs}
-use lib.Count.{trailing-le}
+use Rattle.theory.specs.Prelude.{arith, needs, trailing-le}
 use Rattle.search.proofs.Triple.{least-a, least-b, least-c}
 use Rattle.search.proofs.least.Statement.{statement}
 use Rattle.search.proofs.least.Tie as tie

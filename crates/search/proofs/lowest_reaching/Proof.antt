@@ -1,7 +1,5 @@
 -- `search::lowest_reaching` meets its contract: word after word, `Swept`. Assumes nothing.
-use native.Mathlib.Omega.{arith}
-use borrow.Author.Needs.{needs}
-use lib.Count.{trailing-le}
+use Rattle.theory.specs.Prelude.{arith, needs, trailing-le}
 use Rattle.search.proofs.Swept.{swept-none, swept-next, swept-found, swept-end}
 use Rattle.search.proofs.lowest_reaching.Statement.{statement}
 use Rattle.search.proofs.lowest_reaching.Tie as tie

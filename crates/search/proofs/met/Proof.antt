@@ -1,6 +1,5 @@
 -- `search::met` meets its contract: the two clusters in order. Assumes nothing.
-use native.Mathlib.Omega.{arith}
-use borrow.Author.Needs.{needs}
+use Rattle.theory.specs.Prelude.{arith, needs}
 use Rattle.search.proofs.met.Statement.{statement}
 use Rattle.search.proofs.met.Tie as tie
 

@@ -1,11 +1,5 @@
 -- `search::near_of` meets its contract: the loop keeps `Nearly`. Assumes nothing.
-use mathlib.Core.Path.{subst}
-use Prim.Native.Nat.{ℕ, _-_, _<_}
-use native.Mathlib.Omega.{arith}
-use borrow.Author.Needs.{needs}
-use lib.Bits.{bitAnd, bitOr, and-le-r}
-use lib.Count.{trailingZeros}
-use lib.ListN.{getD}
+use Rattle.theory.specs.Prelude.{subst, ℕ, _-_, _<_, arith, needs, bitAnd, bitOr, and-le-r, trailingZeros, getD}
 use Rattle.theory.specs.Set.Lowest.{lowest-below}
 use Rattle.search.proofs.Sets.{Nearly, nearly-none, nearly-next, nearly-near}
 use Rattle.search.proofs.near_of.Statement.{statement}

@@ -1,9 +1,5 @@
 -- `search::outs` meets its contract: the loop keeps `Seen`. Assumes nothing.
-use Prim.Native.Nat.{_-_, _<_}
-use native.Mathlib.Omega.{arith}
-use borrow.Author.Needs.{needs}
-use lib.Bits.{and-le-r}
-use lib.Count.{trailingZeros}
+use Rattle.theory.specs.Prelude.{_-_, _<_, arith, needs, and-le-r, trailingZeros}
 use Rattle.theory.specs.Set.Lowest.{lowest-below}
 use Rattle.search.proofs.Gather.{Seen, seen-none, seen-next, seen-all}
 use Rattle.search.proofs.outs.Statement.{statement}

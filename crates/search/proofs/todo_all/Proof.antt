@@ -1,8 +1,6 @@
 -- `search::todo_all` meets its contract: three words. Assumes nothing.
-use mathlib.Core.Path.{refl}
-use lib.ListN.{replicate}
+use Rattle.theory.specs.Prelude.{refl, replicate, needs}
 use Rattle.search.proofs.Starting.{todo-words}
-use borrow.Author.Needs.{needs}
 use Rattle.search.proofs.todo_all.Statement.{statement}
 use Rattle.search.proofs.todo_all.Tie as tie
 

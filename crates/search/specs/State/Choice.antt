@@ -1,10 +1,6 @@
 -- An element that a cluster reaches gives exactly one merge of it, and the first of these merges is the first of all. Assumes nothing.
-use mathlib.Core.Path.{_≡_, sym, ap, _∙_, subst}
-use mathlib.Core.Logic.{_≢_, _⊎_, inl, inr, Ne·symm}
-use mathlib.Core.List.{List}
-use Prim.Native.Nat.{ℕ, _/_, _%_, _≤_, _<_, min, max}
-use native.Mathlib.Omega.{arith}
-use native.Mathlib.Decide.{ℕ-discrete, decLe, decLt}
+use Rattle.theory.specs.Prelude.{_≡_, sym, ap, _∙_, subst, _≢_, _⊎_, inl, inr, Ne·symm, List, ℕ, _/_, _%_, _≤_, _<_, min, max, arith, ℕ-discrete}
+use Rattle.theory.specs.Prelude.{decLe, decLt}
 use Rattle.theory.specs.Set.{_∈_, _∩_, at}
 use Rattle.theory.specs.Set.Laws.{at-le, both, ∈-∩⁻, two-in, filled}
 use Rattle.theory.specs.Merge.{slot, Merge, merge, OpenAt, union, three, put, Part, Ended}

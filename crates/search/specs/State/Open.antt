@@ -1,10 +1,6 @@
 -- Where two living clusters share at most one element, the clusters that take part in an open merge are those that reach an element by their
 -- part of the rim. Assumes nothing.
-use mathlib.Core.Path.{_≡_, sym, ap, subst}
-use mathlib.Core.Logic.{_≢_, Ne·symm}
-use mathlib.Core.List.{List}
-use Prim.Native.Nat.{ℕ}
-use native.Mathlib.Omega.{arith}
+use Rattle.theory.specs.Prelude.{_≡_, sym, ap, subst, _≢_, Ne·symm, List, ℕ, arith}
 use Rattle.theory.specs.Set.{_∈_, _∩_, at}
 use Rattle.theory.specs.Set.Laws.{both, ∈-∩⁻}
 use Rattle.theory.specs.Merge.{slot, merge, OpenAt, ShareOne}

@@ -1,12 +1,5 @@
 -- The search is ready at the start of a sheet that is not over, and again after each merge. Assumes nothing.
-use mathlib.Core.Path.{_≡_, refl, sym, ap, _∙_}
-use mathlib.Core.Logic.{_≢_}
-use mathlib.Core.List.{List}
-use Prim.Native.Nat.{ℕ, _+_, _^_, _≤_, _<_}
-use native.Mathlib.Omega.{arith}
-use native.Mathlib.Decide.{decLt}
-use lib.ListN.{length, List·getD-eq-default}
-use lib.Pow.{pow-lt}
+use Rattle.theory.specs.Prelude.{_≡_, refl, sym, ap, _∙_, _≢_, List, ℕ, _+_, _^_, _≤_, _<_, arith, decLt, length, List·getD-eq-default, pow-lt}
 use Rattle.theory.specs.Set.{_∈_, at, full}
 use Rattle.theory.specs.Set.Laws.{at-zero, at-le, at-same, below-full, filled}
 use Rattle.theory.specs.Set.Lowest.{at-below}

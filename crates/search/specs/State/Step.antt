@@ -1,11 +1,6 @@
 -- After a merge the rim, the links, the holders and the waiting clusters are again those of the clusters. Assumes nothing.
-use mathlib.Core.Path.{_≡_, refl, sym, ap, _∙_, subst}
-use mathlib.Core.Logic.{_≢_, _⊎_, inl, inr, ⊎-elim, Ne·symm}
-use mathlib.Core.List.{List}
-use Prim.Native.Nat.{ℕ, _≤_, _<_}
-use native.Mathlib.Omega.{arith}
-use native.Mathlib.Decide.{ℕ-discrete}
-use lib.ListN.{length, List·getD-eq-default}
+use Rattle.theory.specs.Prelude.{_≡_, refl, sym, ap, _∙_, subst, _≢_, _⊎_, inl, inr, ⊎-elim, Ne·symm, List, ℕ, _≤_, _<_, arith, ℕ-discrete, length}
+use Rattle.theory.specs.Prelude.{List·getD-eq-default}
 use Rattle.theory.specs.Set.{_∈_, _∩_, _∪_, at}
 use Rattle.theory.specs.Set.Laws.{at-le, at-zero, both, ∈-∩⁻, ∈-∪⁻, ∈-∪ˡ, ∈-∪ʳ, out, filled, other as another}
 use Rattle.theory.specs.Set.Lowest.{at-beyond}

@@ -1,11 +1,5 @@
 -- Three clusters make an open merge where they meet in three different elements, its corners. Assumes nothing.
-use mathlib.Core.Path.{_≡_, subst}
-use mathlib.Core.Logic.{_≢_}
-use mathlib.Core.List.{List}
-use Prim.Native.Nat.{ℕ}
-use native.Mathlib.Omega.{arith}
-use native.Mathlib.Decide.{ℕ-discrete}
-use lib.Count.{ones}
+use Rattle.theory.specs.Prelude.{_≡_, subst, _≢_, List, ℕ, arith, ℕ-discrete, ones}
 use Rattle.theory.specs.Set.{_∈_, _∩_, at}
 use Rattle.theory.specs.Set.Laws.{some, two-in, both, ∈-∩⁻, filled, counted, out, same-single}
 use Rattle.theory.specs.Merge.{slot, merge, OpenAt, ShareOne}

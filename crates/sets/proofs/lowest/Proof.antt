@@ -1,7 +1,5 @@
 -- `lowest` meets its contract. Assumes nothing.
-use mathlib.Core.Path.{refl}
-use native.Mathlib.Omega.{arith}
-use lib.Count.{trailingZeros, trailing-le}
+use Rattle.theory.specs.Prelude.{refl, arith, trailingZeros, trailing-le}
 use Rattle.theory.specs.Set.Less.{trailing-at, at-below}
 use Rattle.sets.proofs.lowest.Statement.{statement}
 use Rattle.sets.proofs.lowest.Tie as tie

@@ -1,9 +1,7 @@
 -- `pair` meets its contract. Assumes nothing.
-use mathlib.Core.Path.{ap₂}
-use lib.Bits.{bitOr}
+use Rattle.theory.specs.Prelude.{ap₂, bitOr, needs}
 use Rattle.theory.specs.Set.{_∪_}
 use Rattle.theory.specs.Constraints.{pair}
-use borrow.Author.Needs.{needs}
 use Rattle.sets.proofs.pair.Statement.{statement}
 use Rattle.sets.proofs.pair.Tie as tie
 

@@ -1,10 +1,5 @@
 -- `single` meets its contract. Assumes nothing.
-use mathlib.Core.Path.{_∙_}
-use Prim.Native.Nat.{_^_}
-use native.Mathlib.Nat.{one-mul, lt-suc-self}
-use native.Mathlib.Omega.{arith}
-use lib.Pow.{shl-exact}
-use borrow.Author.Needs.{needs}
+use Rattle.theory.specs.Prelude.{_∙_, _^_, one-mul, lt-suc-self, arith, shl-exact, needs}
 use Rattle.sets.proofs.single.Statement.{statement}
 use Rattle.sets.proofs.single.Tie as tie
 

@@ -1,7 +1,6 @@
 -- `without_lowest` meets its contract. Assumes nothing.
-use mathlib.Core.Path.{refl}
+use Rattle.theory.specs.Prelude.{refl, needs}
 use Rattle.theory.specs.Set.{_∩_}
-use borrow.Author.Needs.{needs}
 use Rattle.sets.proofs.without_lowest.Statement.{statement}
 use Rattle.sets.proofs.without_lowest.Tie as tie
 

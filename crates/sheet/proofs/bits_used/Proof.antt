@@ -1,11 +1,5 @@
 -- `sheet::bits_used` meets its contract: the number is below 2 ^ n, and any number of 64 bits where n is 64. Assumes nothing.
-use borrow.Author.Needs.{needs}
-use borrow.Author.Tests.{lt-ltb}
-use Prim.Native.Nat.{ℕ, _^_, _<_, _≤_}
-use mathlib.Core.Path.{_≡_, sym, subst}
-use native.Mathlib.Nat.{one-mul, mod-eq-of-lt}
-use native.Mathlib.Omega.{arith}
-use lib.Pow.{pow-lt}
+use Rattle.theory.specs.Prelude.{needs, lt-ltb, ℕ, _^_, _<_, _≤_, _≡_, sym, subst, one-mul, mod-eq-of-lt, arith, pow-lt}
 use Rattle.sheet.proofs.bits_used.Statement.{statement}
 use Rattle.sheet.proofs.bits_used.Tie as tie
 

@@ -1,7 +1,5 @@
 -- `sheet::circles_allowed` meets its contract: PF01 allows no circle. Assumes nothing.
-use borrow.Author.Needs.{needs}
-use mathlib.Core.Path.{sym, ap, _∙_}
-use lib.Dec.{eqb}
+use Rattle.theory.specs.Prelude.{needs, sym, ap, _∙_, eqb}
 use Rattle.sheet.specs.Rules.{kindsAllowed}
 use Rattle.sheet.specs.Rules.Kinds.{straight-allowed, all-allowed}
 use Rattle.sheet.proofs.circles_allowed.Statement.{statement}

@@ -1,10 +1,5 @@
 -- `sheet::constraint_fault` meets its contract: the rules in their order, the kinds of the ends by sets and radii. Assumes nothing.
-use borrow.Author.Needs.{needs}
-use borrow.Author.Tests.{not-true, not-false}
-use Prim.Native.Nat.{_<_}
-use native.Mathlib.Omega.{arith}
-use mathlib.Core.Path.{_≡_, sym, _∙_}
-use mathlib.Core.Bool.{true}
+use Rattle.theory.specs.Prelude.{needs, not-true, not-false, _<_, arith, _≡_, sym, _∙_, true}
 use Rattle.sheet.specs.Facts.Laws.{kind-in}
 use Rattle.sheet.specs.Rules.{endsAscend, constraintFault}
 use Rattle.sheet.specs.Rules.Laws.{ends-true}

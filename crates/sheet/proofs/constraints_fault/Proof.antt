@@ -1,14 +1,7 @@
 -- `sheet::constraints_fault` meets its contract. The loop's invariant: the constraints before i are noted, and the faults from i on are those of the
 -- whole list. Assumes nothing.
-use borrow.Author.Needs.{needs}
-use Prim.Native.Nat.{ℕ, _+_, _-_, _<_, _≤_}
-use native.Mathlib.Omega.{arith}
-use native.Mathlib.Numerals.{add-one}
-use mathlib.Core.Path.{_≡_, refl, sym, ap, _∙_}
-use mathlib.Core.List.{List, []}
-use lib.ListN.{length, take, drop, getD}
-use lib.Seq.{take-suc}
-use lib.IntN.{pos}
+use Rattle.theory.specs.Prelude.{needs, ℕ, _+_, _-_, _<_, _≤_, arith, add-one, _≡_, refl, sym, ap, _∙_, List, [], length, take, drop, getD, take-suc}
+use Rattle.theory.specs.Prelude.{pos}
 use Rattle.sheet.specs.declared.Element.{Element}
 use Rattle.sheet.specs.declared.Size.the-variants.{Given}
 use Rattle.sheet.specs.declared.Constraint.{Constraint}

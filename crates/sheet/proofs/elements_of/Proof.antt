@@ -1,12 +1,6 @@
 -- `sheet::elements_of` meets its contract: the elements before i stand, the places from i on are blank. Assumes nothing.
-use borrow.Author.Needs.{needs}
-use Prim.Native.Nat.{ℕ, _+_, _-_, _<_, _≤_}
-use native.Mathlib.Numerals.{add-one}
-use native.Mathlib.Omega.{arith}
-use mathlib.Core.Path.{_≡_, refl, ap, _∙_}
-use mathlib.Core.List.{List}
-use lib.ListN.{length, take, drop, set, getD, replicate, length-set}
-use lib.Seq.{take-suc-set, take-suc, take-all}
+use Rattle.theory.specs.Prelude.{needs, ℕ, _+_, _-_, _<_, _≤_, add-one, arith, _≡_, refl, ap, _∙_, List, length, take, drop, set, getD, replicate}
+use Rattle.theory.specs.Prelude.{length-set, take-suc-set, take-suc, take-all}
 use Rattle.sheet.specs.declared.Kind.{Kind}
 use Rattle.sheet.specs.declared.Element.{Element}
 use Rattle.theory.specs.Block.{block}

@@ -1,6 +1,5 @@
 -- `sheet::highest_size` meets its contract: one case for each kind of pair. Assumes nothing.
-use mathlib.Core.Path.{sym, ap}
-use borrow.Author.Needs.{needs}
+use Rattle.theory.specs.Prelude.{sym, ap, needs}
 use Rattle.sheet.specs.Range.{highestSize}
 use Rattle.sheet.proofs.highest_size.Statement.{statement}
 use Rattle.sheet.proofs.highest_size.Tie as tie

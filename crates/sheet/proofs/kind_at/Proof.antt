@@ -1,6 +1,5 @@
 -- `sheet::kind_at` meets its contract: a circle by its bit, else a line by its. Assumes nothing.
-use borrow.Author.Needs.{needs}
-use mathlib.Core.Path.{sym, _∙_}
+use Rattle.theory.specs.Prelude.{needs, sym, _∙_}
 use Rattle.sheet.proofs.kind_at.Statement.{statement}
 use Rattle.sheet.proofs.kind_at.Tie as tie
 

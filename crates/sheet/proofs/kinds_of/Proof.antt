@@ -1,15 +1,8 @@
 -- `sheet::kinds_of` meets its contract: the bits from the last element down, and the radii from i on; the numbers stay below 2 ^ 64.
 -- Assumes nothing.
-use borrow.Author.Needs.{needs}
-use Prim.Native.Nat.{ℕ, _+_, _*_, _-_, _<_, _≤_, _^_}
-use native.Mathlib.Nat.{pow-le-pow-right}
-use native.Mathlib.Decide.{ℕ-discrete}
-use native.Mathlib.Omega.{arith}
-use mathlib.Core.Path.{_≡_, sym, ap, _∙_}
-use mathlib.Core.Bool.{Bool, true, false}
-use mathlib.Core.List.{List}
-use lib.ListN.{length, take, drop, set, getD, length-drop, length-set, List·getD-eq-default}
-use lib.Seq.{length-take-le, getD-take, getD-set-same, getD-set-other}
+use Rattle.theory.specs.Prelude.{needs, ℕ, _+_, _*_, _-_, _<_, _≤_, _^_, pow-le-pow-right, ℕ-discrete, arith, _≡_, sym, ap, _∙_, Bool, true, false}
+use Rattle.theory.specs.Prelude.{List, length, take, drop, set, getD, length-drop, length-set, List·getD-eq-default, length-take-le, getD-take}
+use Rattle.theory.specs.Prelude.{getD-set-same, getD-set-other}
 use Rattle.sheet.specs.declared.Kind.{Kind}
 use Rattle.sheet.specs.declared.Element.{Element}
 use Rattle.sheet.specs.Facts.{isLine, isCircle, radiusOf, bitOf, setOf, kindAt, blankElement}

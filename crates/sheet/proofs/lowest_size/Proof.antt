@@ -1,6 +1,5 @@
 -- `sheet::lowest_size` meets its contract: one case for each kind of pair. Assumes nothing.
-use mathlib.Core.Path.{sym, ap}
-use borrow.Author.Needs.{needs}
+use Rattle.theory.specs.Prelude.{sym, ap, needs}
 use Rattle.sheet.specs.Range.{lowestSize}
 use Rattle.sheet.proofs.lowest_size.Statement.{statement}
 use Rattle.sheet.proofs.lowest_size.Tie as tie

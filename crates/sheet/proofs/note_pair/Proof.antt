@@ -1,9 +1,5 @@
 -- `sheet::note_pair` meets its contract: each end is noted at the other. Assumes nothing.
-use borrow.Author.Needs.{needs}
-use Prim.Native.Nat.{_<_, _^_}
-use native.Mathlib.Nat.{one-mul, mod-eq-of-lt}
-use native.Mathlib.Omega.{arith}
-use lib.Pow.{pow-lt}
+use Rattle.theory.specs.Prelude.{needs, _<_, _^_, one-mul, mod-eq-of-lt, arith, pow-lt}
 use Rattle.sheet.specs.Noted.Laws.{noted-more}
 use Rattle.sheet.proofs.note_pair.Statement.{statement}
 use Rattle.sheet.proofs.note_pair.Tie as tie

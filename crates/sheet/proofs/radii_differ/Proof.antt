@@ -1,7 +1,5 @@
 -- `sheet::radii_differ` meets its contract: only the other contact asks for the radii. Assumes nothing.
-use borrow.Author.Needs.{needs}
-use mathlib.Core.Path.{sym, ap, _∙_}
-use mathlib.Core.Bool.{not}
+use Rattle.theory.specs.Prelude.{needs, sym, ap, _∙_, not}
 use Rattle.sheet.specs.Rules.{radiiDiffer}
 use Rattle.sheet.proofs.radii_differ.Statement.{statement}
 use Rattle.sheet.proofs.radii_differ.Tie as tie

@@ -1,11 +1,5 @@
 -- `sheet::radii_in_range` meets its contract: the circles before i have radii in range. Assumes nothing.
-use borrow.Author.Needs.{needs}
-use Prim.Native.Nat.{_-_, _≤_}
-use native.Mathlib.Omega.{arith}
-use mathlib.Core.Path.{_≡_, refl, sym, _∙_}
-use mathlib.Core.Logic.{⊎-elim}
-use borrow.Author.Tests.{not-true, not-false}
-use lib.ListN.{length, take, drop}
+use Rattle.theory.specs.Prelude.{needs, _-_, _≤_, arith, _≡_, refl, sym, _∙_, ⊎-elim, not-true, not-false, length, take, drop}
 use Rattle.sheet.specs.Facts.{blankElement}
 use Rattle.sheet.specs.Rules.{radiiInRange}
 use Rattle.sheet.specs.Rules.Kinds.{radii-turn, radii-spent}

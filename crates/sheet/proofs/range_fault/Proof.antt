@@ -1,6 +1,5 @@
 -- `sheet::range_fault` meets its contract: a given size by its range. Assumes nothing.
-use borrow.Author.Needs.{needs}
-use mathlib.Core.Path.{ap}
+use Rattle.theory.specs.Prelude.{needs, ap}
 use mir.Facts.{toZ-ofZ}
 use mir.Syntax.{w32}
 use Rattle.sheet.specs.Rules.{rangeFault}

@@ -1,6 +1,5 @@
 -- `sheet::same_radii` meets its contract: two circles, then their radii. Assumes nothing.
-use borrow.Author.Needs.{needs}
-use mathlib.Core.Path.{sym, _∙_}
+use Rattle.theory.specs.Prelude.{needs, sym, _∙_}
 use Rattle.sheet.proofs.same_radii.Statement.{statement}
 use Rattle.sheet.proofs.same_radii.Tie as tie
 

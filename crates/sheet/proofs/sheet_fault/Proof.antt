@@ -1,11 +1,5 @@
 -- `sheet::sheet_fault` meets its contract: the rules in their order. Assumes nothing.
-use borrow.Author.Needs.{needs}
-use Prim.Native.Nat.{_≤_}
-use mathlib.Core.Path.{_≡_, refl, sym, _∙_}
-use mathlib.Core.Bool.{true}
-use borrow.Author.Tests.{not-true, not-false}
-use lib.ListN.{length}
-use lib.Seq.{length-take-le}
+use Rattle.theory.specs.Prelude.{needs, _≤_, _≡_, refl, sym, _∙_, true, not-true, not-false, length, length-take-le}
 use Rattle.sheet.proofs.Passed.{elements-long}
 use Rattle.sheet.specs.declared.Sheet.{Sheet}
 use Rattle.sheet.specs.Facts.{factsOf}

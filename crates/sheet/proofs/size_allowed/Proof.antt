@@ -1,6 +1,5 @@
 -- `sheet::size_allowed` meets its contract: rule 8 case by case. Assumes nothing.
-use borrow.Author.Needs.{needs}
-use mathlib.Core.Path.{sym, ap, _∙_}
+use Rattle.theory.specs.Prelude.{needs, sym, ap, _∙_}
 use Rattle.sheet.specs.Rules.{sizeAllowed}
 use Rattle.sheet.proofs.size_allowed.Statement.{statement}
 use Rattle.sheet.proofs.size_allowed.Tie as tie

@@ -1,6 +1,5 @@
 -- `sheet::size_by` meets its contract: the maps that say something, one after another. Assumes nothing.
-use borrow.Author.Needs.{needs}
-use borrow.Author.Tests.{eq-eqb, ne-eqb}
+use Rattle.theory.specs.Prelude.{needs, eq-eqb, ne-eqb}
 use mir.Facts.{toZ-ofZ}
 use Rattle.sheet.specs.Rules.{sizeBy}
 use Rattle.sheet.proofs.size_by.Statement.{statement}

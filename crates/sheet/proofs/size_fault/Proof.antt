@@ -1,7 +1,5 @@
 -- `sheet::size_fault` meets its contract: the rules in their order. Assumes nothing.
-use borrow.Author.Needs.{needs}
-use borrow.Author.Tests.{not-true, not-false}
-use mathlib.Core.Path.{sym, _∙_}
+use Rattle.theory.specs.Prelude.{needs, not-true, not-false, sym, _∙_}
 use Rattle.sheet.specs.Rules.{sizeFault}
 use Rattle.sheet.proofs.size_fault.Statement.{statement}
 use Rattle.sheet.proofs.size_fault.Tie as tie

@@ -1,7 +1,5 @@
 -- `sheet::size_in_range` meets its contract: 0 apart, one range is the rule's two. Assumes nothing.
-use mathlib.Core.Path.{_≡_, sym, ap, _∙_}
-use borrow.Author.Needs.{needs}
-use lib.IntN.{pos}
+use Rattle.theory.specs.Prelude.{_≡_, sym, ap, _∙_, needs, pos}
 use mir.Facts.{toZ-ofZ}
 use mir.Val.{toZ, ofZ}
 use mir.Syntax.{w32}

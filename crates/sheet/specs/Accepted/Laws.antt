@@ -1,15 +1,8 @@
 -- Facts that no rule refuses: each constraint of theirs, every order of their constraints (document 01, "Every order of merging"), and the blocks of
 -- a sheet that hold them. Assumes nothing.
-use Prim.Native.Nat.{ℕ, _≤_}
-use native.Mathlib.Decide.{ℕ-discrete}
-use native.Mathlib.Omega.{arith}
-use borrow.Author.Tests.{eq-eqb, ne-eqb, not-true}
-use mathlib.Core.Path.{_≡_, refl, sym, ap₂, _∙_, subst}
-use mathlib.Core.Bool.{Bool, true, false, _&&_, _||_, not, or-assoc, or-comm}
-use mathlib.Core.List.{List, [], _∷_, _++_}
-use lib.Dec.{T, eqb}
-use lib.ListN.{length, take}
-use lib.Seq.{take-append-seam, length-take-le}
+use Rattle.theory.specs.Prelude.{ℕ, _≤_, ℕ-discrete, arith, eq-eqb, ne-eqb, not-true, _≡_, refl, sym, ap₂, _∙_, subst, Bool, true, false, _&&_, _||_}
+use Rattle.theory.specs.Prelude.{not, or-assoc, List, [], _∷_, _++_, T, eqb, length, take, take-append-seam, length-take-le}
+use mathlib.Core.Bool.{or-comm}
 use Rattle.theory.specs.Constraints.{Perm, same, skip, swap, then}
 use Rattle.theory.specs.Constraints.Laws.{length-perm}
 use Rattle.sheet.specs.declared.Opening.{Opening}

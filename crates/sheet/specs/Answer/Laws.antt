@@ -1,7 +1,5 @@
 -- Laws of answers over lent space. Assumes nothing.
-use Prim.Native.Nat.{ℕ, zero, suc}
-use mathlib.Core.Path.{_≡_, refl}
-use mathlib.Core.List.{List, []}
+use Rattle.theory.specs.Prelude.{ℕ, zero, suc, _≡_, refl, List, []}
 use Rattle.space.specs.declared.Written.{Written}
 use Rattle.space.specs.declared.Written.the-variants.{Refused}
 use Rattle.space.specs.Space.{answer, after}

@@ -1,11 +1,6 @@
 -- The kinds field in the papers' words: element i is bit (i mod 8) of byte (i div 8), bit 0 the lowest; under PF02 two bits each, four elements a
 -- byte. Assumes nothing.
-use Prim.Native.Nat.{ℕ, zero, suc, _+_, _*_, _-_, _/_, _%_, _<_}
-use native.Mathlib.Decide.{decLt}
-use native.Mathlib.Omega.{arith}
-use mathlib.Core.Path.{_≡_, refl, sym, ap, ap₂, _∙_}
-use mathlib.Core.List.{List, [], _∷_}
-use lib.ListN.{getD}
+use Rattle.theory.specs.Prelude.{ℕ, zero, suc, _+_, _*_, _-_, _/_, _%_, _<_, decLt, arith, _≡_, refl, sym, ap, ap₂, _∙_, List, [], _∷_, getD}
 use Rattle.theory.specs.Set.{at}
 use Rattle.theory.specs.Set.Laws.{at-zero}
 use Rattle.sheet.specs.declared.Opening.the-variants.{Pf01, Pf02}

@@ -1,13 +1,6 @@
 -- Laws of the bytes of a sheet: how many there are, and those of a list of constraints. Assumes nothing.
-use Prim.Native.Nat.{ℕ, _+_, _*_, _/_, _%_, _≤_}
-use native.Mathlib.Numerals.{add-one}
-use native.Mathlib.Omega.{arith}
-use mathlib.Core.Path.{_≡_, refl}
-use mathlib.Core.Bool.{Bool, true, false}
-use mathlib.Core.List.{List, [], _∷_, _++_, append-nil, append-assoc}
-use lib.Dec.{eqb}
-use lib.ListN.{length, take, getD, length-append, length-map}
-use lib.Seq.{take-suc}
+use Rattle.theory.specs.Prelude.{ℕ, _+_, _*_, _/_, _%_, _≤_, add-one, arith, _≡_, refl, Bool, true, false, List, [], _∷_, _++_, append-nil}
+use Rattle.theory.specs.Prelude.{append-assoc, eqb, length, take, getD, length-append, length-map, take-suc}
 use Rattle.sheet.specs.declared.Opening.{Opening}
 use Rattle.sheet.specs.declared.Opening.the-variants.{Pf01, Pf02}
 use Rattle.sheet.specs.declared.Kind.{Kind}

@@ -1,10 +1,5 @@
 -- The elements of a sheet as the code holds them: the lines and the circles as sets, the radii of the circles in a list.
-use Prim.Native.Nat.{ℕ}
-use mathlib.Core.Path.{_≡_}
-use mathlib.Core.Bool.{true, cond}
-use mathlib.Core.List.{List}
-use lib.Dec.{eqb}
-use lib.ListN.{getD}
+use Rattle.theory.specs.Prelude.{ℕ, _≡_, true, cond, List, eqb, getD}
 use Rattle.theory.specs.Set.{at}
 use Rattle.sheet.specs.declared.Kind.{Kind}
 use Rattle.sheet.specs.declared.Kind.the-variants.{Point, Line, Circle}

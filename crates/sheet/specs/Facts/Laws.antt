@@ -1,14 +1,7 @@
 -- Laws of the elements in numbers, and of a block that is filled from the front. Assumes nothing.
-use Prim.Native.Nat.{ℕ, zero, suc, _+_, _*_, _-_, _/_, _%_, _^_, _≤_, _<_}
-use native.Mathlib.Nat.{pow-zero, pow-succ'}
-use native.Mathlib.Numerals.{add-one}
-use native.Mathlib.Omega.{arith}
-use mathlib.Core.Path.{_≡_, refl, sym, ap, _∙_, subst}
-use mathlib.Core.Bool.{Bool, true, false, _&&_, cond, not}
-use mathlib.Core.List.{List, [], _∷_, map}
-use lib.Dec.{T, eqb}
-use lib.ListN.{length, take, drop, getD, set, replicate, take-append-drop, drop-of-length-le}
-use lib.Seq.{drop-set-lt, drop-drop, drop-cons, getD-take, length-take-le}
+use Rattle.theory.specs.Prelude.{ℕ, zero, suc, _+_, _*_, _-_, _/_, _%_, _^_, _≤_, _<_, pow-zero, pow-succ', add-one, arith, _≡_, refl, sym, ap, _∙_}
+use Rattle.theory.specs.Prelude.{subst, Bool, true, false, _&&_, cond, not, List, [], _∷_, map, T, eqb, length, take, drop, getD, set, replicate}
+use Rattle.theory.specs.Prelude.{take-append-drop, drop-of-length-le, drop-set-lt, drop-drop, drop-cons, getD-take, length-take-le}
 use Rattle.theory.specs.Set.{at}
 use Rattle.sheet.specs.declared.Opening.{Opening}
 use Rattle.sheet.specs.declared.Opening.the-variants.{Pf01, Pf02}

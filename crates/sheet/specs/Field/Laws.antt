@@ -1,17 +1,9 @@
 -- Laws of fields: numbers of any count of bytes and their bytes are each other's inverse, and what a field that is read says of the bytes.
 -- Assumes nothing.
-use Prim.Native.Nat.{ℕ, zero, suc, _+_, _*_, _-_, _/_, _%_, _^_, _<_, _≤_}
-use native.Mathlib.Nat.{pow-zero, pow-succ', div-lt-iff-lt-mul, mul-comm}
-use native.Mathlib.Omega.{arith}
-use borrow.Author.Tests.{lt-ltb, le-ltb, ltb-false, eqb-true}
-use mathlib.Core.Path.{_≡_, refl, sym, ap}
-use mathlib.Core.Bool.{Bool, true, false, cond}
-use mathlib.Core.List.{List, [], _∷_, _++_}
-use lib.Dec.{ltb, eqb}
-use lib.IntN.{ℤ, pos, negsuc}
-use lib.ListN.{length, take, drop, getD, length-append, take-append-drop}
-use lib.Seq.{take-at, drop-at, length-take-le, getD-drop}
-use lib.Signed.{mag}
+use Rattle.theory.specs.Prelude.{ℕ, zero, suc, _+_, _*_, _-_, _/_, _%_, _^_, _<_, _≤_, pow-zero, pow-succ', arith, lt-ltb, le-ltb, ltb-false}
+use Rattle.theory.specs.Prelude.{eqb-true, _≡_, refl, sym, ap, Bool, true, false, cond, List, [], _∷_, _++_, ltb, eqb, ℤ, pos, negsuc, length, take}
+use Rattle.theory.specs.Prelude.{drop, getD, length-append, take-append-drop, take-at, drop-at, length-take-le, getD-drop, mag}
+use native.Mathlib.Nat.{div-lt-iff-lt-mul, mul-comm}
 use Rattle.sheet.specs.declared.Opening.{Opening}
 use Rattle.sheet.specs.declared.Opening.the-variants.{Pf01, Pf02}
 use Rattle.sheet.specs.Facts.Laws.{and-true}

@@ -1,11 +1,6 @@
 -- The graph of a sheet that no rule refuses, and rule 11. An accepted sheet whose verdict isn't over meets demand 3. Assumes nothing.
-use Prim.Native.Nat.{ℕ, _^_, _<_}
-use native.Mathlib.Omega.{arith}
-use mathlib.Core.Logic.{_≢_, inl, inr}
-use mathlib.Core.Path.{_≡_, refl, sym, ap, _∙_, subst}
-use mathlib.Core.List.{List, [], _∷_, _++_, map}
-use lib.Count.{ones}
-use lib.ListN.{length, length-map}
+use Rattle.theory.specs.Prelude.{ℕ, _^_, _<_, arith, _≢_, inl, inr, _≡_, refl, sym, ap, _∙_, subst, List, [], _∷_, _++_, map, ones, length}
+use Rattle.theory.specs.Prelude.{length-map}
 use Rattle.theory.specs.Constraints.{Among, Pairs, Below, Perm}
 use Rattle.theory.specs.Constraints.Laws.{perm-map, size-pair, pair-below}
 use Rattle.theory.specs.Graph.{Graph, findingOf, verdictOf}

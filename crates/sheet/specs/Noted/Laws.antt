@@ -1,14 +1,6 @@
 -- Laws of the noted constraints: a pair's bit says whether the pair stands, and one constraint more. Assumes nothing.
-use Prim.Native.Nat.{ℕ, _/_, _%_, _^_, _<_}
-use native.Mathlib.Omega.{arith}
-use mathlib.Core.Path.{_≡_, refl, sym, ap, _∙_}
-use mathlib.Core.Logic.{_↔_, inl, inr}
-use mathlib.Core.Bool.{Bool, true, false, _&&_, _||_}
-use mathlib.Core.List.{List, [], _∷_, _++_, map}
-use borrow.Author.Tests.{eqb-true, eq-eqb, ne-eqb}
-use lib.Bits.{bitOr}
-use lib.Dec.{eqb}
-use lib.ListN.{getD, set, replicate}
+use Rattle.theory.specs.Prelude.{ℕ, _/_, _%_, _^_, _<_, arith, _≡_, refl, sym, ap, _∙_, _↔_, inl, inr, Bool, true, false, _&&_, _||_, List, [], _∷_}
+use Rattle.theory.specs.Prelude.{_++_, map, eqb-true, eq-eqb, ne-eqb, bitOr, eqb, getD, set, replicate}
 use Rattle.theory.specs.Set.{_∈_, at}
 use Rattle.theory.specs.Set.Laws.{at-div}
 use Rattle.theory.specs.Constraints.{Among, pair}

@@ -1,11 +1,5 @@
 -- One range without 0 is rule 9's. Assumes nothing.
-use Prim.Native.Nat.{ℕ, zero, suc}
-use native.Mathlib.Omega.{arith}
-use mathlib.Core.Path.{_≡_, refl}
-use mathlib.Core.Bool.{Bool, true, false, _&&_, _||_}
-use borrow.Author.Tests.{le-leb}
-use lib.Dec.{leb}
-use lib.IntN.{ℤ, pos, negsuc}
+use Rattle.theory.specs.Prelude.{ℕ, zero, suc, arith, _≡_, refl, Bool, true, false, _&&_, _||_, le-leb, leb, ℤ, pos, negsuc}
 use Rattle.sheet.specs.declared.PairKind.{PairKind}
 use Rattle.sheet.specs.declared.PairKind.the-variants.{Points, PointLine, Lines}
 use Rattle.sheet.specs.Rules.{within, sizeInRange}

@@ -1,14 +1,6 @@
 -- A sheet is refused by one of rules 1 to 10 and 18 to 20, and facts by one of 3, 5 to 9 and 18 to 20. Assumes nothing.
-use Prim.Native.Nat.{ℕ, zero, suc, _%_, _/_}
-use native.Mathlib.Omega.{arith}
-use borrow.Author.Tests.{leb-true}
-use mathlib.Core.Path.{_≡_, refl, subst}
-use mathlib.Core.Logic.{_≢_, _⊎_, inl, inr}
-use mathlib.Core.Bool.{Bool, true, false, not, _&&_, cond}
-use mathlib.Core.List.{List, [], _∷_, _++_}
-use lib.Dec.{ltb, leb, eqb}
-use lib.IntN.{pos}
-use lib.ListN.{length}
+use Rattle.theory.specs.Prelude.{ℕ, zero, suc, _%_, _/_, arith, leb-true, _≡_, refl, subst, _≢_, _⊎_, inl, inr, Bool, true, false, not, _&&_, cond}
+use Rattle.theory.specs.Prelude.{List, [], _∷_, _++_, ltb, leb, eqb, pos, length}
 use Rattle.sheet.specs.declared.Opening.{Opening}
 use Rattle.sheet.specs.declared.Opening.the-variants.{Pf01, Pf02}
 use Rattle.sheet.specs.declared.Kind.{Kind}

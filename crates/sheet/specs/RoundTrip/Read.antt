@@ -1,14 +1,7 @@
 -- Bytes that the reader takes are, without their tags, those of the facts it reads, and no rule refuses these. Assumes nothing.
-use Prim.Native.Nat.{ℕ, zero, suc, _+_, _*_, _/_, _%_, _^_, _<_, _≤_}
-use native.Mathlib.Omega.{arith}
-use borrow.Author.Tests.{ltb-true, eqb-true, not-true}
-use mathlib.Core.Path.{_≡_, refl, sym, ap, _∙_}
-use mathlib.Core.Bool.{Bool, true, false, cond, not, _||_}
-use mathlib.Core.List.{List, [], _∷_, _++_, append-nil, append-assoc}
-use lib.Dec.{eqb, ltb}
-use lib.IntN.{pos}
-use lib.ListN.{length, drop, length-append, length-map}
-use lib.Seq.{drop-at}
+use Rattle.theory.specs.Prelude.{ℕ, zero, suc, _+_, _*_, _/_, _%_, _^_, _<_, _≤_, arith, ltb-true, eqb-true, not-true, _≡_, refl, sym, ap, _∙_, Bool}
+use Rattle.theory.specs.Prelude.{true, false, cond, not, _||_, List, [], _∷_, _++_, append-nil, append-assoc, eqb, ltb, pos, length, drop}
+use Rattle.theory.specs.Prelude.{length-append, length-map, drop-at}
 use Rattle.sheet.specs.declared.Opening.{Opening}
 use Rattle.sheet.specs.declared.Opening.the-variants.{Pf01, Pf02}
 use Rattle.sheet.specs.declared.Kind.{Kind}

@@ -1,16 +1,7 @@
 -- The bytes of accepted facts, read field by field, give the facts. Assumes nothing.
-use Prim.Native.Nat.{ℕ, zero, suc, _+_, _*_, _^_, _<_, _≤_}
-use native.Mathlib.Nat.{pow-le-pow-right, lt-of-lt-of-le, pow-zero, pow-succ', mul-zero, mul-suc}
-use native.Mathlib.Omega.{arith}
-use borrow.Author.Tests.{lt-ltb, leb-true}
-use mathlib.Core.Path.{_≡_, refl, sym, _∙_}
-use mathlib.Core.Bool.{true, false, _&&_, _||_, not, or-false}
-use mathlib.Core.List.{List, [], _∷_, _++_, append-nil, append-assoc}
-use lib.Dec.{ltb, leb}
-use lib.IntN.{ℤ, pos, negsuc}
-use lib.ListN.{length}
-use lib.Pow.{pow-add}
-use lib.Signed.{mag}
+use Rattle.theory.specs.Prelude.{ℕ, zero, suc, _+_, _*_, _^_, _<_, _≤_, pow-le-pow-right, lt-of-lt-of-le, pow-zero, pow-succ', mul-zero, mul-suc}
+use Rattle.theory.specs.Prelude.{arith, lt-ltb, leb-true, _≡_, refl, sym, _∙_, true, false, _&&_, _||_, not, or-false, List, [], _∷_, _++_}
+use Rattle.theory.specs.Prelude.{append-nil, append-assoc, ltb, leb, ℤ, pos, negsuc, length, pow-add, mag}
 use Rattle.sheet.specs.declared.Opening.{Opening}
 use Rattle.sheet.specs.declared.Opening.the-variants.{Pf01, Pf02}
 use Rattle.sheet.specs.declared.Kind.{Kind}

@@ -1,14 +1,6 @@
 -- Laws of the rules on facts: what a rule that refuses nothing says. Assumes nothing.
-use Prim.Native.Nat.{ℕ, zero, suc, _+_, _<_, _≤_}
-use native.Mathlib.Numerals.{add-one}
-use native.Mathlib.Omega.{arith}
-use mathlib.Core.Path.{_≡_, refl, ap₂}
-use mathlib.Core.Bool.{Bool, true, false, _&&_, _||_, or-false, or-assoc}
-use mathlib.Core.List.{List, [], _∷_, _++_}
-use borrow.Author.Tests.{ltb-true, leb-true}
-use lib.Dec.{eqb, ltb, leb}
-use lib.ListN.{length, getD, take, drop}
-use lib.Seq.{take-suc}
+use Rattle.theory.specs.Prelude.{ℕ, zero, suc, _+_, _<_, _≤_, add-one, arith, _≡_, refl, ap₂, Bool, true, false, _&&_, _||_, or-false, or-assoc, List}
+use Rattle.theory.specs.Prelude.{[], _∷_, _++_, ltb-true, leb-true, eqb, ltb, leb, length, getD, take, drop, take-suc}
 use Rattle.theory.specs.Set.{at}
 use Rattle.sheet.specs.declared.Opening.{Opening}
 use Rattle.sheet.specs.declared.Kinds.{Kinds}

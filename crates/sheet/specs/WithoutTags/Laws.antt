@@ -1,13 +1,6 @@
 -- Laws of a sheet without its tags, from the walk over its constraints. Assumes nothing.
-use Prim.Native.Nat.{ℕ, zero, suc, _+_, _*_, _-_, _/_, _%_}
-use native.Mathlib.Omega.{arith}
-use borrow.Author.Tests.{eqb-true}
-use mathlib.Core.Path.{_≡_, refl, sym, ap, _∙_}
-use mathlib.Core.Bool.{true}
-use mathlib.Core.List.{List, [], _∷_, _++_, append-assoc}
-use lib.Dec.{eqb}
-use lib.ListN.{length, take, drop, getD, length-append, take-append-drop}
-use lib.Seq.{take-at, drop-at, getD-append-add}
+use Rattle.theory.specs.Prelude.{ℕ, zero, suc, _+_, _*_, _-_, _/_, _%_, arith, eqb-true, _≡_, refl, sym, ap, _∙_, true, List, [], _∷_, _++_}
+use Rattle.theory.specs.Prelude.{append-assoc, eqb, length, take, drop, getD, length-append, take-append-drop, take-at, drop-at, getD-append-add}
 use Rattle.sheet.specs.declared.Opening.{Opening}
 use Rattle.sheet.specs.declared.Opening.the-variants.{Pf01, Pf02}
 use Rattle.sheet.specs.Facts.{kindsOf}

@@ -1,7 +1,5 @@
 -- `sketch::asking` meets its contract: placing by the number held. Assumes nothing.
-use borrow.Author.Needs.{needs}
-use Prim.Native.Nat.{ℕ}
-use mathlib.Core.Path.{refl, sym, ap, _∙_}
+use Rattle.theory.specs.Prelude.{needs, ℕ, refl, sym, ap, _∙_}
 use Rattle.theory.specs.Graph.{verdictOf}
 use Rattle.sheet.specs.Facts.{factsOf}
 use Rattle.sheet.specs.Graph.{graphOf}

@@ -1,8 +1,5 @@
 -- `sketch::judge_full_last` meets its contract: what is told decides. Assumes nothing.
-use borrow.Author.Needs.{needs}
-use native.Mathlib.Omega.{arith}
-use mathlib.Core.Path.{_≡_, sym, ap, _∙_}
-use mathlib.Core.List.{[]}
+use Rattle.theory.specs.Prelude.{needs, arith, _≡_, sym, ap, _∙_, []}
 use Rattle.theory.specs.Verdict.{verdictNumber}
 use Rattle.theory.specs.declared.Verdict.the-variants.{Over}
 use Rattle.sketch.specs.Placing.Laws.{number-over, last-not-over, told-listed, last-told}

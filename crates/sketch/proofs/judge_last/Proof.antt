@@ -1,8 +1,5 @@
 -- `sketch::judge_last` meets its contract: what is found decides. Assumes nothing.
-use borrow.Author.Needs.{needs}
-use native.Mathlib.Omega.{arith}
-use mathlib.Core.Path.{sym, _∙_}
-use mathlib.Core.List.{[]}
+use Rattle.theory.specs.Prelude.{needs, arith, sym, _∙_, []}
 use Rattle.sketch.specs.Placing.Laws.{last-fine, last-first, first-listed}
 use Rattle.sketch.proofs.judge_last.Statement.{statement}
 use Rattle.sketch.proofs.judge_last.Tie as tie

@@ -1,6 +1,5 @@
 -- `sketch::last_rule` meets its contract, by its test. Assumes nothing.
-use borrow.Author.Needs.{needs}
-use borrow.Author.Tests.{eq-eqb, ne-eqb}
+use Rattle.theory.specs.Prelude.{needs, eq-eqb, ne-eqb}
 use Rattle.sketch.proofs.last_rule.Statement.{statement}
 use Rattle.sketch.proofs.last_rule.Tie as tie
 

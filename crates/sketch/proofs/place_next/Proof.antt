@@ -1,11 +1,7 @@
 -- `sketch::place_next` meets its contract: each refusal in its turn, else what the last constraint is answered. Assumes nothing.
-use borrow.Author.Needs.{needs}
-use Prim.Native.Nat.{ℕ, _<_, _≤_}
-use native.Mathlib.Omega.{arith}
-use mathlib.Core.Path.{_≡_, refl, sym, ap, _∙_}
+use Rattle.theory.specs.Prelude.{needs, ℕ, _<_, _≤_, arith, _≡_, refl, sym, ap, _∙_, length}
 use mir.Facts.{toZ-ofZ}
 use mir.Syntax.{w32}
-use lib.ListN.{length}
 use Rattle.sheet.specs.Facts.{Facts}
 use Rattle.sheet.specs.Rules.{constraintFault}
 use Rattle.sheet.specs.Rules.Laws.{ends-true}

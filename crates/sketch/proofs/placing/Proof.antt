@@ -1,10 +1,5 @@
 -- `sketch::placing` meets its contract: the constraint is stored where it is answered with a verdict. Assumes nothing.
-use borrow.Author.Needs.{needs}
-use Prim.Native.Nat.{_<_}
-use native.Mathlib.Omega.{arith}
-use mathlib.Core.Path.{_≡_, refl, sym, ap₂, _∙_}
-use mathlib.Core.List.{[], _∷_, _++_}
-use lib.ListN.{length, length-append, length-map, length-take}
+use Rattle.theory.specs.Prelude.{needs, _<_, arith, _≡_, refl, sym, ap₂, _∙_, [], _∷_, _++_, length, length-append, length-map, length-take}
 use Rattle.sheet.specs.declared.Sheet.{Sheet}
 use Rattle.sheet.specs.Facts.{factsOf}
 use Rattle.sheet.specs.Rules.{sheetFault}

@@ -1,5 +1,4 @@
-use borrow.Author.Needs.{needs}
-use mathlib.Core.Path.{refl}
+use Rattle.theory.specs.Prelude.{needs, refl}
 use Rattle.sketch.specs.Sketch.{stored}
 use Rattle.sketch.proofs.store.Statement.{statement}
 use Rattle.sketch.proofs.store.Tie as tie

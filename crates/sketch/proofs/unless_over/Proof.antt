@@ -1,6 +1,5 @@
 -- `sketch::unless_over` meets its contract: the verdict says whether the graph is over. Assumes nothing.
-use borrow.Author.Needs.{needs}
-use mathlib.Core.Path.{sym, ap, _∙_}
+use Rattle.theory.specs.Prelude.{needs, sym, ap, _∙_}
 use Rattle.theory.specs.Verdict.{verdictNumber}
 use Rattle.sketch.specs.Placing.Laws.{number-over, over-fault, no-over-fault}
 use Rattle.sketch.proofs.unless_over.Statement.{statement}

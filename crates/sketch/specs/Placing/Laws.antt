@@ -1,14 +1,7 @@
 -- What is found of a graph with one constraint more says whether it was over without it. Assumes nothing.
-use Prim.Native.Nat.{ℕ, zero, suc, _+_, _*_, _≤_, _<_}
-use native.Mathlib.Decide.{ℕ-discrete}
-use native.Mathlib.Numerals.{add-one}
-use native.Mathlib.Omega.{arith}
-use mathlib.Core.Path.{_≡_, refl, sym, ap, _∙_, subst}
-use mathlib.Core.List.{List, [], _∷_, _++_, map-append}
-use borrow.Author.Tests.{eq-eqb, ne-eqb}
-use lib.IntN.{ℤ}
-use lib.ListN.{length, take, length-append}
-use lib.Seq.{take-append-le, take-append-seam, take-length}
+use Rattle.theory.specs.Prelude.{ℕ, zero, suc, _+_, _*_, _≤_, _<_, ℕ-discrete, add-one, arith, _≡_, refl, sym, ap, _∙_, subst, List, [], _∷_, _++_}
+use Rattle.theory.specs.Prelude.{map-append, eq-eqb, ne-eqb, ℤ, length, take, length-append, take-append-seam, take-length}
+use lib.Seq.{take-append-le}
 use Rattle.theory.specs.Constraints.{NotOver}
 use Rattle.theory.specs.Over.{IsOver, FirstOver}
 use Rattle.theory.specs.Over.Laws.{more-over, over-longer, fine-shorter, overOf-first}

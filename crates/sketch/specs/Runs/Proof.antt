@@ -1,12 +1,7 @@
 -- Every run of asks and placings, by induction on it: one event is answered as a plain list answers it. Assumes nothing.
-use Prim.Native.Nat.{ℕ, zero, suc, _<_}
-use native.Mathlib.Decide.{ℕ-discrete}
-use native.Mathlib.Omega.{arith}
-use mathlib.Core.Path.{_≡_, refl, sym, ap, _∙_, subst}
-use mathlib.Core.Logic.{_≢_, _⊎_, inl, inr}
-use mathlib.Core.Bool.{Bool, true, false, cond, not}
-use mathlib.Core.List.{List, [], _∷_, _++_, map, append-nil, append-assoc}
-use lib.ListN.{length, length-set, length-append, length-take, length-replicate}
+use Rattle.theory.specs.Prelude.{ℕ, zero, suc, _<_, ℕ-discrete, arith, _≡_, refl, sym, ap, _∙_, subst, _≢_, _⊎_, inl, inr, Bool, true, false, cond}
+use Rattle.theory.specs.Prelude.{not, List, [], _∷_, _++_, map, append-nil, append-assoc, length, length-set, length-append, length-take}
+use Rattle.theory.specs.Prelude.{length-replicate}
 use Rattle.theory.specs.Constraints.{Among}
 use Rattle.theory.specs.declared.Finding.{Finding}
 use Rattle.theory.specs.declared.Finding.the-variants.{Fine, First}

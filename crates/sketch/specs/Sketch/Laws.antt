@@ -1,14 +1,6 @@
 -- What one constraint more changes, and which rule refuses it. Assumes nothing.
-use Prim.Native.Nat.{ℕ, zero, suc, _+_, _≤_, _<_}
-use native.Mathlib.Numerals.{add-one}
-use native.Mathlib.Omega.{arith}
-use mathlib.Core.Path.{_≡_, refl, _∙_, ap, sym}
-use mathlib.Core.Bool.{true}
-use mathlib.Core.List.{List, [], _∷_, _++_, append-nil, append-assoc}
-use borrow.Author.Tests.{le-leb, eq-eqb}
-use lib.IntN.{ℤ}
-use lib.ListN.{length, length-append}
-use lib.Seq.{take-suc-set}
+use Rattle.theory.specs.Prelude.{ℕ, zero, suc, _+_, _≤_, _<_, add-one, arith, _≡_, refl, _∙_, ap, sym, true, List, [], _∷_, _++_, append-nil}
+use Rattle.theory.specs.Prelude.{append-assoc, le-leb, eq-eqb, ℤ, length, length-append, take-suc-set}
 use Rattle.sheet.specs.declared.Element.{Element}
 use Rattle.sheet.specs.declared.Constraint.{Constraint}
 use Rattle.sheet.specs.declared.Sheet.{Sheet}

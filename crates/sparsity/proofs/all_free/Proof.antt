@@ -1,10 +1,5 @@
-use borrow.Author.Needs.{needs}
+use Rattle.theory.specs.Prelude.{needs, sym, subst, [], _∷_, ℕ, _+_, _-_, _≤_, arith, set}
 -- `all_free` meets its contract. The loop's invariant: the freedoms of the elements below x are free. Assumes nothing.
-use mathlib.Core.Path.{sym, subst}
-use mathlib.Core.List.{[], _∷_}
-use Prim.Native.Nat.{ℕ, _+_, _-_, _≤_}
-use native.Mathlib.Omega.{arith}
-use lib.ListN.{set}
 use Rattle.sparsity.specs.Freedoms.{FreeBelow}
 use Rattle.sparsity.specs.Freedoms.Laws.{free-none, free-next}
 use Rattle.sparsity.proofs.all_free.Statement.{statement}

@@ -1,14 +1,10 @@
 -- `find_over` meets its contract. Assumes nothing.
-use mathlib.Core.Path.{subst}
-use Prim.Native.Nat.{ℕ}
-use native.Mathlib.Omega.{arith}
-use lib.ListN.{take, getD, getD-replicate}
+use Rattle.theory.specs.Prelude.{subst, ℕ, arith, take, getD, getD-replicate, needs}
 use Rattle.peeling.specs.Core.{Core}
 use Rattle.peeling.specs.Core.Peeling.{core-none}
 use Rattle.peeling.specs.Hard.{Noted}
 use Rattle.peeling.specs.Hard.Laws.{in-list}
 use Rattle.sparsity.specs.Answer.Laws.{answer-not}
-use borrow.Author.Needs.{needs}
 use Rattle.sparsity.proofs.find_over.Statement.{statement}
 use Rattle.sparsity.proofs.find_over.Tie as tie
 

@@ -1,7 +1,6 @@
 -- `free_of` meets its contract. Assumes nothing.
-use native.Mathlib.Omega.{arith}
+use Rattle.theory.specs.Prelude.{arith, needs}
 use Rattle.sparsity.specs.Freedoms.Sums.{same-bit}
-use borrow.Author.Needs.{needs}
 use Rattle.sparsity.proofs.free_of.Statement.{statement}
 use Rattle.sparsity.proofs.free_of.Tie as tie
 

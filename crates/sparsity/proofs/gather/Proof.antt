@@ -1,15 +1,12 @@
 -- `gather` meets its contract. The loops' invariants: the same constraints use the freedoms in another way; on the way back the freedoms from place
 -- p to place `to` are turned. Assumes nothing.
-use mathlib.Core.Path.{refl, sym, ap, _∙_}
-use Prim.Native.Nat.{_+_, _-_}
-use native.Mathlib.Omega.{arith}
+use Rattle.theory.specs.Prelude.{refl, sym, ap, _∙_, _+_, _-_, arith, needs}
 use Rattle.theory.specs.Set.Laws.{filled}
 use Rattle.sparsity.specs.Freedoms.{entry, same, free}
 use Rattle.sparsity.specs.Freedoms.Sums.{same-bit, free-count}
 use Rattle.sparsity.specs.Reach.{Lent, Rebalanced, Way, Walked}
 use Rattle.sparsity.specs.Reach.Laws.{found-stuck, found-first}
 use Rattle.sparsity.specs.Reach.Back.{way-of, walk-start, walk-stored, walk-end, j-less, x-fits, y-fits, again-refl, again-trans, gained-ends}
-use borrow.Author.Needs.{needs}
 use Rattle.sparsity.proofs.gather.Statement.{statement}
 use Rattle.sparsity.proofs.gather.Tie as tie
 

@@ -1,9 +1,6 @@
 -- `place` meets its contract: one of the four entries is free. Assumes nothing.
-use mathlib.Core.Path.{sym, _∙_}
-use native.Mathlib.Nat.{zero-lt-suc, le-refl}
-use native.Mathlib.Omega.{arith}
+use Rattle.theory.specs.Prelude.{sym, _∙_, zero-lt-suc, le-refl, arith, needs}
 use Rattle.sparsity.specs.Reach.Back.{placed-first, placed-second, last-free}
-use borrow.Author.Needs.{needs}
 use Rattle.sparsity.proofs.place.Statement.{statement}
 use Rattle.sparsity.proofs.place.Tie as tie
 

@@ -1,11 +1,5 @@
 -- `search` meets its contract. The loop's invariant: the constraints before c use freedoms and are not over. Assumes nothing.
-use mathlib.Core.Path.{refl, sym, ap, _∙_, subst}
-use mathlib.Core.Logic.{⊎-elim}
-use Prim.Native.Nat.{ℕ, suc, _-_, _≤_}
-use native.Mathlib.Numerals.{add-one}
-use native.Mathlib.Omega.{arith}
-use lib.ListN.{take, getD}
-use lib.Seq.{take-all}
+use Rattle.theory.specs.Prelude.{refl, sym, ap, _∙_, subst, ⊎-elim, ℕ, suc, _-_, _≤_, add-one, arith, take, getD, take-all, needs}
 use Rattle.theory.specs.Constraints.{NotOver}
 use Rattle.theory.specs.Near.Laws.{standing-count, standing-item}
 use Rattle.peeling.specs.Hard.{Noted}
@@ -16,7 +10,6 @@ use Rattle.sparsity.specs.Reach.Visits.{lent-by}
 use Rattle.sparsity.specs.Answer.{Using, Ready}
 use Rattle.sparsity.specs.Answer.Laws.{free-using, two-ends, ends-at, using-skip, ready-now, ready-gathered, ready-some, using-next, first-at}
 use Rattle.sparsity.specs.Answer.Laws.{answer-not, answer-first}
-use borrow.Author.Needs.{needs}
 use Rattle.sparsity.proofs.search.Statement.{statement}
 use Rattle.sparsity.proofs.search.Tie as tie
 

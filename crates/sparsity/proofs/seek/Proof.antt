@@ -1,12 +1,9 @@
 -- `seek` meets its contract. The loop's invariant: the queue has what is reached so far, none of it has a free entry, and the first p places are
 -- scanned. Assumes nothing.
-use Prim.Native.Nat.{_-_, _≤_}
-use native.Mathlib.Nat.{zero-lt-suc, le-refl}
-use native.Mathlib.Omega.{arith}
+use Rattle.theory.specs.Prelude.{_-_, _≤_, zero-lt-suc, le-refl, arith, needs}
 use Rattle.sparsity.specs.Reach.{Reached, Scanned, Shut}
 use Rattle.sparsity.specs.Reach.Laws.{begun-with, scanned-none, shut-two, reached-most, scan-fits, scan-low, mid-size, scan-reached, scan-next}
 use Rattle.sparsity.specs.Reach.Laws.{scan-below, scan-shut, opens-some, opens-none, found-first-visit, found-second-visit, found-all}
-use borrow.Author.Needs.{needs}
 use Rattle.sparsity.proofs.seek.Statement.{statement}
 use Rattle.sparsity.proofs.seek.Tie as tie
 

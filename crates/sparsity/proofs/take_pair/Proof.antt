@@ -1,10 +1,7 @@
 -- `take_pair` meets its contract: four free entries on the ends, or the search reached the smallest set. Assumes nothing.
-use mathlib.Core.Path.{sym, ap}
-use Prim.Native.Nat.{ℕ}
-use native.Mathlib.Omega.{arith}
+use Rattle.theory.specs.Prelude.{sym, ap, ℕ, arith, needs}
 use Rattle.sparsity.specs.Freedoms.{entry}
 use Rattle.sparsity.specs.Answer.Laws.{took-four, took-over}
-use borrow.Author.Needs.{needs}
 use Rattle.sparsity.proofs.take_pair.Statement.{statement}
 use Rattle.sparsity.proofs.take_pair.Tie as tie
 

@@ -1,10 +1,5 @@
 -- `visit` meets its contract. Assumes nothing.
-use mathlib.Core.Path.{sym, subst}
-use Prim.Native.Nat.{ℕ, _+_}
-use native.Mathlib.Omega.{arith}
-use borrow.Author.Needs.{needs}
-use lib.Bits.{bitOr}
-use lib.ListN.{set}
+use Rattle.theory.specs.Prelude.{sym, subst, ℕ, _+_, arith, needs, bitOr, set}
 use Rattle.theory.specs.Set.{_∪_}
 use Rattle.theory.specs.Set.Less.{meets-at, misses-at}
 use Rattle.sparsity.specs.Reach.{Visit, known, fresh}

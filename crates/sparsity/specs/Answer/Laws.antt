@@ -1,13 +1,7 @@
 -- Laws of the answer: the search from its start, one constraint more that uses a freedom or finds none, a constraint that does not lie in u.
 -- Assumes nothing.
-use mathlib.Core.Path.{_≡_, sym, ap, ap₂, _∙_, subst}
-use mathlib.Core.Logic.{_≢_, inl, inr}
-use mathlib.Core.List.{List, []}
-use Prim.Native.Nat.{ℕ, suc, _+_, _*_, _^_, _≤_, _<_}
-use native.Mathlib.Nat.{le-refl}
-use native.Mathlib.Omega.{arith}
-use lib.Count.{ones}
-use lib.ListN.{length, take, getD}
+use Rattle.theory.specs.Prelude.{_≡_, sym, ap, ap₂, _∙_, subst, _≢_, inl, inr, List, [], ℕ, suc, _+_, _*_, _^_, _≤_, _<_, le-refl, arith, ones}
+use Rattle.theory.specs.Prelude.{length, take, getD}
 use Rattle.theory.specs.Set.{_∈_, _∩_, _⊑_, at}
 use Rattle.theory.specs.Set.Laws.{at-∩, ⊑-trans, a∩b⊑a, a∩b⊑b, two-in}
 use Rattle.theory.specs.Constraints.{pair, has, carried, NotOver, Below}

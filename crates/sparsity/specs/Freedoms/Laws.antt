@@ -1,14 +1,7 @@
 -- What the table of freedoms says of a set, and the table at the start. Assumes nothing.
-use mathlib.Core.Path.{_≡_, refl, sym, ap, _∙_, subst}
-use mathlib.Core.Logic.{_≢_, _⊎_, inl, inr}
-use mathlib.Core.List.{List, [], _∷_}
-use Prim.Native.Nat.{ℕ, zero, suc, _+_, _*_, _-_, _^_, _≤_, _<_}
-use native.Mathlib.Nat.{zero-add, zero-lt-suc, not-suc-le-zero, le-of-suc-le-suc, le-refl}
-use native.Mathlib.Omega.{arith}
-use native.Mathlib.Decide.{ℕ-discrete}
-use lib.Count.{ones}
-use lib.ListN.{length, getD, set, length-set, replicate, length-replicate, getD-replicate}
-use lib.Seq.{getD-set-same, getD-set-other}
+use Rattle.theory.specs.Prelude.{_≡_, refl, sym, ap, _∙_, subst, _≢_, _⊎_, inl, inr, List, [], _∷_, ℕ, zero, suc, _+_, _*_, _-_, _^_, _≤_, _<_}
+use Rattle.theory.specs.Prelude.{zero-add, zero-lt-suc, not-suc-le-zero, le-of-suc-le-suc, le-refl, arith, ℕ-discrete, ones, length, getD, set}
+use Rattle.theory.specs.Prelude.{length-set, replicate, length-replicate, getD-replicate, getD-set-same, getD-set-other}
 use Rattle.theory.specs.Set.{_∈_, at}
 use Rattle.theory.specs.Set.Laws.{at-le, bit}
 use Rattle.theory.specs.Constraints.{carried}

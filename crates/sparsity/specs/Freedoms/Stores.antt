@@ -1,13 +1,6 @@
 -- The effect of one store in the table of freedoms, and the balance that placing and turning keep. Assumes nothing.
-use mathlib.Core.Path.{_≡_, sym, ap, ap₂, _∙_, subst}
-use mathlib.Core.Logic.{_≢_, inl, inr}
-use mathlib.Core.List.{List, []}
-use Prim.Native.Nat.{ℕ, _+_, _*_, _<_}
-use native.Mathlib.Nat.{le-of-suc-le-suc}
-use native.Mathlib.Omega.{arith}
-use native.Mathlib.Decide.{ℕ-discrete}
-use lib.ListN.{length, getD, set, length-set}
-use lib.Seq.{getD-set-same, getD-set-other}
+use Rattle.theory.specs.Prelude.{_≡_, sym, ap, ap₂, _∙_, subst, _≢_, inl, inr, List, [], ℕ, _+_, _*_, _<_, le-of-suc-le-suc, arith, ℕ-discrete}
+use Rattle.theory.specs.Prelude.{length, getD, set, length-set, getD-set-same, getD-set-other}
 use Rattle.theory.specs.Set.{_∈_, _⊑_, at}
 use Rattle.theory.specs.Set.Laws.{at-le, bit}
 use Rattle.theory.specs.Constraints.{has, carried}

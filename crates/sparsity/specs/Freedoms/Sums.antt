@@ -1,11 +1,6 @@
 -- Sums over a set's elements. Assumes nothing.
-use mathlib.Core.Path.{_≡_, refl, sym, ap, _∙_}
-use mathlib.Core.Logic.{_≢_, inl, inr, ⊎-elim}
-use mathlib.Core.List.{List}
-use Prim.Native.Nat.{ℕ, _+_, _*_, _-_, _^_, _≤_, _<_}
-use native.Mathlib.Nat.{zero-mul, one-mul}
-use native.Mathlib.Omega.{arith}
-use lib.Count.{ones}
+use Rattle.theory.specs.Prelude.{_≡_, refl, sym, ap, _∙_, _≢_, inl, inr, ⊎-elim, List, ℕ, _+_, _*_, _-_, _^_, _≤_, _<_, one-mul, arith, ones}
+use native.Mathlib.Nat.{zero-mul}
 use Rattle.theory.specs.Set.{_∈_, at}
 use Rattle.theory.specs.Set.Laws.{at-le, bit, size-sum}
 use Rattle.theory.specs.Sum.Laws.{sum-le, sum-eq, sum-zero, sum-mul, sum-two, sum-change, sum-change₂, sum-tight}

@@ -1,11 +1,6 @@
 -- The way back from a place of the queue to the first two, which turns one freedom at each step, and what is gathered so. Assumes nothing.
-use mathlib.Core.Path.{_≡_, refl, sym, ap, ap₂, _∙_, subst}
-use mathlib.Core.Logic.{_≢_, inl, inr, ⊎-elim}
-use mathlib.Core.List.{List}
-use Prim.Native.Nat.{ℕ, suc, _+_, _≤_, _<_}
-use native.Mathlib.Nat.{lt-trans, lt-suc-self, zero-lt-suc, le-refl, le-of-suc-le-suc}
-use native.Mathlib.Decide.{ℕ-discrete, decLt}
-use native.Mathlib.Omega.{arith}
+use Rattle.theory.specs.Prelude.{_≡_, refl, sym, ap, ap₂, _∙_, subst, _≢_, inl, inr, ⊎-elim, List, ℕ, suc, _+_, _≤_, _<_, lt-trans, lt-suc-self}
+use Rattle.theory.specs.Prelude.{zero-lt-suc, le-refl, le-of-suc-le-suc, ℕ-discrete, decLt, arith}
 use Rattle.theory.specs.Set.{at}
 use Rattle.theory.specs.Set.Laws.{bit}
 use Rattle.sparsity.specs.Freedoms.{entry, stored, free, same, Table}

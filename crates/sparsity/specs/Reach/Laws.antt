@@ -1,16 +1,7 @@
 -- The search from its start to its end, and what its end says. Assumes nothing.
-use mathlib.Core.Path.{_≡_, sym, ap, ap₂, _∙_, subst}
-use mathlib.Core.Logic.{_≢_, ⊎-elim}
-use mathlib.Core.List.{List}
-use Prim.Native.Nat.{ℕ, zero, suc, _+_, _^_, _≤_, _<_}
-use native.Mathlib.Nat.{lt-of-lt-of-le, lt-suc-self, zero-lt-suc, le-refl, ne-of-lt, not-suc-le-zero, le-of-suc-le-suc, eq-or-lt-of-le}
-use native.Mathlib.Decide.{ℕ-discrete, decLt}
-use native.Mathlib.Omega.{arith}
-use lib.Bits.{bitOr, or-lt}
-use lib.Count.{ones, ones-le}
-use lib.ListN.{set, length-set}
-use lib.Pow.{pow-lt}
-use lib.Seq.{getD-set-same, getD-set-other}
+use Rattle.theory.specs.Prelude.{_≡_, sym, ap, ap₂, _∙_, subst, _≢_, ⊎-elim, List, ℕ, zero, suc, _+_, _^_, _≤_, _<_, lt-of-lt-of-le, lt-suc-self}
+use Rattle.theory.specs.Prelude.{zero-lt-suc, le-refl, ne-of-lt, not-suc-le-zero, le-of-suc-le-suc, eq-or-lt-of-le, ℕ-discrete, decLt, arith, bitOr}
+use Rattle.theory.specs.Prelude.{or-lt, ones, ones-le, set, length-set, pow-lt, getD-set-same, getD-set-other}
 use Rattle.theory.specs.Set.{_∈_, _∪_, _⊑_, at}
 use Rattle.theory.specs.Set.Laws.{at-∪, at-le, at-same, at-other, bit, size-add, size-pow}
 use Rattle.sparsity.specs.Freedoms.{entry, free, same, Table, Closed}

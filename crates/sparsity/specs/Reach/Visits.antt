@@ -1,16 +1,7 @@
 -- A visit: an element that is known, or goes to the end of the queue. Assumes nothing.
-use mathlib.Core.Path.{_≡_, refl, sym, ap, _∙_, subst}
-use mathlib.Core.Logic.{_≢_, ⊎-elim}
-use mathlib.Core.List.{List}
-use Prim.Native.Nat.{ℕ, _+_, _^_, _≤_, _<_}
-use native.Mathlib.Nat.{lt-trans, le-refl, ne-of-lt, eq-or-lt-of-le}
-use native.Mathlib.Decide.{ℕ-discrete}
-use native.Mathlib.Omega.{arith}
-use lib.Bits.{or-lt}
-use lib.Count.{ones, ones-le}
-use lib.ListN.{length, set, length-set}
-use lib.Pow.{pow-lt}
-use lib.Seq.{getD-set-same, getD-set-other}
+use Rattle.theory.specs.Prelude.{_≡_, refl, sym, ap, _∙_, subst, _≢_, ⊎-elim, List, ℕ, _+_, _^_, _≤_, _<_, lt-trans, le-refl, ne-of-lt}
+use Rattle.theory.specs.Prelude.{eq-or-lt-of-le, ℕ-discrete, arith, or-lt, ones, ones-le, length, set, length-set, pow-lt, getD-set-same}
+use Rattle.theory.specs.Prelude.{getD-set-other}
 use Rattle.theory.specs.Set.{_∈_, _∪_, at}
 use Rattle.theory.specs.Set.Laws.{at-∪, at-le, at-same, at-other, size-add, ∪-comm}
 use Rattle.sparsity.specs.Freedoms.{entry, free, Table}

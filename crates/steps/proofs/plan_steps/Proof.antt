@@ -1,7 +1,5 @@
 -- `steps::plan_steps` meets its contract: the verdict's number tells whether the sheet is over. Assumes nothing.
-use borrow.Author.Needs.{needs}
-use native.Mathlib.Omega.{arith}
-use mathlib.Core.Path.{sym, _∙_}
+use Rattle.theory.specs.Prelude.{needs, arith, sym, _∙_}
 use Rattle.theory.specs.Graph.{Graph}
 use Rattle.graph.specs.Lent.{graphIn}
 use Rattle.graph.specs.Lent.Sheets.{counted}

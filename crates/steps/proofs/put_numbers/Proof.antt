@@ -1,8 +1,5 @@
 -- `steps::put_numbers` meets its contract: the rule that refused, 17, or the numbers of the records. Assumes nothing.
-use borrow.Author.Needs.{needs}
-use native.Mathlib.Omega.{arith}
-use mathlib.Core.Path.{_≡_, sym, _∙_}
-use lib.ListN.{length, length-map}
+use Rattle.theory.specs.Prelude.{needs, arith, _≡_, sym, _∙_, length, length-map}
 use Rattle.theory.proofs.Step as T
 use Rattle.steps.specs.Records.Laws.{numbers-short, numbers-put}
 use Rattle.steps.proofs.put_numbers.Statement.{statement}

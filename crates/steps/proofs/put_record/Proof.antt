@@ -1,8 +1,5 @@
 -- `steps::put_record` meets its contract: seven numbers, one after another. Assumes nothing.
-use borrow.Author.Needs.{needs}
-use Prim.Native.Nat.{ℕ}
-use mathlib.Core.Path.{ap}
-use mathlib.Core.List.{[], _∷_}
+use Rattle.theory.specs.Prelude.{needs, ℕ, ap, [], _∷_}
 use Rattle.space.specs.Space.Laws.{put-as, _then_}
 use Rattle.steps.proofs.put_record.Statement.{statement}
 use Rattle.steps.proofs.put_record.Tie as tie

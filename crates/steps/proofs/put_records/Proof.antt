@@ -1,10 +1,6 @@
 -- `steps::put_records` meets its contract: the numbers of the records from `i` on are still to be put. Assumes nothing.
-use Prim.Native.Nat.{_-_, _≤_}
-use native.Mathlib.Omega.{arith}
-use mathlib.Core.Path.{refl}
-use lib.ListN.{length, take, drop, length-take, length-map}
+use Rattle.theory.specs.Prelude.{_-_, _≤_, arith, refl, length, take, drop, length-take, length-map, sets}
 use Rattle.theory.proofs.Step as T
-use lib.Seq.{sets}
 use Rattle.space.specs.Space.{Put}
 use Rattle.space.specs.Space.Laws.{put-none, put-all, _then_}
 use Rattle.report.proofs.Going.{Composes, Going, start, put-next, put-last, place}

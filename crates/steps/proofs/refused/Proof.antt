@@ -1,7 +1,5 @@
 -- `steps::refused` meets its contract. Assumes nothing.
-use borrow.Author.Needs.{needs}
-use mathlib.Core.Path.{ap}
-use mathlib.Core.List.{List}
+use Rattle.theory.specs.Prelude.{needs, ap, List}
 use Rattle.theory.specs.declared.Step.{Step}
 use Rattle.steps.specs.Listing.{listingOf}
 use Rattle.steps.proofs.refused.Statement.{statement}

@@ -1,8 +1,5 @@
 -- `steps::saved_steps` meets its contract: 11 of an over graph, else what the check of the plan answers. Assumes nothing.
-use borrow.Author.Needs.{needs}
-use native.Mathlib.Omega.{arith}
-use mathlib.Core.Path.{_≡_, sym, _∙_}
-use lib.ListN.{take}
+use Rattle.theory.specs.Prelude.{needs, arith, _≡_, sym, _∙_, take}
 use Rattle.theory.specs.Constraints.{NotOver}
 use Rattle.theory.specs.Graph.{Graph}
 use Rattle.sheet.specs.Graph.Laws.{fault-none}

@@ -1,18 +1,9 @@
 -- The steps that the arrays of a run give are those of its list of merges; what a judgement says of them; and what is filled from a listing is what
 -- its
 -- field gives. Assumes nothing.
-use Prim.Native.Nat.{ℕ, zero, suc, _+_, _*_, _≤_, _<_, min}
-use native.Mathlib.Omega.{arith}
-use native.Mathlib.Numerals.{add-one}
-use borrow.Author.Tests.{lt-ltb, le-ltb, ltb-true, ltb-false}
-use mathlib.Core.Path.{_≡_, refl, sym, ap, _∙_, subst}
-use mathlib.Core.Logic.{_≢_}
-use mathlib.Core.Bool.{Bool, true, false, cond}
-use mathlib.Core.List.{List, [], _∷_, _++_}
-use lib.Dec.{ltb}
-use lib.IntN.{ℤ}
-use lib.ListN.{length, getD, take, drop, length-take, drop-of-length-le, List·getD-eq-default}
-use lib.Seq.{drop-cons, ext-getD, getD-take, take-all, take-append-seam}
+use Rattle.theory.specs.Prelude.{ℕ, zero, suc, _+_, _*_, _≤_, _<_, min, arith, add-one, lt-ltb, le-ltb, ltb-true, ltb-false, _≡_, refl, sym, ap, _∙_}
+use Rattle.theory.specs.Prelude.{subst, _≢_, Bool, true, false, cond, List, [], _∷_, _++_, ltb, ℤ, length, getD, take, drop, length-take}
+use Rattle.theory.specs.Prelude.{drop-of-length-le, List·getD-eq-default, drop-cons, ext-getD, getD-take, take-all, take-append-seam}
 use Rattle.theory.specs.Block.{block}
 use Rattle.theory.specs.Block.Laws.{length-block, getD-block, take-block}
 use Rattle.theory.specs.Constraints.{NotOver}

@@ -1,8 +1,5 @@
 -- A record holds what the step's report line gives: the report's step lines are the lines of the records, in their order. Assumes nothing.
-use Prim.Native.Nat.{ℕ}
-use mathlib.Core.Path.{_≡_, refl, ap, _∙_}
-use mathlib.Core.List.{List, _++_}
-use lib.ListN.{length}
+use Rattle.theory.specs.Prelude.{ℕ, _≡_, refl, ap, _∙_, List, _++_, length}
 use Rattle.theory.specs.Merge.{Merge}
 use Rattle.theory.specs.Plan.{planOf}
 use Rattle.theory.specs.declared.Finding.the-variants.{Fine}

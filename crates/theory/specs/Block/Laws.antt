@@ -1,10 +1,7 @@
 -- Reading and storing in a block is reading and storing in its list. Assumes nothing.
-use mathlib.Core.Path.{_≡_, refl, sym, ap, _∙_}
-use mathlib.Core.List.{List, [], _∷_, _++_, append-assoc}
-use Prim.Native.Nat.{ℕ, zero, suc, _-_, _≤_, _<_}
-use native.Mathlib.Omega.{arith}
-use lib.ListN.{length, getD, set, take, replicate, length-append, length-replicate, length-set}
-use lib.Seq.{set-append-left, set-append-seam, take-at}
+use Rattle.theory.specs.Prelude.{_≡_, refl, sym, ap, _∙_, List, [], _∷_, _++_, append-assoc, ℕ, zero, suc, _-_, _≤_, _<_, arith, length, getD}
+use Rattle.theory.specs.Prelude.{set, take, replicate, length-append, length-replicate, length-set, set-append-seam, take-at}
+use lib.Seq.{set-append-left}
 use Rattle.theory.specs.Block.{block}
 
 module _ {A : Type 0} (k : ℕ) (d : A) where

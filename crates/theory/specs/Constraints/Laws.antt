@@ -1,17 +1,8 @@
 -- Laws of constraints: what is carried by two sets, by three and a fourth, by the sheet's own elements, in any order of the constraints.
 -- Assumes nothing.
-use mathlib.Core.Path.{_≡_, refl, sym, ap, ap₂, _∙_, subst}
-use mathlib.Core.Logic.{_≢_, _↔_, _⊎_, inl, inr, ⊎-elim, Iff·trans, Iff·rfl}
-use mathlib.Core.Bool.{Bool, true, false}
-use mathlib.Core.List.{List, [], _∷_, map}
-use Prim.Native.Nat.{ℕ, zero, suc, _+_, _*_, _^_, _≤_, _<_}
-use native.Mathlib.Omega.{arith}
-use native.Mathlib.Decide.{ℕ-discrete, decLe}
-use lib.Bits.{or-lt}
-use lib.Dec.{eqb, eqb→eq, eqb-refl, T}
-use lib.Count.{ones}
-use lib.ListN.{length}
-use lib.Pow.{pow-lt}
+use Rattle.theory.specs.Prelude.{_≡_, refl, sym, ap, ap₂, _∙_, subst, _≢_, _↔_, _⊎_, inl, inr, ⊎-elim, Iff·trans, Iff·rfl, Bool, true, false}
+use Rattle.theory.specs.Prelude.{List, [], _∷_, map, ℕ, zero, suc, _+_, _*_, _^_, _≤_, _<_, arith, ℕ-discrete, decLe, or-lt, eqb, eqb→eq}
+use Rattle.theory.specs.Prelude.{eqb-refl, T, ones, length, pow-lt}
 use Rattle.theory.specs.Set.{_∈_, _∩_, _∪_, at, _⊑_, full}
 use Rattle.theory.specs.Set.Laws.{at-∪, at-le, bit, ⊑⇒size≤, ⊑-size-≡, ⊑-refl, ⊑-trans, a⊑a∪b, b⊑a∪b, a∩b⊑a, a∩b⊑b, ∩-greatest, ⊑⇒∩≡}
 use Rattle.theory.specs.Set.Laws.{∩≡⇒⊑, ∪-comm, singles-or, at-same, at-other, size-pow, pow-ne, below-full, cut-below}

@@ -1,9 +1,5 @@
 -- Further laws of every list of merges of an accepted sheet that isn't over. Assumes nothing.
-use mathlib.Core.Path.{_≡_, refl}
-use mathlib.Core.Logic.{_≢_}
-use mathlib.Core.List.{List, [], _∷_}
-use Prim.Native.Nat.{ℕ, _+_, _*_, _≤_}
-use lib.ListN.{length}
+use Rattle.theory.specs.Prelude.{_≡_, refl, _≢_, List, [], _∷_, ℕ, _+_, _*_, _≤_, length}
 use Rattle.theory.specs.Set.{_⊑_}
 use Rattle.theory.specs.Constraints.{Among}
 use Rattle.theory.specs.Merge.{Merge, slot, Valid, final, Ended, Maximal, live}

@@ -1,8 +1,5 @@
 -- Demand 3 holds. Assumes nothing.
-use mathlib.Core.Path.{refl, sym}
-use mathlib.Core.List.{List}
-use Prim.Native.Nat.{_≤_}
-use native.Mathlib.Omega.{arith}
+use Rattle.theory.specs.Prelude.{refl, sym, List, _≤_, arith}
 use Rattle.theory.specs.Constraints.{Pairs, Below, NotOver}
 use Rattle.theory.specs.Constraints.Laws.{pairs-perm, below-perm, fine-perm}
 use Rattle.theory.specs.Merge.{Merge, slot, Valid, final, live}

@@ -1,10 +1,6 @@
 -- The verdict is over if and only if some set carries too much; else it is that of every maximal list of merges, in every order of the
 -- constraints. The steps of a list of merges are as many, and have its joints. Assumes nothing.
-use mathlib.Core.Path.{_≡_, refl, sym, ap, ap₂, _∙_}
-use mathlib.Core.Logic.{_≢_}
-use mathlib.Core.List.{List, [], _∷_, map}
-use Prim.Native.Nat.{ℕ, suc}
-use lib.ListN.{length}
+use Rattle.theory.specs.Prelude.{_≡_, refl, sym, ap, ap₂, _∙_, _≢_, List, [], _∷_, map, ℕ, suc, length}
 use Rattle.theory.specs.Constraints.{Pairs, Below, Perm, same, NotOver}
 use Rattle.theory.specs.Constraints.Laws.{length-perm}
 use Rattle.theory.specs.Over.{IsOver}

@@ -1,13 +1,6 @@
 -- Verdicts that need no list of merges. Assumes nothing.
-use mathlib.Core.Path.{_≡_, refl, sym, ap, ap₂, _∙_, subst}
-use mathlib.Core.Logic.{_≢_, inl, inr}
-use mathlib.Core.Bool.{Bool, true, false, _||_}
-use mathlib.Core.List.{List, [], _∷_}
-use Prim.Native.Nat.{ℕ, _+_, _*_, _≤_, _<_}
-use native.Mathlib.Omega.{arith}
-use lib.Count.{ones}
-use lib.Dec.{T, eqb, eqb→eq}
-use lib.ListN.{length}
+use Rattle.theory.specs.Prelude.{_≡_, refl, sym, ap, ap₂, _∙_, subst, _≢_, inl, inr, Bool, true, false, _||_, List, [], _∷_, ℕ, _+_, _*_, _≤_}
+use Rattle.theory.specs.Prelude.{_<_, arith, ones, T, eqb, eqb→eq, length}
 use Rattle.theory.specs.Tests.{eq-test}
 use Rattle.theory.specs.Set.Laws.{⊑⇒size≤}
 use Rattle.theory.specs.Constraints.{Among, Pairs, Below}

@@ -1,12 +1,7 @@
 -- Either way round, by number: once one of two open merges is made, the other is open, the union standing in for a cluster in common.
 -- Assumes nothing.
-use mathlib.Core.Path.{_≡_, refl, sym, ap, _∙_, subst}
-use mathlib.Core.Logic.{_≢_, _↔_, inl, inr, Iff·trans, Iff·symm}
-use mathlib.Core.Bool.{Bool, true, false, _||_}
-use mathlib.Core.List.{List}
-use lib.Dec.{eqb, eqb→eq, T}
-use Prim.Native.Nat.{ℕ}
-use lib.ListN.{length}
+use Rattle.theory.specs.Prelude.{_≡_, refl, sym, ap, _∙_, subst, _≢_, _↔_, inl, inr, Iff·trans, Iff·symm, Bool, true, false, _||_, List, eqb}
+use Rattle.theory.specs.Prelude.{eqb→eq, T, ℕ, length}
 use Rattle.theory.specs.Tests.{eq-test}
 use Rattle.theory.specs.Constraints.{NotOver, Pairs}
 use Rattle.theory.specs.Merge.{Three, union, joint, Merge, slot, three, OpenAt, put, live, Part, Valid, final, isPart, stand, moved, Differ}

@@ -1,13 +1,7 @@
 -- The clusters as a family of sets, a predicate: the numbers and the order of the clusters are of no account there. Families are what the
 -- proofs of "Every order of merging" work with; the numbered clusters are shown to step as their family does. A name
 -- that ends in In is of families what the name without it is of numbered clusters. Assumes nothing.
-use mathlib.Core.Path.{_≡_}
-use mathlib.Core.Logic.{_≢_, _↔_, _⊎_}
-use mathlib.Core.List.{List, [], _∷_}
-use lib.ListN.{length}
-use Prim.Native.Nat.{ℕ, zero, _+_, _*_}
-use native.Mathlib.Decide.{decLe}
-use lib.Count.{ones}
+use Rattle.theory.specs.Prelude.{_≡_, _≢_, _↔_, _⊎_, List, [], _∷_, length, ℕ, zero, _+_, _*_, decLe, ones}
 use Rattle.theory.specs.Merge.{Open, Three, union, joint, Merge, slot, three, put, final, joints, live}
 use Rattle.theory.specs.Set.{_∩_, _∪_}
 use Rattle.theory.specs.Constraints.{carried, Among}

@@ -1,11 +1,6 @@
 -- A list of merges that leaves one cluster shows that the constraints are not over: what a set carries is at most the sum of 2m - 3 over its parts in
 -- the living clusters, m being a part's elements, and a merge never lowers that sum. Assumes nothing.
-use mathlib.Core.Path.{_≡_, refl, ap, _∙_}
-use mathlib.Core.Logic.{inl, inr}
-use mathlib.Core.List.{List, [], _∷_}
-use Prim.Native.Nat.{ℕ, zero, suc, _+_, _≤_}
-use native.Mathlib.Omega.{arith}
-use lib.Count.{ones}
+use Rattle.theory.specs.Prelude.{_≡_, refl, ap, _∙_, inl, inr, List, [], _∷_, ℕ, zero, suc, _+_, _≤_, arith, ones}
 use Rattle.theory.specs.Set.{_∩_, _∪_}
 use Rattle.theory.specs.Set.Laws.{size-∪, ⊑⇒size≤, size-zero, ∩-distrib-∪, a∩b⊑a, a∩b⊑b, ∩-mono, ∪-mono, ⊑-refl, ⊑⇒∩≡, a⊑a∪b, b⊑a∪b}
 use Rattle.theory.specs.Constraints.{Pairs, carried, has, NotOver}

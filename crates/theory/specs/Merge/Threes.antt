@@ -1,10 +1,5 @@
 -- Laws of three open sets: the sizes of union and joint, that each has two elements or more, and what they have in common. Assumes nothing.
-use mathlib.Core.Path.{_≡_, sym, ap, _∙_, subst}
-use mathlib.Core.Logic.{_≢_, Ne·symm}
-use mathlib.Core.List.{List}
-use Prim.Native.Nat.{ℕ, _+_, _≤_}
-use native.Mathlib.Omega.{arith}
-use lib.Count.{ones}
+use Rattle.theory.specs.Prelude.{_≡_, sym, ap, _∙_, subst, _≢_, Ne·symm, List, ℕ, _+_, _≤_, arith, ones}
 use Rattle.theory.specs.Merge.{Open, Three, union, joint, Merge, slot, OpenAt}
 use Rattle.theory.specs.Set.{_∩_, _∪_, _⊑_}
 use Rattle.theory.specs.Set.Laws.{size-∪, ⊑⇒size≤, ⊑-trans, a⊑a∪b, b⊑a∪b, a∩b⊑b, ∩-distrib-∪, singles-apart, singles-or, ∪-least, a∩b⊑a}

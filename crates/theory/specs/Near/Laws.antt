@@ -1,14 +1,7 @@
 -- Laws of who is constrained with whom: lists that grow at their end, both ends noted, and what an element carries. Assumes nothing.
-use mathlib.Core.Path.{_≡_, refl, sym, ap, _∙_, subst}
-use mathlib.Core.Logic.{_≢_, _↔_, _⊎_, inl, inr, ⊎-elim, Ne·symm}
-use mathlib.Core.List.{List, [], _∷_, _++_}
-use Prim.Native.Nat.{ℕ, zero, suc, _+_, _-_, _^_, _≤_, _<_}
-use native.Mathlib.Decide.{ℕ-discrete}
-use native.Mathlib.Omega.{arith}
-use lib.Bits.{bitOr}
-use lib.Count.{ones}
-use lib.ListN.{length, take, getD, set, length-set, replicate, length-replicate}
-use lib.Seq.{getD-set-same, getD-set-other, getD-take, length-take-le}
+use Rattle.theory.specs.Prelude.{_≡_, refl, sym, ap, _∙_, subst, _≢_, _↔_, _⊎_, inl, inr, ⊎-elim, Ne·symm, List, [], _∷_, _++_, ℕ, zero, suc}
+use Rattle.theory.specs.Prelude.{_+_, _-_, _^_, _≤_, _<_, ℕ-discrete, arith, bitOr, ones, length, take, getD, set, length-set, replicate}
+use Rattle.theory.specs.Prelude.{length-replicate, getD-set-same, getD-set-other, getD-take, length-take-le}
 use Rattle.theory.specs.Set.{_∈_, _∩_, _∪_, _⊑_, at}
 use Rattle.theory.specs.Set.Laws.{at-∪, at-le, at-zero, at-same, at-other, bit, ⊑-size-≡, size-pow, size-add, ∈-∪ˡ}
 use Rattle.theory.specs.Set.Laws.{∈-∪ʳ, other, both}

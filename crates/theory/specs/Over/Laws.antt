@@ -1,17 +1,8 @@
 -- Laws of "over". Among the sets that hold both ends of a constraint and carry exactly 2m-3 there is exactly one smallest, which lies within every
 -- other; what is found is determined; the tests find it; elements that no constraint names change nothing. Assumes nothing.
-use mathlib.Core.Path.{_≡_, refl, sym, ap, ap₂, _∙_, subst}
-use mathlib.Core.Logic.{inl, inr}
-use mathlib.Core.Bool.{Bool, true, false}
-use mathlib.Core.List.{List, [], _∷_, _++_}
-use Prim.Native.Nat.{ℕ, zero, suc, _+_, _*_, _^_, _≤_, _<_}
-use native.Mathlib.Nat.{le-antisymm, le-refl, le-step, lt-suc-self}
-use native.Mathlib.Omega.{arith}
-use native.Mathlib.Decide.{ℕ-discrete, decLe, decLt}
-use lib.Dec.{T, leb, ltb, eqb, leb→le, le→leb, ltb→lt, lt→ltb, eqb→eq}
-use lib.Count.{ones}
-use lib.ListN.{length, take, getD}
-use lib.Seq.{take-suc, take-length}
+use Rattle.theory.specs.Prelude.{_≡_, refl, sym, ap, ap₂, _∙_, subst, inl, inr, Bool, true, false, List, [], _∷_, _++_, ℕ, zero, suc, _+_, _*_}
+use Rattle.theory.specs.Prelude.{_^_, _≤_, _<_, le-antisymm, le-refl, le-step, lt-suc-self, arith, ℕ-discrete, decLe, decLt, T, leb, ltb, eqb}
+use Rattle.theory.specs.Prelude.{leb→le, le→leb, ltb→lt, lt→ltb, eqb→eq, ones, length, take, getD, take-suc, take-length}
 use Rattle.theory.specs.Tests.{and-intro, and-both, eq-test}
 use Rattle.theory.specs.Set.{_∩_, _∪_, _⊑_, full}
 use Rattle.theory.specs.Set.Laws.{size-zero, size-∪, ⊑⇒size≤, ⊑-size-≡, size-full, a∩b⊑a, a∩b⊑b, ∩-greatest, a⊑a∪b, cut-below, below-full}

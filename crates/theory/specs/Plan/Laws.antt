@@ -1,11 +1,6 @@
 -- The engine's plan: it is a maximal list of merges, and the only one whose every step is the first open merge. Assumes nothing.
-use mathlib.Core.Path.{_≡_, refl, sym, ap, ap₂, subst}
-use mathlib.Core.Logic.{inl, inr}
-use mathlib.Core.List.{List, [], _∷_}
-use mathlib.Core.Option.{Option, none, some}
-use Prim.Native.Nat.{ℕ, zero, suc, _≤_, _<_}
-use native.Mathlib.Omega.{arith}
-use lib.ListN.{length}
+use Rattle.theory.specs.Prelude.{_≡_, refl, sym, ap, ap₂, subst, inl, inr, List, [], _∷_, Option, none, some, ℕ, zero, suc, _≤_, _<_, arith}
+use Rattle.theory.specs.Prelude.{length}
 use Rattle.theory.specs.Constraints.{Pairs}
 use Rattle.theory.specs.Merge.{Merge, put, Valid, final, Ended, Maximal, left}
 use Rattle.theory.specs.Merge.Count.{left-put, left-start}

@@ -1,13 +1,7 @@
 -- The order of the three numbers of a merge does not matter: the merge with its numbers ascending is open where it is, has the same joint, and
 -- leaves the same clusters. Assumes nothing.
-use mathlib.Core.Path.{_≡_, refl, sym, ap, ap₂, _∙_, subst}
-use mathlib.Core.Logic.{_≢_, Ne·symm}
-use mathlib.Core.List.{List, [], _∷_, _++_}
-use Prim.Native.Nat.{ℕ, zero, suc, _≤_, _<_, min, max}
-use native.Mathlib.Omega.{arith}
-use native.Mathlib.Decide.{decLe}
-use lib.Count.{ones}
-use lib.ListN.{set}
+use Rattle.theory.specs.Prelude.{_≡_, refl, sym, ap, ap₂, _∙_, subst, _≢_, Ne·symm, List, [], _∷_, _++_, ℕ, zero, suc, _≤_, _<_, min, max}
+use Rattle.theory.specs.Prelude.{arith, decLe, ones, set}
 use Rattle.theory.specs.Set.{_∩_, _∪_}
 use Rattle.theory.specs.Set.Laws.{at-∪, ext, ∩-comm, ∪-comm}
 use Rattle.theory.specs.Merge.{Merge, merge, three, slot, OpenAt, union, joint, cleared, put}

@@ -1,14 +1,6 @@
 -- The search for the first open merge finds it, or there is none. Assumes nothing.
-use mathlib.Core.Path.{_≡_, refl, sym, _∙_, subst}
-use mathlib.Core.Logic.{inl, inr}
-use mathlib.Core.List.{List, [], _∷_}
-use mathlib.Core.Bool.{Bool, true, false, not}
-use mathlib.Core.Option.{Option, none, some}
-use Prim.Native.Nat.{ℕ, zero, suc, _+_, _≤_, _<_}
-use native.Mathlib.Omega.{arith}
-use native.Mathlib.Decide.{ℕ-discrete}
-use lib.Dec.{T, eqb, eqb→eq}
-use lib.Count.{ones}
+use Rattle.theory.specs.Prelude.{_≡_, refl, sym, _∙_, subst, inl, inr, List, [], _∷_, Bool, true, false, not, Option, none, some, ℕ, zero, suc}
+use Rattle.theory.specs.Prelude.{_+_, _≤_, _<_, arith, ℕ-discrete, T, eqb, eqb→eq, ones}
 use Rattle.theory.specs.Tests.{and-intro, and-both, eq-test, ne-test, test-ne}
 use Rattle.theory.specs.Set.{_∩_}
 use Rattle.theory.specs.Merge.{Merge, merge, slot, Open, OpenAt, Ended}

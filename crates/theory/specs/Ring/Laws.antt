@@ -1,16 +1,7 @@
 -- On a sheet that is not over, stripping leaves lines if and only if there is a ring of four or more final clusters; every order of merging has the
 -- same rings; and there is none where fewer than four lines, or one cluster, are. Assumes nothing.
-use mathlib.Core.Path.{_≡_, refl, sym, ap, _∙_, subst}
-use mathlib.Core.Logic.{_≢_, _↔_}
-use mathlib.Core.Bool.{Bool, true, false}
-use mathlib.Core.List.{List}
-use Prim.Native.Nat.{ℕ, zero, suc, _≤_, _<_}
-use native.Mathlib.Omega.{arith}
-use native.Mathlib.Decide.{decLe, ℕ-discrete}
-use lib.Count.{ones}
-use lib.Dec.{T}
-use lib.ListN.{set}
-use lib.Seq.{getD-set-other}
+use Rattle.theory.specs.Prelude.{_≡_, refl, sym, ap, _∙_, subst, _≢_, _↔_, Bool, true, false, List, ℕ, zero, suc, _≤_, _<_, arith, decLe}
+use Rattle.theory.specs.Prelude.{ℕ-discrete, ones, T, set, getD-set-other}
 use Rattle.theory.specs.Tests.{iff-same, ne-test, test-ne}
 use Rattle.theory.specs.Set.{_∈_, _∩_, _⊑_, at}
 use Rattle.theory.specs.Set.Laws.{at-zero, at-le, size-none, two-in, both, counted}

@@ -1,13 +1,6 @@
 -- What stripping leaves: a ring's lines stay, and if lines are left each lies in two clusters that hold another of them. Assumes nothing.
-use mathlib.Core.Path.{_≡_, refl, sym, ap, _∙_, subst}
-use mathlib.Core.Logic.{_≢_, ⊎-elim}
-use mathlib.Core.Bool.{Bool, true, false, cond}
-use mathlib.Core.List.{List, [], _∷_}
-use Prim.Native.Nat.{ℕ, zero, suc, _≤_, _<_}
-use native.Mathlib.Omega.{arith}
-use native.Mathlib.Decide.{ℕ-discrete, decLe, decLt}
-use lib.Dec.{leb, T, leb→le, le→leb}
-use lib.Count.{ones}
+use Rattle.theory.specs.Prelude.{_≡_, refl, sym, ap, _∙_, subst, _≢_, ⊎-elim, Bool, true, false, cond, List, [], _∷_, ℕ, zero, suc, _≤_, _<_}
+use Rattle.theory.specs.Prelude.{arith, ℕ-discrete, decLe, decLt, leb, T, leb→le, le→leb, ones}
 use Rattle.theory.specs.Set.{_∈_, _∩_, _⊑_, at}
 use Rattle.theory.specs.Set.Laws.{at-le, at-zero, ⊑-size-≡, ⊑-refl, ⊑-trans, two-in, both, ∈-∩⁻, ∈-∪⁻, ∈-∪ˡ, ∈-∪ʳ}
 use Rattle.theory.specs.Merge.{slot, live}

@@ -1,11 +1,6 @@
 -- Lines each of which lies in two clusters that hold another of them: from line to cluster to line one comes round. Assumes nothing.
-use mathlib.Core.Path.{_≡_, refl, sym, ap, _∙_, subst}
-use mathlib.Core.Logic.{_≢_, _⊎_, inl, inr}
-use mathlib.Core.List.{List}
-use Prim.Native.Nat.{ℕ, zero, suc, _+_, _-_, _^_, _≤_, _<_}
-use native.Mathlib.Omega.{arith}
-use native.Mathlib.Decide.{ℕ-discrete}
-use lib.Count.{ones}
+use Rattle.theory.specs.Prelude.{_≡_, refl, sym, ap, _∙_, subst, _≢_, _⊎_, inl, inr, List, ℕ, zero, suc, _+_, _-_, _^_, _≤_, _<_, arith}
+use Rattle.theory.specs.Prelude.{ℕ-discrete, ones}
 use Rattle.theory.specs.Set.{_∈_, _∩_, _∪_, at}
 use Rattle.theory.specs.Set.Laws.{at-le, at-zero, at-other, size-zero, ⊑⇒size≤, size-add, some, other, ∈-∩⁻, ∈-∪⁻}
 use Rattle.theory.specs.Merge.{live}

@@ -1,14 +1,10 @@
 -- Laws of sets: digits of the operations, sets equal by their elements, sizes, inclusion, single elements. Assumes nothing.
-use mathlib.Core.Path.{_≡_, refl, sym, ap, _∙_, subst}
-use mathlib.Core.Logic.{_≢_, _⊎_, inl, inr}
-use Prim.Native.Nat.{ℕ, zero, suc, _+_, _*_, _/_, _%_, _^_, _≤_, _<_, min, max}
-use native.Mathlib.Nat.{le-refl, le-trans, le-antisymm, div-one, pow-succ', div-div-eq-div-mul, mod-eq-of-lt, not-suc-le-zero, le-of-suc-le-suc}
-use native.Mathlib.Omega.{arith}
-use native.Mathlib.Decide.{ℕ-discrete}
-use lib.Arith.{bin-ind}
-use lib.Bits.{and-step, or-step, and-mask, mask-lt}
-use lib.Count.{ones, ones-step, ones-ones}
-use lib.Pow.{pow-lt}
+use Rattle.theory.specs.Prelude.{_≡_, refl, sym, ap, _∙_, subst, _≢_, _⊎_, inl, inr, ℕ, zero, suc, _+_, _*_, _/_, _%_, _^_, _≤_, _<_, min, max}
+use Rattle.theory.specs.Prelude.{le-refl, le-trans, le-antisymm, pow-succ', mod-eq-of-lt, not-suc-le-zero, le-of-suc-le-suc, arith, ℕ-discrete}
+use Rattle.theory.specs.Prelude.{bin-ind, and-step, ones, ones-step, pow-lt}
+use native.Mathlib.Nat.{div-one, div-div-eq-div-mul}
+use lib.Bits.{or-step, and-mask, mask-lt}
+use lib.Count.{ones-ones}
 use Rattle.theory.specs.Set.{_∈_, _∩_, _∪_, at, _⊑_, full}
 use Rattle.theory.specs.Sum.{sum}
 use Rattle.theory.specs.Sum.Laws.{sum-front}

@@ -1,13 +1,8 @@
 -- Laws of sets as masks with one element taken out, `a - 2 ^ x`, and of the lowest element. Assumes nothing.
-use mathlib.Core.Path.{_≡_, refl, sym, ap, _∙_, subst}
-use mathlib.Core.Logic.{_≢_, ⊎-elim}
-use Prim.Native.Nat.{ℕ, zero, suc, _-_, _/_, _%_, _^_, _≤_, _<_}
-use native.Mathlib.Nat.{div-eq-of-lt, lt-of-lt-of-le, zero-mod, pow-le-pow-right, zero-lt-suc, pow-succ'}
-use native.Mathlib.Omega.{arith}
-use native.Mathlib.Decide.{ℕ-discrete, decLt}
-use lib.Arith.{bin-ind}
-use lib.Bits.{bitAnd, and-step, and-self, and-le-r}
-use lib.Count.{ones, ones-step, under, trailingZeros}
+use Rattle.theory.specs.Prelude.{_≡_, refl, sym, ap, _∙_, subst, _≢_, ⊎-elim, ℕ, zero, suc, _-_, _/_, _%_, _^_, _≤_, _<_, lt-of-lt-of-le}
+use Rattle.theory.specs.Prelude.{pow-le-pow-right, zero-lt-suc, pow-succ', arith, ℕ-discrete, decLt, bin-ind, bitAnd, and-step, and-self}
+use Rattle.theory.specs.Prelude.{and-le-r, ones, ones-step, under, trailingZeros}
+use native.Mathlib.Nat.{div-eq-of-lt, zero-mod}
 use Rattle.theory.specs.Set.{_∈_, _∩_, _∪_, _⊑_, at}
 use Rattle.theory.specs.Set.Laws.{at-∩, at-∪, at-le, at-zero, at-div, at-same, at-other, zero-ext, ext, size-zero, size-add, bit, ⊑⇒∩≡}
 

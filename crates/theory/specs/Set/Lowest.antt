@@ -1,10 +1,7 @@
 -- The lowest element of a set, the set without it, and what one set has beyond another, as the machine's words give them. Assumes nothing.
-use mathlib.Core.Path.{_≡_, refl, ap, _∙_}
-use mathlib.Core.Logic.{_≢_}
-use Prim.Native.Nat.{ℕ, zero, suc, _-_, _/_, _%_, _^_, _<_, min}
-use native.Mathlib.Omega.{arith}
-use lib.Bits.{bitAnd, bitXor, differ, xor-step, and-step}
-use lib.Count.{trailingZeros, under}
+use Rattle.theory.specs.Prelude.{_≡_, refl, ap, _∙_, _≢_, ℕ, zero, suc, _-_, _/_, _%_, _^_, _<_, min, arith, bitAnd, bitXor, and-step}
+use Rattle.theory.specs.Prelude.{trailingZeros, under}
+use lib.Bits.{differ, xor-step}
 use Rattle.theory.specs.Set.{_∈_, _∩_, at}
 use Rattle.theory.specs.Set.Laws.{at-∩, at-zero}
 

@@ -1,9 +1,7 @@
 -- Laws of sums over the numbers below a bound. Assumes nothing.
-use mathlib.Core.Path.{_≡_, refl, sym, ap, _∙_, subst}
-use mathlib.Core.Logic.{_≢_, ⊎-elim}
-use Prim.Native.Nat.{ℕ, zero, suc, _+_, _*_, _≤_, _<_}
-use native.Mathlib.Nat.{le-refl, le-step, lt-suc-self, eq-or-lt-of-le, le-of-suc-le-suc, not-suc-le-zero, mul-zero, mul-add, ne-of-lt, ne-of-gt}
-use native.Mathlib.Omega.{arith}
+use Rattle.theory.specs.Prelude.{_≡_, refl, sym, ap, _∙_, subst, _≢_, ⊎-elim, ℕ, zero, suc, _+_, _*_, _≤_, _<_, le-refl, le-step, lt-suc-self}
+use Rattle.theory.specs.Prelude.{eq-or-lt-of-le, le-of-suc-le-suc, not-suc-le-zero, mul-zero, mul-add, ne-of-lt, arith}
+use native.Mathlib.Nat.{ne-of-gt}
 use Rattle.theory.specs.Sum.{sum}
 
 pub sum-le : (n : ℕ) (f g : ℕ → ℕ) → ((i : ℕ) → i < n → f i ≤ g i) → sum n f ≤ sum n g

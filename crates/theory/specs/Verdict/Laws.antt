@@ -1,12 +1,6 @@
 -- What the verdict names say, by the tests and by the relation. Assumes nothing.
-use mathlib.Core.Path.{_≡_, refl, sym, ap, ap₂, subst}
-use mathlib.Core.Logic.{_≢_, _↔_, _⊎_, inl, inr, ⊎-elim}
-use mathlib.Core.Bool.{Bool, true, false, _||_}
-use mathlib.Core.List.{List, [], _∷_}
-use Prim.Native.Nat.{ℕ, _+_, _*_, _≤_, _<_}
-use native.Mathlib.Omega.{arith}
-use lib.Dec.{T, eqb, eqb→eq}
-use lib.ListN.{length}
+use Rattle.theory.specs.Prelude.{_≡_, refl, sym, ap, ap₂, subst, _≢_, _↔_, _⊎_, inl, inr, ⊎-elim, Bool, true, false, _||_, List, [], _∷_, ℕ}
+use Rattle.theory.specs.Prelude.{_+_, _*_, _≤_, _<_, arith, T, eqb, eqb→eq, length}
 use Rattle.theory.specs.Tests.{eq-test, false-ne, iff-same}
 use Rattle.theory.specs.Set.{_∩_}
 use Rattle.theory.specs.Set.Laws.{∩≡⇒⊑, ⊑⇒∩≡}

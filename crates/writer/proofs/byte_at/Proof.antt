@@ -1,11 +1,5 @@
 -- `writer::byte_at` meets its contract. Assumes nothing.
-use borrow.Author.Needs.{needs}
-use Prim.Native.Nat.{ℕ, zero, suc, _≤_}
-use native.Mathlib.Nat.{le-of-suc-le-suc}
-use native.Mathlib.Omega.{arith}
-use mathlib.Core.Path.{_≡_, refl}
-use mathlib.Core.List.{List, [], _∷_}
-use lib.ListN.{length, getD}
+use Rattle.theory.specs.Prelude.{needs, ℕ, zero, suc, _≤_, le-of-suc-le-suc, arith, _≡_, refl, List, [], _∷_, length, getD}
 use Rattle.writer.proofs.byte_at.Statement.{statement}
 use Rattle.writer.proofs.byte_at.Tie as tie
 

@@ -1,6 +1,5 @@
 -- `writer::kind_bytes` meets its contract. Assumes nothing.
-use borrow.Author.Needs.{needs}
-use mathlib.Core.Path.{sym, ap}
+use Rattle.theory.specs.Prelude.{needs, sym, ap}
 use Rattle.sheet.specs.declared.Opening.{Opening}
 use Rattle.sheet.specs.Field.{kindBytes}
 use Rattle.writer.proofs.kind_bytes.Statement.{statement}

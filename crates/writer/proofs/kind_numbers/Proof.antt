@@ -1,10 +1,5 @@
 -- `writer::kind_numbers` meets its contract. Assumes nothing.
-use borrow.Author.Needs.{needs}
-use Prim.Native.Nat.{_≤_, min}
-use native.Mathlib.Omega.{arith}
-use mathlib.Core.Path.{_≡_, ap, _∙_}
-use lib.ListN.{length, take}
-use lib.Seq.{take-take}
+use Rattle.theory.specs.Prelude.{needs, _≤_, min, arith, _≡_, ap, _∙_, length, take, take-take}
 use Rattle.sheet.specs.Facts.{kindsNumber}
 use Rattle.writer.specs.Spread.{kindsInEight}
 use Rattle.writer.proofs.Spread.{front-least, rest-least, allowed-take, rest-few}

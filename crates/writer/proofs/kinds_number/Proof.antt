@@ -1,9 +1,5 @@
 -- `writer::kinds_number` meets its contract: the kinds from the last element down; the number stays below 2 ^ 64. Assumes nothing.
-use borrow.Author.Needs.{needs}
-use Prim.Native.Nat.{_+_, _*_, _-_, _≤_, _<_, _^_}
-use native.Mathlib.Omega.{arith}
-use mathlib.Core.Path.{_≡_, sym, ap}
-use lib.ListN.{length, take, drop, getD}
+use Rattle.theory.specs.Prelude.{needs, _+_, _*_, _-_, _≤_, _<_, _^_, arith, _≡_, sym, ap, length, take, drop, getD}
 use Rattle.sheet.specs.declared.Opening.{Opening}
 use Rattle.sheet.specs.Facts.{kindBase, kindDigit, kindsNumber, blankElement}
 use Rattle.sheet.specs.Facts.Laws.{spent}

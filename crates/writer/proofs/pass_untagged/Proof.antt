@@ -1,7 +1,5 @@
 -- `writer::pass_untagged` meets its contract, by the walk of `Untagged`: nothing is put on the way. Assumes nothing.
-use Prim.Native.Nat.{ℕ, _-_}
-use native.Mathlib.Omega.{arith}
-use mathlib.Core.List.{List, []}
+use Rattle.theory.specs.Prelude.{ℕ, _-_, arith, List, []}
 use Rattle.writer.specs.Walk.{Walk}
 use Rattle.writer.proofs.Untagged.{walk-sized, walk-bare}
 use Rattle.writer.proofs.pass_untagged.Statement.{statement}

@@ -1,10 +1,5 @@
 -- `writer::put_front` meets its contract: one piece after another. Assumes nothing.
-use borrow.Author.Needs.{needs}
-use Prim.Native.Nat.{_-_, _≤_, min}
-use native.Mathlib.Omega.{arith}
-use mathlib.Core.Path.{_≡_, ap, _∙_}
-use lib.ListN.{length, length-append}
-use lib.Seq.{length-take-le}
+use Rattle.theory.specs.Prelude.{needs, _-_, _≤_, min, arith, _≡_, ap, _∙_, length, length-append, length-take-le}
 use Rattle.sheet.specs.Field.{digits, kindBytes}
 use Rattle.sheet.specs.Field.Laws.{length-digits, opening-length}
 use Rattle.sheet.specs.Encode.Laws.{kinds-length}

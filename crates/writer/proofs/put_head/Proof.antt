@@ -1,9 +1,5 @@
 -- `writer::put_head` meets its contract. Assumes nothing.
-use borrow.Author.Needs.{needs}
-use Prim.Native.Nat.{suc, _+_}
-use native.Mathlib.Omega.{arith}
-use mathlib.Core.Path.{_≡_, refl}
-use lib.ListN.{length-set}
+use Rattle.theory.specs.Prelude.{needs, suc, _+_, arith, _≡_, refl, length-set}
 use Rattle.space.specs.Space.Laws.{put-all, put-short}
 use Rattle.writer.proofs.put_head.Statement.{statement}
 use Rattle.writer.proofs.put_head.Tie as tie

@@ -1,7 +1,5 @@
 -- `writer::put_kinds` meets its contract: one number after the other. Assumes nothing.
-use borrow.Author.Needs.{needs}
-use Prim.Native.Nat.{_-_}
-use native.Mathlib.Omega.{arith}
+use Rattle.theory.specs.Prelude.{needs, _-_, arith}
 use Rattle.sheet.specs.Field.Laws.{length-digits}
 use Rattle.sheet.specs.Encode.Laws.{kinds-length}
 use Rattle.space.specs.Space.Laws.{put-as, _then_}

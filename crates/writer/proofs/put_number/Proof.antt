@@ -1,12 +1,6 @@
 -- `writer::put_number` meets its contract. The loop's invariant: the bytes of what is left, put from the place reached, make the space that all make.
 -- Assumes nothing.
-use borrow.Author.Needs.{needs}
-use Prim.Native.Nat.{suc, _+_, _-_, _≤_}
-use native.Mathlib.Numerals.{add-one}
-use native.Mathlib.Omega.{arith}
-use mathlib.Core.Path.{_≡_, refl, sym, _∙_}
-use lib.ListN.{length, length-set}
-use lib.Seq.{sets}
+use Rattle.theory.specs.Prelude.{needs, suc, _+_, _-_, _≤_, add-one, arith, _≡_, refl, sym, _∙_, length, length-set, sets}
 use Rattle.sheet.specs.Field.{digits}
 use Rattle.sheet.specs.Field.Laws.{length-digits}
 use Rattle.space.specs.Space.Laws.{put-all, put-short}

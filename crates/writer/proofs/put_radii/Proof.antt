@@ -1,10 +1,5 @@
 -- `writer::put_radii` meets its contract. The loop's invariant: the radii of the elements passed are put. Assumes nothing.
-use borrow.Author.Needs.{needs}
-use Prim.Native.Nat.{_+_, _-_, _≤_}
-use native.Mathlib.Omega.{arith}
-use mathlib.Core.Path.{_≡_, sym}
-use lib.ListN.{length, take}
-use lib.Seq.{length-take-le}
+use Rattle.theory.specs.Prelude.{needs, _+_, _-_, _≤_, arith, _≡_, sym, length, take, length-take-le}
 use Rattle.sheet.specs.Encode.{radiiBytes}
 use Rattle.sheet.specs.Encode.Laws.{radii-most}
 use Rattle.sheet.specs.Facts.{blankElement}

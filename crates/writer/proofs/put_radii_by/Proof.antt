@@ -1,6 +1,5 @@
 -- `writer::put_radii_by` meets its contract: PF01 has no radii. Assumes nothing.
-use borrow.Author.Needs.{needs}
-use mathlib.Core.Path.{sym}
+use Rattle.theory.specs.Prelude.{needs, sym}
 use Rattle.space.specs.Space.Laws.{put-as, put-none}
 use Rattle.writer.proofs.Spread.{no-radii}
 use Rattle.writer.proofs.put_radii_by.Statement.{statement}

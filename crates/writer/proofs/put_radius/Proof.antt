@@ -1,6 +1,5 @@
 -- `writer::put_radius` meets its contract. Assumes nothing.
-use borrow.Author.Needs.{needs}
-use mathlib.Core.Path.{ap}
+use Rattle.theory.specs.Prelude.{needs, ap}
 use Rattle.sheet.specs.Encode.{radiusBytes}
 use Rattle.space.specs.Space.Laws.{put-none}
 use Rattle.writer.proofs.put_radius.Statement.{statement}

@@ -1,11 +1,6 @@
 -- `writer::put_sheet` meets its contract. The loop's invariant: the bytes of the constraints passed are put, after what precedes them.
 -- Assumes nothing.
-use borrow.Author.Needs.{needs}
-use Prim.Native.Nat.{_+_, _-_, _≤_}
-use native.Mathlib.Omega.{arith}
-use mathlib.Core.Path.{_≡_, sym, _∙_}
-use lib.ListN.{length, take, length-take, length-map}
-use lib.Seq.{length-take-le}
+use Rattle.theory.specs.Prelude.{needs, _+_, _-_, _≤_, arith, _≡_, sym, _∙_, length, take, length-take, length-map, length-take-le}
 use Rattle.sheet.specs.Facts.{factsOf}
 use Rattle.sheet.specs.Encode.{constraintsBytes, sheetBytes}
 use Rattle.sheet.specs.Encode.Laws.{constraints-more, constraints-length}

@@ -1,6 +1,5 @@
 -- `writer::put_size` meets its contract. Assumes nothing.
-use borrow.Author.Needs.{needs}
-use mathlib.Core.Path.{ap}
+use Rattle.theory.specs.Prelude.{needs, ap}
 use mir.Facts.{toZ-ofZ}
 use mir.Syntax.{w32}
 use Rattle.sheet.specs.Encode.{sizeBytes}

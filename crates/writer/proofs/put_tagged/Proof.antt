@@ -1,8 +1,5 @@
 -- `writer::put_tagged` meets its contract: three pieces, one after the other. Assumes nothing.
-use borrow.Author.Needs.{needs}
-use Prim.Native.Nat.{_+_}
-use native.Mathlib.Omega.{arith}
-use mathlib.Core.List.{append-assoc}
+use Rattle.theory.specs.Prelude.{needs, _+_, arith, append-assoc}
 use Rattle.space.specs.Space.Laws.{put-as, _then_}
 use Rattle.writer.proofs.Untagged.{cut-least}
 use Rattle.writer.proofs.put_tagged.Statement.{statement}

@@ -1,10 +1,5 @@
 -- `writer::put_untagged` meets its contract, by the walk of `Untagged`. Assumes nothing.
-use borrow.Author.Needs.{needs}
-use Prim.Native.Nat.{_+_, _-_, _≤_, _<_}
-use native.Mathlib.Omega.{arith}
-use mathlib.Core.Path.{_≡_, _∙_}
-use mathlib.Core.Logic.{⊎-elim}
-use lib.ListN.{length, length-drop}
+use Rattle.theory.specs.Prelude.{needs, _+_, _-_, _≤_, _<_, arith, _≡_, _∙_, ⊎-elim, length, length-drop}
 use Rattle.space.specs.Space.Laws.{put-as}
 use Rattle.sheet.specs.WithoutTags.{listed}
 use Rattle.writer.specs.Walk.{Walk}

@@ -1,11 +1,5 @@
 -- `writer::unsigned` meets its contract: a negative number -(m + 1) is 2 ^ 32 - (m + 1). Assumes nothing.
-use borrow.Author.Tests.{ltb-true, le-ltb}
-use Prim.Native.Nat.{ℕ, suc, _-_, _≤_, _<_, _^_}
-use native.Mathlib.Omega.{arith}
-use mathlib.Core.Path.{_≡_, refl, ap}
-use mathlib.Core.Bool.{true, false}
-use lib.IntN.{ℤ, pos, negsuc, _-ℤ_}
-use lib.Signed.{ltZ}
+use Rattle.theory.specs.Prelude.{ltb-true, le-ltb, ℕ, suc, _-_, _≤_, _<_, _^_, arith, _≡_, refl, ap, true, false, ℤ, pos, negsuc, _-ℤ_, ltZ}
 use mir.Syntax.{w32}
 use mir.Val.{toZ, ofZ, SFits}
 use mir.Facts.{toZ-ofZ, toZ-pos}

@@ -1,13 +1,6 @@
 -- `writer::write_accepted` meets its contract: one run over space for the largest sheet, else a run over no space that measures, then the run that
 -- writes. Assumes nothing.
-use borrow.Author.Needs.{needs}
-use Prim.Native.Nat.{_<_, _≤_}
-use native.Mathlib.Nat.{zero-add, le-trans}
-use native.Mathlib.Omega.{arith}
-use mathlib.Core.Path.{_≡_}
-use mathlib.Core.Bool.{true}
-use mathlib.Core.List.{[]}
-use lib.ListN.{length, length-take}
+use Rattle.theory.specs.Prelude.{needs, _<_, _≤_, zero-add, le-trans, arith, _≡_, true, [], length, length-take}
 use Rattle.sheet.specs.Facts.{factsOf}
 use Rattle.sheet.specs.Encode.{sheetBytes}
 use Rattle.sheet.specs.Accepted.Laws.{sheetFault-none}

@@ -1,6 +1,5 @@
 -- `writer::write_sheet` meets its contract: the rules first, then the space. Assumes nothing.
-use borrow.Author.Needs.{needs}
-use mathlib.Core.Path.{sym, _∙_}
+use Rattle.theory.specs.Prelude.{needs, sym, _∙_}
 use Rattle.sheet.specs.Answer.Laws.{rule-none, rule-some, answers-refused, answers-items}
 use Rattle.writer.proofs.write_sheet.Statement.{statement}
 use Rattle.writer.proofs.write_sheet.Tie as tie

@@ -1,11 +1,6 @@
 -- `writer::write_untagged` meets its contract: one run over space for every byte, else a run over no space that measures, then the run that writes.
 -- Assumes nothing.
-use borrow.Author.Needs.{needs}
-use Prim.Native.Nat.{_<_, _≤_}
-use native.Mathlib.Nat.{zero-add, le-trans}
-use mathlib.Core.Path.{_≡_}
-use mathlib.Core.List.{[]}
-use lib.ListN.{length}
+use Rattle.theory.specs.Prelude.{needs, _<_, _≤_, zero-add, le-trans, _≡_, [], length}
 use Rattle.sheet.specs.WithoutTags.{withoutTags}
 use Rattle.space.specs.Space.Laws.{none-left, put-refused, put-done}
 use Rattle.writer.proofs.Untagged.{withoutTags-length}

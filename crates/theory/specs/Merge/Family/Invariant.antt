@@ -1,12 +1,6 @@
 -- A good family: each set carries exactly 2m-3 constraints and no constraint lies in two. A merge leaves a good family, and in one two sets
 -- share at most one element. Assumes nothing.
-use mathlib.Core.Path.{_≡_, refl, sym, ap, _∙_, subst}
-use mathlib.Core.Logic.{_≢_, inl, inr}
-use mathlib.Core.List.{List}
-use Prim.Native.Nat.{ℕ, zero, _+_, _*_, _≤_}
-use native.Mathlib.Omega.{arith}
-use native.Mathlib.Decide.{ℕ-discrete}
-use lib.Count.{ones}
+use Rattle.theory.specs.Prelude.{_≡_, refl, sym, ap, _∙_, subst, _≢_, inl, inr, List, ℕ, zero, _+_, _*_, _≤_, arith, ℕ-discrete, ones}
 use Rattle.theory.specs.Tests.{one-of}
 use Rattle.theory.specs.Merge.{Three, union}
 use Rattle.theory.specs.Set.{_∩_, _∪_, _⊑_}

@@ -1,9 +1,6 @@
 -- Every maximal list of merges of a sheet that is not over ends in the same clusters, with the same joints and the same number of steps; and
 -- more constraints never make a final cluster smaller. Assumes nothing.
-use mathlib.Core.Path.{_≡_, ap, _∙_, subst, refl, sym}
-use mathlib.Core.Logic.{_⊎_, inl, inr, Iff·trans, _↔_, ⊎-elim, Iff·rfl}
-use mathlib.Core.List.{List, [], _∷_}
-use Prim.Native.Nat.{ℕ, suc}
+use Rattle.theory.specs.Prelude.{_≡_, ap, _∙_, subst, refl, sym, _⊎_, inl, inr, Iff·trans, _↔_, ⊎-elim, Iff·rfl, List, [], _∷_, ℕ, suc, length}
 use Rattle.theory.specs.Set.{_⊑_}
 use Rattle.theory.specs.Set.Laws.{⊑-refl, ⊑-trans}
 use Rattle.theory.specs.Constraints.{NotOver, Among, Pairs, Perm}
@@ -13,7 +10,6 @@ use Rattle.theory.specs.Merge.Family.{start, jointsIn, Fam, Same, OpenIn
 use Rattle.theory.specs.Merge.Family.{In, after}
 use Rattle.theory.specs.Merge.Family.Diamond.{meeting, Lift, together, opened, open-by, lift, union-least}
 use Rattle.theory.specs.Merge.Family.Invariant.{in-dec, in-union, good-after, among-good}
-use lib.ListN.{length}
 
 -- ---- only which sets live matters
 
