@@ -142,13 +142,35 @@ pub fn peel_of(near: &[u64; 64], lines: u64) -> Peeling
     peel_all(near, lines)
 }
 
-// The elements that an over set can have: the largest set whose elements have three neighbours each in it.
+// All neighbours of the elements of a set.
+fn neighbours(near: &[u64; 64], who: u64) -> u64
+    ensures { λ r. ⌜ ((x : ℕ) → x ∈ who → getD (now (near .entry)) x 0 ⊑ r) ⌝ }
+{
+    let mut all: u64 = 0;
+    let mut m = who;
+    while m != 0 {
+        let x = sets::lowest(m);
+        let i = wide(x);
+        all = all | near[i];
+        m = m - sets::single(x);
+    }
+    all
+}
+
+// The elements that an over set can have: the largest set whose elements have three neighbours each in it. Those with two at most are taken away all at
+// once, as often as there are any.
 pub fn core_of(near: &[u64; 64]) -> u64
     ensures { λ r. ⌜ Peeled (now (near .entry)) r
         × ((cs : List ℕ) → Simple cs → Near cs (now (near .entry)) → Core cs r × Largest (now (near .entry)) r) ⌝ }
 {
-    let peeling = peel_all(near, 0);
-    peeling.left
+    let n = used(near);
+    let mut left = cycles::below(wide(n));
+    let mut todo = light_all(near, n);
+    while todo != 0 {
+        left = left - todo;
+        todo = light_of(near, left, neighbours(near, todo) & left);
+    }
+    left
 }
 
 // ---- the constraints that can close an over set

@@ -1,20 +1,69 @@
--- `core_of` meets its contract. Assumes nothing.
-use Rattle.peeling.specs.Core.Peeling.{core-peeled, peeled-largest}
-use borrow.Author.Needs.{needs}
+-- `core_of` meets its contract. The loop's invariant: elements are taken away down to left, todo are light there, and the others not. Assumes nothing.
+use Rattle.theory.specs.Prelude.{ap, _∙_, _-_, arith, needs}
+use Rattle.theory.specs.Set.{_∩_, full}
+use Rattle.theory.specs.Set.Laws.{a∩b⊑b}
+use Rattle.peeling.specs.Core.{Light, Heavy, Mutual, Peeled}
+use Rattle.peeling.specs.Core.Neighbours.{heavy-start}
+use Rattle.peeling.specs.Core.Peeling.{heavy-none, light-room, round, core-peeled, peeled-largest}
+use Rattle.peeling.specs.Core.Angle.{taken-start}
 use Rattle.peeling.proofs.core_of.Statement.{statement}
 use Rattle.peeling.proofs.core_of.Tie as tie
 
-returns : tie.Need-returns
+abbrev Inv-loop : tie.InvT-loop
+Inv-loop near n left₀ todo₀ left todo = Peeled near left × Light near left todo × (Mutual near → Heavy near left left todo)
+
+abbrev μ-loop : tie.MeasureT-loop
+μ-loop near n left₀ todo₀ left todo = left
+
+below-requires : tie.Need-below-requires Inv-loop μ-loop
+below-requires c κs = omega (arith, c .wide .ensures, c .before .used .ensures .0, c .before .used .ensures .1)
+
+light-all-requires : tie.Need-light-all-requires Inv-loop μ-loop
+light-all-requires c κs = c .before .before .used .ensures .1
+
+loop-holds : tie.Need-loop-holds Inv-loop μ-loop
+loop-holds c =
+    let near = c .before .before .before .before .args .near .now in
+    let n = c .before .before .before .used in
+    let low = c .light-all in
+    rw (c .before .below .ensures ∙ ap full (c .before .before .wide .ensures)) (
+      taken-start near 0 (n .result) (n .ensures .1) (n .ensures .2) .peeled,
+      low .ensures .0,
+      λ m. heavy-start near (n .result) (low .result) (n .ensures .1) (n .ensures .2) m (low .ensures .1),
+    )
+
+sub-left : tie.Need-sub-left Inv-loop μ-loop
+sub-left c = light-room (c .before .loop .inv .1)
+
+light-of-requires : tie.Need-light-of-requires Inv-loop μ-loop
+unfolding _∩_
+light-of-requires c κs = let l = c .before .before .loop in a∩b⊑b (c .neighbours .result) (l .left - l .todo)
+
+loop-less : tie.Need-loop-less Inv-loop μ-loop
+loop-less c = omega (arith, c .before .before .loop-test .taken, light-room (c .before .before .before .loop .inv .1))
+
+loop-again : tie.Need-loop-again Inv-loop μ-loop
+loop-again c =
+    let near = c .before .before .before .before .before .before .before .before .args .near .now in
+    let inv = c .before .before .before .loop .inv in
+    let around = c .before .neighbours in
+    let next = round near (around .result) (inv .1) (around .ensures) (inv .0) (inv .2) (c .light-of .ensures .1) in
+    (next .0, c .light-of .ensures .0, next .1)
+
+returns : tie.Need-returns Inv-loop μ-loop
 returns c =
-    let near = c .before .args .near .now in
-    let t = c .peel-all .ensures in
-    let left = c .peel-all .result .left in (
-      t .0 .peeled,
+    let near = c .before .before .before .before .before .before .args .near .now in
+    let l = c .before .loop in
+    let dense = heavy-none (omega (arith, c .loop-test .left)) (l .inv .2) in (
+      l .inv .0,
       λ cs simple is-near. (
-        core-peeled cs near simple is-near left (t .0 .peeled),
-        peeled-largest cs near simple is-near left (t .0 .peeled) (t .1),
+        core-peeled cs near simple is-near (l .left) (l .inv .0),
+        peeled-largest cs near simple is-near (l .left) (l .inv .0) dense,
       ),
     )
 
 pub core-of-spec : {M : Type 1} → statement M
-core-of-spec = tie.close (tie.spec (λ c κs. search needs) returns)
+core-of-spec =
+    tie.close
+    (tie.spec Inv-loop μ-loop (λ c κs. search needs) (λ c κs. search needs) below-requires light-all-requires loop-holds sub-left (λ c κs. search needs)
+    light-of-requires loop-less loop-again returns)

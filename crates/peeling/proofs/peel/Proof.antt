@@ -1,11 +1,11 @@
 -- `peel` meets its contract. The loop's invariant: elements are taken away down to left, and todo are light there. Assumes nothing.
-use Rattle.theory.specs.Prelude.{_≡_, ap, _∙_, _-_, arith, getD, needs}
+use Rattle.theory.specs.Prelude.{ap, _∙_, _-_, arith, getD, needs}
 use Rattle.peeling.specs.Core.{Light, Heavy, Mutual, Taken}
 use Rattle.peeling.specs.Core.Neighbours.{heavy-start}
-use Rattle.peeling.specs.Core.Peeling.{peeled-small, peel-room, todo-room, peel-less, light-next, heavy-left}
+use Rattle.peeling.specs.Core.Peeling.{peeled-small, peel-room, todo-room, peel-less, light-next, heavy-left, heavy-none}
 use Rattle.peeling.specs.Core.Angle.{taken-start, taken-next}
-use Rattle.theory.specs.Set.{_∩_, _∪_, at, full}
-use Rattle.theory.specs.Set.Laws.{at-zero, a∩b⊑b}
+use Rattle.theory.specs.Set.{_∩_, _∪_, full}
+use Rattle.theory.specs.Set.Laws.{a∩b⊑b}
 use Rattle.peeling.proofs.peel.Statement.{statement}
 use Rattle.peeling.proofs.peel.Tie as tie
 
@@ -97,8 +97,7 @@ loop-again c =
 returns : tie.Need-returns Inv-loop μ-loop
 returns c =
     let l = c .before .loop in
-    let z : l .todo ≡ 0 = omega (arith, c .loop-test .left) in
-    (l .inv .0, λ m. record { three = λ x e. l .inv .2 m .heavy x e (ap (at x) z ∙ at-zero x) })
+    (l .inv .0, heavy-none (omega (arith, c .loop-test .left)) (l .inv .2))
 
 pub peel-spec : {M : Type 1} → statement M
 peel-spec =

@@ -113,19 +113,28 @@ heavy-start near n todo most none m f = record {
       | no h ↦ omega arith
     ]
 
--- x is taken away, and its neighbours are tried
-pub heavy-next : (near : List ℕ) (u todo x r : ℕ) → u < 2 ^ 64 → Mutual near → Heavy near u u todo → x ∈ u → x ∈ todo
-    → Heavy near (u - 2 ^ x) (getD near x 0 ∩ (u - 2 ^ x)) r → Heavy near (u - 2 ^ x) (u - 2 ^ x) ((todo - 2 ^ x) ∪ r)
-heavy-next near u todo x r small both-ways h e t g = record {
+-- those of around are left out of account
+pub heavy-but : (near : List ℕ) (u todo around : ℕ) → Heavy near u u todo → Heavy near u u (todo ∪ around)
+heavy-but near u todo around h = record { heavy = λ y i o. h .heavy y i (omega (arith, at-∪ y todo around)) }
+
+-- and are tried
+pub heavy-with : (near : List ℕ) (u todo around r : ℕ) → Heavy near u u (todo ∪ around) → Heavy near u (around ∩ u) r → Heavy near u u (todo ∪ r)
+heavy-with near u todo around r h g = record {
+  heavy = λ y i o. elim (bit (at y around) (at-le y around)) [
+    | inl n ↦ h .heavy y i (omega (arith, at-∪ y todo around, at-∪ y todo r))
+    | inr n ↦ g .heavy y (both y around u n i) (omega (arith, at-∪ y todo r))
+  ];
+}
+
+-- x is taken away, whose neighbours are in around: the others lose none
+pub heavy-less : (near : List ℕ) (u todo around x : ℕ) → u < 2 ^ 64 → Mutual near → x ∈ u → x ∈ todo → getD near x 0 ⊑ around
+    → Heavy near u u (todo ∪ around) → Heavy near (u - 2 ^ x) (u - 2 ^ x) ((todo - 2 ^ x) ∪ around)
+heavy-less near u todo around x small m e t s h = record {
   heavy = λ y i o.
       let there = less-in x y u e i in
-      let not-todo : at y todo ≡ 0 = sym (less-other x y todo t (λ q. there .1 (sym q))) ∙ omega (arith, at-∪ y (todo - 2 ^ x) r) in
-      elim (bit (at y (getD near x 0)) (at-le y (getD near x 0))) [
-        | inl n ↦
-            let apart : at x (getD near y 0) ≡ 0 = out x (getD near y 0)
-            (λ k. omega (arith, n, both-ways .back y x (at-below 64 y u small (there .0)) (at-below 64 x u small e) k)) in
-            rw (∩-comm (getD near y 0) (u - 2 ^ x), less-out x u (getD near y 0) e apart, ∩-comm u (getD near y 0))
-            (h .heavy y (there .0) not-todo)
-        | inr n ↦ g .heavy y (both y (getD near x 0) (u - 2 ^ x) n i) (omega (arith, at-∪ y (todo - 2 ^ x) r))
-      ];
+      let either = at-∪ y (todo - 2 ^ x) around in
+      let apart : at x (getD near y 0) ≡ 0 = out x (getD near y 0)
+      (λ k. omega (arith, s .le y, m .back y x (at-below 64 y u small (there .0)) (at-below 64 x u small e) k)) in
+      rw (∩-comm (getD near y 0) (u - 2 ^ x), less-out x u (getD near y 0) e apart, ∩-comm u (getD near y 0))
+      (h .heavy y (there .0) (omega (arith, at-∪ y todo around, less-other x y todo t (λ q. there .1 (sym q)))));
 }

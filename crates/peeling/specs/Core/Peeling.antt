@@ -1,17 +1,18 @@
 -- Elements with at most two constraints are taken away one by one: what is left is a core. A least over set has three constraints at each element, so
 -- none loses any. Assumes nothing.
 use Rattle.theory.specs.Prelude.{_≡_, sym, ap, subst, _⊎_, inl, inr, List, ℕ, _+_, _*_, _-_, _^_, _≤_, _<_, decLe, arith, bitAnd, bitOr, ones, length}
-use Rattle.theory.specs.Prelude.{take, getD, take-length, pow-pos}
+use Rattle.theory.specs.Prelude.{refl, _∙_, zero, suc, sub-zero, and-le-r, take, getD, take-length, pow-pos}
 use Rattle.theory.specs.Set.{_∈_, _∩_, _∪_, _⊑_, at, full}
 use Rattle.theory.specs.Set.Laws.{at-∩, at-le, bit, size-zero, ⊑⇒size≤, ⊑-trans, a∩b⊑a, a∩b⊑b, ∩-comm, out, below-full}
-use Rattle.theory.specs.Set.Less.{at-below, at-room, less-same, less-sub, less-and, less-out, size-less, sub-less}
+use Rattle.theory.specs.Set.Laws.{at-zero, size-none, some, ⊑-refl, ⊑⇒∩≡}
+use Rattle.theory.specs.Set.Less.{at-below, at-room, less-same, less-in, less-sub, less-and, less-out, size-less, sub-less}
 use Rattle.theory.specs.Constraints.{pair, Below, carried, NotOver, NotOverIn}
 use Rattle.theory.specs.Constraints.Laws.{carried-cut, not-over-in, at-end, pair-comm}
 use Rattle.theory.specs.Over.Laws.{pairs-take, below-take}
 use Rattle.theory.specs.Near.{Simple, Near}
 use Rattle.theory.specs.Near.Laws.{simple-take, near-counts-take, near-counts, carried-one}
 use Rattle.peeling.specs.Core.{Few, Loose, Core, Dense, Largest, Light, Heavy, Mutual, Peeled, whole, less}
-use Rattle.peeling.specs.Core.Neighbours.{near-sub, light-or, light-rest, heavy-next}
+use Rattle.peeling.specs.Core.Neighbours.{near-sub, light-or, light-rest, heavy-but, heavy-with, heavy-less}
 
 -- ---- one element taken away
 
@@ -44,7 +45,49 @@ module _ (near : List ℕ) (left todo x s : ℕ) (t : Light near left todo) (e :
       → Mutual near → Heavy near (left - s) (left - s) (bitOr (todo - s) r)
   unfolding _∪_ _∩_
   heavy-left small r i ei h g m =
-      rw es (heavy-next near left todo x r small m (h m) in-left e (rw (es, ei) at g))
+      let around = getD near x 0 in
+      rw es
+      (heavy-with near (left - 2 ^ x) (todo - 2 ^ x) around r
+      (heavy-less near left todo around x small m in-left e (⊑-refl around) (heavy-but near left todo around (h m))) (rw (es, ei) at g))
+
+-- none is left to be taken away
+pub heavy-none : {near : List ℕ} {u todo : ℕ} → todo ≡ 0 → (Mutual near → Heavy near u u todo) → Mutual near → Dense near u
+heavy-none z h m = record { three = λ x e. h m .heavy x e (ap (at x) z ∙ at-zero x) }
+
+-- ---- light elements taken away all at once
+
+pub light-room : {near : List ℕ} {u todo : ℕ} → Light near u todo → todo ≤ u
+unfolding _∩_
+light-room {near} {u} {todo} t = omega (
+  arith,
+  and-le-r todo u,
+  ⊑⇒∩≡ todo u (record { le = λ x. elim (bit (at x todo) (at-le x todo)) [ inl z ↦ omega arith | inr e ↦ omega (arith, t .light x e .0) ] }),
+)
+
+-- around has their neighbours
+module _ (near : List ℕ) (around : ℕ) where
+  -- one after another
+  one-by-one : (k u todo : ℕ) → ones todo ≡ k → Light near u todo → ((x : ℕ) → x ∈ todo → getD near x 0 ⊑ around) → Peeled near u
+      → (Mutual near → Heavy near u u (todo ∪ around)) → Peeled near (u - todo) × (Mutual near → Heavy near (u - todo) (u - todo) (0 ∪ around))
+  one-by-one zero u todo count t f p h = let z = size-none todo count in rw (z, sub-zero u) (p, rw z at h)
+  one-by-one (suc k) u todo count t f p h =
+      let e = some todo (omega arith) in
+      let x = e .0 in
+      let i = e .1 in
+      let g = t .light x i in
+      let same : u - 2 ^ x - (todo - 2 ^ x) ≡ u - todo = omega (arith, at-room x todo i) in
+      subst (λ (v : ℕ). Peeled near v × (Mutual near → Heavy near v v (0 ∪ around))) same
+      (one-by-one k (u - 2 ^ x) (todo - 2 ^ x) (omega (arith, size-less x todo i)) (light-rest near u todo x t (g .0) i)
+      (λ y j. f y (less-in x y todo i j .0)) (less x p (g .0) (g .1))
+      (λ m. heavy-less near u todo around x (peeled-small u p) m (g .0) i (f x i) (h m)))
+
+  -- and then those of around are tried
+  pub round : {u todo r : ℕ} → Light near u todo → ((x : ℕ) → x ∈ todo → getD near x 0 ⊑ around) → Peeled near u → (Mutual near → Heavy near u u todo)
+      → Heavy near (u - todo) (bitAnd around (u - todo)) r → Peeled near (u - todo) × (Mutual near → Heavy near (u - todo) (u - todo) r)
+  unfolding _∩_ _∪_
+  round {u} {todo} {r} t f p h g =
+      let o = one-by-one (ones todo) u todo refl t f p (λ m. heavy-but near u todo around (h m)) in
+      (o .0, λ m. heavy-with near (u - todo) 0 around r (o .1 m) g)
 
 -- ---- the core
 
