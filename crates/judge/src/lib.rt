@@ -10,7 +10,7 @@ ghost use Rattle.theory.specs.Constraints.{Pairs};
 ghost use Rattle.theory.specs.declared.Finding.the-variants.{Fine};
 ghost use Rattle.sheet.specs.Graph.{overFault};
 ghost use Rattle.graph.specs.Lent.{graphIn, Drawn};
-ghost use Rattle.merges.specs.Run.{runOf, Start, Merged};
+ghost use Rattle.merges.specs.Run.{runOf, Start, Merged, Planned};
 ghost use Rattle.cycles.specs.Cycle.{HoldsBelow};
 ghost use Rattle.judge.specs.Judged.{listed as listedOf, overFound, judgedOf};
 ghost use Rattle.judge.specs.Angles.{Names, linesInHead};
@@ -21,9 +21,6 @@ use merges::PLACES;
 use merges::Run;
 use theory::Finding;
 use theory::Verdict;
-
-// The set of all 64 elements.
-const EVERY_ELEMENT: u64 = 18446744073709551615;
 
 // The first constraint that makes the sheet over, with the smallest set; Fine where it is not over.
 pub fn over_of(h: Head, near: &[u64; 64], start: &[u64; 200]) -> Finding
@@ -97,16 +94,16 @@ fn listed(h: Head, run: Run) -> Judged
 }
 
 // A set that holds every element of a merge and every line of a ring: what is left when lines with one neighbour at most, and rows of elements that
-// end with one, are taken away. Where there are two lines or fewer, or as many constraints as elements, it is not looked for.
+// end with one, are taken away. Where there are two lines or fewer, or as many constraints as elements, none is.
 fn around(h: Head, near: &[u64; 64]) -> u64
     requires { ⌜ (1 ≤ h .n) × (h .n ≤ 64) ⌝ }
     ensures { λ r. ⌜ HoldsBelow (now (near .entry)) (h .n) r ⌝ }
 {
     if u64::count_ones(h.lines) < 3 {
-        return EVERY_ELEMENT;
+        return cycles::below(h.n);
     }
     if h.n <= h.e {
-        return EVERY_ELEMENT;
+        return cycles::below(h.n);
     }
     cycles::rounds(near, h.n, h.lines)
 }
@@ -161,22 +158,39 @@ fn angle_or_under(
     }
 }
 
-// The judgement of a sheet that is not over. Where nothing is left that runs round nothing merges, and two lines that do make no angle.
+// The same where nothing merges: there is no joint, and the constraints are the final clusters.
+fn unmerged_verdict(h: Head, near: &[u64; 64], start: &[u64; 200]) -> Verdict
+    requires { ⌜ (h .e ≤ 200) × (length (now near) ≡ 64) × (length (now start) ≡ 200) ⌝ }
+    ensures { λ r. ⌜ Names h (now (near .entry)) [] (now (start .entry)) 0 r ⌝ }
+{
+    let all = &start[..];
+    let e = h.e;
+    let lines = rings::turning(near, &all[e..e], h.lines);
+    if rings::ringed(&all[0..e], lines) {
+        Verdict::Angle
+    } else {
+        Verdict::Under
+    }
+}
+
+// The engine's merges, by a set that holds all that runs round. Where no three of it are neighbours of one another nothing merges.
+fn fine_run(h: Head, near: &[u64; 64], start: &[u64; 200], left: u64) -> Run
+    requires { ⌜ Drawn h (now near) (now start) × (h .e ≤ 125) × HoldsBelow (now near) (h .n) left ⌝ }
+    ensures { λ r. ⌜ Planned (take (h .e) (now (start .entry))) r ⌝ }
+{
+    if cycles::threes(near, left) {
+        return merges::merge_all(start, h.e);
+    }
+    unmerged(start, h.e)
+}
+
+// The judgement of a sheet that is not over. Two lines or fewer that run round make no angle.
 fn fine_judged(h: Head, near: &[u64; 64], start: &[u64; 200]) -> Judged
     requires { ⌜ Drawn h (now near) (now start) × (h .e + 3 ≢ 2 * h .n) × ((z : List ℤ) → findingOf (graphIn h (now start) z) ≡ Fine) ⌝ }
     ensures { λ r. ⌜ ((z : List ℤ) → r ≡ judgedOf (graphIn h (now (start .entry)) z)) ⌝ }
 {
     let left = around(h, near);
-    if left == 0 {
-        let run = unmerged(start, h.e);
-        return Judged {
-            verdict: Verdict::Under,
-            first: 0,
-            set: 0,
-            run,
-        };
-    }
-    let run = merges::merge_all(start, h.e);
+    let run = fine_run(h, near, start, left);
     let rounds = lines_in(h, left);
     if u64::count_ones(rounds.lines) <= 2 {
         return Judged {
@@ -229,15 +243,12 @@ pub fn judge(h: Head, near: &[u64; 64], start: &[u64; 200]) -> Judged
 
 // ---- the plan alone
 
-// The engine's plan of a sheet that is not over. Where nothing is left that runs round nothing merges.
+// The engine's plan of a sheet that is not over.
 fn fine_plan(h: Head, near: &[u64; 64], start: &[u64; 200]) -> Run
     requires { ⌜ Drawn h (now near) (now start) × (h .e + 3 ≢ 2 * h .n) × ((z : List ℤ) → findingOf (graphIn h (now start) z) ≡ Fine) ⌝ }
     ensures { λ r. ⌜ ((z : List ℤ) → r ≡ judgedOf (graphIn h (now (start .entry)) z) .run) ⌝ }
 {
-    if around(h, near) == 0 {
-        return unmerged(start, h.e);
-    }
-    merges::merge_all(start, h.e)
+    fine_run(h, near, start, around(h, near))
 }
 
 // The engine's plan of a sheet with 2n-3 constraints, none of an over one. Merges that leave one cluster show that it is not over.
@@ -280,9 +291,13 @@ pub fn fine_verdict(h: Head, near: &[u64; 64], start: &[u64; 200]) -> Verdict
     requires { ⌜ Drawn h (now near) (now start) × (h .e + 3 < 2 * h .n) × ((z : List ℤ) → findingOf (graphIn h (now start) z) ≡ Fine) ⌝ }
     ensures { λ r. ⌜ ((z : List ℤ) → r ≡ verdictOf (graphIn h (now (start .entry)) z)) ⌝ }
 {
-    let angles = lines_in(h, around(h, near));
+    let left = around(h, near);
+    let angles = lines_in(h, left);
     if u64::count_ones(angles.lines) <= 2 {
         return Verdict::Under;
+    }
+    if !cycles::threes(near, left) {
+        return unmerged_verdict(angles, near, start);
     }
     let run = merges::merge_all(start, h.e);
     let joints = run.joints;

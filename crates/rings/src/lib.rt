@@ -76,6 +76,9 @@ pub fn turning(near: &[u64; 64], merged: &[u64], lines: u64) -> u64
     requires { ⌜ length (now near) ≡ 64 ⌝ }
     ensures { λ r. ⌜ Turned (now (near .entry)) (now (merged .entry)) lines r ⌝ }
 {
+    if merged.len() == 0 {
+        return cycles::rounds_in(near, lines, lines) & lines;
+    }
     let mut among = *near;
     let mut i: usize = 0;
     while i < merged.len() {

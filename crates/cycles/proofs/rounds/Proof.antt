@@ -1,13 +1,11 @@
--- `cycles::rounds` meets its contract: a set of elements below n lies in all of them. Assumes nothing.
-use Rattle.theory.specs.Prelude.{needs, sym, subst, ℕ}
-use Rattle.theory.specs.Set.{_⊑_}
-use Rattle.cycles.specs.Cycle.Laws.{within}
+-- `cycles::rounds` meets its contract: all elements hold whatever runs round. Assumes nothing.
+use Rattle.theory.specs.Prelude.{needs}
+use Rattle.cycles.specs.Cycle.Laws.{all-hold}
 use Rattle.cycles.proofs.rounds.Statement.{statement}
 use Rattle.cycles.proofs.rounds.Tie as tie
 
 returns : tie.Need-returns
-returns c a r low =
-    c .rounds-in .ensures a r (subst (λ (k : ℕ). a ⊑ k) (sym (c .before .below .ensures)) (within (c .before .before .args .n) a low))
+returns c a r low = c .rounds-in .ensures a r (all-hold _ _ (c .before .below .ensures) a r low)
 
 pub rounds-spec : {M : Type 1} → statement M
 rounds-spec = tie.close (tie.spec (λ c κs. search needs) (λ c κs. search needs) returns)

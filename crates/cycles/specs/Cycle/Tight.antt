@@ -14,12 +14,12 @@ use Rattle.theory.specs.Merge.{Three, Merge, Valid, Ended, slot, live, three, p
 use Rattle.theory.specs.Merge.Threes.{part-a, part-b, size-union}
 use Rattle.theory.specs.Merge.Family.{Fam, Good, Distinct, OpenIn}
 use Rattle.theory.specs.Merge.Family.Invariant.{big, share, good-after}
-use Rattle.theory.specs.Merge.Numbered.{merge-at, put-good, put-distinct, start-good}
+use Rattle.theory.specs.Merge.Numbered.{merge-at, put-good, put-distinct, slot-among, start-good}
 use Rattle.theory.specs.Plan.{planOf}
 use Rattle.theory.specs.Plan.Laws.{plan-of-one}
 use Rattle.theory.specs.Ring.{strip}
 use Rattle.theory.specs.Ring.Strip.{rich}
-use Rattle.cycles.specs.Cycle.{Between, Round, HoldsBelow}
+use Rattle.cycles.specs.Cycle.{Between, Round, HoldsBelow, NoThree}
 
 -- an element of a set belongs to every set that holds it
 sub-in : (x : ℕ) {a b : ℕ} → a ⊑ b → x ∈ a → x ∈ b
@@ -138,10 +138,14 @@ module _ (cs near : List ℕ) (n : ℕ) (simple : Simple cs) (below : Below n cs
       three-in =
           omega (arith, size-union t (m .open3), big cs fine g (t .a) (m .ina), big cs fine g (t .b) (m .inb), big cs fine g (t .c) (m .inc))
 
+      union-tight : carried cs (union t) + 3 ≡ 2 * ones (union t)
+      union-tight = good-after cs fine g t m .tight (union t) (inl refl)
+
+      merged-round : Round near (union t)
+      merged-round = tight-round (union t) union-tight three-in
+
       merged-in : union t ⊑ r
-      merged-in =
-          let tight = good-after cs fine g t m .tight (union t) (inl refl) in
-          holds (union t) (tight-round (union t) tight three-in) (tight-low (union t) tight)
+      merged-in = holds (union t) merged-round (tight-low (union t) union-tight)
 
     -- every joint lies in what is left
     pub joints-in : (p : List Merge) (s : List ℕ) → Good cs (live s) → Distinct s → Valid s p → (j : ℕ) → Among j (joints s p) → j ⊑ r
@@ -152,13 +156,19 @@ module _ (cs near : List ℕ) (n : ℕ) (simple : Simple cs) (below : Below n cs
     joints-in (m ∷ p) s g d v j (inr i) =
         joints-in p (put s m) (put-good cs fine s g d m (v .0)) (put-distinct cs fine s g d m (v .0)) (v .1) j i
 
-    -- where nothing is left nothing merges
-    pub no-plan : r ≡ 0 → planOf cs ≡ []
-    unfolding Ended
+    -- where no three of what is left are neighbours of one another nothing merges: the first merge would be of three pairs
+    pub no-plan : NoThree near r → planOf cs ≡ []
+    unfolding Ended Pairs
     no-plan none = plan-of-one cs (simple .pairs) []
         (λ m o. let g = start-good cs (simple .pairs) fine in
         let t = three cs m in
-        omega (arith, three-in g t (merge-at cs m o), ⊑⇒size≤ r (union t) (merged-in g t (merge-at cs m o)), ap ones none, size-zero))
+        let i = merge-at cs m o in
+        none (union t) (merged-round g t i)
+        (omega (arith, size-union t (o .open3), pair-at (m .i) (o .livei), pair-at (m .j) (o .livej), pair-at (m .k) (o .livek)))
+        (merged-in g t i))
+      where
+        pair-at : (i : ℕ) → slot cs i ≢ 0 → ones (slot cs i) ≡ 2
+        pair-at i z = simple .pairs (slot cs i) (slot-among cs i (slot cs i) z refl)
 
     -- ---- rings
 

@@ -1,7 +1,11 @@
 -- The arrays of a sheet that is not over and has fewer than 2n-3 constraints, and of the engine's merges of it. Assumes nothing.
 use Rattle.theory.specs.Prelude.{_≡_, sym, ap, _∙_, _≢_, List, [], ℕ, _+_, _*_, _≤_, arith, ℤ, length, take}
 use Rattle.theory.specs.Block.Laws.{length-block}
+use Rattle.theory.specs.Constraints.{NotOver}
 use Rattle.theory.specs.Merge.{joints, final}
+use Rattle.theory.specs.Merge.Count.{steps-left}
+use Rattle.theory.specs.Plan.{planOf}
+use Rattle.theory.specs.Plan.Laws.{plan-of-maximal}
 use Rattle.theory.specs.Graph.{findingOf, verdictOf}
 use Rattle.theory.specs.declared.Finding.the-variants.{Fine}
 use Rattle.theory.specs.declared.Verdict.{Verdict}
@@ -11,10 +15,34 @@ use Rattle.graph.specs.Lent.Sheets.{counted, found-fine, fine-few}
 use Rattle.merges.specs.Run.{runOf, Start, Planned}
 use Rattle.merges.specs.Run.Laws.{length-joints, length-final}
 use Rattle.merges.specs.declared.Run.{Run}
-use Rattle.cycles.specs.Cycle.{HoldsBelow}
+use Rattle.cycles.specs.Cycle.{HoldsBelow, NoThree}
+use Rattle.cycles.specs.Cycle.Tight.{no-plan}
 use Rattle.judge.specs.Judged.Laws.{starts, steps-few}
-use Rattle.judge.specs.Angles.{linesIn, linesInHead, Fewer, Names}
+use Rattle.judge.specs.Angles.{linesIn, linesInHead, Fewer, PlanIn, Names}
 use Rattle.judge.specs.Angles.Laws.{plan-in, fewer-in, same-verdict}
+
+-- where no three of what runs round are neighbours of one another nothing merges
+module _ {h : Head} {near start : List ℕ} (d : Drawn h near start) (r : ℕ) (holds : HoldsBelow near (h .n) r) (none : NoThree near r) where
+  abbrev cs : List ℕ
+  cs = take (h .e) start
+
+  no-merge : NotOver cs → planOf cs ≡ []
+  no-merge fine = no-plan cs near (h .n) (d .sound .simple) (d .sound .below) (d .sound .most) (d .near-is) fine r holds none
+
+  pub unmerged-planned : {run : Run} → run ≡ runOf cs [] → Planned cs run
+  unmerged-planned is = record { merged = record { p = []; valid = tt; is = is }; plan = λ fine. sym (no-merge fine) }
+
+  unmerged-in : NotOver cs → (z : List ℤ) → PlanIn (linesIn (graphIn h start z) r) [] start 0
+  unfolding joints
+  unmerged-in fine z =
+      let e = no-merge fine in
+      let pairs = d .sound .simple .pairs in
+      let whole : length cs + 0 ≡ h .e = omega (arith, counted d) in
+      record {
+        joints-are = ap (joints cs) (sym e);
+        finals-are = ap (λ (k : ℕ). take k start) whole ∙ ap (final cs) (sym e);
+        left-are = omega (arith, steps-left cs pairs (planOf cs) (plan-of-maximal cs pairs .valid), ap length e);
+      }
 
 module _ {h : Head} {near start : List ℕ} (d : Drawn h near start) (found : (z : List ℤ) → findingOf (graphIn h start z) ≡ Fine) where
   few : h .e ≤ 125
@@ -27,30 +55,45 @@ module _ {h : Head} {near start : List ℕ} (d : Drawn h near start) (found : (z
   drawn-fewer ne z = record { sound = d .sound; is-near = d .near-is; found = found z; other = λ e. ne (sym (rw (counted d)) ∙ e) }
 
   -- with the lines in r alone
-  module _ {run : Run} (p : Planned (take (h .e) start) run) (r : ℕ) {k : Head} (is : k ≡ linesInHead h r) where
-    pub planned-places : (k .e ≤ 125) × (2 * run .steps ≤ k .e) × (length near ≡ 64) × (length (run .joints) ≡ 64) × (length (run .slots) ≡ 192)
-    unfolding runOf
-    planned-places =
-        let cs = take (h .e) start in
-        let m = p .merged in
-        let e = ap (λ (q : Head). q .e) is in
-        let steps = steps-few cs (d .sound .simple .pairs) m in
-        let count = ap (λ (q : Run). q .steps) (m .is) in (
-          omega (arith, e, few),
-          omega (arith, e, steps, counted d),
-          d .near-is .places,
-          ap (λ (q : Run). length (q .joints)) (m .is)
-              ∙ length-block 64 0 (joints cs (m .p)) (omega (arith, length-joints (m .p) cs, steps, few, count, counted d)),
-          ap (λ (q : Run). length (q .slots)) (m .is)
-              ∙ length-block 192 0 (final cs (m .p)) (omega (arith, length-final (m .p) cs, steps, few, count, counted d)),
-        )
+  module _ (r : ℕ) {k : Head} (is : k ≡ linesInHead h r) where
+    same-e : h .e ≡ k .e
+    same-e = sym (ap (λ (q : Head). q .e) is)
 
-    pub planned-verdict : HoldsBelow near (h .n) r → h .e + 3 ≢ 2 * h .n → {v : Verdict} → Names k near (run .joints) (run .slots) (run .steps) v
-        → (z : List ℤ) → v ≡ verdictOf (graphIn h start z)
-    planned-verdict holds ne names z =
+    named-verdict : HoldsBelow near (h .n) r → h .e + 3 ≢ 2 * h .n → {held slots : List ℕ} {steps : ℕ}
+        → ((z : List ℤ) → Fewer (linesIn (graphIn h start z) r) near → PlanIn (linesIn (graphIn h start z) r) held slots steps)
+        → {v : Verdict} → Names k near held slots steps v → (z : List ℤ) → v ≡ verdictOf (graphIn h start z)
+    named-verdict holds ne plan names z =
         let g = graphIn h start z in
         let o = drawn-fewer ne z in
         let in-r = fewer-in g near o r holds in
-        names (linesIn g r) in-r (plan-in (linesIn g r) near in-r p) (sym (ap (λ (q : Head). q .lines) is))
-        (counted d ∙ sym (ap (λ (q : Head). q .e) is))
-        ∙ same-verdict g near o r holds
+        names (linesIn g r) in-r (plan z in-r) (sym (ap (λ (q : Head). q .lines) is)) (counted d ∙ same-e) ∙ same-verdict g near o r holds
+
+    -- from the engine's merges
+    module _ {run : Run} (p : Planned (take (h .e) start) run) where
+      pub planned-places : (k .e ≤ 125) × (2 * run .steps ≤ k .e) × (length near ≡ 64) × (length (run .joints) ≡ 64) × (length (run .slots) ≡ 192)
+      unfolding runOf
+      planned-places =
+          let cs = take (h .e) start in
+          let m = p .merged in
+          let steps = steps-few cs (d .sound .simple .pairs) m in
+          let count = ap (λ (q : Run). q .steps) (m .is) in (
+            omega (arith, same-e, few),
+            omega (arith, same-e, steps, counted d),
+            d .near-is .places,
+            ap (λ (q : Run). length (q .joints)) (m .is)
+                ∙ length-block 64 0 (joints cs (m .p)) (omega (arith, length-joints (m .p) cs, steps, few, count, counted d)),
+            ap (λ (q : Run). length (q .slots)) (m .is)
+                ∙ length-block 192 0 (final cs (m .p)) (omega (arith, length-final (m .p) cs, steps, few, count, counted d)),
+          )
+
+      pub planned-verdict : HoldsBelow near (h .n) r → h .e + 3 ≢ 2 * h .n → {v : Verdict} → Names k near (run .joints) (run .slots) (run .steps) v
+          → (z : List ℤ) → v ≡ verdictOf (graphIn h start z)
+      planned-verdict holds ne = named-verdict holds ne (λ z o. plan-in (linesIn (graphIn h start z) r) near o p)
+
+    -- where nothing merges, from the constraints
+    pub unmerged-places : (k .e ≤ 200) × (length near ≡ 64) × (length start ≡ 200)
+    unmerged-places = (omega (arith, same-e, d .few), d .near-is .places, d .places)
+
+    pub unmerged-verdict : HoldsBelow near (h .n) r → h .e + 3 ≢ 2 * h .n → NoThree near r → {v : Verdict} → Names k near [] start 0 v
+        → (z : List ℤ) → v ≡ verdictOf (graphIn h start z)
+    unmerged-verdict holds ne none = named-verdict holds ne (λ z o. unmerged-in d r holds none (found-fine (d .sound) (found z)) z)

@@ -4,7 +4,7 @@ use Rattle.theory.specs.Prelude.{_≤_, arith, ones, eqb, length, take, drop}
 use lib.Seq.{take-nil}
 use Rattle.theory.specs.Block.Laws.{take-block}
 use Rattle.theory.specs.Set.{_∩_, _⊑_, at}
-use Rattle.theory.specs.Set.Laws.{ext, at-∩, size-zero, ⊑⇒size≤, a∩b⊑a, a∩b⊑b, ∩-greatest}
+use Rattle.theory.specs.Set.Laws.{ext, at-∩, a∩b⊑a, ∩-greatest}
 use Rattle.theory.specs.Constraints.{Among, Pairs, NotOver}
 use Rattle.theory.specs.Merge.{Merge, Valid, joints, final, left}
 use Rattle.theory.specs.Merge.Numbered.{start-good, start-distinct, good-final}
@@ -22,7 +22,7 @@ use Rattle.merges.specs.Run.{runOf, Planned}
 use Rattle.merges.specs.Run.Laws.{length-joints}
 use Rattle.merges.specs.declared.Run.{Run}
 use Rattle.cycles.specs.Cycle.{HoldsBelow}
-use Rattle.cycles.specs.Cycle.Tight.{joints-in, lines-in, no-plan}
+use Rattle.cycles.specs.Cycle.Tight.{joints-in, lines-in}
 use Rattle.rings.specs.Rows.{Keeps, Turned}
 use Rattle.rings.specs.Rows.Laws.{kept-same}
 use Rattle.rings.specs.Rows.Merged.{turned-keeps}
@@ -187,10 +187,3 @@ module _ (g : Graph) (near : List ℕ) (o : Fewer g near) where
     -- too few of them for a joint of three or a ring
     pub few-angles : ones (g .lines ∩ r) ≤ 2 → verdictOf g ≡ Under
     few-angles few = sym same-verdict ∙ fewer-is (linesIn g r) (o .sound) few (o .found) (o .other)
-
-    -- nothing is left that runs round
-    pub none-judged : r ≡ 0 → {run : Run} → run ≡ runOf cs [] → record { verdict = Under; first = 0; set = 0; run = run } ≡ judgedOf g
-    none-judged none e =
-        run-judged (sym (few-angles (omega (arith, ⊑⇒size≤ r (g .lines ∩ r) (a∩b⊑b (g .lines) r), ap ones none, size-zero))))
-        (e
-        ∙ ap (runOf cs) (sym (no-plan cs near (g .n) (o .sound .simple) (o .sound .below) (o .sound .most) (o .is-near) fine r holds none)))

@@ -13,7 +13,7 @@ abbrev μ-loop : tie.MeasureT-loop
 μ-loop near merged lines among₀ i₀ among i = length merged - i
 
 loop-holds : tie.Need-loop-holds Inv-loop μ-loop
-loop-holds c = (omega arith, neighbours-start _ _ _ (c .before .before .pre))
+loop-holds c = (omega arith, neighbours-start _ _ _ (c .before .before .before .pre))
 
 join-requires : tie.Need-join-requires Inv-loop μ-loop
 join-requires c κs = c .before .before .before .before .loop .inv .1 .places
@@ -26,14 +26,20 @@ loop-again c =
       neighbours-turn _ _ _ (l .among) (l .i) (m .result) _ (c .join .result) (l .inv .1) (m .ensures) (c .join .ensures),
     )
 
+-- no merged cluster
 returns : tie.Need-returns Inv-loop μ-loop
 returns c =
+    neighbours-end _ _ _ (c .before .before .before .args .near .now) 0 (c .rounds-in .result) (neighbours-start _ _ _ (c .before .before .before .pre))
+    (omega (arith, c .before .if1 .taken)) (c .rounds-in .ensures)
+
+returns-2 : tie.Need-returns-2 Inv-loop μ-loop
+returns-2 c =
     let l = c .before .before .before .loop in
-    neighbours-end _ _ _ (l .among) (l .i) (c .rounds-in .result) (l .inv .1) (omega (arith, c .before .before .loop-test .left))
-    (c .rounds-in .ensures)
+    neighbours-end _ _ _ (l .among) (l .i) (c .rounds-in2 .result) (l .inv .1) (omega (arith, c .before .before .loop-test .left))
+    (c .rounds-in2 .ensures)
 
 pub turning-spec : {M : Type 1} → statement M
 turning-spec =
     tie.close
-    (tie.spec Inv-loop μ-loop loop-holds (λ c. search needs) (λ c. search needs) (λ c κs. search needs) join-requires (λ c. search needs)
-    (λ c. search needs) loop-again (λ c κs. search needs) returns)
+    (tie.spec Inv-loop μ-loop (λ c κs. search needs) returns loop-holds (λ c. search needs) (λ c. search needs) (λ c κs. search needs) join-requires
+    (λ c. search needs) (λ c. search needs) loop-again (λ c κs. search needs) returns-2)
