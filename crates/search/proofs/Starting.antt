@@ -1,13 +1,12 @@
 -- The links, the holders and the waiting clusters before the first merge. Assumes nothing.
-use Rattle.theory.specs.Prelude.{_≡_, refl, sym, ap, _∙_, _≢_, ⊎-elim, List, ℕ, zero, suc, _+_, _-_, _*_, _/_, _%_, _≤_, _<_, arith, ℕ-discrete}
-use Rattle.theory.specs.Prelude.{length, getD, set, replicate}
+use Rattle.theory.specs.Prelude.{_≡_, refl, sym, ap, _∙_, subst, _≢_, ⊎-elim, List, ℕ, zero, suc, _+_, _-_, _*_, _/_, _%_, _^_, _≤_, _<_}
+use Rattle.theory.specs.Prelude.{arith, ℕ-discrete, bitOr, length, getD, set, replicate}
 use Rattle.theory.specs.Block.Laws.{getD-blank}
 use Rattle.theory.specs.Set.{_∈_, _∪_, at, full}
-use Rattle.theory.specs.Set.Laws.{at-zero, at-∪, ∈-∪⁻, ∈-∪ˡ, ∈-∪ʳ, out}
-use Rattle.theory.specs.Set.Lowest.{at-beyond}
+use Rattle.theory.specs.Set.Laws.{at-zero, at-same, at-other, at-∪, ∈-∪⁻, ∈-∪ˡ, ∈-∪ʳ, out}
 use Rattle.theory.specs.Merge.{slot}
-use Rattle.search.specs.State.{linked, holder, waits, beyond, Begun}
-use Rattle.search.specs.Words.{word, replaced, SetOf, Rejoined}
+use Rattle.search.specs.State.{linked, holder, waits, Begun}
+use Rattle.search.specs.Words.{word, Entered}
 use Rattle.search.specs.State.Sheet.{in-full}
 use Rattle.search.proofs.Triple.{set-three}
 
@@ -44,73 +43,61 @@ begun-none = record {
 }
 
 -- cluster i more
-module _ {s links hold links′ hold′ : List ℕ} {i a b c : ℕ} (low : i < 192) (h : Begun s i links hold) (one : SetOf a b c (λ n. n ≡ i))
-    (j : Rejoined links hold (slot s i) (slot s i) 0 0 0 a b c links′ hold′) where
-  -- the word of n that is taken out has nothing
-  none-dead : (n x : ℕ) → at x (word (n / 64) 0 0 0) ≡ 0
-  none-dead n x = zeros (n / 64)
-    where
-      zeros : (w : ℕ) → at x (word w 0 0 0) ≡ 0
-      zeros zero = at-zero x
-      zeros (suc zero) = at-zero x
-      zeros (suc (suc w)) = at-zero x
+module _ {s links hold links′ hold′ : List ℕ} {i : ℕ} (low : i < 192) (h : Begun s i links hold) (j : Entered links hold (slot s i) i links′ hold′)
+  where
+    mine : (p : ℕ) → p < 64 → Dec (p ∈ slot s i) → holder hold′ p i ≡ at p (slot s i)
+    unfolding _∪_
+    mine p l (yes e) =
+        ap (at (i % 64)) (j .noted .inside p e) ∙ ∈-∪ʳ (i % 64) (getD hold (64 * (i / 64) + p) 0) (2 ^ (i % 64)) (at-same (i % 64)) ∙ sym e
+    mine p l (no n) =
+        let z = out p (slot s i) n in
+        ap (at (i % 64)) (j .noted .outside p l z) ∙ h .free p i l low (omega arith) ∙ sym z
 
-  -- the holders of an element of the cluster
-  inside : (p n : ℕ) → n < 192 → p ∈ slot s i
-      → (holder hold′ p n ≡ at (n % 64) (replaced (word (n / 64) 0 0 0) (word (n / 64) a b c) (getD hold (64 * (n / 64) + p) 0)))
-  inside p n l e = ap (at (n % 64)) (j .words (n / 64) (omega arith) .inside p e)
+    -- what is said of the word of i is said of the word of n
+    placed : (P : ℕ → ℕ → Type 0) (p n : ℕ) → n / 64 ≡ i / 64 → P (getD hold (64 * (i / 64) + p) 0) (getD hold′ (64 * (i / 64) + p) 0)
+        → P (getD hold (64 * (n / 64) + p) 0) (getD hold′ (64 * (n / 64) + p) 0)
+    placed P p n w = subst (λ (k : ℕ). P (getD hold (64 * k + p) 0) (getD hold′ (64 * k + p) 0)) (sym w)
 
-  mine : (p : ℕ) → p < 64 → Dec (p ∈ slot s i) → holder hold′ p i ≡ at p (slot s i)
-  unfolding _∪_
-  mine p l (yes e) =
-      inside p i low e ∙ ∈-∪ʳ (i % 64) (beyond (getD hold (64 * (i / 64) + p) 0) (word (i / 64) 0 0 0)) (word (i / 64) a b c)
-      (one .every i low refl)
-      ∙ sym e
-  mine p l (no n) =
-      let z = out p (slot s i) n in
-      ap (at (i % 64)) (j .words (i / 64) (omega arith) .outside p l z) ∙ h .free p i l low (omega arith) ∙ sym z
+    other : (p n : ℕ) → p < 64 → n ≢ i → Dec (n / 64 ≡ i / 64) → Dec (p ∈ slot s i) → holder hold′ p n ≡ holder hold p n
+    unfolding _∪_
+    other p n l d (no w) m = ap (at (n % 64)) (j .others (64 * (n / 64) + p) (λ q k e. w (omega arith)))
+    other p n l d (yes w) (yes e) =
+        let x = getD hold (64 * (n / 64) + p) 0 in
+        ap (at (n % 64)) (placed (λ x y. y ≡ bitOr x (2 ^ (i % 64))) p n w (j .noted .inside p e))
+        ∙ omega (arith, at-∪ (n % 64) x (2 ^ (i % 64)), at-other (n % 64) (i % 64) (λ q. d (omega (arith, w, q))))
+    other p n l d (yes w) (no e) =
+        ap (at (n % 64)) (placed (λ x y. y ≡ x) p n w (j .noted .outside p l (out p (slot s i) e)))
 
-  other : (p n : ℕ) → p < 64 → n < 192 → n ≢ i → Dec (p ∈ slot s i) → holder hold′ p n ≡ holder hold p n
-  unfolding _∪_
-  other p n l k d (yes e) =
-      let x = getD hold (64 * (n / 64) + p) 0 in
-      let m : at (n % 64) (word (n / 64) a b c) ≡ 0 = out (n % 64) (word (n / 64) a b c) (λ q. d (one .only n k q)) in
-      inside p n k e
-      ∙ omega (
-        arith,
-        at-∪ (n % 64) (beyond x (word (n / 64) 0 0 0)) (word (n / 64) a b c),
-        at-beyond (n % 64) x (word (n / 64) 0 0 0),
-        none-dead n (n % 64),
-      )
-  other p n l k d (no e) = ap (at (n % 64)) (j .words (n / 64) (omega arith) .outside p l (out p (slot s i) e))
+    pub begun-next : Begun s (i + 1) links′ hold′
+    unfolding _∪_
+    begun-next = record {
+      links-long = j .links-long;
+      hold-long = j .hold-long;
+      only = λ p r e. only p r e (ℕ-discrete (at p (slot s i)) 1);
+      every = λ n p r l pn rn. every n p r l pn rn (ℕ-discrete n i) (ℕ-discrete (at p (slot s i)) 1);
+      holding = λ p n l k. holding p n l k (ℕ-discrete n i);
+      free = λ p n l k f. stays p n l (λ e. omega arith) ∙ h .free p n l k (omega arith);
+    }
+      where
+        stays : (p n : ℕ) → p < 64 → n ≢ i → holder hold′ p n ≡ holder hold p n
+        stays p n l d = other p n l d (ℕ-discrete (n / 64) (i / 64)) (ℕ-discrete (at p (slot s i)) 1)
 
-  pub begun-next : Begun s (i + 1) links′ hold′
-  unfolding _∪_
-  begun-next = record {
-    links-long = j .links-long;
-    hold-long = j .hold-long;
-    only = λ p r e. only p r e (ℕ-discrete (at p (slot s i)) 1);
-    every = λ n p r l pn rn. every n p r l pn rn (ℕ-discrete n i) (ℕ-discrete (at p (slot s i)) 1);
-    holding = λ p n l k. holding p n l k (ℕ-discrete n i);
-    free = λ p n l k f. other p n l k (λ e. omega arith) (ℕ-discrete (at p (slot s i)) 1) ∙ h .free p n l k (omega arith);
-  }
-    where
-      only : (p r : ℕ) → r ∈ linked links′ p → Dec (p ∈ slot s i) → (c : ℕ) × (p ∈ slot s c) × (r ∈ slot s c)
-      only p r e (yes m) =
-          ⊎-elim (λ f. h .only p r f) (λ f. (i, m, f)) (∈-∪⁻ r (linked links p) (slot s i) (sym (ap (at r) (j .linking .inside p m)) ∙ e))
-      only p r e (no n) = h .only p r (sym (ap (at r) (j .linking .outside p (out p (slot s i) n))) ∙ e)
+        only : (p r : ℕ) → r ∈ linked links′ p → Dec (p ∈ slot s i) → (c : ℕ) × (p ∈ slot s c) × (r ∈ slot s c)
+        only p r e (yes m) =
+            ⊎-elim (λ f. h .only p r f) (λ f. (i, m, f)) (∈-∪⁻ r (linked links p) (slot s i) (sym (ap (at r) (j .linking .inside p m)) ∙ e))
+        only p r e (no n) = h .only p r (sym (ap (at r) (j .linking .outside p (out p (slot s i) n))) ∙ e)
 
-      every : (n p r : ℕ) → n < i + 1 → p ∈ slot s n → r ∈ slot s n → Dec (n ≡ i) → Dec (p ∈ slot s i)
-          → r ∈ linked links′ p
-      every n p r l pn rn (yes e) d =
-          let f : (x : ℕ) → at x (slot s i) ≡ at x (slot s n) = λ x. ap (λ (y : ℕ). at x (slot s y)) (sym e) in
-          ap (at r) (j .linking .inside p (f p ∙ pn)) ∙ ∈-∪ʳ r (linked links p) (slot s i) (f r ∙ rn)
-      every n p r l pn rn (no m) (yes e) =
-          ap (at r) (j .linking .inside p e) ∙ ∈-∪ˡ r (linked links p) (slot s i) (h .every n p r (omega (arith, m)) pn rn)
-      every n p r l pn rn (no m) (no e) =
-          ap (at r) (j .linking .outside p (out p (slot s i) e)) ∙ h .every n p r (omega (arith, m)) pn rn
+        every : (n p r : ℕ) → n < i + 1 → p ∈ slot s n → r ∈ slot s n → Dec (n ≡ i) → Dec (p ∈ slot s i)
+            → r ∈ linked links′ p
+        every n p r l pn rn (yes e) d =
+            let f : (x : ℕ) → at x (slot s i) ≡ at x (slot s n) = λ x. ap (λ (y : ℕ). at x (slot s y)) (sym e) in
+            ap (at r) (j .linking .inside p (f p ∙ pn)) ∙ ∈-∪ʳ r (linked links p) (slot s i) (f r ∙ rn)
+        every n p r l pn rn (no m) (yes e) =
+            ap (at r) (j .linking .inside p e) ∙ ∈-∪ˡ r (linked links p) (slot s i) (h .every n p r (omega (arith, m)) pn rn)
+        every n p r l pn rn (no m) (no e) =
+            ap (at r) (j .linking .outside p (out p (slot s i) e)) ∙ h .every n p r (omega (arith, m)) pn rn
 
-      holding : (p n : ℕ) → p < 64 → n < i + 1 → Dec (n ≡ i) → holder hold′ p n ≡ at p (slot s n)
-      holding p n l k (yes e) = ap (holder hold′ p) e ∙ mine p l (ℕ-discrete (at p (slot s i)) 1) ∙ ap (λ (y : ℕ). at p (slot s y)) (sym e)
-      holding p n l k (no m) =
-          other p n l (omega arith) m (ℕ-discrete (at p (slot s i)) 1) ∙ h .holding p n l (omega (arith, m))
+        holding : (p n : ℕ) → p < 64 → n < i + 1 → Dec (n ≡ i) → holder hold′ p n ≡ at p (slot s n)
+        holding p n l k (yes e) = ap (holder hold′ p) e ∙ mine p l (ℕ-discrete (at p (slot s i)) 1) ∙ ap (λ (y : ℕ). at p (slot s y)) (sym e)
+        holding p n l k (no m) =
+            stays p n l m ∙ h .holding p n l (omega (arith, m))

@@ -1,12 +1,12 @@
 -- Stores at the places base + p, for the elements p of a set one after another, and the elements linked within a set alone. Assumes nothing.
-use Rattle.theory.specs.Prelude.{_≡_, refl, sym, ap, _∙_, subst, _≢_, _⊎_, inl, inr, List, ℕ, zero, suc, _+_, _-_, _*_, _^_, _≤_, _<_, arith}
-use Rattle.theory.specs.Prelude.{ℕ-discrete, decLt, bitAnd, bitOr, bitXor, and-le-l, trailingZeros, length, getD, set, length-set}
+use Rattle.theory.specs.Prelude.{_≡_, refl, sym, ap, _∙_, subst, _≢_, _⊎_, inl, inr, List, ℕ, zero, suc, _+_, _-_, _*_, _/_, _%_, _^_, _≤_, _<_}
+use Rattle.theory.specs.Prelude.{arith, ℕ-discrete, decLt, bitAnd, bitOr, bitXor, and-le-l, trailingZeros, length, getD, set, length-set}
 use Rattle.theory.specs.Prelude.{List·getD-eq-default, getD-set-same, getD-set-other}
 use Rattle.theory.specs.Set.{_∈_, _∩_, _∪_, at}
 use Rattle.theory.specs.Set.Laws.{at-zero, at-∩, ∈-∩⁻, ∈-∪⁻, ∈-∪ˡ}
 use Rattle.theory.specs.Set.Lowest.{at-below, lowest-in, lowest-below, rest-lowest, rest-other, at-beyond}
-use Rattle.search.specs.State.{linked}
-use Rattle.search.specs.Words.{word, replaced, Stored, Rejoined, Inner}
+use Rattle.search.specs.State.{linked, Linking}
+use Rattle.search.specs.Words.{word, replaced, Stored, Rejoined, Entered, Inner}
 
 -- f is stored for the elements of edge that lie not in rest
 pub record Storing (f : ℕ → ℕ) (base edge : ℕ) (list now : List ℕ) (rest : ℕ) : Type 0 where
@@ -77,8 +77,30 @@ module _ {f : ℕ → ℕ} {base edge : ℕ} {list : List ℕ} where
         done-at p i o (no n) =
             getD-set-other now (base + p₀) (base + p) v 0 (λ z. n (omega arith)) ∙ w .done p i (sym (rest-other rest (l .fits) some p n) ∙ o)
 
+    -- the same at the place as it is written
+    pub storing-at : Left edge rest → rest ≢ 0 → base + 64 ≤ length now → (i : ℕ) → i ≡ base + trailingZeros 64 rest
+        → Storing f base edge list (set now i (f (getD now i 0))) (bitAnd rest (rest - 1))
+    storing-at l some room i is =
+        subst (λ (i : ℕ). Storing f base edge list (set now i (f (getD now i 0))) (bitAnd rest (rest - 1))) (sym is) (storing-next l some room)
+
     pub storing-all : rest ≡ 0 → Stored f base edge list now
     storing-all z = record { inside = λ p i. w .done p i (ap (at p) z ∙ at-zero p); outside = w .other }
+
+-- links from the first place on
+pub linking-all : {links now : List ℕ} {edge u rest : ℕ} → Storing (λ x. bitOr x u) 0 edge links now rest → rest ≡ 0 → length links ≡ 64
+    → length now ≡ 64 → Linking links edge u now
+unfolding _∪_
+linking-all {links} {now} {edge} {u} w z long long′ = record {
+  inside = λ p i. ap (linked now) (plain p) ∙ storing-all w z .inside p i ∙ ap (λ (j : ℕ). bitOr (linked links j) u) (sym (plain p));
+  outside = λ p o. outside p o (decLt p 64);
+}
+  where
+    plain : (p : ℕ) → p ≡ 0 + p
+    plain p = omega arith
+
+    outside : (p : ℕ) → at p edge ≡ 0 → Dec (p < 64) → linked now p ≡ linked links p
+    outside p o (yes l) = ap (linked now) (plain p) ∙ w .other p l o ∙ ap (linked links) (sym (plain p))
+    outside p o (no n) = List·getD-eq-default now 0 (omega (arith, long′)) ∙ sym (List·getD-eq-default links 0 (omega (arith, long)))
 
 -- ---- links and holders at once
 
@@ -114,19 +136,16 @@ module _ {links hold : List ℕ} {edge u da db dc ma mb mc : ℕ} where
       left = next;
       links-long = length-set now p _ ∙ w .links-long;
       hold-long = length-set h2 (128 + p) _ ∙ long2;
-      linking = at-place 0 p now (λ x. bitOr x u) links (omega arith) (storing-next (w .linking) (w .left) some (omega (arith, w .links-long)));
+      linking = storing-at (w .linking) (w .left) some (omega (arith, w .links-long)) p (omega (arith, is));
       first =
-          storing-away (storing-away (at-place 0 p held (replaced da ma) hold (omega arith)
-          (storing-next (w .first) (w .left) some (omega (arith, w .hold-long)))) next (64 + p)
-          _ (λ q l e. omega arith)) next (128 + p) _ (λ q l e. omega arith);
+          storing-away (storing-away (storing-at (w .first) (w .left) some (omega (arith, w .hold-long)) p (omega (arith, is))) next (64 + p) _
+          (λ q l e. omega arith)) next (128 + p) _ (λ q l e. omega arith);
       second =
-          storing-away (at-place 64 (64 + p) h1 (replaced db mb) hold refl
-          (storing-next (storing-away (w .second) (w .left) p _ (λ q l e. omega (arith, low))) (w .left) some
-          (omega (arith, long1)))) next (128 + p) _ (λ q l e. omega arith);
+          storing-away (storing-at (storing-away (w .second) (w .left) p _ (λ q l e. omega (arith, low))) (w .left) some (omega (arith, long1))
+          (64 + p) (omega (arith, is))) next (128 + p) _ (λ q l e. omega arith);
       third =
-          at-place 128 (128 + p) h2 (replaced dc mc) hold refl
-          (storing-next (storing-away (storing-away (w .third) (w .left) p _ (λ q l e. omega (arith, low))) (w .left)
-          (64 + p) _ (λ q l e. omega (arith, low))) (w .left) some (omega (arith, long2)));
+          storing-at (storing-away (storing-away (w .third) (w .left) p _ (λ q l e. omega (arith, low))) (w .left) (64 + p) _
+          (λ q l e. omega (arith, low))) (w .left) some (omega (arith, long2)) (128 + p) (omega (arith, is));
     }
       where
         next : Left edge (bitAnd rest (rest - 1))
@@ -147,38 +166,68 @@ module _ {links hold : List ℕ} {edge u da db dc ma mb mc : ℕ} where
         long2 : length h2 ≡ 192
         long2 = length-set h1 (64 + p) _ ∙ long1
 
-        -- the place as it is written
-        at-place : (base i : ℕ) (l : List ℕ) (f : ℕ → ℕ) (list : List ℕ) → base + p ≡ i
-            → Storing f base edge list (set l (base + trailingZeros 64 rest) (f (getD l (base + trailingZeros 64 rest) 0))) (bitAnd rest (rest - 1))
-            → Storing f base edge list (set l i (f (getD l i 0))) (bitAnd rest (rest - 1))
-        at-place base i l f list e s =
-            subst (λ (i : ℕ). Storing f base edge list (set l i (f (getD l i 0))) (bitAnd rest (rest - 1))) (omega (arith, is)) s
-
     pub joining-all : rest ≡ 0 → edge < 2 ^ 64 → length links ≡ 64 → Rejoined links hold edge u da db dc ma mb mc now held
     unfolding _∪_
     joining-all z fits long = record {
       fits = fits;
       links-long = w .links-long;
       hold-long = w .hold-long;
-      linking = record {
-        inside = λ p i. ap (linked now) (plain p) ∙ storing-all (w .linking) z .inside p i ∙ ap (λ (j : ℕ). bitOr (linked links j) u) (sym (plain p));
-        outside = λ p o. outside p o (decLt p 64);
-      };
+      linking = linking-all (w .linking) z long (w .links-long);
       words = words;
     }
       where
-        plain : (p : ℕ) → p ≡ 0 + p
-        plain p = omega arith
-
-        outside : (p : ℕ) → at p edge ≡ 0 → Dec (p < 64) → linked now p ≡ linked links p
-        outside p o (yes l) = ap (linked now) (plain p) ∙ w .linking .other p l o ∙ ap (linked links) (sym (plain p))
-        outside p o (no n) = List·getD-eq-default now 0 (omega (arith, w .links-long)) ∙ sym (List·getD-eq-default links 0 (omega arith))
-
         words : (v : ℕ) → v < 3 → Stored (replaced (word v da db dc) (word v ma mb mc)) (64 * v) edge hold held
         words zero l = storing-all (w .first) z
         words (suc zero) l = storing-all (w .second) z
         words (suc (suc zero)) l = storing-all (w .third) z
         words (suc (suc (suc v))) l = absurd (omega arith)
+
+-- ---- one cluster more
+
+pub record Entering (links hold : List ℕ) (x c : ℕ) (now held : List ℕ) (rest : ℕ) : Type 0 where
+  pub left : Left x rest
+  pub links-long : length now ≡ 64
+  pub hold-long : length held ≡ 192
+  pub linking : Storing (λ y. bitOr y x) 0 x links now rest
+  pub noting : Storing (λ y. bitOr y (2 ^ (c % 64))) (64 * (c / 64)) x hold held rest
+  pub others : (i : ℕ) → ((p : ℕ) → p < 64 → 64 * (c / 64) + p ≢ i) → getD held i 0 ≡ getD hold i 0
+
+module _ {links hold : List ℕ} {x c : ℕ} (low : c < 192) where
+  pub entering-none : x < 2 ^ 64 → length links ≡ 64 → length hold ≡ 192 → Entering links hold x c links hold x
+  entering-none l a b = record {
+    left = left-none l;
+    links-long = a;
+    hold-long = b;
+    linking = storing-none;
+    noting = storing-none;
+    others = λ i far. refl;
+  }
+
+  module _ {now held : List ℕ} {rest : ℕ} (w : Entering links hold x c now held rest) where
+    pub entering-next : (p i bit : ℕ) → p ≡ trailingZeros 64 rest → i ≡ 64 * (c / 64) + p → bit ≡ 2 ^ (c % 64) → rest ≢ 0
+        → Entering links hold x c (set now p (bitOr (getD now p 0) x)) (set held i (bitOr (getD held i 0) bit)) (bitAnd rest (rest - 1))
+    entering-next p i bit is place bit-is some = record {
+      left = left-next (w .left);
+      links-long = length-set now p _ ∙ w .links-long;
+      hold-long = length-set held i _ ∙ w .hold-long;
+      linking = storing-at (w .linking) (w .left) some (omega (arith, w .links-long)) p (omega (arith, is));
+      noting =
+          subst (λ (b : ℕ). Storing (λ y. bitOr y (2 ^ (c % 64))) (64 * (c / 64)) x hold (set held i (bitOr (getD held i 0) b))
+          (bitAnd rest (rest - 1))) (sym bit-is)
+          (storing-at (w .noting) (w .left) some (omega (arith, w .hold-long, low)) i (omega (arith, is, place)));
+      others = λ j far.
+          getD-set-other held i j _ 0
+          (λ e. far p (omega (arith, is, lowest-below 64 rest (w .left .fits) some)) (omega (arith, place, e))) ∙ w .others j far;
+    }
+
+    pub entering-all : rest ≡ 0 → length links ≡ 64 → Entered links hold x c now held
+    entering-all z long = record {
+      links-long = w .links-long;
+      hold-long = w .hold-long;
+      linking = linking-all (w .linking) z long (w .links-long);
+      noted = storing-all (w .noting) z;
+      others = w .others;
+    }
 
 -- ---- the elements linked within u alone
 

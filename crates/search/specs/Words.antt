@@ -72,3 +72,11 @@ pub record Rejoined (links hold : List ℕ) (edge u da db dc ma mb mc : ℕ) (li
   pub hold-long : length hold′ ≡ 192
   pub linking : Linking links edge u links′
   pub words : (w : ℕ) → w < 3 → Stored (replaced (word w da db dc) (word w ma mb mc)) (64 * w) edge hold hold′
+
+-- the elements of x are linked with one another and held by cluster c too; what else is held stays
+pub record Entered (links hold : List ℕ) (x c : ℕ) (links′ hold′ : List ℕ) : Type 0 where
+  pub links-long : length links′ ≡ 64
+  pub hold-long : length hold′ ≡ 192
+  pub linking : Linking links x x links′
+  pub noted : Stored (λ y. bitOr y (2 ^ (c % 64))) (64 * (c / 64)) x hold hold′
+  pub others : (i : ℕ) → ((p : ℕ) → p < 64 → 64 * (c / 64) + p ≢ i) → getD hold′ i 0 ≡ getD hold i 0

@@ -8,7 +8,7 @@ ghost use lib.ListN.{length, replicate};
 ghost use Rattle.theory.specs.Set.{_∈_, _∩_};
 ghost use Rattle.theory.specs.Merge.{slot, Part, merge as numbers};
 ghost use Rattle.search.specs.State.{linked, waits, Outs, Nearby, Lowest, Joining, Met, Joined, Best, Wanted, Kept, Begun, Renewed, threeOf};
-ghost use Rattle.search.specs.Words.{Member, Alone, Gathered, Inner, Passing, Chosen, SetOf, Calls, Rejoined};
+ghost use Rattle.search.specs.Words.{Member, Alone, Gathered, Inner, Passing, Chosen, SetOf, Calls, Rejoined, Entered};
 
 // The clusters of 125 constraints and 62 steps: three words of 64.
 pub const PLACES: usize = 192;
@@ -386,6 +386,22 @@ fn join(
 
 // ---- from the first clusters, and merge after merge
 
+// Links the elements of x with one another, and notes that cluster c holds them too.
+fn enter(links: &mut [u64; ELEMENTS], hold: &mut [u64; PLACES], x: u64, c: usize)
+    requires { ⌜ (c < 192) × (length (now links) ≡ 64) × (length (now hold) ≡ 192) ⌝ }
+    ensures { λ r. ⌜ Entered (now (links .entry)) (now (hold .entry)) x c (now (links .exit)) (now (hold .exit)) ⌝ }
+{
+    let base = 64 * (c / 64);
+    let bit = 1u64 << ((c % 64) as u32);
+    let mut rest = x;
+    while rest != 0 {
+        let p = u64::trailing_zeros(rest) as usize;
+        links[p] = links[p] | x;
+        hold[base + p] = hold[base + p] | bit;
+        rest = rest & (rest - 1);
+    }
+}
+
 // Links and holders of the first e clusters.
 pub fn join_all(
     slots: &[u64; PLACES],
@@ -398,9 +414,7 @@ pub fn join_all(
 {
     let mut c: usize = 0;
     while c < e {
-        let x = slots[c];
-        let made = alone(c);
-        join(links, hold, x, x, Words { a: 0, b: 0, c: 0 }, made);
+        enter(links, hold, slots[c], c);
         c += 1;
     }
 }
