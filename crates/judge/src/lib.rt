@@ -2,6 +2,7 @@
 ghost use mathlib.Core.Path.{_≡_};
 ghost use mathlib.Core.List.{List, []};
 ghost use Prim.Native.Nat.{_+_, _*_, _≤_, _<_};
+ghost use lib.Count.{ones};
 ghost use lib.IntN.{ℤ};
 ghost use lib.ListN.{length, take};
 ghost use mathlib.Core.Logic.{_≢_};
@@ -344,11 +345,28 @@ fn merged_told(h: Head, near: &[u64; 64], start: &[u64; 200]) -> Told
     }
 }
 
+// What is told of a sheet with 2n-3 constraints and two lines or fewer. One that peels off to the last element is well.
+fn few_told(h: Head, near: &[u64; 64], start: &[u64; 200]) -> Told
+    requires { ⌜ Drawn h (now near) (now start) × (h .e + 3 ≡ 2 * h .n) × (ones (h .lines) ≤ 2) ⌝ }
+    ensures { λ r. ⌜ ((z : List ℤ) → Tells (graphIn h (now (start .entry)) z) (r .verdict) (r .first)) ⌝ }
+{
+    if peeling::core_of(near) != 0 {
+        return merged_told(h, near, start);
+    }
+    Told {
+        verdict: Verdict::Well,
+        first: 0,
+    }
+}
+
 // What is told of a sheet with 2n-3 constraints. One that peels off to the last element is well, unless three lines went so.
 pub fn full_told(h: Head, near: &[u64; 64], start: &[u64; 200]) -> Told
     requires { ⌜ Drawn h (now near) (now start) × (h .e + 3 ≡ 2 * h .n) ⌝ }
     ensures { λ r. ⌜ ((z : List ℤ) → Tells (graphIn h (now (start .entry)) z) (r .verdict) (r .first)) ⌝ }
 {
+    if u64::count_ones(h.lines) <= 2 {
+        return few_told(h, near, start);
+    }
     let peeling = peeling::peel_of(near, h.lines);
     if peeling.left != 0 {
         return merged_told(h, near, start);

@@ -118,23 +118,32 @@ module _ (g : Graph) (sound : Sound (g .n) (g .clusters)) where
       (few-ringed cs pairs (overOf-fine (g .n) cs pairs (sound .below) fine) (planOf cs) m (g .lines) (omega arith)) ne
 
   -- 2n-3 constraints that peel off to the last element
-  module _ {left : ℕ} {angle : Bool} (full : length cs + 3 ≡ 2 * g .n) (t : Told cs (g .lines) left angle) (none : left ≡ 0) where
-    fine : NotOver cs
-    fine = core-none cs (subst (Core cs) none (t .core))
+  module _ (full : length cs + 3 ≡ 2 * g .n) {left : ℕ} (core : Core cs left) (none : left ≡ 0) where
+    none-over : NotOver cs
+    none-over = core-none cs (subst (Core cs) none core)
 
     none-found : findingOf g ≡ Fine
-    none-found = fine-finding g (sound .simple .pairs) (sound .below) fine
+    none-found = fine-finding g (sound .simple .pairs) (sound .below) none-over
 
+    well-by : angled (g .lines) (joints cs (planOf cs)) ≡ false → {first : ℕ} → Tells g Well first
+    well-by e =
+        let m = plan-of-maximal cs (sound .simple .pairs) in
+        let one =
+        loose-one (g .n) cs (sound .two) (sound .most) (sound .simple .pairs) (sound .below) none-over (core .loose none) full (planOf cs) m in
+        fine-tells none-found
+        (sym (verdict-one g none-found e (one-ringed cs (sound .simple .pairs) none-over (planOf cs) m (g .lines) one) full one))
+
+    pub few-peeled : ones (g .lines) ≤ 2 → {first : ℕ} → Tells g Well first
+    few-peeled few = well-by (not-angled (g .lines) few cs (planOf cs) (plan-of-maximal cs (sound .simple .pairs) .valid))
+
+  module _ (full : length cs + 3 ≡ 2 * g .n) {left : ℕ} {angle : Bool} (t : Told cs (g .lines) left angle) (none : left ≡ 0) where
     angle-is : angle ≡ angled (g .lines) (joints cs (planOf cs))
     angle-is = t .angle-is none (g .n) (sound .two) (sound .most) (sound .below) full
 
     pub angle-peeled : angle ≡ true → {first : ℕ} → Tells g Angle first
-    angle-peeled e = fine-tells none-found (sym (verdict-angle g none-found (sym angle-is ∙ e)))
+    angle-peeled e =
+        let q = none-found full (t .core) none in
+        fine-tells q (sym (verdict-angle g q (sym angle-is ∙ e)))
 
     pub well-peeled : angle ≡ false → {first : ℕ} → Tells g Well first
-    well-peeled e =
-        let m = plan-of-maximal cs (sound .simple .pairs) in
-        let one =
-        loose-one (g .n) cs (sound .two) (sound .most) (sound .simple .pairs) (sound .below) fine (t .core .loose none) full (planOf cs) m in
-        fine-tells none-found
-        (sym (verdict-one g none-found (sym angle-is ∙ e) (one-ringed cs (sound .simple .pairs) fine (planOf cs) m (g .lines) one) full one))
+    well-peeled e = well-by full (t .core) none (sym angle-is ∙ e)
