@@ -17,10 +17,10 @@ enum { ORIGIN = 1, NORMAL, PLANE, FIRST_POINT };
 enum { ORIGIN_PLACE = 1, NORMAL_TURN = 4, FIRST_PLACE = 8 };
 
 /* Solves n points, laid out at the given places, with a distance for each of the e pairs: the one it has in the
-   layout, so that nothing contradicts. The result is libslvs' own number, and *dof the degrees of freedom it counts,
-   the three motions of the whole plane among them. It is not asked which constraints are to blame, as that takes
-   e times as long. */
-int32_t solver_solve(size_t n, const double (*at)[2], size_t e, const uint8_t (*pairs)[2], int32_t *dof)
+   layout, so that nothing contradicts. If rough is not 0 the distances are rounded to whole numbers, as a sheet holds
+   them, and each point starts from the nearest point of a grid of ten, as a drawing has it. The result is libslvs' own number, and *dof the degrees of freedom it counts, the three motions
+   of the whole plane among them. It is not asked which constraints are to blame, as that takes e times as long. */
+int32_t solver_solve(size_t n, const double (*at)[2], size_t e, const uint8_t (*pairs)[2], int32_t rough, int32_t *dof)
 {
     Slvs_Param params[FIRST_PLACE + 2 * MOST_POINTS];
     Slvs_Entity entities[FIRST_POINT + MOST_POINTS];
@@ -41,13 +41,14 @@ int32_t solver_solve(size_t n, const double (*at)[2], size_t e, const uint8_t (*
 
     for (uint32_t i = 0; i < n; i++) {
         uint32_t place = FIRST_PLACE + 2 * i;
-        params[system.params++] = Slvs_MakeParam(place, SOLVED, at[i][0]);
-        params[system.params++] = Slvs_MakeParam(place + 1, SOLVED, at[i][1]);
+        for (uint32_t k = 0; k < 2; k++)
+            params[system.params++] = Slvs_MakeParam(place + k, SOLVED, rough ? 10 * round(at[i][k] / 10) : at[i][k]);
         entities[system.entities++] = Slvs_MakePoint2d(FIRST_POINT + i, SOLVED, PLANE, place, place + 1);
     }
     for (uint32_t i = 0; i < e; i++) {
         uint32_t a = pairs[i][0], b = pairs[i][1];
-        double distance = hypot(at[a][0] - at[b][0], at[a][1] - at[b][1]);
+        double exact = hypot(at[a][0] - at[b][0], at[a][1] - at[b][1]);
+        double distance = rough ? fmax(round(exact), 1) : exact;
         constraints[system.constraints++] = Slvs_MakeConstraint(i + 1, SOLVED, SLVS_C_PT_PT_DISTANCE, PLANE, distance,
                                                                 FIRST_POINT + a, FIRST_POINT + b, 0, 0);
     }

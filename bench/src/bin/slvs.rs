@@ -2,6 +2,10 @@
 
 use pattern_bench::cases;
 use pattern_bench::timing::{Contender, SAMPLES, TURNS, lowest_medians};
+#[cfg(feature = "slvs")]
+use pattern_bench::slvs::solve_time;
+#[cfg(feature = "slvs")]
+use pattern_slvs::solver::Drawing;
 use pattern_tests::facts::MOST_ELEMENTS;
 use pattern_tests::ffi;
 
@@ -28,14 +32,17 @@ fn only_points(bytes: &[u8]) -> bool {
 /// The column heads.
 fn heading() {
     print!("{:<34}{:>4}{:>5}{:>11}", "sheets", "n", "e", "proved");
-    println!("{}", if cfg!(feature = "slvs") { "    libslvs  times" } else { "" });
+    println!("{}", if cfg!(feature = "slvs") { "      exact  times      rough  times" } else { "" });
 }
 
 /// Ends a row: libslvs' processor time, and how many times the report's time that is.
 #[cfg(feature = "slvs")]
 fn beside(pool: &[Vec<u8>], report: f64) {
-    let solve = pattern_bench::slvs::solve_time(pool);
-    println!("{solve:>11.0}{:>7.0}", solve / report);
+    for drawing in [Drawing::Exact, Drawing::Rough] {
+        let solve = solve_time(pool, drawing);
+        print!("{solve:>11.0}{:>7.0}", solve / report);
+    }
+    println!();
 }
 
 /// Ends a row without libslvs.

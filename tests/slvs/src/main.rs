@@ -6,7 +6,7 @@ use std::process::ExitCode;
 
 use pattern_slvs::layout::Layout;
 use pattern_slvs::sheets;
-use pattern_slvs::solver::{Solved, solve};
+use pattern_slvs::solver::{Drawing, Solved, solve};
 use pattern_tests::facts::Opening;
 use pattern_tests::graph::Graph;
 use pattern_tests::run::{Hex, Run};
@@ -146,7 +146,7 @@ fn compare(run: &mut Run, what: &str, bytes: &[u8], graph: &Graph, said: Solved)
     let mut found = said;
     for layout in 1..=LAYOUTS {
         run.count("solved in layout", layout);
-        found = solve(graph, &Layout::random(graph.n, &mut run.random));
+        found = solve(graph, &Layout::random(graph.n, &mut run.random), Drawing::Exact);
         if found == said {
             break;
         }

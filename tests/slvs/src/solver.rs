@@ -7,7 +7,14 @@ use crate::layout::Layout;
 
 mod c {
     unsafe extern "C" {
-        pub fn solver_solve(n: usize, at: *const [f64; 2], e: usize, pairs: *const [u8; 2], dof: *mut i32) -> i32;
+        pub fn solver_solve(
+            n: usize,
+            at: *const [f64; 2],
+            e: usize,
+            pairs: *const [u8; 2],
+            rough: i32,
+            dof: *mut i32,
+        ) -> i32;
         pub safe fn solver_clock() -> f64;
     }
 }
@@ -24,14 +31,24 @@ pub enum Solved {
     Failed(i32),
 }
 
-/// Solves the graph from the layout in which its distances are measured.
-pub fn solve(graph: &Graph, layout: &Layout) -> Solved {
+/// What the solver starts from.
+#[derive(Clone, Copy, PartialEq, Eq, Debug)]
+pub enum Drawing {
+    /// The layout in which the distances are measured: no point has to move.
+    Exact,
+    /// Points to the nearest millimetre, and distances in whole tenths of one, as a sheet holds them.
+    Rough,
+}
+
+/// Solves the graph with the distances that are measured in the layout.
+pub fn solve(graph: &Graph, layout: &Layout, drawing: Drawing) -> Solved {
     let pairs: Vec<[u8; 2]> = graph.pairs.iter().map(|&(a, b)| [a as u8, b as u8]).collect();
     let n = layout.places.len();
     assert!(n == graph.n && n <= MOST_ELEMENTS && pairs.len() <= MOST_CONSTRAINTS);
     assert!(pairs.iter().flatten().all(|&end| usize::from(end) < n));
     let mut dof = 0;
-    let result = unsafe { c::solver_solve(n, layout.places.as_ptr(), pairs.len(), pairs.as_ptr(), &mut dof) };
+    let rough = i32::from(drawing == Drawing::Rough);
+    let result = unsafe { c::solver_solve(n, layout.places.as_ptr(), pairs.len(), pairs.as_ptr(), rough, &mut dof) };
     match result {
         0 => Solved::Freedoms(dof - 3),
         1 => Solved::Redundant,
