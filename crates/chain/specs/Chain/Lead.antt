@@ -76,16 +76,6 @@ module _ (s : List ℕ) (v : ℕ) where
       by [] m f = lead-end (subst (λ (z : ℕ). z ∈ a) (sym (single-is x v f)) h)
       by (k ∷ r) m (f, g) = record { r = k ∷ r; short = m; from = (share x h (single-share x f), g) }
 
-  -- and a set leads as one of its elements does
-  pub lead-some : {t a : ℕ} → Lead t a → (x : ℕ) × (x ∈ a) × Lead t (2 ^ x)
-  lead-some {t} {a} l = by (l .r) (l .short) (l .from)
-    where
-      by : (r : List ℕ) → length r ≤ t → From s v a r → (x : ℕ) × (x ∈ a) × Lead t (2 ^ x)
-      by [] m f = (v, f, lead-end (at-same v))
-      by (k ∷ r) m (f, g) =
-          let x = shared-at f in
-          (x .0, x .1, record { r = k ∷ r; short = m; from = (share (x .0) (at-same (x .0)) (x .2), g) })
-
   -- ---- the way forward
 
   -- what goes on from a in t clusters, first among such
@@ -123,10 +113,6 @@ module _ (s : List ℕ) (v : ℕ) where
               subst (λ (y : ℕ). First (k ∷ r) (y ∷ q)) e
               (next k (b .first q (subst (λ (y : ℕ). From s v (slot s y) q) (sym e) g) (omega arith)))
           by (no m) = let l : k < i = omega (arith, m, low) in here l
-
-  -- the lowest of them is no nearer than it must be
-  pub nearer-not : {t a k : ℕ} → Nearer t a k → (Lead t a → ⊥) → (u : ℕ) → suc u ≤ t → Lead u (slot s k) → ⊥
-  nearer-not {k = k} n far u h l = far (lead-more (lead-before k (n .shares) l) h)
 
   -- from an element with no shorter way it is the shortest
   pub best-shortest : {t u : ℕ} {r : List ℕ} → ((n : ℕ) → n < t → Lead n (2 ^ u) → ⊥) → Best t (2 ^ u) r → Shortest s u v r

@@ -7,8 +7,6 @@ use Rattle.theory.specs.declared.Verdict.{Verdict}
 use Rattle.theory.specs.declared.Verdict.the-variants.{Over, Angle, Well, Stuck, Under}
 use Rattle.theory.specs.declared.JointKind.{JointKind}
 use Rattle.theory.specs.declared.JointKind.the-variants.{Ppp, Ppl, Pll, Lll}
-use Rattle.theory.specs.declared.Ways.{Ways}
-use Rattle.theory.specs.declared.Ways.the-variants.{Known, Unknown}
 use Rattle.theory.specs.declared.Step.{Step}
 use Rattle.space.specs.Text.{digit, decimal}
 use Rattle.space.specs.Text.Laws.{decimal-length}
@@ -73,10 +71,6 @@ kind-length Ppp = refl
 kind-length Ppl = refl
 kind-length Pll = refl
 kind-length Lll = refl
-
-ways-length : (w : Ways) → length (waysName w) ≤ 3
-ways-length (Known w) = decimal-length w
-ways-length Unknown = omega arith
 
 pub step-length : (s : Step) → length (stepLine s) ≤ 47 + (length (waysName (s .ways)) + 3 * length (elements (s .joint)))
 step-length s =

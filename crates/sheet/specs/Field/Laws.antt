@@ -126,10 +126,6 @@ byte-front [] h e = refused-value e
 byte-front (x ∷ s) {b} {t} h e =
     let rest : s ≡ t = cc in record { front = cc; rest = rw rest at (bytes-rest h) }
 
-pub byteBy-takes : (takes : ℕ → Bool) (k : ℕ) (s : List ℕ) {b : ℕ} {t : List ℕ} → byteBy takes k s ≡ value b t → takes b ≡ true
-byteBy-takes takes k [] e = refused-value e
-byteBy-takes takes k (x ∷ s) e = demand-value (takes x) k _ e (λ ok e1. value-with (λ b t. takes b ≡ true) e1 ok)
-
 pub byteBy-front : (takes : ℕ → Bool) (k : ℕ) (s : List ℕ) {b : ℕ} {t : List ℕ} → Bytes s → byteBy takes k s ≡ value b t
     → (takes b ≡ true) × FrontByte s b t
 byteBy-front takes k s h e =

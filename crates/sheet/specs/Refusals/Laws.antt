@@ -132,10 +132,6 @@ module _ (rules : ℕ → Type 0) where
   fault-else zero k h l = l
   fault-else (suc j) k h l = h
 
-  pub fault-wider : (more : ℕ → Type 0) (k : ℕ) → ((k : ℕ) → rules k → more k) → Fault rules k → Fault more k
-  fault-wider more zero l h = tt
-  fault-wider more (suc k) l h = l (suc k) h
-
   fault-unless : (met : Bool) (k rest : ℕ) → rules (suc k) → Fault rules rest → Fault rules (faultUnless met (suc k) rest)
   fault-unless true k rest e h = h
   fault-unless false k rest e h = e

@@ -1,5 +1,5 @@
 -- What the table of freedoms says of a set, and the table at the start. Assumes nothing.
-use Rattle.theory.specs.Prelude.{_≡_, refl, sym, ap, _∙_, subst, _≢_, _⊎_, inl, inr, List, [], _∷_, ℕ, zero, suc, _+_, _*_, _-_, _^_, _≤_, _<_}
+use Rattle.theory.specs.Prelude.{_≡_, refl, sym, ap, _∙_, subst, _≢_, _⊎_, inl, inr, List, [], _∷_, ℕ, zero, suc, _+_, _*_, _^_, _≤_, _<_}
 use Rattle.theory.specs.Prelude.{zero-add, zero-lt-suc, not-suc-le-zero, le-of-suc-le-suc, le-refl, arith, ℕ-discrete, ones, length, getD, set}
 use Rattle.theory.specs.Prelude.{length-set, replicate, length-replicate, getD-replicate, getD-set-same, getD-set-other}
 use Rattle.theory.specs.Set.{_∈_, at}
@@ -7,7 +7,7 @@ use Rattle.theory.specs.Set.Laws.{at-le, bit}
 use Rattle.theory.specs.Constraints.{carried}
 use Rattle.theory.specs.Set.Less.{at-below}
 use Rattle.sparsity.specs.Freedoms.{entry, same, free, over, frees, kept, Table, Balanced, Closed, FreeBelow}
-use Rattle.sparsity.specs.Freedoms.Sums.{same-refl, over-le, over-same, over-tight, over-two, over-only, over-less, over-size}
+use Rattle.sparsity.specs.Freedoms.Sums.{same-refl, over-le, over-same, over-tight, over-two, over-only, over-size}
 
 -- ---- what the table says of a set
 
@@ -53,10 +53,6 @@ module _ (own : List (List ℕ)) (a : ℕ) (la : a < 2 ^ 64) where
   pub frees-two : (x y : ℕ) → x ≢ y → x ∈ a → y ∈ a → free own x + free own y ≤ frees own a
   unfolding frees
   frees-two x y n ex ey = over-two a (free own) x y (at-below 64 x a la ex) (at-below 64 y a la ey) n ex ey
-
-  pub frees-less : (x : ℕ) → x ∈ a → frees own a ≡ frees own (a - 2 ^ x) + free own x
-  unfolding frees
-  frees-less x e = over-less a (free own) x (at-below 64 x a la e) e
 
   pub frees-only : (x y : ℕ) → x ≢ y → x ∈ a → y ∈ a → ((z : ℕ) → z ∈ a → z ≢ x → z ≢ y → free own z ≡ 0)
       → frees own a ≡ free own x + free own y

@@ -1,10 +1,9 @@
 -- Sums over a set's elements. Assumes nothing.
-use Rattle.theory.specs.Prelude.{_≡_, refl, sym, ap, _∙_, _≢_, inl, inr, ⊎-elim, List, ℕ, _+_, _*_, _-_, _^_, _≤_, _<_, one-mul, arith, ones}
+use Rattle.theory.specs.Prelude.{_≡_, refl, sym, ap, _∙_, _≢_, inl, inr, ⊎-elim, List, ℕ, _+_, _*_, _^_, _≤_, _<_, one-mul, arith, ones}
 use native.Mathlib.Nat.{zero-mul}
 use Rattle.theory.specs.Set.{_∈_, at}
 use Rattle.theory.specs.Set.Laws.{at-le, bit, size-sum}
 use Rattle.theory.specs.Sum.Laws.{sum-le, sum-eq, sum-zero, sum-mul, sum-two, sum-change, sum-change₂, sum-tight}
-use Rattle.theory.specs.Set.Less.{less-same, less-other}
 use Rattle.sparsity.specs.Freedoms.{entry, same, free, over}
 
 -- ---- same
@@ -89,16 +88,6 @@ over-only a f x y lx ly n ex ey h = omega (
   sum-zero 64 (λ x. 0) (λ x l. refl),
   one-times (at x a) (f x) ex,
   one-times (at y a) (f y) ey,
-)
-
--- one element taken out
-pub over-less : (a : ℕ) (f : ℕ → ℕ) (x : ℕ) → x < 64 → x ∈ a → over a f ≡ over (a - 2 ^ x) f + f x
-unfolding over
-over-less a f x l e = omega (
-  arith,
-  sum-change 64 (λ z. at z a * f z) (λ z. at z (a - 2 ^ x) * f z) x l (λ z h n. ap (λ (i : ℕ). i * f z) (sym (less-other x z a e n))),
-  one-times (at x a) (f x) e,
-  no-times (at x (a - 2 ^ x)) (f x) (less-same x a e),
 )
 
 -- two for each element
