@@ -10,9 +10,9 @@ use Rattle.sheet.specs.Facts.Laws.{digitsOf, kindsOf-length}
 use Rattle.sheet.specs.Field.{value, refused, field}
 use Rattle.sheet.specs.Rules.{kindBitsUsed, kindsKnown}
 use Rattle.sheet.specs.Decode.{readKinds, element, readElements}
+use Rattle.fields.specs.Answers.Numbers.{field-short, field-whole}
 use Rattle.elements.specs.Answers.{elementsField}
 use Rattle.elements.specs.Round.{roundNumber, roundKinds, placesOf, SetsOf, RadiiStand}
-use Rattle.elements.specs.Round.Laws.{field-short, field-whole}
 use Rattle.elements.specs.Round.Elements.{elements-digits, sets-digits}
 
 -- ---- PF01

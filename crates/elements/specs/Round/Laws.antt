@@ -1,25 +1,15 @@
 -- The kinds under PF02 in their bytes, rule 4 in the last of them, and the sets from the last element down. Assumes nothing.
 use Rattle.theory.specs.Prelude.{ℕ, zero, suc, _+_, _*_, _-_, _/_, _%_, _^_, _<_, _≤_, pow-zero, pow-succ', pow-le-pow-right, decLt, arith, _≡_, refl}
 use Rattle.theory.specs.Prelude.{sym, ap, _∙_, Bool, true, false, _&&_, List, [], _∷_, lt-ltb, le-ltb, eq-eqb, ne-eqb, eqb, ltb, length, take, drop}
-use Rattle.theory.specs.Prelude.{getD, length-drop, drop-cons, drop-drop, getD-take, getD-drop, length-take-le}
+use Rattle.theory.specs.Prelude.{getD, length-drop, drop-cons, getD-take, getD-drop, length-take-le}
 use Rattle.theory.specs.Set.{at}
 use Rattle.sheet.specs.declared.Opening.the-variants.{Pf02}
 use Rattle.sheet.specs.Facts.{bitOf}
-use Rattle.sheet.specs.Field.{value, refused, field, number, Bytes}
+use Rattle.sheet.specs.Field.{number, Bytes}
 use Rattle.sheet.specs.Field.Laws.{bytes-front, bytes-rest, bytes-take, bytes-drop}
 use Rattle.sheet.specs.Rules.{kindBitsUsed, kindsKnown}
 use Rattle.sheet.specs.Decode.Laws.{round-kind-byte}
 use Rattle.elements.specs.Round.{roundNumber, roundKinds, placesOf, SetsOf}
-
--- ---- a field at a place
-module _ (s : List ℕ) (from k : ℕ) where
-  pub field-short : length s - from < k → field k (drop from s) ≡ refused 2
-  unfolding field
-  field-short h = rw (length-drop from s, lt-ltb _ _ h)
-
-  pub field-whole : k ≤ length s - from → field k (drop from s) ≡ value (number (take k (drop from s))) (drop (from + k) s)
-  unfolding field
-  field-whole h = rw (length-drop from s, le-ltb _ _ h, drop-drop)
 
 -- ---- two bits of a byte
 
