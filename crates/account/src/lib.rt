@@ -7,7 +7,7 @@ ghost use lib.IntN.{ℤ};
 ghost use lib.ListN.{length, take};
 ghost use Rattle.theory.specs.Constraints.{NotOver};
 ghost use Rattle.graph.specs.Lent.{graphIn, Sound, Drawn};
-ghost use Rattle.merges.specs.Run.{Merged};
+ghost use Rattle.merges.specs.Run.{runIn, Merged};
 ghost use Rattle.space.specs.Space.{Put, answer, after};
 ghost use Rattle.sheet.specs.Answer.{byRule, Answers};
 ghost use Rattle.sheet.specs.Graph.{overFault};
@@ -21,28 +21,27 @@ use space::Written;
 use space::put_number64;
 use theory::Verdict;
 
-// The report of a list of merges of the constraints, with the given verdict.
+// The report of a list of merges of the constraints in lent arrays, with the given verdict.
 fn put_list(
     h: Head,
     start: &[u64; 200],
     sizes: &[i32; 200],
     verdict: Verdict,
-    run: Run,
+    count: usize,
+    parts: &[u16; 192],
+    joints: &[u64; 64],
+    slots: &[u64; 192],
     out: &mut [u8],
 ) -> Written
     requires { ⌜ Sound (h .n) (take (h .e) (now start)) × (length (take (h .e) (now start)) ≡ h .e) × NotOver (take (h .e) (now start))
-        × Merged (take (h .e) (now start)) run ⌝ }
-    ensures { λ r. ⌜ ((m : Merged (take (h .e) (now (start .entry))) run)
+        × Merged (take (h .e) (now start)) (runIn count (now parts) (now joints) (now slots)) ⌝ }
+    ensures { λ r. ⌜ ((m : Merged (take (h .e) (now (start .entry))) (runIn count (now (parts .entry)) (now (joints .entry)) (now (slots .entry))))
         → (r ≡ answer (reportWith (graphIn h (now (start .entry)) (now (sizes .entry))) (verdict) (m .p)) (now (out .entry)))
         × (now (out .exit) ≡ after (reportWith (graphIn h (now (start .entry)) (now (sizes .entry))) (verdict) (m .p)) (now (out .entry)))) ⌝ }
 {
-    let count = run.steps;
-    let parts = run.parts;
-    let joints = run.joints;
-    let slots = run.slots;
     let mut low = [0u64; 192];
     let mut high = [0u64; 192];
-    rests::carry(&parts, h.e, count, &mut low, &mut high);
+    rests::carry(parts, h.e, count, &mut low, &mut high);
     report::write_report(
         out,
         h.n,
@@ -52,9 +51,9 @@ fn put_list(
         start,
         sizes,
         count,
-        &parts,
-        &joints,
-        &slots,
+        parts,
+        joints,
+        slots,
         &low,
         &high,
     )
@@ -68,10 +67,21 @@ fn put_settled(h: Head, start: &[u64; 200], sizes: &[i32; 200], run: Run, out: &
         → (r ≡ answer (listReport (graphIn h (now (start .entry)) (now (sizes .entry))) (m .p)) (now (out .entry)))
         × (now (out .exit) ≡ after (listReport (graphIn h (now (start .entry)) (now (sizes .entry))) (m .p)) (now (out .entry)))) ⌝ }
 {
+    let parts = run.parts;
     let joints = run.joints;
     let slots = run.slots;
     let verdict = engine::settle(&joints, &slots, run.steps, h.n, h.e, h.lines);
-    put_list(h, start, sizes, verdict, run, out)
+    put_list(
+        h,
+        start,
+        sizes,
+        verdict,
+        run.steps,
+        &parts,
+        &joints,
+        &slots,
+        out,
+    )
 }
 
 // The report of a sheet: the engine's plan, or of an over sheet the first constraint and the smallest set.
@@ -86,13 +96,26 @@ pub fn report(
     ensures { λ r. ⌜ (r ≡ answer (reportOf (graphIn h (now (start .entry)) (now (sizes .entry)))) (now (out .entry)))
         × (now (out .exit) ≡ after (reportOf (graphIn h (now (start .entry)) (now (sizes .entry)))) (now (out .entry))) ⌝ }
 {
-    let judged = judge::judge(h, near, start);
-    let verdict = judged.verdict;
+    let mut slots = [0u64; 192];
+    let mut parts = [0u16; 192];
+    let mut joints = [0u64; 64];
+    let found = judge::judge_on(h, near, start, &mut slots, &mut parts, &mut joints);
+    let verdict = found.verdict;
     if verdict.number() == 0 {
-        return report::write_over_report(out, h.n, h.e, judged.first, judged.set);
+        return report::write_over_report(out, h.n, h.e, found.first, found.set);
     }
-    let run = judged.run;
-    put_list(h, start, sizes, verdict, run, out)
+    let count = found.steps;
+    put_list(
+        h,
+        start,
+        sizes,
+        verdict,
+        count,
+        &parts,
+        &joints,
+        &slots,
+        out,
+    )
 }
 
 // The check of a saved plan, and the report for it: 11, then 12 to 16, then 17.

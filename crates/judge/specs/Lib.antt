@@ -1,4 +1,5 @@
 -- The judgement of a constraint graph.
 pub mod Judged
+pub mod Found
 pub mod Angles
 pub mod Telling

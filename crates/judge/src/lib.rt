@@ -1,19 +1,20 @@
 // The judgement of a constraint graph in lent arrays. Contracts cite theory's definitions; a judgement does not look at the sizes z.
 ghost use mathlib.Core.Path.{_≡_};
 ghost use mathlib.Core.List.{List, []};
-ghost use Prim.Native.Nat.{_+_, _*_, _≤_, _<_};
+ghost use Prim.Native.Nat.{ℕ, _+_, _*_, _≤_, _<_};
 ghost use lib.Count.{ones};
 ghost use lib.IntN.{ℤ};
 ghost use lib.ListN.{length, take};
 ghost use mathlib.Core.Logic.{_≢_};
 ghost use Rattle.theory.specs.Graph.{Graph, findingOf, verdictOf};
-ghost use Rattle.theory.specs.Constraints.{Pairs};
-ghost use Rattle.theory.specs.declared.Finding.the-variants.{Fine};
+ghost use Rattle.theory.specs.Constraints.{NotOver};
+ghost use Rattle.theory.specs.declared.Finding.the-variants.{Fine, First};
 ghost use Rattle.sheet.specs.Graph.{overFault};
-ghost use Rattle.graph.specs.Lent.{graphIn, Drawn};
-ghost use Rattle.merges.specs.Run.{runOf, Start, Merged, Planned};
+ghost use Rattle.graph.specs.Lent.{graphIn, Sound, Drawn};
+ghost use Rattle.merges.specs.Run.{runIn, Blank, Planned};
 ghost use Rattle.cycles.specs.Cycle.{HoldsBelow};
-ghost use Rattle.judge.specs.Judged.{listed as listedOf, overFound, judgedOf};
+ghost use Rattle.judge.specs.Judged.{judgedOf};
+ghost use Rattle.judge.specs.Found.{JudgedIn};
 ghost use Rattle.judge.specs.Angles.{Names, linesInHead};
 ghost use Rattle.judge.specs.Telling.{Tells, Reached};
 use graph::Head;
@@ -64,33 +65,39 @@ pub struct Judged {
     pub run: Run,
 }
 
-// An over sheet: the first constraint and the smallest set, and no merge.
-fn over_found(first: usize, set: u64) -> Judged
-    ensures { λ r. ⌜ r ≡ overFound first set ⌝ }
+// The same of a sheet whose plan stands in lent arrays: how many steps it has. What they hold of an over sheet is no plan.
+pub struct Found {
+    pub verdict: Verdict,
+    pub first: usize,
+    pub set: u64,
+    pub steps: usize,
+}
+
+// An over sheet: the first constraint and the smallest set.
+fn over_found(first: usize, set: u64) -> Found
+    ensures { λ r. ⌜ ((g : Graph) (parts joints slots : List ℕ) → findingOf g ≡ First first set → JudgedIn g r parts joints slots) ⌝ }
 {
-    let run = merges::no_run();
-    Judged {
+    Found {
         verdict: Verdict::Over,
         first,
         set,
-        run,
+        steps: 0,
     }
 }
 
-// A list of merges, with its own verdict.
-fn listed(h: Head, run: Run) -> Judged
-    requires { ⌜ (h .n ≤ 64) × (h .e ≤ 125) × (2 * run .steps ≤ h .e) ⌝ }
-    ensures { λ r. ⌜ ((g : Graph) (m : Merged (g .clusters) run) → Pairs (g .clusters) → g .n ≡ h .n → g .lines ≡ h .lines
-        → length (g .clusters) ≡ h .e → r ≡ listedOf g (m .p)) ⌝ }
+// The engine's plan of a sheet that is not over, with its own verdict.
+fn listed(h: Head, joints: &[u64; ELEMENTS], slots: &[u64; PLACES], steps: usize) -> Found
+    requires { ⌜ (h .n ≤ 64) × (h .e ≤ 125) × (2 * steps ≤ h .e) × (length (now joints) ≡ 64) × (length (now slots) ≡ 192) ⌝ }
+    ensures { λ r. ⌜ ((g : Graph) (parts : List ℕ) → Planned (g .clusters) (runIn steps parts (now (joints .entry)) (now (slots .entry)))
+        → Sound (g .n) (g .clusters) → NotOver (g .clusters) → g .n ≡ h .n → g .lines ≡ h .lines → length (g .clusters) ≡ h .e
+        → JudgedIn g r parts (now (joints .entry)) (now (slots .entry))) ⌝ }
 {
-    let joints = run.joints;
-    let slots = run.slots;
-    let verdict = engine::settle(&joints, &slots, run.steps, h.n, h.e, h.lines);
-    Judged {
+    let verdict = engine::settle(joints, slots, steps, h.n, h.e, h.lines);
+    Found {
         verdict,
         first: 0,
         set: 0,
-        run,
+        steps,
     }
 }
 
@@ -117,20 +124,6 @@ fn lines_in(h: Head, set: u64) -> Head
         n: h.n,
         e: h.e,
         lines: h.lines & set,
-    }
-}
-
-// No merge of the constraints.
-fn unmerged(start: &[u64; 200], e: usize) -> Run
-    requires { ⌜ Start (now start) e ⌝ }
-    ensures { λ r. ⌜ r ≡ runOf (take e (now (start .entry))) [] ⌝ }
-{
-    let slots = merges::begin(start, e);
-    Run {
-        steps: 0,
-        parts: [0u16; 192],
-        joints: [0u64; 64],
-        slots,
     }
 }
 
@@ -174,72 +167,137 @@ fn unmerged_verdict(h: Head, near: &[u64; 64], start: &[u64; 200]) -> Verdict
     }
 }
 
-// The engine's merges, by a set that holds all that runs round. Where no three of it are neighbours of one another nothing merges.
-fn fine_run(h: Head, near: &[u64; 64], start: &[u64; 200], left: u64) -> Run
-    requires { ⌜ Drawn h (now near) (now start) × (h .e ≤ 125) × HoldsBelow (now near) (h .n) left ⌝ }
-    ensures { λ r. ⌜ Planned (take (h .e) (now (start .entry))) r ⌝ }
+// The engine's merges into blank arrays, by a set that holds all that runs round; answers how many. Where no three of it are neighbours of one
+// another nothing merges.
+fn fine_run(
+    h: Head,
+    near: &[u64; 64],
+    start: &[u64; 200],
+    left: u64,
+    slots: &mut [u64; PLACES],
+    parts: &mut [u16; PLACES],
+    joints: &mut [u64; ELEMENTS],
+) -> usize
+    requires { ⌜ Drawn h (now near) (now start) × (h .e ≤ 125) × HoldsBelow (now near) (h .n) left × Blank (now slots) (now parts) (now joints) ⌝ }
+    ensures { λ r. ⌜ Planned (take (h .e) (now (start .entry))) (runIn r (now (parts .exit)) (now (joints .exit)) (now (slots .exit))) ⌝ }
 {
     if cycles::threes(near, left) {
-        return merges::merge_all(start, h.e);
+        return merges::merge_into(start, h.e, slots, parts, joints);
     }
-    unmerged(start, h.e)
+    merges::lay(slots, start, h.e);
+    0
 }
 
 // The judgement of a sheet that is not over. Two lines or fewer that run round make no angle.
-fn fine_judged(h: Head, near: &[u64; 64], start: &[u64; 200]) -> Judged
-    requires { ⌜ Drawn h (now near) (now start) × (h .e + 3 ≢ 2 * h .n) × ((z : List ℤ) → findingOf (graphIn h (now start) z) ≡ Fine) ⌝ }
-    ensures { λ r. ⌜ ((z : List ℤ) → r ≡ judgedOf (graphIn h (now (start .entry)) z)) ⌝ }
+fn fine_judged(
+    h: Head,
+    near: &[u64; 64],
+    start: &[u64; 200],
+    slots: &mut [u64; PLACES],
+    parts: &mut [u16; PLACES],
+    joints: &mut [u64; ELEMENTS],
+) -> Found
+    requires { ⌜ Drawn h (now near) (now start) × (h .e + 3 ≢ 2 * h .n) × ((z : List ℤ) → findingOf (graphIn h (now start) z) ≡ Fine)
+        × Blank (now slots) (now parts) (now joints) ⌝ }
+    ensures { λ r. ⌜ ((z : List ℤ)
+        → JudgedIn (graphIn h (now (start .entry)) z) r (now (parts .exit)) (now (joints .exit)) (now (slots .exit))) ⌝ }
 {
     let left = around(h, near);
-    let run = fine_run(h, near, start, left);
+    let steps = fine_run(h, near, start, left, slots, parts, joints);
     let rounds = lines_in(h, left);
     if u64::count_ones(rounds.lines) <= 2 {
-        return Judged {
+        return Found {
             verdict: Verdict::Under,
             first: 0,
             set: 0,
-            run,
+            steps,
         };
     }
-    let joints = run.joints;
-    let slots = run.slots;
-    let verdict = angle_or_under(rounds, near, &joints, &slots, run.steps);
-    Judged {
+    let verdict = angle_or_under(rounds, near, joints, slots, steps);
+    Found {
         verdict,
         first: 0,
         set: 0,
-        run,
+        steps,
     }
 }
 
 // The judgement of a sheet with 2n-3 constraints. Merges that leave one cluster show that it is not over.
-fn judge_full(h: Head, near: &[u64; 64], start: &[u64; 200]) -> Judged
-    requires { ⌜ Drawn h (now near) (now start) × (h .e + 3 ≡ 2 * h .n) ⌝ }
-    ensures { λ r. ⌜ ((z : List ℤ) → r ≡ judgedOf (graphIn h (now (start .entry)) z)) ⌝ }
+fn judge_full(
+    h: Head,
+    near: &[u64; 64],
+    start: &[u64; 200],
+    slots: &mut [u64; PLACES],
+    parts: &mut [u16; PLACES],
+    joints: &mut [u64; ELEMENTS],
+) -> Found
+    requires { ⌜ Drawn h (now near) (now start) × (h .e + 3 ≡ 2 * h .n) × Blank (now slots) (now parts) (now joints) ⌝ }
+    ensures { λ r. ⌜ ((z : List ℤ)
+        → JudgedIn (graphIn h (now (start .entry)) z) r (now (parts .exit)) (now (joints .exit)) (now (slots .exit))) ⌝ }
 {
-    let run = merges::merge_all(start, h.e);
-    if 2 * run.steps + 1 == h.e {
-        return listed(h, run);
+    let made = merges::merge_into(start, h.e, slots, parts, joints);
+    if 2 * made + 1 == h.e {
+        return listed(h, joints, slots, made);
     }
     match over_of(h, near, start) {
         Finding::First { constraint, set } => over_found(constraint, set),
-        Finding::Fine => listed(h, run),
+        Finding::Fine => listed(h, joints, slots, made),
     }
 }
 
-// The verdict of a sheet, with what it rests on.
+// The verdict of a sheet, with what it rests on, the plan in blank arrays that the caller lends.
+pub fn judge_on(
+    h: Head,
+    near: &[u64; 64],
+    start: &[u64; 200],
+    slots: &mut [u64; PLACES],
+    parts: &mut [u16; PLACES],
+    joints: &mut [u64; ELEMENTS],
+) -> Found
+    requires { ⌜ Drawn h (now near) (now start) × Blank (now slots) (now parts) (now joints) ⌝ }
+    ensures { λ r. ⌜ ((z : List ℤ)
+        → JudgedIn (graphIn h (now (start .entry)) z) r (now (parts .exit)) (now (joints .exit)) (now (slots .exit))) ⌝ }
+{
+    if h.e + 3 == 2 * h.n {
+        return judge_full(h, near, start, slots, parts, joints);
+    }
+    match over_of(h, near, start) {
+        Finding::First { constraint, set } => over_found(constraint, set),
+        Finding::Fine => fine_judged(h, near, start, slots, parts, joints),
+    }
+}
+
+// The same by value.
 pub fn judge(h: Head, near: &[u64; 64], start: &[u64; 200]) -> Judged
     requires { ⌜ Drawn h (now near) (now start) ⌝ }
     ensures { λ r. ⌜ ((z : List ℤ) → r ≡ judgedOf (graphIn h (now (start .entry)) z)) ⌝ }
 {
-    if h.e + 3 == 2 * h.n {
-        return judge_full(h, near, start);
+    let mut slots = [0u64; PLACES];
+    let mut parts = [0u16; PLACES];
+    let mut joints = [0u64; ELEMENTS];
+    let found = judge_on(h, near, start, &mut slots, &mut parts, &mut joints);
+    let verdict = found.verdict;
+    if verdict.number() == 0 {
+        let run = merges::no_run();
+        return Judged {
+            verdict,
+            first: found.first,
+            set: found.set,
+            run,
+        };
     }
-    let found = over_of(h, near, start);
-    let Finding::First { constraint, set } = found else {
-        return fine_judged(h, near, start);
+    let run = Run {
+        steps: found.steps,
+        parts,
+        joints,
+        slots,
     };
-    over_found(constraint, set)
+    Judged {
+        verdict,
+        first: found.first,
+        set: found.set,
+        run,
+    }
 }
 
 // ---- the plan alone
@@ -249,7 +307,17 @@ fn fine_plan(h: Head, near: &[u64; 64], start: &[u64; 200]) -> Run
     requires { ⌜ Drawn h (now near) (now start) × (h .e + 3 ≢ 2 * h .n) × ((z : List ℤ) → findingOf (graphIn h (now start) z) ≡ Fine) ⌝ }
     ensures { λ r. ⌜ ((z : List ℤ) → r ≡ judgedOf (graphIn h (now (start .entry)) z) .run) ⌝ }
 {
-    fine_run(h, near, start, around(h, near))
+    let left = around(h, near);
+    let mut slots = [0u64; PLACES];
+    let mut parts = [0u16; PLACES];
+    let mut joints = [0u64; ELEMENTS];
+    let steps = fine_run(h, near, start, left, &mut slots, &mut parts, &mut joints);
+    Run {
+        steps,
+        parts,
+        joints,
+        slots,
+    }
 }
 
 // The engine's plan of a sheet with 2n-3 constraints, none of an over one. Merges that leave one cluster show that it is not over.

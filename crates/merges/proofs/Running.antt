@@ -10,7 +10,7 @@ use Rattle.theory.specs.Plan.Laws.{ascending-same, first-one, some-first, none-
 use Rattle.search.specs.State.{waits, Kept, Ready, Begun, Renewed, Fine}
 use Rattle.search.specs.State.Choice.{kept-todo}
 use Rattle.search.specs.State.Sheet.{all-low, fine-of, fine-same, ready-start, ready-put, ready-same, open-same}
-use Rattle.merges.specs.Run.{places, mostSteps, Start, Planned}
+use Rattle.merges.specs.Run.{places, mostSteps, Blank, Start, Planned}
 use Rattle.merges.specs.declared.Run.{Run}
 use Rattle.merges.specs.Run.Laws.{final-snoc, valid-snoc}
 use Rattle.merges.specs.Going.{Slots, Going, Made}
@@ -90,6 +90,10 @@ begins {start} {slots} {e} b h =
       links-blank = refl;
       hold-blank = refl;
     }
+
+pub lent-begins : {start slots₀ slots parts joints : List ℕ} {e : ℕ} → Start start e → Blank slots₀ parts joints
+    → slots ≡ block places 0 (take e start) → Begins slots parts joints (replicate 64 0) (replicate places 0) e
+lent-begins b blank h = rw (blank .parts-blank, blank .joints-blank) (begins b h)
 
 pub blank-start : {slots parts joints links₀ hold₀ links hold todo : List ℕ} {e : ℕ} → Begins slots parts joints links₀ hold₀ e
     → Begun slots e links hold → ((c : ℕ) → c < e → waits todo c ≡ 1) → length todo ≡ 3

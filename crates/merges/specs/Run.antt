@@ -2,7 +2,7 @@
 use mathlib.Core.Path.{_≡_}
 use mathlib.Core.List.{List, [], _∷_, map}
 use Prim.Native.Nat.{ℕ, _≤_}
-use lib.ListN.{length, take}
+use lib.ListN.{length, take, replicate}
 use Rattle.theory.specs.Block.{block}
 use Rattle.theory.specs.Constraints.{Pairs, NotOver}
 use Rattle.theory.specs.Merge.{Merge, Valid, final, joints}
@@ -33,6 +33,16 @@ runOf cs p = record {
   joints = block 64 0 (joints cs p);
   slots = block places 0 (final cs p);
 }
+
+-- a list of merges in arrays that a caller lends
+abbrev pub runIn : ℕ → List ℕ → List ℕ → List ℕ → Run
+runIn steps parts joints slots = record { steps = steps; parts = parts; joints = joints; slots = slots }
+
+-- arrays with nothing in them
+pub record Blank (slots parts joints : List ℕ) : Type 0 where
+  pub slots-blank : slots ≡ replicate places 0
+  pub parts-blank : parts ≡ replicate places 0
+  pub joints-blank : joints ≡ replicate 64 0
 
 -- what a run begins from: e constraints, each a set of two elements
 pub record Start (start : List ℕ) (e : ℕ) : Type 0 where

@@ -9,7 +9,7 @@ ghost use Rattle.theory.specs.Constraints.{NotOver};
 ghost use Rattle.theory.specs.Set.{_∩_};
 ghost use Rattle.theory.specs.Merge.{Merge, merge as numbers, Three, joint, final};
 ghost use Rattle.theory.specs.Plan.{openTest, firstOf, isSome};
-ghost use Rattle.merges.specs.Run.{mostConstraints, mostSteps, places, runOf, Start, Planned};
+ghost use Rattle.merges.specs.Run.{mostConstraints, mostSteps, places, runOf, runIn, Blank, Start, Planned};
 ghost use Rattle.merges.specs.Going.{Slots, Made};
 ghost use Rattle.merges.specs.Search.{hitOf, Tested, Running, Stopped, Begins, Ran, RanTo};
 ghost use Rattle.search.specs.State.{Ready, Kept};
@@ -291,27 +291,36 @@ pub fn merge_some(
     advance(slots, parts, joints, links, hold, &mut todo, e, limit)
 }
 
-// The engine's plan for the constraints that are the first e of `start`. Of constraints that are over, a list of merges.
+// The engine's plan for the constraints that are the first e of `start`, into blank arrays that the caller lends; answers how many steps it has. Of
+// constraints that are over, a list of merges.
+pub fn merge_into(
+    start: &[u64; 200],
+    e: usize,
+    slots: &mut [u64; PLACES],
+    parts: &mut [u16; PLACES],
+    joints: &mut [u64; ELEMENTS],
+) -> usize
+    requires { ⌜ Start (now start) e × Blank (now slots) (now parts) (now joints) ⌝ }
+    ensures { λ r. ⌜ Planned (take e (now (start .entry))) (runIn r (now (parts .exit)) (now (joints .exit)) (now (slots .exit))) ⌝ }
+{
+    lay(slots, start, e);
+    let mut links = [0u64; ELEMENTS];
+    let mut hold = [0u64; PLACES];
+    let halt = merge_on(slots, parts, joints, &mut links, &mut hold, e);
+    halt.steps
+}
+
+// The same by value.
 pub fn merge_all(start: &[u64; 200], e: usize) -> Run
     requires { ⌜ Start (now start) e ⌝ }
     ensures { λ r. ⌜ Planned (take e (now (start .entry))) r ⌝ }
 {
     let mut slots = [0u64; PLACES];
-    lay(&mut slots, start, e);
     let mut parts = [0u16; PLACES];
     let mut joints = [0u64; ELEMENTS];
-    let mut links = [0u64; ELEMENTS];
-    let mut hold = [0u64; PLACES];
-    let halt = merge_on(
-        &mut slots,
-        &mut parts,
-        &mut joints,
-        &mut links,
-        &mut hold,
-        e,
-    );
+    let steps = merge_into(start, e, &mut slots, &mut parts, &mut joints);
     Run {
-        steps: halt.steps,
+        steps,
         parts,
         joints,
         slots,

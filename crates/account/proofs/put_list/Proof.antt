@@ -1,29 +1,30 @@
 -- `account::put_list` meets its contract: what the arrays give is the list's own report, and no longer than its block. Assumes nothing.
 use Rattle.theory.specs.Prelude.{needs, ℕ, _*_, _≤_, arith, _≡_, refl, ap, _∙_, List, length}
 use Rattle.space.specs.Space.{answer, after}
+use Rattle.judge.specs.Judged.Laws.{arrays-long}
 use Rattle.account.specs.Account.Laws.{room, reported, all-small, not-long}
 use Rattle.account.specs.Resting.Laws.{parts}
 use Rattle.account.proofs.put_list.Statement.{statement}
 use Rattle.account.proofs.put_list.Tie as tie
 
 module _ (c : tie.Start) where
-  few : (c .args .h .n ≤ 64) × (c .args .h .e ≤ 125) × (2 * c .args .run .steps ≤ c .args .h .e) × (c .args .run .steps ≤ 62)
+  few : (c .args .h .n ≤ 64) × (c .args .h .e ≤ 125) × (2 * c .args .count ≤ c .args .h .e) × (c .args .count ≤ 62)
   few = room (c .args .h) (c .args .start .now) (c .args .sizes .now) (c .pre .0) (c .pre .1) (c .pre .2) (c .pre .3)
 
-  slots-long : length (c .args .run .slots) ≡ 192
-  slots-long = search needs
+  slots-long : length (c .args .slots .now) ≡ 192
+  slots-long = arrays-long _ (c .pre .0 .simple .pairs) (c .pre .3) (omega (arith, few, c .pre .1)) .1
 
 carry-requires : tie.Need-carry-requires
 carry-requires c κs =
-    let s = c .before .before .before .before .before .before .before in (few s .1, few s .3, parts (s .pre .1) (s .pre .3) .listed, refl, refl)
+    let s = c .before .before .before in (few s .1, few s .3, parts (s .pre .1) (s .pre .3) .listed, refl, refl)
 
 -- the arrays when the report is written
 module _ (c : tie.After-high2) where
   abbrev made : tie.After-carry
-  made = c .before .before .before .before .before .before
+  made = c .before .before .before
 
   abbrev start : tie.Start
-  start = made .before .before .before .before .before .before .before .before
+  start = made .before .before .before .before
 
 write-report-requires : tie.Need-write-report-requires
 write-report-requires c κs =

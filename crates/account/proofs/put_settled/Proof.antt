@@ -14,14 +14,14 @@ module _ (c : tie.Start) where
 
 settle-requires : tie.Need-settle-requires
 settle-requires c κs =
-    let s = c .before .before .before .before .before in
+    let s = c .before .before .before .before .before .before in
     let few = room (s .args .h) (s .args .start .now) (s .args .sizes .now) (s .pre .0) (s .pre .1) (s .pre .2) (s .pre .3) in
     (omega (arith, few), few .2, few .0, omega (arith, few), joints-long s, slots-long s)
 
 returns : tie.Need-returns
 returns c m =
-    let k = c .before .before .before .before in
-    let s = k .before .before .before .before .before .before in
+    let k = c .before .before .before .before .before .before .before in
+    let s = k .before .before .before .before .before .before .before in
     let r = settled-report _ _ _ (s .pre .0) (s .pre .1) (s .pre .2) m (k .settle .ensures) in
     let w = c .before .before .put-list .ensures m in
     (w .0 ∙ ap (λ (l : List ℕ). answer l (s .args .out .now)) r, w .1 ∙ ap (λ (l : List ℕ). after l (s .args .out .now)) r)

@@ -1,5 +1,6 @@
 -- `account::report` meets its contract: the verdict's number tells which report the definition gives. Assumes nothing.
-use Rattle.theory.specs.Prelude.{needs, ℕ, arith, _≡_, sym, ap, _∙_, List}
+use Rattle.theory.specs.Prelude.{needs, ℕ, arith, _≡_, _≢_, refl, sym, ap, _∙_, List}
+use Rattle.theory.specs.Verdict.{verdictNumber}
 use Rattle.theory.specs.Graph.{Graph}
 use Rattle.graph.specs.Lent.{graphIn}
 use Rattle.graph.specs.Lent.Sheets.{counted}
@@ -16,11 +17,13 @@ graph s = graphIn (s .args .h) (s .args .start .now) (s .args .sizes .now)
 -- over
 module _ (c : tie.After-write-over-report-arg) where
   abbrev start-over : tie.Start
-  start-over = c .before .before .before .before .before
+  start-over = c .before .before .before .before .before .before .before .before
 
-  over : OverFound (graph start-over) (start-over .pre .sound) (c .before .before .before .judge .result)
-      (c .before .before .before .judge .ensures _)
-  over = over-found _ _ _ _ (sym (c .before .before .number .ensures) ∙ c .before .if1 .taken)
+  none : verdictNumber (c .before .before .before .judge-on .result .verdict) ≡ 0
+  none = sym (c .before .before .number .ensures) ∙ c .before .if1 .taken
+
+  over : OverFound (graph start-over) (start-over .pre .sound) _ (c .before .before .before .judge-on .ensures _ .over none)
+  over = over-found _ _ _ _ none
 
 write-over-report-requires : tie.Need-write-over-report-requires
 write-over-report-requires c κs =
@@ -38,11 +41,16 @@ returns c =
 -- not over
 module _ (c : tie.After-put-list-arg) where
   abbrev start-plan : tie.Start
-  start-plan = c .before .before .before .before .before .before
+  start-plan = c .before .before .before .before .before .before .before .before .before .before .before
 
-  plan : PlanFound (graph start-plan) (start-plan .pre .sound) (c .before .before .before .before .judge .result)
-      (c .before .before .before .before .judge .ensures _)
-  plan = plan-found _ _ _ _ (λ v. c .before .before .if1 .left (c .before .before .before .number .ensures ∙ v))
+  abbrev judged : tie.After-judge-on
+  judged = c .before .before .before .before .before .before
+
+  some : verdictNumber (judged .judge-on .result .verdict) ≢ 0
+  some v = c .before .before .before .before .if1 .left (c .before .before .before .before .before .number .ensures ∙ v)
+
+  plan : PlanFound (graph start-plan) (start-plan .pre .sound) _ (judged .judge-on .ensures _ .plan some)
+  plan = plan-found _ _ _ _ some
 
 put-list-requires : tie.Need-put-list-requires
 put-list-requires c κs = let d = start-plan c .pre in (d .sound, counted d, plan c .notOver, plan c .merged)
@@ -55,8 +63,11 @@ returns-2 c =
     let r = plan a .report-is in
     (w .0 ∙ ap (λ (l : List ℕ). answer l (s .args .out .now)) r, w .1 ∙ ap (λ (l : List ℕ). after l (s .args .out .now)) r)
 
+judge-on-requires : tie.Need-judge-on-requires
+judge-on-requires c κs = (c .before .before .before .before .pre, record { slots-blank = refl; parts-blank = refl; joints-blank = refl })
+
 pub report-spec : {M : Type 1} → statement M
 report-spec =
     tie.close
-    (tie.spec (λ c κs. search needs) (λ c κs. search needs) write-over-report-requires (λ c. search needs) returns
+    (tie.spec judge-on-requires (λ c κs. search needs) write-over-report-requires (λ c. search needs) returns
     put-list-requires (λ c. search needs) returns-2)

@@ -3,45 +3,53 @@
 use Rattle.theory.specs.Prelude.{needs, arith, sym, ap, ones}
 use Rattle.graph.specs.declared.Head.{Head}
 use Rattle.graph.specs.Lent.{graphIn}
+use Rattle.judge.specs.Found.Laws.{fine-found}
 use Rattle.judge.specs.Angles.Laws.{run-judged, planned-run, few-angles}
 use Rattle.judge.specs.Angles.Drawn.{drawn-starts, drawn-fewer, planned-places, planned-verdict}
 use Rattle.judge.proofs.fine_judged.Statement.{statement}
 use Rattle.judge.proofs.fine_judged.Tie as tie
 
 fine-run-requires : tie.Need-fine-run-requires
-fine-run-requires c κs = let (d, ne, fine) = c .before .pre in (d, drawn-starts d fine .few, c .around .ensures)
+fine-run-requires c κs =
+    let a = c .before .before .before in
+    let (d, ne, fine, blank) = a .before .pre in
+    (d, drawn-starts d fine .few, a .around .ensures, blank)
 
 returns : tie.Need-returns
 returns c = λ z.
     let k = c .before .before .before in
-    let s = k .before .before in
-    let a = k .before .around in
-    let (d, ne, fine) = s .pre in
+    let a = k .before .before .before .before in
+    let s = a .before in
+    let (d, ne, fine, blank) = s .pre in
     let g = graphIn (s .args .h) (s .args .start .now) z in
     let o = drawn-fewer d fine ne z in
     let lines = ap (λ (h : Head). ones (h .lines)) (c .before .before .lines-in .ensures) in
-    run-judged g _ o (sym (few-angles g _ o (a .result) (a .ensures) (omega (arith, c .if1 .taken, lines))))
-    (planned-run g _ o (k .fine-run .ensures))
+    fine-found g (fine z)
+    (run-judged g _ o (sym (few-angles g _ o (a .around .result) (a .around .ensures) (omega (arith, c .if1 .taken, lines))))
+    (planned-run g _ o (k .fine-run .ensures)))
 
 angle-or-under-requires : tie.Need-angle-or-under-requires
 angle-or-under-requires c κs =
-    let l = c .before .before .before .before .before .before in
+    let l = c .before .before .before .before in
     let k = l .before in
-    let (d, ne, fine) = k .before .before .pre in
-    planned-places d fine (k .before .around .result) (l .lines-in .ensures) (k .fine-run .ensures)
+    let a = k .before .before .before .before in
+    let (d, ne, fine, blank) = a .before .pre in
+    planned-places d fine (a .around .result) (l .lines-in .ensures) (k .fine-run .ensures)
 
 returns-2 : tie.Need-returns-2
 returns-2 c = λ z.
-    let l = c .before .before .before .before .before .before .before in
+    let l = c .before .before .before .before .before in
     let k = l .before in
-    let s = k .before .before in
-    let a = k .before .around in
+    let a = k .before .before .before .before in
+    let s = a .before in
     let p = k .fine-run .ensures in
-    let (d, ne, fine) = s .pre in
+    let (d, ne, fine, blank) = s .pre in
     let g = graphIn (s .args .h) (s .args .start .now) z in
     let o = drawn-fewer d fine ne z in
-    run-judged g _ o (planned-verdict d fine (a .result) (l .lines-in .ensures) p (a .ensures) ne (c .angle-or-under .ensures) z)
-    (planned-run g _ o p)
+    fine-found g (fine z)
+    (run-judged g _ o
+    (planned-verdict d fine (a .around .result) (l .lines-in .ensures) p (a .around .ensures) ne (c .angle-or-under .ensures) z)
+    (planned-run g _ o p))
 
 pub fine-judged-spec : {M : Type 1} → statement M
 fine-judged-spec =

@@ -1,18 +1,27 @@
 -- `judge::fine_run` meets its contract: with no three neighbours of one another nothing merges. Assumes nothing.
-use Rattle.theory.specs.Prelude.{needs}
+use Rattle.theory.specs.Prelude.{needs, _≡_, List, [], ℕ}
+use Rattle.theory.specs.Block.{block}
+use Rattle.theory.specs.Merge.{joints}
+use Rattle.merges.specs.Run.{flat, runOf, runIn, Blank}
 use Rattle.judge.specs.Judged.Laws.{starts}
 use Rattle.judge.specs.Angles.Drawn.{unmerged-planned}
 use Rattle.judge.proofs.fine_run.Statement.{statement}
 use Rattle.judge.proofs.fine_run.Tie as tie
 
+-- the constraints stand in the slots, and all else is blank
+laid : (cs : List ℕ) {slots₀ parts held slots : List ℕ} → Blank slots₀ parts held → slots ≡ block 192 0 cs → runIn 0 parts held slots ≡ runOf cs []
+unfolding runOf flat joints
+laid cs blank is = rw (blank .parts-blank, blank .joints-blank, is)
+
 returns-2 : tie.Need-returns-2
 returns-2 c =
-    let s = c .before .before .before in
-    let (d, few, holds) = s .pre in
-    unmerged-planned d (s .args .left) holds (c .before .before .threes .ensures (c .before .if1 .left)) (c .unmerged .ensures)
+    let s = c .before .before .before .before in
+    let (d, few, holds, blank) = s .pre in
+    unmerged-planned d (s .args .left) holds (c .before .before .before .threes .ensures (c .before .before .if1 .left)) (laid _ blank (c .lay .ensures))
 
 pub fine-run-spec : {M : Type 1} → statement M
 fine-run-spec =
     tie.close
-    (tie.spec (λ c κs. search needs) (λ c κs. let (d, few, holds) = c .before .before .pre in starts d few) (λ c. search needs)
-    (λ c κs. let (d, few, holds) = c .before .before .pre in starts d few) returns-2)
+    (tie.spec (λ c κs. search needs)
+    (λ c κs. let (d, few, holds, blank) = c .before .before .before .before .before .pre in (starts d few, blank))
+    (λ c. search needs) (λ c κs. let (d, few, holds, blank) = c .before .before .before .pre in (starts d few, blank .slots-blank)) returns-2)

@@ -1,22 +1,19 @@
--- `judge::judge` meets its contract: what is found decides. Assumes nothing.
-use Rattle.theory.specs.Prelude.{needs, sym, _∙_}
-use Rattle.judge.specs.Judged.Short.{first-judged}
+-- `judge::judge` meets its contract: of an over sheet there is no merge, and else the plan stands in the arrays. Assumes nothing.
+use Rattle.theory.specs.Prelude.{needs, refl, sym, ap, _∙_}
+use Rattle.judge.specs.Found.{judgedWith}
 use Rattle.judge.proofs.judge.Statement.{statement}
 use Rattle.judge.proofs.judge.Tie as tie
 
-fine-judged-requires : tie.Need-fine-judged-requires
-fine-judged-requires c κs =
-    let s = c .before .before .before .before .before .before in
-    (s .pre, c .before .before .before .if1 .left, λ z. sym (c .before .before .over-of .ensures z) ∙ c .enum-told .given .1)
+judge-on-requires : tie.Need-judge-on-requires
+judge-on-requires c κs = (c .before .before .before .pre, record { slots-blank = refl; parts-blank = refl; joints-blank = refl })
 
-returns-3 : tie.Need-returns-3
-returns-3 c = λ z.
-    let s = c .before .before .before .before .before .before .before .before in
-    c .over-found .ensures
-    ∙ sym (first-judged _ (s .pre .sound) (sym (c .before .before .before .before .over-of .ensures z) ∙ c .before .before .found .given .1))
+returns : tie.Need-returns
+returns c = λ z.
+    let f = c .before .before .before .judge-on in
+    ap (judgedWith (f .result)) (c .no-run .ensures) ∙ f .ensures z .over (sym (c .before .before .number .ensures) ∙ c .before .if1 .taken)
+
+returns-2 : tie.Need-returns-2
+returns-2 c = λ z. c .before .before .judge-on .ensures z .plan (λ v. c .if1 .left (c .before .number .ensures ∙ v))
 
 pub judge-spec : {M : Type 1} → statement M
-judge-spec =
-    tie.close
-    (tie.spec (λ c. search needs) (λ c. search needs) (λ c κs. search needs) (λ c. search needs) (λ c κs. search needs)
-    (λ c. search needs) (λ c. search needs) fine-judged-requires (λ c. search needs) (λ c κs. search needs) returns-3)
+judge-spec = tie.close (tie.spec judge-on-requires (λ c κs. search needs) (λ c κs. search needs) returns returns-2)

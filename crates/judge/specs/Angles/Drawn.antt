@@ -1,6 +1,5 @@
 -- The arrays of a sheet that is not over and has fewer than 2n-3 constraints, and of the engine's merges of it. Assumes nothing.
 use Rattle.theory.specs.Prelude.{_≡_, sym, ap, _∙_, _≢_, List, [], ℕ, _+_, _*_, _≤_, arith, ℤ, length, take}
-use Rattle.theory.specs.Block.Laws.{length-block}
 use Rattle.theory.specs.Constraints.{NotOver}
 use Rattle.theory.specs.Merge.{joints, final}
 use Rattle.theory.specs.Merge.Count.{steps-left}
@@ -13,11 +12,10 @@ use Rattle.graph.specs.declared.Head.{Head}
 use Rattle.graph.specs.Lent.{graphIn, Drawn}
 use Rattle.graph.specs.Lent.Sheets.{counted, found-fine, fine-few}
 use Rattle.merges.specs.Run.{runOf, Start, Planned}
-use Rattle.merges.specs.Run.Laws.{length-joints, length-final}
 use Rattle.merges.specs.declared.Run.{Run}
 use Rattle.cycles.specs.Cycle.{HoldsBelow, NoThree}
 use Rattle.cycles.specs.Cycle.Tight.{no-plan}
-use Rattle.judge.specs.Judged.Laws.{starts, steps-few}
+use Rattle.judge.specs.Judged.Laws.{starts, run-room}
 use Rattle.judge.specs.Angles.{linesIn, linesInHead, Fewer, PlanIn, Names}
 use Rattle.judge.specs.Angles.Laws.{plan-in, fewer-in, same-verdict}
 
@@ -71,20 +69,9 @@ module _ {h : Head} {near start : List ℕ} (d : Drawn h near start) (found : (z
     -- from the engine's merges
     module _ {run : Run} (p : Planned (take (h .e) start) run) where
       pub planned-places : (k .e ≤ 125) × (2 * run .steps ≤ k .e) × (length near ≡ 64) × (length (run .joints) ≡ 64) × (length (run .slots) ≡ 192)
-      unfolding runOf
       planned-places =
-          let cs = take (h .e) start in
-          let m = p .merged in
-          let steps = steps-few cs (d .sound .simple .pairs) m in
-          let count = ap (λ (q : Run). q .steps) (m .is) in (
-            omega (arith, same-e, few),
-            omega (arith, same-e, steps, counted d),
-            d .near-is .places,
-            ap (λ (q : Run). length (q .joints)) (m .is)
-                ∙ length-block 64 0 (joints cs (m .p)) (omega (arith, length-joints (m .p) cs, steps, few, count, counted d)),
-            ap (λ (q : Run). length (q .slots)) (m .is)
-                ∙ length-block 192 0 (final cs (m .p)) (omega (arith, length-final (m .p) cs, steps, few, count, counted d)),
-          )
+          let (n, e, half, joints-long, slots-long) = run-room d few (p .merged) in
+          (omega (arith, same-e, e), omega (arith, same-e, half), d .near-is .places, joints-long, slots-long)
 
       pub planned-verdict : HoldsBelow near (h .n) r → h .e + 3 ≢ 2 * h .n → {v : Verdict} → Names k near (run .joints) (run .slots) (run .steps) v
           → (z : List ℤ) → v ≡ verdictOf (graphIn h start z)

@@ -1,6 +1,6 @@
 -- A list of merges in arrays: how many steps it has, and its own verdict from what they hold. Assumes nothing.
 use Rattle.theory.specs.Prelude.{ℕ, _+_, _*_, _≤_, arith, _≡_, sym, ap, _∙_, List, length, take}
-use Rattle.theory.specs.Block.Laws.{take-block}
+use Rattle.theory.specs.Block.Laws.{length-block, take-block}
 use Rattle.theory.specs.Constraints.{Pairs}
 use Rattle.theory.specs.Merge.{final, joints, left}
 use Rattle.theory.specs.Merge.Count.{steps-left}
@@ -27,12 +27,31 @@ module _ (cs : List ℕ) (paired : Pairs cs) {run : Run} (m : Merged cs run) whe
   pub steps-few : 2 * run .steps ≤ length cs
   steps-few = omega (arith, steps-are)
 
+  -- the places of its arrays
+  pub arrays-long : length cs ≤ 125 → (length (run .joints) ≡ 64) × (length (run .slots) ≡ 192)
+  unfolding runOf
+  arrays-long few =
+      let count = ap (λ (r : Run). r .steps) (m .is) in (
+        ap (λ (r : Run). length (r .joints)) (m .is)
+            ∙ length-block 64 0 (joints cs (m .p)) (omega (arith, length-joints (m .p) cs, steps-few, few, count)),
+        ap (λ (r : Run). length (r .slots)) (m .is)
+            ∙ length-block 192 0 (final cs (m .p)) (omega (arith, length-final (m .p) cs, steps-few, few, count)),
+      )
+
   pub finals-are : {e : ℕ} → length cs ≡ e → take (e + run .steps) (run .slots) ≡ final cs (m .p)
   unfolding runOf
   finals-are {e} count =
       let steps-is = ap (λ (r : Run). r .steps) (m .is) in
       ap (λ (r : Run). take (e + run .steps) (r .slots)) (m .is)
       ∙ take-block 192 0 (final cs (m .p)) (e + run .steps) (omega (arith, length-final (m .p) cs, count, steps-is))
+
+-- all of these, of a sheet's arrays
+pub run-room : {h : Head} {near start : List ℕ} (d : Drawn h near start) → h .e ≤ 125 → {run : Run} (m : Merged (take (h .e) start) run)
+    → (h .n ≤ 64) × (h .e ≤ 125) × (2 * run .steps ≤ h .e) × (length (run .joints) ≡ 64) × (length (run .slots) ≡ 192)
+run-room d few m =
+    let pairs = d .sound .simple .pairs in
+    let long = arrays-long _ pairs m (omega (arith, few, counted d)) in
+    (d .sound .most, few, omega (arith, steps-few _ pairs m, counted d), long .0, long .1)
 
 -- the verdict is that of the joints and final clusters in a run's arrays
 abbrev pub Settled : Head → Run → Verdict → Type 0

@@ -1,0 +1,19 @@
+-- What is judged of a sheet whose plan stands in arrays that a caller lends. Assumes nothing.
+use Rattle.theory.specs.Prelude.{_≡_, _≢_, List, [], ℕ}
+use Rattle.theory.specs.Verdict.{verdictNumber}
+use Rattle.theory.specs.Graph.{Graph}
+use Rattle.merges.specs.Run.{runOf, runIn}
+use Rattle.merges.specs.declared.Run.{Run}
+use Rattle.judge.specs.declared.Found.{Found}
+use Rattle.judge.specs.declared.Judged.{Judged}
+use Rattle.judge.specs.Judged.{judgedOf}
+pub mod Laws
+
+-- what is found, with a list of merges
+abbrev pub judgedWith : Found → Run → Judged
+judgedWith f run = record { verdict = f .verdict; first = f .first; set = f .set; run = run }
+
+-- the sheet's judgement: of an over sheet with no merge, else with the list in the arrays
+pub record JudgedIn (g : Graph) (f : Found) (parts joints slots : List ℕ) : Type 0 where
+  pub over : verdictNumber (f .verdict) ≡ 0 → judgedWith f (runOf [] []) ≡ judgedOf g
+  pub plan : verdictNumber (f .verdict) ≢ 0 → judgedWith f (runIn (f .steps) parts joints slots) ≡ judgedOf g
