@@ -368,10 +368,11 @@ pub fn fine_verdict(h: Head, near: &[u64; 64], start: &[u64; 200]) -> Verdict
     if !cycles::threes(near, left) {
         return unmerged_verdict(angles, near, start);
     }
-    let run = merges::merge_all(start, h.e);
-    let joints = run.joints;
-    let slots = run.slots;
-    angle_or_under(angles, near, &joints, &slots, run.steps)
+    let mut slots = [0u64; PLACES];
+    let mut parts = [0u16; PLACES];
+    let mut joints = [0u64; ELEMENTS];
+    let steps = merges::merge_into(start, h.e, &mut slots, &mut parts, &mut joints);
+    angle_or_under(angles, near, &joints, &slots, steps)
 }
 
 // The verdict of a sheet with fewer than 2n-3 constraints.
@@ -391,26 +392,18 @@ pub struct Told {
     pub first: usize,
 }
 
-// What is told of a sheet with 2n-3 constraints from the engine's merges: those that leave one cluster show that it is not over.
+// What is told of a sheet with 2n-3 constraints from the engine's merges.
 fn merged_told(h: Head, near: &[u64; 64], start: &[u64; 200]) -> Told
     requires { ⌜ Drawn h (now near) (now start) × (h .e + 3 ≡ 2 * h .n) ⌝ }
     ensures { λ r. ⌜ ((z : List ℤ) → Tells (graphIn h (now (start .entry)) z) (r .verdict) (r .first)) ⌝ }
 {
-    let run = merges::merge_all(start, h.e);
-    let joints = run.joints;
-    let slots = run.slots;
-    let steps = run.steps;
-    let verdict = engine::settle(&joints, &slots, steps, h.n, h.e, h.lines);
-    if 2 * steps + 1 == h.e {
-        return Told { verdict, first: 0 };
-    }
-    match over_of(h, near, start) {
-        Finding::First { constraint, .. } => Told {
-            verdict: Verdict::Over,
-            first: constraint,
-        },
-        Finding::Fine => Told { verdict, first: 0 },
-    }
+    let mut slots = [0u64; PLACES];
+    let mut parts = [0u16; PLACES];
+    let mut joints = [0u64; ELEMENTS];
+    let found = judge_full(h, near, start, &mut slots, &mut parts, &mut joints);
+    let verdict = found.verdict;
+    let first = found.first;
+    Told { verdict, first }
 }
 
 // What is told of a sheet with 2n-3 constraints and two lines or fewer. One that peels off to the last element is well.

@@ -1,15 +1,20 @@
 -- What is found decides the judgement in lent arrays. Assumes nothing.
-use Rattle.theory.specs.Prelude.{_≡_, refl, sym, ap, _∙_, List, ℕ}
+use Rattle.theory.specs.Prelude.{_≡_, refl, sym, ap, _∙_, List, ℕ, ℕ-discrete}
 use Rattle.theory.specs.Plan.{planOf}
 use Rattle.theory.specs.declared.Finding.the-variants.{Fine, First}
 use Rattle.theory.specs.declared.Verdict.{Verdict}
 use Rattle.theory.specs.declared.Verdict.the-variants.{Over}
+use Rattle.theory.specs.Verdict.{verdictNumber}
 use Rattle.theory.specs.Verdict.Laws.{number-over}
 use Rattle.theory.specs.Graph.{Graph, findingOf}
 use Rattle.theory.specs.Graph.Laws.{list-not-over}
 use Rattle.merges.specs.Run.{runIn}
+use Rattle.graph.specs.Lent.{Sound}
+use Rattle.judge.specs.declared.Found.{Found}
 use Rattle.judge.specs.declared.Judged.{Judged}
 use Rattle.judge.specs.Judged.{listed, judgedBy, judgedOf}
+use Rattle.judge.specs.Judged.Short.{judged-tells}
+use Rattle.judge.specs.Telling.{Tells}
 use Rattle.judge.specs.Found.{JudgedIn}
 
 module _ (g : Graph) {parts joints slots : List ℕ} {steps : ℕ} where
@@ -29,3 +34,11 @@ module _ (g : Graph) {parts joints slots : List ℕ} {steps : ℕ} where
         (list-not-over g (planOf (g .clusters)) (sym (ap (λ (j : Judged). j .verdict) (is ∙ ap (judgedBy g) q)) ∙ number-over _ e));
     plan = λ n. is;
   }
+
+-- what is found tells the verdict and the first constraint
+pub found-tells : (g : Graph) → Sound (g .n) (g .clusters) → {f : Found} {parts joints slots : List ℕ} → JudgedIn g f parts joints slots
+    → Tells g (f .verdict) (f .first)
+found-tells g sound {f} j = elim (ℕ-discrete (verdictNumber (f .verdict)) 0) [
+  | yes e ↦ judged-tells g sound (j .over e)
+  | no n ↦ judged-tells g sound (j .plan n)
+]

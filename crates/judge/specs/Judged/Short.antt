@@ -10,8 +10,8 @@ use Rattle.theory.specs.Verdict.{angled}
 use Rattle.theory.specs.declared.Finding.{Finding}
 use Rattle.theory.specs.declared.Finding.the-variants.{Fine, First}
 use Rattle.theory.specs.declared.Verdict.the-variants.{Over, Angle, Well, Under}
-use Rattle.theory.specs.Graph.{Graph, findingOf, verdictOf, listVerdict}
-use Rattle.theory.specs.Graph.Laws.{fine-finding, fine-verdict, fine-not-over}
+use Rattle.theory.specs.Graph.{Graph, findingOf, verdictOf}
+use Rattle.theory.specs.Graph.Laws.{fine-finding, fine-not-over}
 use Rattle.sheet.specs.Graph.{overFault}
 use Rattle.sheet.specs.Graph.Laws.{fine-fault, first-fault}
 use Rattle.theory.specs.declared.Verdict.{Verdict}
@@ -80,15 +80,6 @@ module _ (g : Graph) (sound : Sound (g .n) (g .clusters)) where
   -- of a sheet that is not over any number
   fine-tells : {v : Verdict} {first : ℕ} → findingOf g ≡ Fine → v ≡ verdictOf g → Tells g v first
   fine-tells q v = record { verdict-is = v; first-is = λ c x o. let z : _≡_ {A = ℕ} 0 1 = cc (q, o) in absurd (omega (arith, z)) }
-
-  pub first-tells : {c x : ℕ} → findingOf g ≡ First c x → Tells g Over c
-  first-tells q = judged-tells (sym (first-judged q))
-
-  -- the engine's merges tell it where it is not over
-  pub merged-tells : {v : Verdict} {first : ℕ} {run : Run} (p : Planned cs run) → NotOver cs → v ≡ listVerdict g (p .merged .p) → Tells g v first
-  merged-tells p fine v =
-      let q = fine-finding g (sound .simple .pairs) (sound .below) fine in
-      fine-tells q (v ∙ ap (listVerdict g) (p .plan fine) ∙ sym (fine-verdict g q))
 
   -- ---- verdicts without a plan
 
