@@ -273,13 +273,12 @@ pub fn steps_of(
 }
 
 // The numbers of a list of merges, three a step, into lent space, or 17.
-pub fn put_plan(run: Run, out: &mut [u16]) -> Written
-    requires { ⌜ (run .steps ≤ 62) × (length (run .parts) ≡ 192) ⌝ }
-    ensures { λ r. ⌜ (r ≡ answer (take (3 * run .steps) (run .parts)) (now (out .entry)))
-        × (now (out .exit) ≡ after (take (3 * run .steps) (run .parts)) (now (out .entry))) ⌝ }
+pub fn put_plan(parts: &[u16; PLACES], steps: usize, out: &mut [u16]) -> Written
+    requires { ⌜ (steps ≤ 62) × (length (now parts) ≡ 192) ⌝ }
+    ensures { λ r. ⌜ (r ≡ answer (take (3 * steps) (now (parts .entry))) (now (out .entry)))
+        × (now (out .exit) ≡ after (take (3 * steps) (now (parts .entry))) (now (out .entry))) ⌝ }
 {
-    let count = 3 * run.steps;
-    let parts = run.parts;
+    let count = 3 * steps;
     if out.len() < count {
         return Written::Refused(17);
     }

@@ -302,54 +302,82 @@ pub fn judge(h: Head, near: &[u64; 64], start: &[u64; 200]) -> Judged
 
 // ---- the plan alone
 
-// The engine's plan of a sheet that is not over.
-fn fine_plan(h: Head, near: &[u64; 64], start: &[u64; 200]) -> Run
-    requires { ⌜ Drawn h (now near) (now start) × (h .e + 3 ≢ 2 * h .n) × ((z : List ℤ) → findingOf (graphIn h (now start) z) ≡ Fine) ⌝ }
-    ensures { λ r. ⌜ ((z : List ℤ) → r ≡ judgedOf (graphIn h (now (start .entry)) z) .run) ⌝ }
+// The engine's plan of a sheet that is not over, into blank arrays; answers how many steps it has.
+fn fine_plan(
+    h: Head,
+    near: &[u64; 64],
+    start: &[u64; 200],
+    slots: &mut [u64; PLACES],
+    parts: &mut [u16; PLACES],
+    joints: &mut [u64; ELEMENTS],
+) -> usize
+    requires { ⌜ Drawn h (now near) (now start) × (h .e + 3 ≢ 2 * h .n) × ((z : List ℤ) → findingOf (graphIn h (now start) z) ≡ Fine)
+        × Blank (now slots) (now parts) (now joints) ⌝ }
+    ensures { λ r. ⌜ ((z : List ℤ) → runIn r (now (parts .exit)) (now (joints .exit)) (now (slots .exit))
+        ≡ judgedOf (graphIn h (now (start .entry)) z) .run) ⌝ }
 {
     let left = around(h, near);
-    let mut slots = [0u64; PLACES];
-    let mut parts = [0u16; PLACES];
-    let mut joints = [0u64; ELEMENTS];
-    let steps = fine_run(h, near, start, left, &mut slots, &mut parts, &mut joints);
-    Run {
-        steps,
-        parts,
-        joints,
-        slots,
-    }
+    fine_run(h, near, start, left, slots, parts, joints)
+}
+
+// Lent arrays made blank again.
+fn blank(slots: &mut [u64; PLACES], parts: &mut [u16; PLACES], joints: &mut [u64; ELEMENTS])
+    ensures { λ r. ⌜ Blank (now (slots .exit)) (now (parts .exit)) (now (joints .exit)) ⌝ }
+{
+    *slots = [0u64; PLACES];
+    *parts = [0u16; PLACES];
+    *joints = [0u64; ELEMENTS];
 }
 
 // The engine's plan of a sheet with 2n-3 constraints, none of an over one. Merges that leave one cluster show that it is not over.
-fn full_plan(h: Head, near: &[u64; 64], start: &[u64; 200]) -> Run
-    requires { ⌜ Drawn h (now near) (now start) × (h .e + 3 ≡ 2 * h .n) ⌝ }
-    ensures { λ r. ⌜ ((z : List ℤ) → r ≡ judgedOf (graphIn h (now (start .entry)) z) .run) ⌝ }
+fn full_plan(
+    h: Head,
+    near: &[u64; 64],
+    start: &[u64; 200],
+    slots: &mut [u64; PLACES],
+    parts: &mut [u16; PLACES],
+    joints: &mut [u64; ELEMENTS],
+) -> usize
+    requires { ⌜ Drawn h (now near) (now start) × (h .e + 3 ≡ 2 * h .n) × Blank (now slots) (now parts) (now joints) ⌝ }
+    ensures { λ r. ⌜ ((z : List ℤ) → runIn r (now (parts .exit)) (now (joints .exit)) (now (slots .exit))
+        ≡ judgedOf (graphIn h (now (start .entry)) z) .run) ⌝ }
 {
-    let run = merges::merge_all(start, h.e);
-    if h.e == 2 * run.steps + 1 {
-        return run;
+    let made = merges::merge_into(start, h.e, slots, parts, joints);
+    if h.e == 2 * made + 1 {
+        return made;
     }
     match over_of(h, near, start) {
-        Finding::First { .. } => merges::no_run(),
-        Finding::Fine => run,
+        Finding::First { .. } => {
+            blank(slots, parts, joints);
+            0
+        }
+        Finding::Fine => made,
     }
 }
 
-// The engine's plan of a sheet, none of an over one.
-pub fn plan_of(h: Head, near: &[u64; 64], start: &[u64; 200]) -> Run
-    requires { ⌜ Drawn h (now near) (now start) ⌝ }
-    ensures { λ r. ⌜ ((z : List ℤ) → r ≡ judgedOf (graphIn h (now (start .entry)) z) .run) ⌝ }
+// The engine's plan of a sheet into blank arrays that the caller lends, none of an over one; answers how many steps it has.
+pub fn plan_on(
+    h: Head,
+    near: &[u64; 64],
+    start: &[u64; 200],
+    slots: &mut [u64; PLACES],
+    parts: &mut [u16; PLACES],
+    joints: &mut [u64; ELEMENTS],
+) -> usize
+    requires { ⌜ Drawn h (now near) (now start) × Blank (now slots) (now parts) (now joints) ⌝ }
+    ensures { λ r. ⌜ ((z : List ℤ) → runIn r (now (parts .exit)) (now (joints .exit)) (now (slots .exit))
+        ≡ judgedOf (graphIn h (now (start .entry)) z) .run) ⌝ }
 {
     let held = h.e + 3;
     if 2 * h.n < held {
-        return merges::no_run();
+        return 0;
     }
     if held == 2 * h.n {
-        return full_plan(h, near, start);
+        return full_plan(h, near, start, slots, parts, joints);
     }
     match over_of(h, near, start) {
-        Finding::First { .. } => merges::no_run(),
-        Finding::Fine => fine_plan(h, near, start),
+        Finding::First { .. } => 0,
+        Finding::Fine => fine_plan(h, near, start, slots, parts, joints),
     }
 }
 

@@ -143,8 +143,11 @@ pub fn plan(bytes: &[u8], out: &mut [u16]) -> Written
     let GraphRead::Value(head) = got else {
         return Written::Refused(got.refusal());
     };
-    let run = judge::plan_of(head, &near, &start);
-    engine::put_plan(run, out)
+    let mut slots = [0u64; 192];
+    let mut parts = [0u16; 192];
+    let mut joints = [0u64; 64];
+    let steps = judge::plan_on(head, &near, &start, &mut slots, &mut parts, &mut joints);
+    engine::put_plan(&parts, steps, out)
 }
 
 // All that two sets of elements share.
@@ -195,8 +198,10 @@ pub fn clusters(bytes: &[u8], out: &mut [u64]) -> Written
     let GraphRead::Value(head) = got else {
         return Written::Refused(got.refusal());
     };
-    let run = judge::plan_of(head, &near, &start);
-    let slots = run.slots;
+    let mut slots = [0u64; 192];
+    let mut parts = [0u16; 192];
+    let mut joints = [0u64; 64];
+    judge::plan_on(head, &near, &start, &mut slots, &mut parts, &mut joints);
     engine::put_clusters(&slots, 192, out)
 }
 

@@ -1,5 +1,5 @@
 -- `judge::fine_plan` meets its contract: the merges are the engine's plan. Assumes nothing.
-use Rattle.theory.specs.Prelude.{needs, refl}
+use Rattle.theory.specs.Prelude.{needs}
 use Rattle.graph.specs.Lent.{graphIn}
 use Rattle.graph.specs.Lent.Sheets.{found-fine}
 use Rattle.judge.specs.Judged.Short.{run-planned}
@@ -10,13 +10,13 @@ use Rattle.judge.proofs.fine_plan.Tie as tie
 fine-run-requires : tie.Need-fine-run-requires
 fine-run-requires c κs =
     let a = c .before .before .before in
-    let (d, ne, fine) = a .before .pre in
-    (d, drawn-starts d fine .few, a .around .ensures, record { slots-blank = refl; parts-blank = refl; joints-blank = refl })
+    let (d, ne, fine, blank) = a .before .pre in
+    (d, drawn-starts d fine .few, a .around .ensures, blank)
 
 returns : tie.Need-returns
 returns c = λ z.
     let s = c .before .before .before .before .before in
-    let (d, ne, fine) = s .pre in
+    let (d, ne, fine, blank) = s .pre in
     run-planned (graphIn (s .args .h) (s .args .start .now) z) (d .sound) (c .fine-run .ensures) (found-fine (d .sound) (fine z))
 
 pub fine-plan-spec : {M : Type 1} → statement M

@@ -1,17 +1,9 @@
 -- `judge::fine_run` meets its contract: with no three neighbours of one another nothing merges. Assumes nothing.
-use Rattle.theory.specs.Prelude.{needs, _≡_, List, [], ℕ}
-use Rattle.theory.specs.Block.{block}
-use Rattle.theory.specs.Merge.{joints}
-use Rattle.merges.specs.Run.{flat, runOf, runIn, Blank}
-use Rattle.judge.specs.Judged.Laws.{starts}
+use Rattle.theory.specs.Prelude.{needs}
+use Rattle.judge.specs.Judged.Laws.{starts, laid}
 use Rattle.judge.specs.Angles.Drawn.{unmerged-planned}
 use Rattle.judge.proofs.fine_run.Statement.{statement}
 use Rattle.judge.proofs.fine_run.Tie as tie
-
--- the constraints stand in the slots, and all else is blank
-laid : (cs : List ℕ) {slots₀ parts held slots : List ℕ} → Blank slots₀ parts held → slots ≡ block 192 0 cs → runIn 0 parts held slots ≡ runOf cs []
-unfolding runOf flat joints
-laid cs blank is = rw (blank .parts-blank, blank .joints-blank, is)
 
 returns-2 : tie.Need-returns-2
 returns-2 c =

@@ -1,5 +1,6 @@
 -- A list of merges in arrays: how many steps it has, and its own verdict from what they hold. Assumes nothing.
-use Rattle.theory.specs.Prelude.{ℕ, _+_, _*_, _≤_, arith, _≡_, sym, ap, _∙_, List, length, take}
+use Rattle.theory.specs.Prelude.{ℕ, _+_, _*_, _≤_, arith, _≡_, sym, ap, _∙_, List, [], length, take}
+use Rattle.theory.specs.Block.{block}
 use Rattle.theory.specs.Block.Laws.{length-block, take-block}
 use Rattle.theory.specs.Constraints.{Pairs}
 use Rattle.theory.specs.Merge.{final, joints, left}
@@ -8,7 +9,7 @@ use Rattle.theory.specs.Verdict.{judged}
 use Rattle.theory.specs.declared.Verdict.{Verdict}
 use Rattle.theory.specs.Graph.{Graph, listVerdict}
 use Rattle.graph.specs.declared.Head.{Head}
-use Rattle.merges.specs.Run.{runOf, Start, Merged}
+use Rattle.merges.specs.Run.{flat, runOf, runIn, Blank, Start, Merged}
 use Rattle.merges.specs.Run.Laws.{length-joints, length-final}
 use Rattle.merges.specs.declared.Run.{Run}
 use Rattle.graph.specs.Lent.{Drawn}
@@ -17,6 +18,11 @@ use Rattle.graph.specs.Lent.Sheets.{counted}
 -- where the merging begins
 pub starts : {h : Head} {near start : List ℕ} → Drawn h near start → h .e ≤ 125 → Start start (h .e)
 starts d few = record { few = few; count = counted d; pairs = d .sound .simple .pairs }
+
+-- no merge: the constraints stand in the slots, and all else is blank
+pub laid : (cs : List ℕ) {slots₀ parts held slots : List ℕ} → Blank slots₀ parts held → slots ≡ block 192 0 cs → runIn 0 parts held slots ≡ runOf cs []
+unfolding runOf flat joints
+laid cs blank is = rw (blank .parts-blank, blank .joints-blank, is)
 
 module _ (cs : List ℕ) (paired : Pairs cs) {run : Run} (m : Merged cs run) where
   pub steps-are : left (final cs (m .p)) + 2 * run .steps ≡ length cs

@@ -22,12 +22,12 @@ use Rattle.peeling.specs.Core.Peeling.{core-none}
 use Rattle.theory.specs.Over.Laws.{overOf-fine}
 use Rattle.theory.specs.Ring.Laws.{few-ringed, one-ringed}
 use Rattle.peeling.specs.Core.Merging.{loose-one}
-use Rattle.merges.specs.Run.{runOf, Merged, Planned}
+use Rattle.merges.specs.Run.{runIn, Blank, Merged, Planned}
 use Rattle.merges.specs.declared.Run.{Run}
 use Rattle.judge.specs.declared.Judged.{Judged}
 use Rattle.judge.specs.Judged.{listed, overFound, judgedBy, judgedOf}
 use Rattle.judge.specs.Telling.{Tells, Reached}
-use Rattle.judge.specs.Judged.Laws.{steps-are}
+use Rattle.judge.specs.Judged.Laws.{laid, steps-are}
 use Rattle.judge.specs.Judged.Lists.{judged-held}
 
 module _ (g : Graph) (sound : Sound (g .n) (g .clusters)) where
@@ -51,8 +51,9 @@ module _ (g : Graph) (sound : Sound (g .n) (g .clusters)) where
   unfolding listed
   run-planned p fine = p .merged .is ∙ ap (λ (j : Judged). j .run) (fine-judged p fine)
 
-  pub run-first : {c x : ℕ} → findingOf g ≡ First c x → runOf [] [] ≡ judgedOf g .run
-  run-first q = sym (ap (λ (j : Judged). j .run) (first-judged q))
+  -- of an over sheet blank arrays
+  pub run-first : {c x : ℕ} → findingOf g ≡ First c x → {slots parts held : List ℕ} → Blank slots parts held → runIn 0 parts held slots ≡ judgedOf g .run
+  run-first q blank = laid [] blank (blank .slots-blank) ∙ sym (ap (λ (j : Judged). j .run) (first-judged q))
 
   -- merges that leave one cluster show that it is not over
   pub one-left : {run : Run} → Merged cs run → 2 * run .steps + 1 ≡ length cs → NotOver cs
@@ -97,7 +98,7 @@ module _ (g : Graph) (sound : Sound (g .n) (g .clusters)) where
   pub more-fault : 2 * g .n < length cs + 3 → overFault g ≡ 11
   more-fault h = first-fault g (more-found h .2)
 
-  pub run-more : 2 * g .n < length cs + 3 → runOf [] [] ≡ judgedOf g .run
+  pub run-more : 2 * g .n < length cs + 3 → {slots parts held : List ℕ} → Blank slots parts held → runIn 0 parts held slots ≡ judgedOf g .run
   run-more h = run-first (more-found h .2)
 
   -- other than 2n-3 constraints, and too few lines for a joint of three or a ring

@@ -3,6 +3,8 @@ use Rattle.theory.specs.Prelude.{needs, refl, sym, ap, _∙_, List, [], ℕ}
 use Rattle.theory.specs.Graph.{Graph}
 use Rattle.sheet.specs.Graph.{graphOf}
 use Rattle.graph.specs.Lent.Sheets.{accepted-sound}
+use Rattle.merges.specs.Run.{runIn}
+use Rattle.merges.specs.declared.Run.{Run}
 use Rattle.judge.specs.Judged.{judgedOf}
 use Rattle.judge.specs.Judged.Lists.{HeldRun, run-held}
 use Rattle.sheet.specs.Field.{value}
@@ -24,23 +26,31 @@ read : (c : tie.After-start2)
 read c =
     facts-read _ _ _ _ _ (c .before .before .before .before .before .read-graph .ensures) (c .before .before .before .got .given .1)
 
+plan-on-requires : tie.Need-plan-on-requires
+plan-on-requires c κs = (read (c .before .before .before) .drawn-is, record { slots-blank = refl; parts-blank = refl; joints-blank = refl })
+
 -- the plan of its graph
-held : (c : tie.After-plan-of) → HeldRun (graphOf (read (c .before) .facts)) (accepted-sound _ (read (c .before) .stands .accepted)) (c .plan-of .result)
-held c =
-    let f = read (c .before) in
-    run-held (graphOf (f .facts)) (accepted-sound _ (f .stands .accepted)) (c .plan-of .ensures _ ∙ ap (λ (g : Graph). judgedOf g .run) (f .graph-read))
+module _ (c : tie.After-plan-on) where
+  abbrev lent : tie.After-start2
+  lent = c .before .before .before .before
+
+  abbrev run : Run
+  run = let l = c .plan-on .last .1 .1 .1 in runIn (c .plan-on .result) (l .1 .0) (l .1 .1 .0) (l .0)
+
+  held : HeldRun (graphOf (read lent .facts)) (accepted-sound _ (read lent .stands .accepted)) run
+  held = run-held _ _ (c .plan-on .ensures _ ∙ ap (λ (g : Graph). judgedOf g .run) (read lent .graph-read))
 
 put-plan-requires : tie.Need-put-plan-requires
-put-plan-requires c κs = let j = held (c .before) in (j .few-steps, j .all-parts)
+put-plan-requires c κs = let j = held (c .before .before) in (j .few-steps, j .all-parts)
 
 returns-2 : tie.Need-returns-2
 returns-2 c =
-    let k = c .before .before .before .before in
+    let k = c .before .before .before .before .before in
     answers-items (c .before .before .put-plan .ensures)
-    (rw (read (k .before) .reads) (ap (λ (l : List ℕ). value l []) (sym (held k .plan-is))))
+    (rw (read (lent k) .reads) (ap (λ (l : List ℕ). value l []) (sym (held k .plan-is))))
 
 pub plan-spec : {M : Type 1} → statement M
 plan-spec =
     tie.close
     (tie.spec (λ c κs. (refl, refl, refl)) (λ c. search needs) (λ c. search needs) (λ c κs. search needs) returns
-    (λ c κs. read c .drawn-is) put-plan-requires (λ c. search needs) returns-2)
+    plan-on-requires put-plan-requires (λ c. search needs) returns-2)
