@@ -92,11 +92,15 @@ fn three_lines(around: u64, lines: u64) -> bool
     }
 }
 
-// Is one of the two true?
-fn either(a: bool, b: bool) -> bool
-    ensures { λ r. ⌜ r ≡ a || b ⌝ }
+// Was there such an angle before, or is there one now?
+fn angle_after(around: u64, lines: u64, angle: bool) -> bool
+    ensures { λ r. ⌜ r ≡ (eqb (ones around) 3 && allLines lines around) || angle ⌝ }
 {
-    if a { true } else { b }
+    if angle {
+        true
+    } else {
+        three_lines(around, lines)
+    }
 }
 
 // What is left when elements are taken away, and whether one with two neighbours went that made three lines with them.
@@ -118,7 +122,7 @@ fn peel(near: &[u64; 64], n: u8, low: u64, lines: u64) -> Peeling
         let x = sets::lowest(todo);
         let i = wide(x);
         let bit = sets::single(x);
-        angle = either(three_lines(bit | (near[i] & left), lines), angle);
+        angle = angle_after(bit | (near[i] & left), lines, angle);
         left = left - bit;
         todo = (todo - bit) | light_of(near, left, near[i] & left);
     }

@@ -1,5 +1,5 @@
 -- `peel` meets its contract. The loop's invariant: elements are taken away down to left, and todo are light there. Assumes nothing.
-use Rattle.theory.specs.Prelude.{ap, _∙_, _-_, arith, getD, needs}
+use Rattle.theory.specs.Prelude.{refl, ap, _∙_, _-_, arith, getD, needs}
 use Rattle.peeling.specs.Core.{Light, Heavy, Mutual, Taken}
 use Rattle.peeling.specs.Core.Neighbours.{heavy-start}
 use Rattle.peeling.specs.Core.Peeling.{peeled-small, peel-room, todo-room, peel-less, light-next, heavy-left, heavy-none}
@@ -29,64 +29,63 @@ loop-holds c =
 single-requires : tie.Need-single-requires Inv-loop μ-loop
 single-requires c κs = c .before .lowest .ensures .0
 
-mul-three-lines : tie.Need-mul-three-lines Inv-loop μ-loop
-mul-three-lines c = omega (arith, c .before .wide2 .ensures, c .before .before .lowest .ensures .0)
+mul-angle-after : tie.Need-mul-angle-after Inv-loop μ-loop
+mul-angle-after c = omega (arith, c .before .wide2 .ensures, c .before .before .lowest .ensures .0)
 
-element-copy-out-three-lines : tie.Need-element-copy-out-three-lines Inv-loop μ-loop
-element-copy-out-three-lines c = omega (arith, c .before .wide2 .ensures, c .before .before .lowest .ensures .0)
+element-copy-out-angle-after : tie.Need-element-copy-out-angle-after Inv-loop μ-loop
+element-copy-out-angle-after c = omega (arith, c .before .wide2 .ensures, c .before .before .lowest .ensures .0)
 
 sub-left : tie.Need-sub-left Inv-loop μ-loop
 sub-left c =
-    let s = c .before .before .before .before .before .before .before .before .before .before in
-    let l = c .before .before .before .before .before .before .before .loop in
-    let x = c .before .before .before .before .before .lowest in
-    let b = c .before .before .before .single in
+    let s = c .before .before .before .before .before .before .before .before .before in
+    let l = c .before .before .before .before .before .before .loop in
+    let x = c .before .before .before .before .lowest in
+    let b = c .before .before .single in
     peel-room (s .args .near .now) (l .left) (l .todo) (x .result) (b .result) (l .inv .1) (x .ensures .1) (b .ensures)
 
 sub-todo : tie.Need-sub-todo Inv-loop μ-loop
 sub-todo c =
-    let s = c .before .before .before .before .before .before .before .before .before .before in
-    let l = c .before .before .before .before .before .before .before .loop in
-    let x = c .before .before .before .before .before .lowest in
-    let b = c .before .before .before .single in
+    let s = c .before .before .before .before .before .before .before .before .before in
+    let l = c .before .before .before .before .before .before .loop in
+    let x = c .before .before .before .before .lowest in
+    let b = c .before .before .single in
     todo-room (s .args .near .now) (l .left) (l .todo) (x .result) (b .result) (l .inv .1) (x .ensures .1) (b .ensures)
 
 mul-light-of : tie.Need-mul-light-of Inv-loop μ-loop
-mul-light-of c = omega (arith, c .before .before .before .before .wide2 .ensures, c .before .before .before .before .before .lowest .ensures .0)
+mul-light-of c = omega (arith, c .before .before .before .wide2 .ensures, c .before .before .before .before .lowest .ensures .0)
 
 element-copy-out-light-of : tie.Need-element-copy-out-light-of Inv-loop μ-loop
 element-copy-out-light-of c =
-    omega (arith, c .before .before .before .before .wide2 .ensures, c .before .before .before .before .before .lowest .ensures .0)
+    omega (arith, c .before .before .before .wide2 .ensures, c .before .before .before .before .lowest .ensures .0)
 
 light-of-requires : tie.Need-light-of-requires Inv-loop μ-loop
 unfolding _∩_
 light-of-requires c κs =
-    let s = c .before .before .before .before .before .before .before .before .before .before .before in
-    let l = c .before .before .before .before .before .before .before .before .loop in
-    a∩b⊑b (getD (s .args .near .now) (c .before .before .before .before .before .wide2 .result) 0)
-    (l .left - c .before .before .before .before .single .result)
+    let s = c .before .before .before .before .before .before .before .before .before .before in
+    let l = c .before .before .before .before .before .before .before .loop in
+    a∩b⊑b (getD (s .args .near .now) (c .before .before .before .before .wide2 .result) 0)
+    (l .left - c .before .before .before .single .result)
 
 loop-less : tie.Need-loop-less Inv-loop μ-loop
 loop-less c =
-    let s = c .before .before .before .before .before .before .before .before .before .before .before .before in
-    let l = c .before .before .before .before .before .before .before .before .before .loop in
-    let x = c .before .before .before .before .before .before .before .lowest in
-    let b = c .before .before .before .before .before .single in
+    let s = c .before .before .before .before .before .before .before .before .before .before .before in
+    let l = c .before .before .before .before .before .before .before .before .loop in
+    let x = c .before .before .before .before .before .before .lowest in
+    let b = c .before .before .before .before .single in
     peel-less (s .args .near .now) (l .left) (l .todo) (x .result) (b .result) (l .inv .1) (x .ensures .1) (b .ensures)
 
 loop-again : tie.Need-loop-again Inv-loop μ-loop
 unfolding _∩_ _∪_
 loop-again c =
-    let s = c .before .before .before .before .before .before .before .before .before .before .before .before in
-    let l = c .before .before .before .before .before .before .before .before .before .loop in
-    let x = c .before .before .before .before .before .before .before .lowest in
-    let i = c .before .before .before .before .before .before .wide2 in
-    let b = c .before .before .before .before .before .single in
-    let t = c .before .before .before .three-lines in
-    let n = c .before .before .either in (
+    let s = c .before .before .before .before .before .before .before .before .before .before .before in
+    let l = c .before .before .before .before .before .before .before .before .loop in
+    let x = c .before .before .before .before .before .before .lowest in
+    let i = c .before .before .before .before .before .wide2 in
+    let b = c .before .before .before .before .single in
+    let n = c .before .before .angle-after in (
       taken-next (s .args .near .now) (s .args .lines) (l .left) (l .todo) (l .angle) (l .inv .0) (l .inv .1) (x .result) (b .result) (i .result)
           (x .ensures .1) (b .ensures)
-          (i .ensures) (t .result) (n .result) (t .ensures) (n .ensures),
+          (i .ensures) _ (n .result) refl (n .ensures),
       light-next (s .args .near .now) (l .left) (l .todo) (x .result) (b .result) (l .inv .1)
           (x .ensures .1) (b .ensures) (c .light-of .result)
           (c .light-of .ensures .0),
@@ -102,6 +101,6 @@ returns c =
 pub peel-spec : {M : Type 1} → statement M
 peel-spec =
     tie.close
-    (tie.spec Inv-loop μ-loop (λ c κs. search needs) (λ c κs. omega (arith, c .wide .ensures, c .before .pre .0, c .before .pre .1)) loop-holds (λ c κs. search needs) (λ c κs. search needs) single-requires mul-three-lines
-    element-copy-out-three-lines (λ c κs. search needs) (λ c κs. search needs) sub-left sub-todo mul-light-of
-    element-copy-out-light-of light-of-requires loop-less loop-again returns)
+    (tie.spec Inv-loop μ-loop (λ c κs. search needs) (λ c κs. omega (arith, c .wide .ensures, c .before .pre .0, c .before .pre .1)) loop-holds
+    (λ c κs. search needs) (λ c κs. search needs) single-requires mul-angle-after element-copy-out-angle-after (λ c κs. search needs) sub-left sub-todo
+    mul-light-of element-copy-out-light-of light-of-requires loop-less loop-again returns)
