@@ -18,8 +18,9 @@ enum { ORIGIN_PLACE = 1, NORMAL_TURN = 4, FIRST_PLACE = 8 };
 
 /* Solves n points, laid out at the given places, with a distance for each of the e pairs: the one it has in the
    layout, so that nothing contradicts. If rough is not 0 the distances are rounded to whole numbers, as a sheet holds
-   them, and each point starts from the nearest point of a grid of ten, as a drawing has it. The result is libslvs' own number, and *dof the degrees of freedom it counts, the three motions
-   of the whole plane among them. It is not asked which constraints are to blame, as that takes e times as long. */
+   them, and each point starts from the nearest point of a grid of ten, as a drawing has it. The result is libslvs' own
+   number, and *dof the degrees of freedom it counts, the three motions of the whole plane among them. It is not asked
+   which constraints are to blame, as that takes e times as long. */
 int32_t solver_solve(size_t n, const double (*at)[2], size_t e, const uint8_t (*pairs)[2], int32_t rough, int32_t *dof)
 {
     Slvs_Param params[FIRST_PLACE + 2 * MOST_POINTS];

@@ -1,9 +1,9 @@
 //! The whole report beside a solve by SolveSpace's libslvs, on the same sheets of 64 points.
 
 use pattern_bench::cases;
-use pattern_bench::timing::{Contender, SAMPLES, TURNS, lowest_medians};
 #[cfg(feature = "slvs")]
 use pattern_bench::slvs::solve_time;
+use pattern_bench::timing::{Contender, SAMPLES, TURNS, lowest_medians};
 #[cfg(feature = "slvs")]
 use pattern_slvs::solver::Drawing;
 use pattern_tests::facts::MOST_ELEMENTS;

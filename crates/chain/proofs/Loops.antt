@@ -3,10 +3,11 @@ use Rattle.theory.specs.Prelude.{_≡_, sym, ap, _∙_, subst, _≢_, _⊎_, in
 use Rattle.theory.specs.Prelude.{arith, ℕ-discrete, decLt, bitAnd, bitOr, and-le-l, trailingZeros, getD}
 use Rattle.theory.specs.Set.{_∈_, _∩_, _∪_, at}
 use Rattle.theory.specs.Set.Laws.{at-zero, at-le, bit, ∈-∩⁻, ∈-∪⁻, ∈-∪ˡ, ∈-∪ʳ}
-use Rattle.theory.specs.Set.Lowest.{lowest-in, lowest-below, rest-other}
+use Rattle.theory.specs.Set.Lowest.{lowest-in, lowest-least, lowest-below, rest-other}
 use Rattle.theory.specs.Merge.{slot}
 use Rattle.search.specs.Words.{word}
-use Rattle.search.proofs.Sets.{Nearly, nearly-none, nearly-next, nearly-near, lowest-least}
+use Rattle.search.specs.Words.{Nearly}
+use Rattle.search.specs.Words.Laws.{nearly-none, nearly-next, nearly-near}
 use Rattle.chain.specs.Chain.{Share}
 use Rattle.chain.specs.Chain.Lead.{shared-at}
 use Rattle.chain.specs.Layers.{Standing, Around, Union, Turned, FirstIn, Both}

@@ -2,17 +2,16 @@
 use Rattle.theory.specs.Prelude.{_≡_, refl, sym, ap, ap₂, _∙_, subst, _⊎_, inl, inr, List, [], _∷_, _++_, none, some, ℕ, zero, suc, _+_, _≤_, _<_}
 use Rattle.theory.specs.Prelude.{arith, length, take, replicate, List·getD-eq-default}
 use Rattle.theory.specs.Block.{block}
-use Rattle.theory.specs.Block.Laws.{take-block}
-use Rattle.theory.specs.Constraints.{Pairs, NotOver}
+use Rattle.theory.specs.Constraints.{NotOver}
 use Rattle.theory.specs.Merge.{slot, Merge, merge, Three, three, OpenAt, put, final, Ended}
 use Rattle.theory.specs.Plan.{firstOf, First, planOf, IsPlan}
 use Rattle.theory.specs.Plan.Laws.{ascending-same, first-one, some-first, none-ended, plan-of-is, plan-of-one}
 use Rattle.search.specs.State.{waits, Kept, Ready, Begun, Renewed, Fine}
 use Rattle.search.specs.State.Choice.{kept-todo}
 use Rattle.search.specs.State.Sheet.{all-low, fine-of, fine-same, ready-start, ready-put, ready-same, open-same}
-use Rattle.merges.specs.Run.{places, mostSteps, Blank, Start, Planned}
+use Rattle.merges.specs.Run.{places, mostSteps, Start, Planned}
 use Rattle.merges.specs.declared.Run.{Run}
-use Rattle.merges.specs.Run.Laws.{final-snoc, valid-snoc}
+use Rattle.merges.specs.Run.Laws.{final-snoc, valid-snoc, begin-same}
 use Rattle.merges.specs.Going.{Slots, Going, Made}
 use Rattle.merges.specs.Going.Laws.{slots-same, used-is, used-few, steps-are, steps-few, going-start, going-fewer, going-next, going-run}
 use Rattle.merges.specs.Search.{Firsts, Running, Stopped, Begins, Ran, RanTo}
@@ -55,10 +54,6 @@ ready-begun {cs} fine {p} w b t =
     ready-start (fine-same (λ n. sym (slots-same w n)) (fine-of cs (w .pairs) fine p (w .valid))) (used-few w)
     (λ n l. slots-same w n ∙ List·getD-eq-default (final cs p) 0 (omega (arith, used-is w))) b t
 
--- the array begins with the constraints
-pub begin-same : {start slots : List ℕ} {e : ℕ} → Start start e → slots ≡ block places 0 (take e start) → take e slots ≡ take e start
-begin-same {start} {slots} {e} b h = ap (take e) h ∙ take-block places 0 (take e start) e (sym (b .count))
-
 pub running-start : {start slots links hold todo : List ℕ} {e : ℕ} → Start start e → slots ≡ block places 0 (take e start) → Begun slots e links hold
     → ((c : ℕ) → c < e → waits todo c ≡ 1) → length todo ≡ 3
     → Running (take e slots) e slots links hold todo (replicate places 0) (replicate 64 0) 0 18446744073709551615
@@ -76,24 +71,6 @@ running-start {start} {slots} {links} {hold} {todo} {e} b h g t l =
       ready = λ fine. ready-begun fine (w .clusters)
           (subst (λ (n : ℕ). Begun slots n links hold) (omega arith) g) (λ c k. t c (omega arith));
     })
-
--- arrays that hold the constraints alone
-pub begins : {start slots : List ℕ} {e : ℕ} → Start start e → slots ≡ block places 0 (take e start)
-    → Begins slots (replicate places 0) (replicate 64 0) (replicate 64 0) (replicate places 0) e
-begins {start} {slots} {e} b h =
-    let same = begin-same b h in
-    record {
-      starts = record { few = b .few; count = ap length same ∙ b .count; pairs = subst Pairs (sym same) (b .pairs) };
-      slots-are = h ∙ ap (block places 0) (sym same);
-      parts-blank = refl;
-      joints-blank = refl;
-      links-blank = refl;
-      hold-blank = refl;
-    }
-
-pub lent-begins : {start slots₀ slots parts joints : List ℕ} {e : ℕ} → Start start e → Blank slots₀ parts joints
-    → slots ≡ block places 0 (take e start) → Begins slots parts joints (replicate 64 0) (replicate places 0) e
-lent-begins b blank h = rw (blank .parts-blank, blank .joints-blank) (begins b h)
 
 pub blank-start : {slots parts joints links₀ hold₀ links hold todo : List ℕ} {e : ℕ} → Begins slots parts joints links₀ hold₀ e
     → Begun slots e links hold → ((c : ℕ) → c < e → waits todo c ≡ 1) → length todo ≡ 3

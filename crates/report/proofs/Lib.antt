@@ -1,4 +1,2 @@
 -- Laws that the proofs of several functions share.
-pub mod Going
 pub mod Standing
-pub mod Buffered

@@ -2,7 +2,7 @@
 use Rattle.theory.specs.Prelude.{refl, sets}
 use Rattle.report.specs.Block.{Stands}
 use Rattle.report.specs.Block.Laws.{stands-none, stands-all, _then_}
-use Rattle.report.proofs.Going.{Composes}
+use Rattle.report.specs.Going.{Composes}
 
 pub stands : Composes Stands
 stands = record {

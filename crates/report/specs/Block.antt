@@ -2,6 +2,7 @@
 use Rattle.theory.specs.Prelude.{ℕ, suc, _+_, _/_, _%_, _≤_, _≡_, Bool, true, _&&_, List, [], _∷_, _++_, T, eqb, length, getD, take}
 use Rattle.space.specs.Text.{decimal}
 pub mod Laws
+pub mod Buffered
 
 -- room for the longest report, and for the largest piece behind it, in bytes
 abbrev pub block : ℕ

@@ -1,6 +1,5 @@
 -- Laws that the proofs of several functions share.
 pub mod Gather
-pub mod Sets
 pub mod Triple
 pub mod Two
 pub mod Passing

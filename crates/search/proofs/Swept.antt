@@ -4,10 +4,9 @@ use Rattle.theory.specs.Prelude.{trailingZeros, length, getD, set, length-set, 
 use Rattle.theory.specs.Set.{_∈_, _∩_, at}
 use Rattle.theory.specs.Set.Laws.{at-zero, out, element}
 use Rattle.theory.specs.Merge.{slot}
-use Rattle.theory.specs.Set.Lowest.{lowest-in, lowest-below}
+use Rattle.theory.specs.Set.Lowest.{lowest-in, lowest-least, lowest-below}
 use Rattle.search.specs.State.{waits, Outs, Reaching, Wanted, Kept, Lowest}
 use Rattle.search.specs.Words.{Passing}
-use Rattle.search.proofs.Sets.{lowest-least}
 
 -- the words below w are empty, and what left reaches nothing
 pub record Swept (s links : List ℕ) (rim : ℕ) (todo now : List ℕ) (w : ℕ) : Type 0 where

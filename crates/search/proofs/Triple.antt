@@ -4,10 +4,9 @@ use Rattle.theory.specs.Prelude.{bitOr, trailingZeros, trailing-le, length, get
 use lib.Count.{trailing-of-zero}
 use Rattle.theory.specs.Set.{_∈_, _∩_, at}
 use Rattle.theory.specs.Set.Laws.{at-zero, both, ∈-∩⁻}
-use Rattle.theory.specs.Set.Lowest.{lowest-in, lowest-below}
+use Rattle.theory.specs.Set.Lowest.{lowest-in, lowest-least, lowest-below}
 use Rattle.search.specs.State.{Lowest, Both}
 use Rattle.search.specs.Words.{word, digit, Member}
-use Rattle.search.proofs.Sets.{lowest-least}
 
 -- a number below 192 stands in one of three words
 pub data Third (n : ℕ) : Type 0 where

@@ -1,7 +1,7 @@
 -- `chain::fine_chain` meets its contract: the chain of what the merges leave. Assumes nothing.
 use Rattle.theory.specs.Prelude.{refl, [], arith, needs}
 use Rattle.graph.specs.Lent.{graphIn}
-use Rattle.merges.proofs.Running.{begins}
+use Rattle.merges.specs.Search.Laws.{begins}
 use Rattle.chain.specs.Answer.Merged.{few-steps, left-begun, asked-left}
 use Rattle.chain.proofs.fine_chain.Statement.{statement}
 use Rattle.chain.proofs.fine_chain.Tie as tie

@@ -7,7 +7,7 @@ use Rattle.graph.specs.declared.Head.{Head}
 use Rattle.graph.specs.Lent.{graphIn, Drawn}
 use Rattle.graph.specs.Lent.Sheets.{found-fine}
 use Rattle.merges.specs.Run.{Start}
-use Rattle.merges.proofs.Running.{begins}
+use Rattle.merges.specs.Search.Laws.{begins}
 use Rattle.judge.specs.Judged.Laws.{starts}
 use Rattle.chain.specs.Answer.{asked}
 use Rattle.chain.specs.Answer.Merged.{few-steps, one-not-over, left-begun, asked-left, ruled, unruled}

@@ -1,5 +1,7 @@
 -- `merges::merge_into` meets its contract: the arrays begin blank, and what is left in them is the run. Assumes nothing.
-use Rattle.merges.proofs.Running.{begin-same, lent-begins, planned-same}
+use Rattle.merges.specs.Run.Laws.{begin-same}
+use Rattle.merges.specs.Search.Laws.{lent-begins}
+use Rattle.merges.proofs.Running.{planned-same}
 use Rattle.merges.proofs.merge_into.Statement.{statement}
 use Rattle.merges.proofs.merge_into.Tie as tie
 

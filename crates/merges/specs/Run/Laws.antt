@@ -1,12 +1,18 @@
 -- Lists of merges: one merge more at the end, how many numbers, and one merge in an array. Assumes nothing.
 use Rattle.theory.specs.Prelude.{_≡_, refl, sym, ap, _∙_, List, [], _∷_, _++_, map, append-assoc, map-append, ℕ, suc, _+_, _*_, _<_, arith, length}
-use Rattle.theory.specs.Prelude.{set, length-append, length-map, length-set}
+use Rattle.theory.specs.Prelude.{take, set, length-append, length-map, length-set}
 use Rattle.theory.specs.Block.{block}
-use Rattle.theory.specs.Block.Laws.{getD-block, set-block, store-block}
+use Rattle.theory.specs.Block.Laws.{getD-block, set-block, store-block, take-block}
 use Rattle.theory.specs.Merge.{Merge, three, OpenAt, union, joint, cleared, put, Valid, final, joints}
 use Rattle.theory.specs.Merge.Numbered.{length-cleared, length-put}
 use Rattle.theory.specs.Plan.{ascending}
-use Rattle.merges.specs.Run.{flat}
+use Rattle.merges.specs.Run.{places, flat, Start}
+
+-- ---- before any merge
+
+-- the array begins with the constraints
+pub begin-same : {start slots : List ℕ} {e : ℕ} → Start start e → slots ≡ block places 0 (take e start) → take e slots ≡ take e start
+begin-same {start} {slots} {e} b h = ap (take e) h ∙ take-block places 0 (take e start) e (sym (b .count))
 
 -- ---- one merge more
 

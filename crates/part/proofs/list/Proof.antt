@@ -4,7 +4,7 @@ use Rattle.theory.specs.Graph.{Graph}
 use Rattle.sheet.specs.Answer.Laws.{answers-refused, answers-items}
 use Rattle.graph.specs.Lent.{graphIn}
 use Rattle.report.specs.Report.{stepLines}
-use Rattle.report.proofs.Buffered.{buffered}
+use Rattle.report.specs.Block.Buffered.{buffered}
 use Rattle.part.specs.Part.{heldField, linesField}
 use Rattle.part.specs.Tallies.Answers.{Had, had, not-had}
 use Rattle.part.proofs.list.Statement.{statement}

@@ -5,7 +5,8 @@ use Rattle.report.specs.Pieces.{wide}
 use Rattle.report.specs.Report.Laws.{clusters-next, clusters-none, length-wide, wide-at}
 use Rattle.report.specs.Block.{Stands}
 use Rattle.report.proofs.Standing.{stands}
-use Rattle.report.proofs.Going.{Going, start, put-next, put-last, place}
+use Rattle.report.specs.Going.{Going}
+use Rattle.report.specs.Going.Laws.{start, put-next, put-last, place}
 use Rattle.report.proofs.put_clusters.Statement.{statement}
 use Rattle.report.proofs.put_clusters.Tie as tie
 

@@ -6,7 +6,8 @@ use Rattle.report.specs.Report.Laws.{above-lowest, above-none}
 use Rattle.report.specs.Report.Length.{above-most}
 use Rattle.report.specs.Block.{Stands}
 use Rattle.report.proofs.Standing.{stands}
-use Rattle.report.proofs.Going.{Going, start, put-next, put-last, place}
+use Rattle.report.specs.Going.{Going}
+use Rattle.report.specs.Going.Laws.{start, put-next, put-last, place}
 use Rattle.report.proofs.put_set_from.Statement.{statement}
 use Rattle.report.proofs.put_set_from.Tie as tie
 

@@ -8,7 +8,8 @@ use Rattle.report.specs.Pieces.{Small}
 use Rattle.report.specs.Report.Laws.{steps-next, steps-none, small-at}
 use Rattle.report.specs.Block.{Stands}
 use Rattle.report.proofs.Standing.{stands}
-use Rattle.report.proofs.Going.{Going, start, put-next, put-last, place}
+use Rattle.report.specs.Going.{Going}
+use Rattle.report.specs.Going.Laws.{start, put-next, put-last, place}
 use Rattle.report.proofs.put_steps.Statement.{statement}
 use Rattle.report.proofs.put_steps.Tie as tie
 

@@ -3,7 +3,8 @@ use Rattle.theory.specs.Prelude.{needs, _+_, _-_, _≤_, add-zero, add-one, ari
 use Rattle.report.specs.Block.Laws.{stands-all}
 use Rattle.report.specs.Block.{Stands}
 use Rattle.report.proofs.Standing.{stands}
-use Rattle.report.proofs.Going.{Going, start, put-next, put-last}
+use Rattle.report.specs.Going.{Going}
+use Rattle.report.specs.Going.Laws.{start, put-next, put-last}
 use Rattle.report.proofs.put_word.Statement.{statement}
 use Rattle.report.proofs.put_word.Tie as tie
 

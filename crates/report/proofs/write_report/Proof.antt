@@ -1,6 +1,6 @@
 -- `report::write_report` meets its contract: the buffer has room for the report. Assumes nothing.
 use Rattle.theory.specs.Prelude.{needs, arith}
-use Rattle.report.proofs.Buffered.{buffered}
+use Rattle.report.specs.Block.Buffered.{buffered}
 use Rattle.report.proofs.write_report.Statement.{statement}
 use Rattle.report.proofs.write_report.Tie as tie
 

@@ -3,7 +3,8 @@ use Rattle.theory.specs.Prelude.{_≡_, subst, ap, _∙_, ℕ, _-_, _<_, arith,
 use Rattle.theory.specs.Set.{at}
 use Rattle.theory.specs.Set.Laws.{at-zero}
 use Rattle.theory.specs.Set.Lowest.{lowest-below}
-use Rattle.search.proofs.Sets.{Nearly, nearly-none, nearly-next}
+use Rattle.search.specs.Words.{Nearly}
+use Rattle.search.specs.Words.Laws.{nearly-none, nearly-next}
 use Rattle.search.proofs.holders.Statement.{statement}
 use Rattle.search.proofs.holders.Tie as tie
 

@@ -1,7 +1,8 @@
 -- `search::near_of` meets its contract: the loop keeps `Nearly`. Assumes nothing.
 use Rattle.theory.specs.Prelude.{subst, ℕ, _-_, _<_, arith, needs, bitAnd, bitOr, and-le-r, trailingZeros, getD}
 use Rattle.theory.specs.Set.Lowest.{lowest-below}
-use Rattle.search.proofs.Sets.{Nearly, nearly-none, nearly-next, nearly-near}
+use Rattle.search.specs.Words.{Nearly}
+use Rattle.search.specs.Words.Laws.{nearly-none, nearly-next, nearly-near}
 use Rattle.search.proofs.near_of.Statement.{statement}
 use Rattle.search.proofs.near_of.Tie as tie
 

@@ -3,7 +3,8 @@ use Rattle.theory.specs.Prelude.{_-_, _≤_, arith, refl, length, take, drop, l
 use Rattle.theory.proofs.Step as T
 use Rattle.space.specs.Space.{Put}
 use Rattle.space.specs.Space.Laws.{put-none, put-all, _then_}
-use Rattle.report.proofs.Going.{Composes, Going, start, put-next, put-last, place}
+use Rattle.report.specs.Going.{Composes, Going}
+use Rattle.report.specs.Going.Laws.{start, put-next, put-last, place}
 use Rattle.steps.specs.Records.{stepNumbers}
 use Rattle.steps.specs.Records.Laws.{length-numbers, numbers-next, numbers-none}
 use Rattle.steps.proofs.put_records.Statement.{statement}

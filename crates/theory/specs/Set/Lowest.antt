@@ -1,5 +1,5 @@
 -- The lowest element of a set, the set without it, and what one set has beyond another, as the machine's words give them. Assumes nothing.
-use Rattle.theory.specs.Prelude.{_≡_, refl, ap, _∙_, _≢_, ℕ, zero, suc, _-_, _/_, _%_, _^_, _<_, min, arith, bitAnd, bitXor, and-step}
+use Rattle.theory.specs.Prelude.{_≡_, refl, ap, _∙_, _≢_, ℕ, zero, suc, _-_, _/_, _%_, _^_, _≤_, _<_, min, arith, bitAnd, bitXor, and-step}
 use Rattle.theory.specs.Prelude.{trailingZeros, under}
 use lib.Bits.{differ, xor-step}
 use Rattle.theory.specs.Set.{_∈_, _∩_, at}
@@ -22,6 +22,21 @@ lowest-in (suc k) x l n = go (x % 2) refl (lowest-in k (x / 2))
     go : (d : ℕ) → x % 2 ≡ d → (x / 2 < 2 ^ k → x / 2 ≢ 0 → trailingZeros k (x / 2) ∈ x / 2) → under d (trailingZeros k (x / 2)) ∈ x
     go zero e ih = ih (omega arith) (λ z. n (omega arith))
     go (suc d) e ih = omega arith
+
+-- no element stands before it
+pub lowest-least : (k x y : ℕ) → y ∈ x → trailingZeros k x ≤ y
+unfolding at trailingZeros
+lowest-least zero x y e = omega arith
+lowest-least (suc k) x zero e = lowest-least-case (x % 2) refl
+  where
+    lowest-least-case : (d : ℕ) → x % 2 ≡ d → under d (trailingZeros k (x / 2)) ≤ 0
+    lowest-least-case zero f = absurd (omega arith)
+    lowest-least-case (suc d) f = omega arith
+lowest-least (suc k) x (suc y) e = lowest-least-case (x % 2) refl (lowest-least k (x / 2) y e)
+  where
+    lowest-least-case : (d : ℕ) → x % 2 ≡ d → trailingZeros k (x / 2) ≤ y → under d (trailingZeros k (x / 2)) ≤ suc y
+    lowest-least-case zero f h = omega arith
+    lowest-least-case (suc d) f h = omega arith
 
 pub lowest-below : (k x : ℕ) → x < 2 ^ k → x ≢ 0 → trailingZeros k x < k
 lowest-below k x l n = at-below k x (trailingZeros k x) l (lowest-in k x l n)

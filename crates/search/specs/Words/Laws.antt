@@ -1,19 +1,11 @@
--- Sets gathered one element after another, and the lowest element. Assumes nothing.
-use Rattle.theory.specs.Prelude.{_≡_, refl, sym, ap, _∙_, subst, _≢_, _⊎_, inl, inr, List, ℕ, zero, suc, _+_, _-_, _/_, _%_, _^_, _≤_, _<_, arith}
-use Rattle.theory.specs.Prelude.{ℕ-discrete, bitAnd, bitOr, and-le-l, trailingZeros, under}
+-- A union gathered one element after another. Assumes nothing.
+use Rattle.theory.specs.Prelude.{_≡_, sym, ap, _∙_, subst, _≢_, _⊎_, inl, inr, List, ℕ, _+_, _-_, _^_, _<_, arith, ℕ-discrete, bitAnd, bitOr, and-le-l}
+use Rattle.theory.specs.Prelude.{trailingZeros}
 use Rattle.theory.specs.Set.{_∈_, _∩_, _∪_, at}
 use Rattle.theory.specs.Set.Laws.{at-zero, ∈-∩⁻, ∈-∪⁻, ∈-∪ˡ, ∈-∪ʳ}
 use Rattle.theory.specs.Set.Lowest.{lowest-in, rest-other}
 use Rattle.search.specs.State.{linked, Nearby}
-
--- ---- the union of what stands at base + p, for the elements p of x
-
--- all is that of the elements that lie not in rest
-pub record Nearly (list : List ℕ) (base x rest all : ℕ) : Type 0 where
-  pub fits : rest < 2 ^ 64
-  pub within : (p : ℕ) → p ∈ rest → p ∈ x
-  pub only : (r : ℕ) → r ∈ all → (p : ℕ) × (p ∈ x) × (r ∈ linked list (base + p))
-  pub every : (p r : ℕ) → p ∈ x → at p rest ≡ 0 → r ∈ linked list (base + p) → r ∈ all
+use Rattle.search.specs.Words.{Nearly}
 
 pub nearly-none : (list : List ℕ) (base x : ℕ) → x < 2 ^ 64 → Nearly list base x x 0
 nearly-none list base x l = record {
@@ -52,20 +44,3 @@ nearly-near links x rest all w z = record {
   only = λ r e. let h = w .only r e in (h .0, h .1, subst (λ (i : ℕ). r ∈ linked links i) (omega arith) (h .2));
   every = λ p r i e. w .every p r i (ap (at p) z ∙ at-zero p) (subst (λ (i : ℕ). r ∈ linked links i) (omega arith) e);
 }
-
--- ---- the lowest element
-
--- no element stands before it
-pub lowest-least : (k x y : ℕ) → y ∈ x → trailingZeros k x ≤ y
-unfolding at trailingZeros
-lowest-least zero x y e = omega arith
-lowest-least (suc k) x zero e = lowest-least-case (x % 2) refl
-  where
-    lowest-least-case : (d : ℕ) → x % 2 ≡ d → under d (trailingZeros k (x / 2)) ≤ 0
-    lowest-least-case zero f = absurd (omega arith)
-    lowest-least-case (suc d) f = omega arith
-lowest-least (suc k) x (suc y) e = lowest-least-case (x % 2) refl (lowest-least k (x / 2) y e)
-  where
-    lowest-least-case : (d : ℕ) → x % 2 ≡ d → trailingZeros k (x / 2) ≤ y → under d (trailingZeros k (x / 2)) ≤ suc y
-    lowest-least-case zero f h = omega arith
-    lowest-least-case (suc d) f h = omega arith
