@@ -4,36 +4,60 @@ use Rattle.theory.specs.Prelude.{getD, set, length-set}
 use Rattle.theory.specs.Set.{_∈_, _∩_, _∪_, at}
 use Rattle.theory.specs.Set.Laws.{at-∪, at-le, ∈-∪⁻, ∈-∩⁻, ∈-∪ˡ, ∈-∪ʳ, out}
 use Rattle.theory.specs.Set.Lowest.{at-beyond}
-use Rattle.theory.specs.Merge.{Merge, Three, Part, joint, union}
+use Rattle.theory.specs.Merge.{Merge, Part}
 use Rattle.search.specs.State.{linked, holder, beyond, Holding, Called, Gone}
 use Rattle.search.proofs.Triple.{set-three}
 use Rattle.search.specs.Words.{word, replaced, Stored, SetOf, Gathered, Calls, Inner}
 
 -- ---- the waiting clusters
 
-pub calls : {hold todo : List ℕ} {da db dc ma mb mc o ra rb rc : ℕ} → length todo ≡ 3 → Gathered hold 0 o ra → Gathered hold 64 o rb
-    → Gathered hold 128 o rc
-    → Calls hold todo da db dc ma mb mc o
-    (set (set (set todo 0 (bitOr (replaced da ma (getD todo 0 0)) ra)) 1 (bitOr (replaced db mb (getD todo 1 0)) rb)) 2
-    (bitOr (replaced dc mc (getD todo 2 0)) rc))
-calls {hold} {todo} {da} {db} {dc} {ma} {mb} {mc} {o} {ra} {rb} {rc} l ga gb gc = record { long = simp length-set l; word-is = is }
+-- word w of todo without those of dead and with those of made
+abbrev kept : List ℕ → ℕ → ℕ → ℕ → ℕ
+kept todo w dead made = replaced dead made (getD todo w 0)
+
+-- three words stored
+abbrev stored : List ℕ → ℕ → ℕ → ℕ → List ℕ
+stored todo a b c = set (set (set todo 0 a) 1 b) 2 c
+
+stored-long : (todo : List ℕ) (a b c : ℕ) → length todo ≡ 3 → length (stored todo a b c) ≡ 3
+stored-long todo a b c l = length-set (set (set todo 0 a) 1 b) 2 c ∙ length-set (set todo 0 a) 1 b ∙ length-set todo 0 a ∙ l
+
+calls-by : {hold todo todo′ : List ℕ} {da db dc ma mb mc o ra rb rc : ℕ} → length todo′ ≡ 3 → Gathered hold 0 o ra → Gathered hold 64 o rb
+    → Gathered hold 128 o rc → getD todo′ 0 0 ≡ bitOr (kept todo 0 da ma) ra → getD todo′ 1 0 ≡ bitOr (kept todo 1 db mb) rb
+    → getD todo′ 2 0 ≡ bitOr (kept todo 2 dc mc) rc → Calls hold todo da db dc ma mb mc o todo′
+calls-by {hold} {todo} {todo′} {da} {db} {dc} {ma} {mb} {mc} {o} {ra} {rb} {rc} l ga gb gc a b c = record { long = l; word-is = is }
   where
-    A : ℕ
-    A = bitOr (replaced da ma (getD todo 0 0)) ra
-
-    B : ℕ
-    B = bitOr (replaced db mb (getD todo 1 0)) rb
-
-    C : ℕ
-    C = bitOr (replaced dc mc (getD todo 2 0)) rc
-
     is : (w : ℕ) → w < 3
         → (r : ℕ) × Gathered hold (64 * w) o r
-        × (getD (set (set (set todo 0 A) 1 B) 2 C) w 0 ≡ bitOr (replaced (word w da db dc) (word w ma mb mc) (getD todo w 0)) r)
-    is zero h = (ra, ga, set-three todo A B C l zero h)
-    is (suc zero) h = (rb, gb, set-three todo A B C l (suc zero) h)
-    is (suc (suc zero)) h = (rc, gc, set-three todo A B C l (suc (suc zero)) h)
+        × (getD todo′ w 0 ≡ bitOr (replaced (word w da db dc) (word w ma mb mc) (getD todo w 0)) r)
+    is zero h = (ra, ga, a)
+    is (suc zero) h = (rb, gb, b)
+    is (suc (suc zero)) h = (rc, gc, c)
     is (suc (suc (suc w))) h = absurd (omega arith)
+
+module _ {hold : List ℕ} (todo : List ℕ) (da db dc ma mb mc : ℕ) {o ra rb rc : ℕ} (long : length todo ≡ 3) (ga : Gathered hold 0 o ra)
+    (gb : Gathered hold 64 o rb) (gc : Gathered hold 128 o rc) where
+  -- where every holder waits already
+  pub calls-kept : (replaced da ma (getD todo 0 0) ≡ bitOr (replaced da ma (getD todo 0 0)) ra)
+      × (replaced db mb (getD todo 1 0) ≡ bitOr (replaced db mb (getD todo 1 0)) rb)
+      × (replaced dc mc (getD todo 2 0) ≡ bitOr (replaced dc mc (getD todo 2 0)) rc)
+      → Calls hold todo da db dc ma mb mc o
+      (set (set (set todo 0 (replaced da ma (getD todo 0 0))) 1 (replaced db mb (getD todo 1 0))) 2 (replaced dc mc (getD todo 2 0)))
+  calls-kept same =
+      let at-word = set-three todo (kept todo 0 da ma) (kept todo 1 db mb) (kept todo 2 dc mc) long in
+      calls-by (stored-long todo _ _ _ long) ga gb gc (at-word 0 (omega arith) ∙ same .0) (at-word 1 (omega arith) ∙ same .1)
+      (at-word 2 (omega arith) ∙ same .2)
+
+  -- where the words are stored again with the holders
+  pub calls-all : Calls hold todo da db dc ma mb mc o
+      (set (set (set
+      (set (set (set todo 0 (replaced da ma (getD todo 0 0))) 1 (replaced db mb (getD todo 1 0))) 2 (replaced dc mc (getD todo 2 0)))
+      0 (bitOr (replaced da ma (getD todo 0 0)) ra)) 1 (bitOr (replaced db mb (getD todo 1 0)) rb)) 2 (bitOr (replaced dc mc (getD todo 2 0)) rc))
+  calls-all =
+      let t = stored todo (kept todo 0 da ma) (kept todo 1 db mb) (kept todo 2 dc mc) in
+      let l = stored-long todo (kept todo 0 da ma) (kept todo 1 db mb) (kept todo 2 dc mc) long in
+      let at-word = set-three t (bitOr (kept todo 0 da ma) ra) (bitOr (kept todo 1 db mb) rb) (bitOr (kept todo 2 dc mc) rc) l in
+      calls-by (stored-long t _ _ _ l) ga gb gc (at-word 0 (omega arith)) (at-word 1 (omega arith)) (at-word 2 (omega arith))
 
 module _ {m : Merge} {n da db dc ma mb mc : ℕ} (dead : SetOf da db dc (λ c. Part c m)) (made : SetOf ma mb mc (λ c. c ≡ n)) where
   -- the word of c that is taken out, and that is put in
@@ -101,26 +125,12 @@ module _ {m : Merge} {n da db dc ma mb mc : ℕ} (dead : SetOf da db dc (λ c. P
 
 -- ---- the rim
 
--- an element of the joint lies in the union
-joint-in : (t : Three) (p : ℕ) → p ∈ joint t → p ∈ union t
-unfolding joint union
-joint-in t p e = of-three (∈-∪⁻ p ((t .a ∩ t .b) ∪ (t .b ∩ t .c)) (t .a ∩ t .c) e)
-  where
-    of-two : (p ∈ t .a ∩ t .b) ⊎ (p ∈ t .b ∩ t .c) → p ∈ t .a ∪ t .b ∪ t .c
-    of-two (inl h) = ∈-∪ˡ p (t .a ∪ t .b) (t .c) (∈-∪ˡ p (t .a) (t .b) (∈-∩⁻ p (t .a) (t .b) h .0))
-    of-two (inr h) = ∈-∪ʳ p (t .a ∪ t .b) (t .c) (∈-∩⁻ p (t .b) (t .c) h .1)
-
-    of-three : (p ∈ (t .a ∩ t .b) ∪ (t .b ∩ t .c)) ⊎ (p ∈ t .a ∩ t .c) → p ∈ t .a ∪ t .b ∪ t .c
-    of-three (inl h) = of-two (∈-∪⁻ p (t .a ∩ t .b) (t .b ∩ t .c) h)
-    of-three (inr h) = ∈-∪ʳ p (t .a ∪ t .b) (t .c) (∈-∩⁻ p (t .a) (t .c) h .1)
-
-pub gone-of : {links : List ℕ} (t : Three) {rim g : ℕ} → Inner links (joint t) (union t) g → Gone links (union t) rim (beyond rim g)
-gone-of {links} t {rim} {g} h = record {
+pub gone-of : {links : List ℕ} {u rim g : ℕ} → Inner links (u ∩ rim) u g → Gone links u rim (beyond rim g)
+gone-of {links} {u} {rim} {g} h = record {
   less = λ p e. omega (arith, at-beyond p rim g, at-le p rim);
   leaves = λ p e. leaves p e (ℕ-discrete (at p g) 1);
 }
   where
-    leaves : (p : ℕ) → p ∈ rim → Dec (p ∈ g)
-        → (p ∈ beyond rim g) ⊎ ((p ∈ union t) × ((r : ℕ) → r ∈ linked links p → r ∈ union t))
-    leaves p e (yes i) = inr (joint-in t p (h .inside p i), λ r f. h .alone p r i f)
+    leaves : (p : ℕ) → p ∈ rim → Dec (p ∈ g) → (p ∈ beyond rim g) ⊎ ((p ∈ u) × ((r : ℕ) → r ∈ linked links p → r ∈ u))
+    leaves p e (yes i) = inr (∈-∩⁻ p u rim (h .inside p i) .0, λ r f. h .alone p r i f)
     leaves p e (no n) = inl (omega (arith, at-beyond p rim g, at-le p g, n))

@@ -5,6 +5,7 @@ pub mod Two
 pub mod Passing
 pub mod Swept
 pub mod Storing
+pub mod Rejoining
 pub mod Sets3
 pub mod Calling
 pub mod Starting

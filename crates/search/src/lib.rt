@@ -2,6 +2,7 @@
 // elements that two living clusters may share; and the clusters that wait to be looked at. All of it lies in arrays that the caller lends.
 // Contracts cite specs/State.antt and specs/Words.antt.
 ghost use mathlib.Core.Path.{_≡_};
+ghost use mathlib.Core.Bool.{true};
 ghost use mathlib.Core.Logic.{_≢_};
 ghost use Prim.Native.Nat.{ℕ, _+_, _*_, _≤_, _<_};
 ghost use lib.ListN.{length, replicate};
@@ -306,23 +307,6 @@ fn near_of(links: &[u64; ELEMENTS], x: u64) -> u64
     all
 }
 
-// The elements of edge that are linked with elements of u alone.
-fn inner(links: &[u64; ELEMENTS], edge: u64, u: u64) -> u64
-    ensures { λ r. ⌜ Inner (now (links .entry)) edge u r ⌝ }
-{
-    let mut all: u64 = 0;
-    let mut rest = edge;
-    while rest != 0 {
-        let p = u64::trailing_zeros(rest) as usize;
-        let next = rest & (rest - 1);
-        if links[p] | u == u {
-            all = all | (rest ^ next);
-        }
-        rest = next;
-    }
-    all
-}
-
 // The clusters that hold an element of o.
 fn holders(hold: &[u64; PLACES], o: u64) -> Words
     ensures { λ r. ⌜ Gathered (now (hold .entry)) 0 o (r .a) × Gathered (now (hold .entry)) 64 o (r .b)
@@ -342,7 +326,21 @@ fn holders(hold: &[u64; PLACES], o: u64) -> Words
     Words { a, b, c }
 }
 
-// The clusters of dead wait no more; those of made wait, and each holder of an element of o.
+// Whether two sets of cluster numbers are the same.
+fn same_words(x: Words, y: Words) -> bool
+    ensures { λ r. ⌜ (r ≡ true → (x .a ≡ y .a) × (x .b ≡ y .b) × (x .c ≡ y .c)) ⌝ }
+{
+    if x.a != y.a {
+        return false;
+    }
+    if x.b != y.b {
+        return false;
+    }
+    x.c == y.c
+}
+
+// The clusters of dead wait no more; those of made wait, and each holder of an element of o. Holders that wait already are not stored again, so that
+// the next search need not wait for them.
 fn call_up(hold: &[u64; PLACES], todo: &mut [u64; 3], dead: Words, made: Words, o: u64)
     requires { ⌜ length (now todo) ≡ 3 ⌝ }
     ensures { λ r. ⌜ Calls (now (hold .entry)) (now (todo .entry)) (dead .a) (dead .b) (dead .c) (made .a) (made .b) (made .c) o
@@ -352,35 +350,78 @@ fn call_up(hold: &[u64; PLACES], todo: &mut [u64; 3], dead: Words, made: Words, 
     let y = todo[1];
     let z = todo[2];
     let h = holders(hold, o);
-    todo[0] = (x ^ (x & dead.a)) | made.a | h.a;
-    todo[1] = (y ^ (y & dead.b)) | made.b | h.b;
-    todo[2] = (z ^ (z & dead.c)) | made.c | h.c;
+    let a = (x ^ (x & dead.a)) | made.a;
+    let b = (y ^ (y & dead.b)) | made.b;
+    let c = (z ^ (z & dead.c)) | made.c;
+    let kept = Words { a, b, c };
+    let all = Words {
+        a: a | h.a,
+        b: b | h.b,
+        c: c | h.c,
+    };
+    todo[0] = a;
+    todo[1] = b;
+    todo[2] = c;
+    if same_words(kept, all) {
+        return;
+    }
+    todo[0] = all.a;
+    todo[1] = all.b;
+    todo[2] = all.c;
 }
 
-// Links the elements of edge with all of u, and notes that the clusters of made hold them in the place of those of dead.
-fn join(
+// A set, where two numbers are the same; else none.
+fn where_same(x: u64, y: u64, set: u64) -> u64
+    ensures { λ r. ⌜ (x ≡ y → r ≡ set) × (x ≢ y → r ≡ 0) ⌝ }
+{
+    if x == y { set } else { 0 }
+}
+
+// What a union finds at its edge: the elements that it reaches, and those of the edge that are linked with its own elements alone.
+struct Edge {
+    outs: u64,
+    inner: u64,
+}
+
+// Links the elements of edge with all of u, and notes that the clusters of made hold them in the place of those of dead. Answers what u found there
+// before.
+fn rejoin(
     links: &mut [u64; ELEMENTS],
     hold: &mut [u64; PLACES],
     edge: u64,
     u: u64,
     dead: Words,
     made: Words,
-)
+) -> Edge
     requires { ⌜ (length (now links) ≡ 64) × (length (now hold) ≡ 192) ⌝ }
-    ensures { λ r. ⌜ Rejoined (now (links .entry)) (now (hold .entry)) edge u (dead .a) (dead .b) (dead .c) (made .a) (made .b) (made .c)
+    ensures joined { λ r. ⌜ Rejoined (now (links .entry)) (now (hold .entry)) edge u (dead .a) (dead .b) (dead .c) (made .a) (made .b) (made .c)
         (now (links .exit)) (now (hold .exit)) ⌝ }
+    ensures outs { λ r. ⌜ Outs (now (links .entry)) u edge (r .outs) ⌝ }
+    ensures inner { λ r. ⌜ Inner (now (links .entry)) edge u (r .inner) ⌝ }
 {
     let mut rest = edge;
+    let mut once: u64 = 0;
+    let mut twice: u64 = 0;
+    let mut inner: u64 = 0;
     while rest != 0 {
         let p = u64::trailing_zeros(rest) as usize;
-        links[p] = links[p] | u;
+        let next = rest & (rest - 1);
+        let l = links[p];
+        twice = twice | (once & l);
+        once = once | l;
+        inner = inner | where_same(l | u, u, rest ^ next);
+        links[p] = l | u;
         let a = hold[p];
         hold[p] = (a ^ (a & dead.a)) | made.a;
         let b = hold[64 + p];
         hold[64 + p] = (b ^ (b & dead.b)) | made.b;
         let c = hold[128 + p];
         hold[128 + p] = (c ^ (c & dead.c)) | made.c;
-        rest = rest & (rest - 1);
+        rest = next;
+    }
+    Edge {
+        outs: twice ^ (twice & u),
+        inner,
     }
 }
 
@@ -455,12 +496,11 @@ pub fn renew(
 {
     let u = x | y | z;
     let edge = u & rim;
-    let o = outs(links, u, edge);
     let n = near_of(links, edge ^ (edge & z));
-    let g = inner(links, (x & y) | (y & z) | (x & z), u);
     let dead = three_of(i, j, k);
     let made = alone(used);
-    join(links, hold, edge, u, dead, made);
-    call_up(hold, todo, dead, made, o & n);
+    let found = rejoin(links, hold, edge, u, dead, made);
+    call_up(hold, todo, dead, made, found.outs & n);
+    let g = found.inner;
     rim ^ (rim & g)
 }
