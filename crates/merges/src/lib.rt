@@ -188,7 +188,7 @@ fn first_open(
     }
 }
 
-// Is a merge open among the clusters below `used`, which merges of constraints that are not over have left?
+// Is a merge open among the clusters below `used`, which merges of constraints that are not over have left? One is, where a cluster reaches an element.
 pub fn some_open(slots: &[u64; PLACES], used: usize) -> bool
     requires { ⌜ (used ≤ places) × (length (now slots) ≡ places) ⌝ }
     ensures { λ r. ⌜ ((cs : List ℕ) (p : List Merge) → NotOver cs → Slots cs p (now (slots .entry)) used → r ≡ isSome (firstOf 0 (final cs p))) ⌝ }
@@ -196,11 +196,15 @@ pub fn some_open(slots: &[u64; PLACES], used: usize) -> bool
     let mut links = [0u64; ELEMENTS];
     let mut hold = [0u64; PLACES];
     search::join_all(slots, used, &mut links, &mut hold);
-    let mut todo = search::todo_all(used);
-    match first_open(slots, &links, &hold, &mut todo, FULL, used) {
-        Hit::At(_, _, _) => true,
-        Hit::Nothing => false,
+    let mut c: usize = 0;
+    while c < used {
+        let x = slots[c];
+        if search::outs(&links, x, x & FULL) != 0 {
+            return true;
+        }
+        c += 1;
     }
+    false
 }
 
 // ---- merge after merge
