@@ -1,5 +1,5 @@
 -- The least key of the lowest waiting cluster gives the first open merge, which goes by what stands in the slots. Assumes nothing.
-use Rattle.theory.specs.Prelude.{_≡_, refl, sym, ap, List, Bool, true, false, Option, none, ℕ, _/_, _%_, _≤_, _<_}
+use Rattle.theory.specs.Prelude.{_≡_, refl, sym, ap, List, true, false, Option, none, ℕ, _/_, _%_, _≤_, _<_}
 use Rattle.theory.specs.Set.{_∩_}
 use Rattle.theory.specs.Merge.{slot, Merge, merge, OpenAt, Ended}
 use Rattle.theory.specs.Plan.{First, firstOf, isSome}

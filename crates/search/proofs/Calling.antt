@@ -2,7 +2,7 @@
 use Rattle.theory.specs.Prelude.{_≡_, ap, _∙_, _≢_, _⊎_, inl, inr, List, ℕ, zero, suc, _+_, _*_, _/_, _%_, _<_, arith, ℕ-discrete, bitOr, length}
 use Rattle.theory.specs.Prelude.{getD, set, length-set}
 use Rattle.theory.specs.Set.{_∈_, _∩_, _∪_, at}
-use Rattle.theory.specs.Set.Laws.{at-∪, at-le, ∈-∪⁻, ∈-∩⁻, ∈-∪ˡ, ∈-∪ʳ, out}
+use Rattle.theory.specs.Set.Laws.{at-∪, at-le, ∈-∩⁻, ∈-∪ˡ, ∈-∪ʳ, out}
 use Rattle.theory.specs.Set.Lowest.{at-beyond}
 use Rattle.theory.specs.Merge.{Merge, Part}
 use Rattle.search.specs.State.{linked, holder, beyond, Holding, Called, Gone}
