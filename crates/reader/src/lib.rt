@@ -287,7 +287,8 @@ fn read_bare(s: &[u8], c: Cursor, p: PairKind, map: u8) -> SizeRead
     pass_tag(s, after, map / 2, z)
 }
 
-// What follows the two ends: the bit map and the fields whose bit stands, by the kinds of the elements.
+// What follows the two ends: the bit map and the fields whose bit stands, by the kinds of the elements. Where there is no line, each pair counts as two
+// points.
 fn read_dimension(s: &[u8], c: Cursor, kinds: Kinds, radii: &[u32; 64], a: u8, b: u8) -> SizeRead
     requires { ⌜ (a < 64) × (b < 64) ⌝ }
     ensures { λ r. ⌜ ((es : List Element) → KindsIn es kinds (now (radii .entry))
@@ -298,6 +299,9 @@ fn read_dimension(s: &[u8], c: Cursor, kinds: Kinds, radii: &[u32; 64], a: u8, b
         return SizeRead::Refused(third.refusal());
     };
     if map < 4 {
+        if kinds.lines == 0 {
+            return read_bare(s, c1, PairKind::Points, map);
+        }
         let p = sheet::pair_by(sheet::has(kinds.lines, a), sheet::has(kinds.lines, b));
         return read_bare(s, c1, p, map);
     }
