@@ -10,6 +10,7 @@ ghost use Rattle.report.specs.Elements.{elements};
 ghost use Rattle.engine.specs.Steps.{stepsIn};
 ghost use Rattle.report.specs.Report.{verdictLine, elementsLine, stepLine, stepLines, slotLine, clusterLines, report, overReport};
 ghost use Rattle.report.specs.Pieces.{numbers, above, wide, partsWords, kindWords, waysWords, restWords, longest, Small, AllSmall};
+ghost use Rattle.report.specs.Pieces.{stepsBetween};
 ghost use Rattle.report.specs.Block.{block, Numerals, Stands};
 use merges::ELEMENTS;
 use merges::PLACES;
@@ -223,7 +224,7 @@ fn put_ways(out: &mut [u8; BLOCK], at: usize, text: &[u8; TEXT], ways: Ways) -> 
 }
 
 // A step's line.
-pub fn put_step_line(out: &mut [u8; BLOCK], at: usize, text: &[u8; TEXT], s: Step) -> usize
+fn put_step_line(out: &mut [u8; BLOCK], at: usize, text: &[u8; TEXT], s: Step) -> usize
     requires { ⌜ Numerals (now text) × Small s × (at + 310 ≤ block) ⌝ }
     ensures { λ r. ⌜ Stands (now (out .entry)) at (stepLine s) r (now (out .exit)) ⌝ }
 {
@@ -270,6 +271,37 @@ fn put_slot_line(
     put_rests(out, a3, text, low, high)
 }
 
+// The lines of the steps from `first` to before `last` of a list of merges, from its parts and joints.
+pub fn put_steps_from(
+    out: &mut [u8; BLOCK],
+    at: usize,
+    text: &[u8; TEXT],
+    parts: &[u16; PLACES],
+    joints: &[u64; ELEMENTS],
+    start: &[u64; 200],
+    sizes: &[i32; 200],
+    lines: u64,
+    e: usize,
+    first: usize,
+    last: usize,
+) -> usize
+    requires { ⌜ Numerals (now text) × (e ≤ 125) × (last ≤ 62)
+        × AllSmall (stepsBetween lines e (now sizes) (now start) (now parts) (now joints) first last)
+        × (at + length (stepLines (stepsBetween lines e (now sizes) (now start) (now parts) (now joints) first last)) + 310 ≤ block) ⌝ }
+    ensures { λ r. ⌜ Stands (now (out .entry)) at
+        (stepLines (stepsBetween lines e (now (sizes .entry)) (now (start .entry)) (now (parts .entry)) (now (joints .entry)) first last)) r
+        (now (out .exit)) ⌝ }
+{
+    let mut next = at;
+    let mut t = first;
+    while t < last {
+        let s = engine::step_at(parts, joints, start, sizes, lines, e, t);
+        next = put_step_line(out, next, text, s);
+        t += 1;
+    }
+    next
+}
+
 // The lines of the first `count` steps of a list of merges, from its parts and joints.
 fn put_steps(
     out: &mut [u8; BLOCK],
@@ -289,14 +321,19 @@ fn put_steps(
         (stepLines (stepsIn lines e (now (sizes .entry)) (now (start .entry)) (now (parts .entry)) (now (joints .entry)) count)) r
         (now (out .exit)) ⌝ }
 {
-    let mut next = at;
-    let mut t: usize = 0;
-    while t < count {
-        let s = engine::step_at(parts, joints, start, sizes, lines, e, t);
-        next = put_step_line(out, next, text, s);
-        t += 1;
-    }
-    next
+    put_steps_from(
+        out,
+        at,
+        text,
+        parts,
+        joints,
+        start,
+        sizes,
+        lines,
+        e,
+        0,
+        count,
+    )
 }
 
 // The lines of the living clusters among the first `used` slots, with what they rest on in two words each.
