@@ -7,6 +7,7 @@ use Rattle.theory.specs.declared.Step.{Step}
 use Rattle.engine.specs.Steps.{stepAt, stepsFor}
 use Rattle.report.specs.Elements.{elements}
 use Rattle.report.specs.Report.{others, kindName, waysName}
+pub mod Consecutive
 
 -- numbers, a space before each
 unfoldable pub numbers : List ℕ → List ℕ

@@ -68,7 +68,7 @@ pub slot-any : (c a r : ℕ) → a ≢ 0
 unfolding slotLine clusterLine
 slot-any c a r n = rw (ne-eqb a 0 n, others-numbers, others-listed)
 
-numbers-append : (xs ys : List ℕ) → numbers (xs ++ ys) ≡ numbers xs ++ numbers ys
+pub numbers-append : (xs ys : List ℕ) → numbers (xs ++ ys) ≡ numbers xs ++ numbers ys
 unfolding numbers
 numbers-append [] ys = refl
 numbers-append (x ∷ xs) ys = rw (numbers-append xs ys, append-assoc)
