@@ -1,14 +1,17 @@
 -- The steps of a made cluster, part by part: what each call of itself asks, and what all of them have put at the end. Assumes nothing.
-use Rattle.theory.specs.Prelude.{ℕ, _+_, _-_, _≤_, _<_, _^_, arith, _≡_, sym, ap, _∙_, List, [], _∷_, _++_}
+use Rattle.theory.specs.Prelude.{ℕ, _+_, _-_, _≤_, _<_, _^_, arith, _≡_, sym, ap, _∙_, List, [], _∷_, _++_, length}
 use Rattle.theory.specs.declared.Step.{Step}
-use Rattle.report.specs.Report.{stepLine}
-use Rattle.report.specs.Pieces.{Small}
-use Rattle.report.specs.Block.{block, Stands}
+use Rattle.engine.specs.Steps.{stepsFor}
+use Rattle.report.specs.Report.{stepLines}
+use Rattle.report.specs.Report.Laws.{steps-one}
+use Rattle.report.specs.Pieces.{Small, AllSmall}
+use Rattle.report.specs.Block.{Stands}
+use Rattle.report.specs.Block.Laws.{stands-as}
 use Rattle.part.specs.declared.Tally.{Tally}
 use Rattle.part.specs.Part.{partSteps}
 use Rattle.part.specs.Part.Laws.{Parts, parts-of, part-made}
 use Rattle.part.specs.Tallies.{Lower, Listed, Room}
-use Rattle.part.specs.Tallies.Laws.{listed-as, listed-one, _also_, room-as, room-first, room-rest, room-one}
+use Rattle.part.specs.Tallies.Laws.{listed-as, listed-one, _also_, room-as, room-first, room-rest}
 
 -- the step s makes cluster c
 pub record Made (e : ℕ) (step : ℕ → Step) (c : ℕ) (s : Step) : Type 0 where
@@ -50,6 +53,13 @@ module _ {e : ℕ} {step : ℕ → Step} {c : ℕ} {s : Step} (h : Made e step c
     k-small = omega (arith, k-below);
   }
 
+  -- its own step, as the one from c - e on
+  own : stepsFor step (c - e) (c - e + 1 - (c - e)) ≡ s ∷ []
+  own = steps-one step (c - e) ∙ ap (λ (x : Step). x ∷ []) (sym (h .is))
+
+  pub own-small : Small s → AllSmall (stepsFor step (c - e) (c - e + 1 - (c - e)))
+  own-small p = rw own (p, tt)
+
   pieces : of c ≡ of (s .i) ++ (of (s .j) ++ (of (s .k) ++ (s ∷ [])))
   pieces =
       part-made e step c (h .made) (h .low)
@@ -77,9 +87,12 @@ module _ {e : ℕ} {step : ℕ → Step} {c : ℕ} {s : Step} (h : Made e step c
         k-room = room-first (of (s .k)) _ after-j
 
         module _ {s3 : List ℕ} {d : Tally} (listed-k : Listed s2 b (of (s .k)) d s3) where
-          pub own-room : (d .bytes + 310 ≤ block) × (d .steps + 1 < 2 ^ 64)
-          own-room = room-one s (room-rest (of (s .k)) _ after-j listed-k)
+          pub own-room : Room d (stepsFor step (c - e) (c - e + 1 - (c - e)))
+          own-room = room-as (sym own) (room-rest (of (s .k)) _ after-j listed-k)
 
-          pub all-listed : {s4 : List ℕ} {next : ℕ} → Stands s3 (d .bytes) (stepLine s) next s4
+          pub one-more : d .steps + 1 < 2 ^ 64
+          one-more = omega (arith, own-room .steps-fit, ap length own)
+
+          pub all-listed : {s4 : List ℕ} {next : ℕ} → Stands s3 (d .bytes) (stepLines (stepsFor step (c - e) (c - e + 1 - (c - e)))) next s4
               → Listed s0 t (of c) (record { steps = d .steps + 1; bytes = next }) s4
-          all-listed p = listed-as (sym pieces) (listed-i also (listed-j also (listed-k also listed-one s p)))
+          all-listed p = listed-as (sym pieces) (listed-i also (listed-j also (listed-k also listed-one s (stands-as (ap stepLines own) p))))

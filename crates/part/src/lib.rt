@@ -69,11 +69,24 @@ fn put_made(
     ensures { λ r. ⌜ Listed (now (out .entry)) t
         (partSteps e (stepAt lines e (now (sizes .entry)) (now (start .entry)) (now (parts .entry)) (now (joints .entry))) c) r (now (out .exit)) ⌝ }
 {
-    let s = engine::step_at(parts, joints, start, sizes, lines, e, c - e);
+    let own = c - e;
+    let s = engine::step_at(parts, joints, start, sizes, lines, e, own);
     let a = put_part(out, t, text, parts, joints, start, sizes, lines, e, s.i);
     let b = put_part(out, a, text, parts, joints, start, sizes, lines, e, s.j);
     let d = put_part(out, b, text, parts, joints, start, sizes, lines, e, s.k);
-    let next = report::put_step_line(out, d.bytes, text, s);
+    let next = report::put_steps_from(
+        out,
+        d.bytes,
+        text,
+        parts,
+        joints,
+        start,
+        sizes,
+        lines,
+        e,
+        own,
+        own + 1,
+    );
     Tally {
         steps: d.steps + 1,
         bytes: next,

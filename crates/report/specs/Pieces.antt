@@ -1,11 +1,13 @@
 -- Pieces of the report's lines, as the code puts them one after another, and the bound it asks of a step's numbers. Assumes nothing.
-use Rattle.theory.specs.Prelude.{ℕ, _+_, _*_, _^_, _<_, List, [], _∷_, _++_, map}
+use Rattle.theory.specs.Prelude.{ℕ, _+_, _-_, _*_, _^_, _<_, ℤ, List, [], _∷_, _++_, map}
 use Rattle.space.specs.Text.{ascii, decimal}
 use Rattle.theory.specs.declared.JointKind.{JointKind}
 use Rattle.theory.specs.declared.Ways.{Ways}
 use Rattle.theory.specs.declared.Step.{Step}
+use Rattle.engine.specs.Steps.{stepAt, stepsFor}
 use Rattle.report.specs.Elements.{elements}
 use Rattle.report.specs.Report.{others, kindName, waysName}
+pub mod Consecutive
 
 -- numbers, a space before each
 unfoldable pub numbers : List ℕ → List ℕ
@@ -38,6 +40,10 @@ waysWords w = others (waysName w ∷ [])
 -- what a cluster rests on, in two words, at the end of the line
 abbrev pub restWords : ℕ → ℕ → List ℕ
 restWords low high = ascii " rests on" ++ (numbers (elements low) ++ (numbers (above 64 (elements high)) ++ 10 ∷ []))
+
+-- the steps in the arrays from `first` to before `last`
+abbrev pub stepsBetween : ℕ → ℕ → List ℤ → List ℕ → List ℕ → List ℕ → ℕ → ℕ → List Step
+stepsBetween lines e sizes cs parts joints first last = stepsFor (stepAt lines e sizes cs parts joints) first (last - first)
 
 -- the longest report of a sheet that is not over, in bytes
 abbrev pub longest : ℕ

@@ -20,7 +20,7 @@ use Rattle.part.proofs.put_made.Reads as put-made
 use Rattle.part.proofs.put_made.Kinds as put-made-kinds
 use Rattle.part.proofs.+put_made+put_part.Lts-put_made as put-made-lts
 use Rattle.engine.proofs.step_at.Reads as at-reads
-use Rattle.report.proofs.put_step_line.Reads as line-reads
+use Rattle.report.proofs.put_steps_from.Reads as line-reads
 use Rattle.part.proofs.+put_made+put_part.{statement}
 use Rattle.part.proofs.+put_made+put_part.Tie.{close}
 
@@ -91,9 +91,9 @@ module _ (t : ℕ) (x : put-made-lts.After-step-at
   small-step = turn.small made (ap (λ (y : Step). y .made) (x .step-at .ensures)) (entry .pre .1 .0 .0) (entry .pre .1 .0 .1)
 
 module _ (t : ℕ) where
-  sub-step-at : put-made-lts.Need-sub-step-at
+  sub-own : put-made-lts.Need-sub-own
       (at-reads.Asked, at-reads.Learnt, put-part-below t, put-part.Post, line-reads.Asked, line-reads.Learnt) (put-made-at t) put-made.Post
-  sub-step-at c = c .pre .1 .0 .3
+  sub-own c = c .pre .1 .0 .3
 
   step-at-requires : put-made-lts.Need-step-at-requires
       (at-reads.Asked, at-reads.Learnt, put-part-below t, put-part.Post, line-reads.Asked, line-reads.Learnt) (put-made-at t) put-made.Post
@@ -122,26 +122,34 @@ module _ (t : ℕ) where
       let h = made t x in
       asked t x (x .step-at .result .k) _ (turn.k-below h) (turn.k-lower h) (turn.k-room h (room t x) (i .put-part .ensures) (j .put-part2 .ensures))
 
-  put-step-line-requires : put-made-lts.Need-put-step-line-requires
+  add-own : put-made-lts.Need-add-put-steps-from
       (at-reads.Asked, at-reads.Learnt, put-part-below t, put-part.Post, line-reads.Asked, line-reads.Learnt) (put-made-at t) put-made.Post
-  put-step-line-requires c κs =
+  add-own c =
+      let p = entry t (c .before .before .before .before .before .before .before) .pre .1 .0 in
+      omega (arith, p .0, p .1)
+
+  put-steps-from-requires : put-made-lts.Need-put-steps-from-requires
+      (at-reads.Asked, at-reads.Learnt, put-part-below t, put-part.Post, line-reads.Asked, line-reads.Learnt) (put-made-at t) put-made.Post
+  put-steps-from-requires c κs =
       let k = c .before in
       let j = k .before .before in
       let i = j .before .before in
       let x = i .before .before in (
         entry t x .pre .1 .1 .1,
-        small-step t x,
-        turn.own-room (made t x) (room t x) (i .put-part .ensures) (j .put-part2 .ensures) (k .put-part3 .ensures) .0,
+        entry t x .pre .1 .0 .0,
+        omega (arith, entry t x .pre .1 .0 .1, entry t x .pre .1 .0 .3),
+        turn.own-small (made t x) (small-step t x),
+        turn.own-room (made t x) (room t x) (i .put-part .ensures) (j .put-part2 .ensures) (k .put-part3 .ensures) .bytes-fit,
       )
 
-  add-steps : put-made-lts.Need-add-t16
+  add-steps : put-made-lts.Need-add-t21
       (at-reads.Asked, at-reads.Learnt, put-part-below t, put-part.Post, line-reads.Asked, line-reads.Learnt) (put-made-at t) put-made.Post
   add-steps c =
       let k = c .before .before .before in
       let j = k .before .before in
       let i = j .before .before in
       let x = i .before .before in
-      record { fits = turn.own-room (made t x) (room t x) (i .put-part .ensures) (j .put-part2 .ensures) (k .put-part3 .ensures) .1 }
+      record { fits = turn.one-more (made t x) (room t x) (i .put-part .ensures) (j .put-part2 .ensures) (k .put-part3 .ensures) }
 
   returns : put-made-lts.Need-returns
       (at-reads.Asked, at-reads.Learnt, put-part-below t, put-part.Post, line-reads.Asked, line-reads.Learnt) (put-made-at t) put-made.Post
@@ -151,13 +159,13 @@ module _ (t : ℕ) where
       let j = k .before .before in
       let i = j .before .before in
       let x = i .before .before in
-      turn.all-listed (made t x) (room t x) (i .put-part .ensures) (j .put-part2 .ensures) (k .put-part3 .ensures) (l .put-step-line .ensures)
+      turn.all-listed (made t x) (room t x) (i .put-part .ensures) (j .put-part2 .ensures) (k .put-part3 .ensures) (l .put-steps-from .ensures)
 
 pub +put-made+put-part-spec : {M : Type 1} → statement M
 +put-made+put-part-spec =
     close μ-put-made μ-put-part
     (λ t. put-made-lts.spec (at-reads.Asked, at-reads.Learnt, put-part-below t, put-part.Post, line-reads.Asked, line-reads.Learnt) (put-made-at t)
-    put-made.Post (sub-step-at t) (step-at-requires t) (i-requires t) (j-requires t) (k-requires t) (put-step-line-requires t) (add-steps t)
+    put-made.Post (sub-own t) (step-at-requires t) (i-requires t) (j-requires t) (k-requires t) (add-own t) (put-steps-from-requires t) (add-steps t)
     (returns t))
     (λ t. put-part-lts.spec (put-made-below t, put-made.Post) (put-part-at t) put-part.Post (part-returns t) (part-requires t)
     (part-returns-2 t))

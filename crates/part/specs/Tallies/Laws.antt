@@ -1,9 +1,8 @@
 -- One list of steps after another. Assumes nothing.
-use Rattle.theory.specs.Prelude.{ℕ, _+_, _≤_, _<_, _^_, arith, _≡_, refl, sym, ap, _∙_, List, [], _∷_, _++_, append-assoc, append-nil, length}
-use Rattle.theory.specs.Prelude.{length-append}
+use Rattle.theory.specs.Prelude.{ℕ, _+_, arith, _≡_, refl, sym, ap, _∙_, List, [], _∷_, _++_, append-assoc, length, length-append}
 use Rattle.theory.specs.declared.Step.{Step}
 use Rattle.report.specs.Report.{stepLine, stepLines}
-use Rattle.report.specs.Block.{block, Stands}
+use Rattle.report.specs.Block.{Stands}
 use Rattle.report.specs.Block.Laws.{stands-none, stands-as, _then_}
 use Rattle.part.specs.declared.Tally.{Tally}
 use Rattle.part.specs.Tallies.{Listed, Room}
@@ -17,10 +16,6 @@ pub lines-none : stepLines [] ≡ []
 unfolding stepLines
 lines-none = refl
 
-pub lines-one : (s : Step) → stepLines (s ∷ []) ≡ stepLine s
-unfolding stepLines
-lines-one s = append-nil (stepLine s)
-
 -- ---- lists of steps, one after another
 
 pub listed-as : {space after : List ℕ} {t r : Tally} {xs ys : List Step} → xs ≡ ys → Listed space t xs r after → Listed space t ys r after
@@ -30,9 +25,9 @@ pub listed-none : (space : List ℕ) (t : Tally) → Listed space t [] t space
 unfolding stepLines
 listed-none space t = record { puts = stands-none space (t .bytes); counts = omega arith }
 
-pub listed-one : {space after : List ℕ} {t : Tally} {next : ℕ} (s : Step) → Stands space (t .bytes) (stepLine s) next after
+pub listed-one : {space after : List ℕ} {t : Tally} {next : ℕ} (s : Step) → Stands space (t .bytes) (stepLines (s ∷ [])) next after
     → Listed space t (s ∷ []) (record { steps = t .steps + 1; bytes = next }) after
-listed-one s p = record { puts = stands-as (sym (lines-one s)) p; counts = refl }
+listed-one s p = record { puts = p; counts = refl }
 
 infixl 5 _also_
 pub _also_ : {s0 s1 s2 : List ℕ} {t0 t1 t2 : Tally} {xs ys : List Step} → Listed s0 t0 xs t1 s1 → Listed s1 t1 ys t2 s2
@@ -59,7 +54,3 @@ module _ (xs ys : List Step) {t : Tally} (h : Room t (xs ++ ys)) where
 
 pub room-as : {t : Tally} {xs ys : List Step} → xs ≡ ys → Room t xs → Room t ys
 room-as e h = rw e at h
-
--- the line of one step
-pub room-one : {t : Tally} (s : Step) → Room t (s ∷ []) → (t .bytes + 310 ≤ block) × (t .steps + 1 < 2 ^ 64)
-room-one s h = (omega (arith, h .bytes-fit), omega (arith, h .steps-fit))

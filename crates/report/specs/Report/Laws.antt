@@ -68,7 +68,7 @@ pub slot-any : (c a r : ℕ) → a ≢ 0
 unfolding slotLine clusterLine
 slot-any c a r n = rw (ne-eqb a 0 n, others-numbers, others-listed)
 
-numbers-append : (xs ys : List ℕ) → numbers (xs ++ ys) ≡ numbers xs ++ numbers ys
+pub numbers-append : (xs ys : List ℕ) → numbers (xs ++ ys) ≡ numbers xs ++ numbers ys
 unfolding numbers
 numbers-append [] ys = refl
 numbers-append (x ∷ xs) ys = rw (numbers-append xs ys, append-assoc)
@@ -122,6 +122,11 @@ pub steps-none : (at : ℕ → Step) (count t : ℕ) → count ≤ t → stepLin
 unfolding stepLines stepsFor
 steps-none at count t h = ap (λ (k : ℕ). stepLines (stepsFor at t k)) {x = count - t} {y = 0} (omega arith)
 
+-- one step alone
+pub steps-one : (at : ℕ → Step) (t : ℕ) → stepsFor at t (t + 1 - t) ≡ at t ∷ []
+unfolding stepsFor
+steps-one at t = ap (stepsFor at t) {x = t + 1 - t} {y = 1} (omega arith)
+
 small-from : (at : ℕ → Step) (k b t : ℕ) → AllSmall (stepsFor at b k) → t < k → Small (at (b + t))
 unfolding stepsFor
 small-from at zero b t a h = absurd (omega arith)
@@ -129,8 +134,9 @@ small-from at (suc k) b zero a h = subst (λ (n : ℕ). Small (at n)) {x = b} {y
 small-from at (suc k) b (suc t) a h =
     subst (λ (n : ℕ). Small (at n)) {x = suc b + t} {y = b + suc t} (omega arith) (small-from at k (suc b) t (a .1) (omega arith))
 
-pub small-at : (at : ℕ → Step) (count t : ℕ) → AllSmall (stepsFor at 0 count) → t < count → Small (at t)
-small-at at count t a h = subst (λ (n : ℕ). Small (at n)) {x = 0 + t} {y = t} (omega arith) (small-from at count 0 t a h)
+pub small-at : (at : ℕ → Step) (first last t : ℕ) → AllSmall (stepsFor at first (last - first)) → first ≤ t → t < last → Small (at t)
+small-at at first last t a l h =
+    subst (λ (n : ℕ). Small (at n)) {x = first + (t - first)} {y = t} (omega arith) (small-from at (last - first) first (t - first) a (omega arith))
 
 -- one cluster after another, of the first m of two arrays
 pub clusters-next : (slots rests : List ℕ) (m c : ℕ) → m ≤ length slots → m ≤ length rests → c < m
