@@ -1,7 +1,7 @@
 -- The words of what clusters rest on, merge after merge. Assumes nothing.
 use Rattle.theory.specs.Prelude.{_≡_, refl, sym, ap, ap₂, _∙_, subst, _≢_, List, [], _∷_, map, ℕ, zero, suc, _+_, _-_, _*_, _/_, _%_, _^_, _≤_, _<_}
-use Rattle.theory.specs.Prelude.{arith, add-one, decLt, pow-lt, pow-pos, pow-add, mod-eq-of-lt, length, getD, set, take, length-set, length-take, length-map}
-use Rattle.theory.specs.Prelude.{List·getD-map, getD-set-same, getD-set-other, take-suc, take-all}
+use Rattle.theory.specs.Prelude.{arith, add-one, decLt, pow-lt, pow-pos, pow-add, mod-eq-of-lt, length, getD, set, take, length-set, length-take}
+use Rattle.theory.specs.Prelude.{length-map, List·getD-map, getD-set-same, getD-set-other, take-suc, take-all}
 use lib.Bits.{or-shr, or-mod}
 use lib.Pow.{shl-shr, recompose}
 use Rattle.theory.specs.Block.{block}
