@@ -1,6 +1,6 @@
 -- `account::put_list` meets its contract: what the arrays give is the list's own report, and no longer than its block; where the list leaves one
 -- cluster, that is the last, and rests on all constraints. Assumes nothing.
-use Rattle.theory.specs.Prelude.{needs, ℕ, _*_, _≤_, arith, _≡_, refl, ap, _∙_, List, length}
+use Rattle.theory.specs.Prelude.{needs, ℕ, _+_, _*_, _≤_, arith, _≡_, refl, ap, _∙_, List, length}
 use Rattle.space.specs.Space.{answer, after}
 use Rattle.judge.specs.Judged.Laws.{arrays-long}
 use Rattle.account.specs.Account.Laws.{room, reported, all-small, not-long, one-reported, one-short}
@@ -24,6 +24,9 @@ module _ (c : tie.After-all-high) where
   abbrev entry : tie.Start
   entry = low .before .before .before .before .before
 
+  single : 2 * entry .args .count + 1 ≡ entry .args .h .e
+  single = low .before .before .if1 .taken
+
 write-one-requires : tie.Need-write-one-requires
 write-one-requires c κs =
     let k = c .before .before in
@@ -35,16 +38,15 @@ write-one-requires c κs =
         omega (arith, few s),
         all-small _ _ _ (s .pre .0) (s .pre .1) (s .pre .2) (s .pre .3),
       ),
-      one-short _ _ _ (s .pre .0) (s .pre .1) (s .pre .2) (s .pre .3) (low k .before .before .if1 .taken) (low k .all-low .ensures) (k .all-high .ensures)
-          (s .args .verdict),
+      one-short _ _ _ (s .pre .0) (s .pre .1) (s .pre .2) (s .pre .3) (single k) (low k .all-low .ensures) (k .all-high .ensures) (s .args .verdict),
     )
 
 returns : tie.Need-returns
 returns c m =
     let k = c .before .before .before .before .before in
     let s = entry k in
-    let r = one-reported _ _ _ (s .pre .0) (s .pre .1) (s .pre .2) m (low k .before .before .if1 .taken) (low k .all-low .ensures)
-    (k .all-high .ensures) (s .args .verdict) in
+    let r =
+    one-reported _ _ _ (s .pre .0) (s .pre .1) (s .pre .2) m (single k) (low k .all-low .ensures) (k .all-high .ensures) (s .args .verdict) in
     let w = c .before .before .write-one .ensures in
     (w .0 ∙ ap (λ (l : List ℕ). answer l (s .args .out .now)) r, w .1 ∙ ap (λ (l : List ℕ). after l (s .args .out .now)) r)
 
@@ -94,7 +96,8 @@ returns-2 c m =
 pub put-list-spec : {M : Type 1} → statement M
 put-list-spec =
     tie.close
-    (tie.spec (λ c. omega (arith, few (c .before))) (λ c. omega (arith, few (c .before))) (λ c. omega (arith, few (c .before .before .before .before)))
-    (λ c. search needs) (λ c κs. search needs) (λ c κs. omega (arith, few (c .before .before .before .before .before))) (λ c. omega (arith, few (entry (c .before))))
+    (tie.spec (λ c. omega (arith, few (c .before))) (λ c. omega (arith, few (c .before)))
+    (λ c. omega (arith, few (c .before .before .before .before))) (λ c. search needs) (λ c κs. search needs)
+    (λ c κs. omega (arith, few (c .before .before .before .before .before))) (λ c. omega (arith, few (entry (c .before))))
     (λ c. omega (arith, few (entry (c .before)))) write-one-requires (λ c. search needs) returns carry-requires write-report-requires
     (λ c. search needs) returns-2)

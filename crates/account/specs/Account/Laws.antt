@@ -1,6 +1,6 @@
 -- The report of a list of merges, from the arrays that hold the graph and the list. Assumes nothing.
-use Rattle.theory.specs.Prelude.{ℕ, _+_, _-_, _*_, _^_, _≤_, _<_, arith, _≡_, refl, sym, ap, ap₂, _∙_, subst, _≢_, List, ℤ, length, getD, take, length-take}
-use Rattle.theory.specs.Prelude.{getD-take}
+use Rattle.theory.specs.Prelude.{ℕ, _+_, _-_, _*_, _^_, _≤_, _<_, arith, _≡_, refl, sym, ap, ap₂, _∙_, subst, _≢_, List, ℤ, length, getD, take}
+use Rattle.theory.specs.Prelude.{length-take, getD-take}
 use Rattle.theory.specs.Block.Laws.{getD-block}
 use Rattle.theory.specs.Set.{full}
 use Rattle.theory.specs.Merge.{slot, final}
@@ -45,6 +45,7 @@ module _ (h : Head) (start : List ℕ) (sizes : List ℤ) (sound : Sound (h .n) 
   unfolding runOf
   steps-are = ap (λ (r : Run). r .steps) (m .is)
 
+  -- its steps, and its report's length
   abbrev steps : List Step
   steps = stepsIn (h .lines) (h .e) sizes start (run .parts) (run .joints) (run .steps)
 
@@ -59,6 +60,7 @@ module _ (h : Head) (start : List ℕ) (sizes : List ℤ) (sound : Sound (h .n) 
   short : (v : Verdict) → length (reportWith g v (m .p)) ≤ 4667
   short v = report-most g (sound .simple .pairs) (m .p) (m .valid) v (sound .two) (sound .most) (sound .below) fine
 
+  -- its clusters, and what they rest on
   used : length (final (g .clusters) (m .p)) ≡ h .e + run .steps
   used = omega (arith, length-final (m .p) (g .clusters), count, steps-are)
 
