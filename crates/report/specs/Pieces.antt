@@ -1,12 +1,13 @@
 -- Pieces of the report's lines, as the code puts them one after another, and the bound it asks of a step's numbers. Assumes nothing.
 use Rattle.theory.specs.Prelude.{ℕ, _+_, _-_, _*_, _^_, _<_, ℤ, List, [], _∷_, _++_, map}
 use Rattle.space.specs.Text.{ascii, decimal}
+use Rattle.theory.specs.declared.Verdict.{Verdict}
 use Rattle.theory.specs.declared.JointKind.{JointKind}
 use Rattle.theory.specs.declared.Ways.{Ways}
 use Rattle.theory.specs.declared.Step.{Step}
 use Rattle.engine.specs.Steps.{stepAt, stepsFor}
 use Rattle.report.specs.Elements.{elements}
-use Rattle.report.specs.Report.{others, kindName, waysName}
+use Rattle.report.specs.Report.{others, kindName, waysName, verdictLine, elementsLine, stepLines, slotLine}
 pub mod Consecutive
 
 -- numbers, a space before each
@@ -44,6 +45,14 @@ restWords low high = ascii " rests on" ++ (numbers (elements low) ++ (numbers (a
 -- the steps in the arrays from `first` to before `last`
 abbrev pub stepsBetween : ℕ → ℕ → List ℤ → List ℕ → List ℕ → List ℕ → ℕ → ℕ → List Step
 stepsBetween lines e sizes cs parts joints first last = stepsFor (stepAt lines e sizes cs parts joints) first (last - first)
+
+-- a report of a sheet that is not over, up to its clusters
+unfoldable pub front : ℕ → ℕ → Verdict → List Step → List ℕ
+front n e v steps = verdictLine v ++ (elementsLine n e ++ stepLines steps)
+
+-- the report where one cluster is left: its number, its elements and what it rests on
+unfoldable pub oneReport : ℕ → ℕ → Verdict → List Step → ℕ → ℕ → ℕ → List ℕ
+oneReport n e v steps c a r = verdictLine v ++ (elementsLine n e ++ (stepLines steps ++ slotLine c a r))
 
 -- the longest report of a sheet that is not over, in bytes
 abbrev pub longest : ℕ

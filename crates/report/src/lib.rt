@@ -11,7 +11,7 @@ ghost use Rattle.report.specs.Elements.{elements, consecutive};
 ghost use Rattle.engine.specs.Steps.{stepsIn};
 ghost use Rattle.report.specs.Report.{verdictLine, elementsLine, stepLine, stepLines, slotLine, clusterLines, report, overReport};
 ghost use Rattle.report.specs.Pieces.{numbers, above, wide, partsWords, kindWords, waysWords, restWords, longest, Small, AllSmall};
-ghost use Rattle.report.specs.Pieces.{stepsBetween};
+ghost use Rattle.report.specs.Pieces.{stepsBetween, front, oneReport};
 ghost use Rattle.report.specs.Block.{block, Numerals, Stands};
 use merges::ELEMENTS;
 use merges::PLACES;
@@ -421,8 +421,33 @@ fn put_clusters(
     next
 }
 
-// The report of a sheet that is not over: its verdict, the first `count` steps of a list of merges, the clusters that it leaves, and what they rest
-// on.
+// The front of a report of a sheet that is not over: its verdict, the counts, and the first `count` steps of a list of merges.
+fn put_front(
+    out: &mut [u8; BLOCK],
+    text: &[u8; TEXT],
+    n: usize,
+    e: usize,
+    lines: u64,
+    verdict: Verdict,
+    start: &[u64; 200],
+    sizes: &[i32; 200],
+    count: usize,
+    parts: &[u16; PLACES],
+    joints: &[u64; ELEMENTS],
+) -> usize
+    requires { ⌜ Numerals (now text) × (n < 1000) × (e ≤ 125) × (count ≤ 62)
+        × AllSmall (stepsIn lines e (now sizes) (now start) (now parts) (now joints) count)
+        × (length (front n e verdict (stepsIn lines e (now sizes) (now start) (now parts) (now joints) count)) ≤ longest) ⌝ }
+    ensures { λ r. ⌜ Stands (now (out .entry)) 0
+        (front n e verdict (stepsIn lines e (now (sizes .entry)) (now (start .entry)) (now (parts .entry)) (now (joints .entry)) count)) r
+        (now (out .exit)) ⌝ }
+{
+    let a1 = put_verdict_line(out, 0, verdict);
+    let a2 = put_elements_line(out, a1, n, e);
+    put_steps(out, a2, text, parts, joints, start, sizes, lines, e, count)
+}
+
+// The report of a sheet that is not over: its front, the clusters that the list of merges leaves, and what they rest on.
 fn put_report(
     out: &mut [u8; BLOCK],
     text: &[u8; TEXT],
@@ -448,10 +473,63 @@ fn put_report(
         (report n e verdict (stepsIn lines e (now (sizes .entry)) (now (start .entry)) (now (parts .entry)) (now (joints .entry)) count)
         (take (e + count) (now (slots .entry))) (take (e + count) (wide (now (low .entry)) (now (high .entry))))) r (now (out .exit)) ⌝ }
 {
-    let a1 = put_verdict_line(out, 0, verdict);
-    let a2 = put_elements_line(out, a1, n, e);
-    let a3 = put_steps(out, a2, text, parts, joints, start, sizes, lines, e, count);
-    put_clusters(out, a3, text, slots, low, high, e + count)
+    let a1 = put_front(
+        out,
+        text,
+        n,
+        e,
+        lines,
+        verdict,
+        start,
+        sizes,
+        count,
+        parts,
+        joints,
+    );
+    put_clusters(out, a1, text, slots, low, high, e + count)
+}
+
+// The same where the list of merges leaves one cluster, c, which holds the elements of a set and rests on the constraints of two words.
+fn put_one(
+    out: &mut [u8; BLOCK],
+    text: &[u8; TEXT],
+    n: usize,
+    e: usize,
+    lines: u64,
+    verdict: Verdict,
+    start: &[u64; 200],
+    sizes: &[i32; 200],
+    count: usize,
+    parts: &[u16; PLACES],
+    joints: &[u64; ELEMENTS],
+    c: usize,
+    set: u64,
+    low: u64,
+    high: u64,
+) -> usize
+    requires { ⌜ Numerals (now text) ⌝ }
+    requires { ⌜ (n < 1000) × (e ≤ 125) × (count ≤ 62) × (c < 256)
+        × AllSmall (stepsIn lines e (now sizes) (now start) (now parts) (now joints) count) ⌝ }
+    requires { ⌜ length (oneReport n e verdict (stepsIn lines e (now sizes) (now start) (now parts) (now joints) count) c set (high * 2 ^ 64 + low))
+        ≤ longest ⌝ }
+    ensures { λ r. ⌜ Stands (now (out .entry)) 0
+        (oneReport n e verdict (stepsIn lines e (now (sizes .entry)) (now (start .entry)) (now (parts .entry)) (now (joints .entry)) count) c set
+        (high * 2 ^ 64 + low)) r (now (out .exit)) ⌝ }
+{
+    let a1 = put_front(
+        out,
+        text,
+        n,
+        e,
+        lines,
+        verdict,
+        start,
+        sizes,
+        count,
+        parts,
+        joints,
+    );
+    put_slot_line(out, a1, text, c, set, low, high)
 }
 
 // The report of an over sheet: the first constraint that makes those up to it over, and the smallest set.
@@ -527,6 +605,56 @@ pub fn write_report(
         parts,
         joints,
         slots,
+        low,
+        high,
+    );
+    put_whole(out, &whole[0..length])
+}
+
+// The same where one cluster is left.
+pub fn write_one(
+    out: &mut [u8],
+    n: usize,
+    e: usize,
+    lines: u64,
+    verdict: Verdict,
+    start: &[u64; 200],
+    sizes: &[i32; 200],
+    count: usize,
+    parts: &[u16; PLACES],
+    joints: &[u64; ELEMENTS],
+    c: usize,
+    set: u64,
+    low: u64,
+    high: u64,
+) -> Written
+    requires { ⌜ (n < 1000) × (e ≤ 125) × (count ≤ 62) × (c < 256)
+        × AllSmall (stepsIn lines e (now sizes) (now start) (now parts) (now joints) count) ⌝ }
+    requires { ⌜ length (oneReport n e verdict (stepsIn lines e (now sizes) (now start) (now parts) (now joints) count) c set (high * 2 ^ 64 + low))
+        ≤ longest ⌝ }
+    ensures answers { λ r. ⌜ r ≡ answer
+        (oneReport n e verdict (stepsIn lines e (now (sizes .entry)) (now (start .entry)) (now (parts .entry)) (now (joints .entry)) count) c set
+        (high * 2 ^ 64 + low)) (now (out .entry)) ⌝ }
+    ensures leaves { λ r. ⌜ now (out .exit) ≡ after
+        (oneReport n e verdict (stepsIn lines e (now (sizes .entry)) (now (start .entry)) (now (parts .entry)) (now (joints .entry)) count) c set
+        (high * 2 ^ 64 + low)) (now (out .entry)) ⌝ }
+{
+    let text = numerals();
+    let mut whole: [u8; BLOCK] = [0; BLOCK];
+    let length = put_one(
+        &mut whole,
+        &text,
+        n,
+        e,
+        lines,
+        verdict,
+        start,
+        sizes,
+        count,
+        parts,
+        joints,
+        c,
+        set,
         low,
         high,
     );

@@ -1,6 +1,8 @@
 -- The report of a list of merges, from the arrays that hold the graph and the list. Assumes nothing.
-use Rattle.theory.specs.Prelude.{ℕ, _+_, _*_, _^_, _≤_, arith, _≡_, refl, sym, ap, ap₂, _∙_, subst, _≢_, List, ℤ, length, getD, take, length-take}
-use Rattle.theory.specs.Prelude.{getD-take}
+use Rattle.theory.specs.Prelude.{ℕ, _+_, _-_, _*_, _^_, _≤_, _<_, arith, _≡_, refl, sym, ap, ap₂, _∙_, subst, _≢_, List, ℤ, length, getD, take}
+use Rattle.theory.specs.Prelude.{length-take, getD-take}
+use Rattle.theory.specs.Block.Laws.{getD-block}
+use Rattle.theory.specs.Set.{full}
 use Rattle.theory.specs.Merge.{slot, final}
 use Rattle.theory.specs.Merge.Numbered.{alive-lt}
 use Rattle.theory.specs.Constraints.{NotOver}
@@ -17,13 +19,15 @@ use Rattle.engine.specs.Steps.{stepsIn}
 use Rattle.engine.specs.Steps.Laws.{steps-in-are}
 use Rattle.rests.specs.Rests.{aloneFrom, restsOn}
 use Rattle.rests.specs.Rests.Laws.{length-alone, rests-below}
-use Rattle.rests.specs.Words.{Told}
+use Rattle.rests.specs.Rests.One.{others-dead, rests-on-all}
+use Rattle.rests.specs.Words.{word, Told}
 use Rattle.rests.specs.Words.Laws.{words-are}
 use Rattle.judge.specs.Judged.Laws.{steps-few, listed-verdict, finals-are, Settled}
 use Rattle.report.specs.Report.{clusterLines, report}
 use Rattle.report.specs.Report.Laws.{clusters-same, length-wide, wide-at}
-use Rattle.report.specs.Pieces.{wide, AllSmall}
+use Rattle.report.specs.Pieces.{wide, oneReport, AllSmall}
 use Rattle.report.specs.Report.Bound.{report-most, small-steps}
+use Rattle.report.specs.Report.One.{one-left}
 use Rattle.account.specs.Account.{reportWith, listReport}
 
 module _ (h : Head) (start : List ℕ) (sizes : List ℤ) (sound : Sound (h .n) (take (h .e) start)) (count : length (take (h .e) start) ≡ h .e)
@@ -41,56 +45,106 @@ module _ (h : Head) (start : List ℕ) (sizes : List ℤ) (sound : Sound (h .n) 
   unfolding runOf
   steps-are = ap (λ (r : Run). r .steps) (m .is)
 
+  -- its steps, and its report's length
+  abbrev steps : List Step
+  steps = stepsIn (h .lines) (h .e) sizes start (run .parts) (run .joints) (run .steps)
+
+  steps-list : steps ≡ stepsOf g (m .p)
+  steps-list =
+      subst (λ (e : ℕ). stepsIn (h .lines) e sizes start (run .parts) (run .joints) (run .steps) ≡ stepsOf g (m .p)) count
+      (steps-in-are g (m .p) run start sizes (m .valid) (m .is) (ap (λ (e : ℕ). take e start) count) (ap (λ (e : ℕ). take e sizes) count))
+
+  pub all-small : AllSmall steps
+  all-small = subst AllSmall (sym steps-list) (small-steps g (g .clusters) (m .p) (m .valid) (omega (arith, count, room, steps-are)))
+
+  short : (v : Verdict) → length (reportWith g v (m .p)) ≤ 4667
+  short v = report-most g (sound .simple .pairs) (m .p) (m .valid) v (sound .two) (sound .most) (sound .below) fine
+
+  -- its clusters, and what they rest on
+  used : length (final (g .clusters) (m .p)) ≡ h .e + run .steps
+  used = omega (arith, length-final (m .p) (g .clusters), count, steps-are)
+
+  rests-long : length (final (g .clusters) (m .p)) ≤ length (restsOn (length (g .clusters)) (m .p))
+  unfolding restsOn
+  rests-long = omega (
+    arith,
+    length-final (m .p) (g .clusters),
+    length-final (m .p) (aloneFrom 0 (length (g .clusters))),
+    length-alone (length (g .clusters)) 0,
+  )
+
+  few-rests : (n : ℕ) → slot (restsOn (length (g .clusters)) (m .p)) n < 2 ^ 128
+  few-rests = rests-below 128 (g .clusters) (sound .simple .pairs) (omega (arith, room, count)) (m .p) (m .valid)
+
   -- what they give is the list's own
   module _ {low high : List ℕ} (lows : Told 0 (g .clusters) (m .p) low) (highs : Told 1 (g .clusters) (m .p) high) where
-    abbrev steps : List Step
-    steps = stepsIn (h .lines) (h .e) sizes start (run .parts) (run .joints) (run .steps)
-
     abbrev finals : List ℕ
     finals = take (h .e + run .steps) (run .slots)
 
     abbrev rests : List ℕ
     rests = take (h .e + run .steps) (wide low high)
 
-    steps-list : steps ≡ stepsOf g (m .p)
-    steps-list =
-        subst (λ (e : ℕ). stepsIn (h .lines) e sizes start (run .parts) (run .joints) (run .steps) ≡ stepsOf g (m .p)) count
-        (steps-in-are g (m .p) run start sizes (m .valid) (m .is) (ap (λ (e : ℕ). take e start) count) (ap (λ (e : ℕ). take e sizes) count))
-
     same-long : length low ≡ length high
     same-long = lows .long ∙ sym (highs .long)
-
-    used : length (final (g .clusters) (m .p)) ≡ h .e + run .steps
-    used = omega (arith, length-final (m .p) (g .clusters), count, steps-are)
 
     -- the words at a living cluster's number are the set that it rests on
     rest-at : (n : ℕ) → getD (final (g .clusters) (m .p)) n 0 ≢ 0 → getD rests n 0 ≡ getD (restsOn (length (g .clusters)) (m .p)) n 0
     rest-at n live =
         let r = slot (restsOn (length (g .clusters)) (m .p)) n in
         let l = alive-lt (final (g .clusters) (m .p)) n live in
-        let few = rests-below 128 (g .clusters) (sound .simple .pairs) (omega (arith, room, count)) (m .p) (m .valid) n in
         getD-take (h .e + run .steps) (wide low high) n 0 (omega (arith, used))
         ∙ wide-at low high n same-long
         ∙ ap₂ (λ (x y : ℕ). x * 2 ^ 64 + y) (highs .is n live) (lows .is n live)
-        ∙ words-are r few
+        ∙ words-are r (few-rests n)
 
     lines-same : clusterLines 0 (final (g .clusters) (m .p)) rests ≡ clusterLines 0 (final (g .clusters) (m .p)) (restsOn (length (g .clusters)) (m .p))
-    unfolding restsOn
     lines-same =
         clusters-same 0 (final (g .clusters) (m .p)) rests (restsOn (length (g .clusters)) (m .p))
         (omega (arith, used, room, length-take (h .e + run .steps) (wide low high), length-wide low high same-long, lows .long))
-        (omega (arith, length-final (m .p) (g .clusters), length-final (m .p) (aloneFrom 0 (length (g .clusters))), length-alone (length (g .clusters)) 0))
-        rest-at
+        rests-long rest-at
 
     pub reported : (v : Verdict) → report (h .n) (h .e) v steps finals rests ≡ reportWith g v (m .p)
     unfolding report
     reported v = rw (steps-list, finals-are (g .clusters) (sound .simple .pairs) m count, lines-same, count)
 
-    pub all-small : AllSmall steps
-    all-small = subst AllSmall (sym steps-list) (small-steps g (g .clusters) (m .p) (m .valid) (omega (arith, count, room, steps-are)))
-
     pub not-long : (v : Verdict) → length (report (h .n) (h .e) v steps finals rests) ≤ 4667
-    not-long v = rw (reported v) (report-most g (sound .simple .pairs) (m .p) (m .valid) _ (sound .two) (sound .most) (sound .below) fine)
+    not-long v = rw (reported v) (short v)
+
+  -- the same where one cluster is left, which rests on all constraints
+  module _ (one : 2 * run .steps + 1 ≡ h .e) {low high : ℕ} (lows : low ≡ word 0 (full (h .e))) (highs : high ≡ word 1 (full (h .e))) where
+    abbrev last : ℕ
+    last = h .e + run .steps - 1
+
+    only : 2 * length (m .p) + 1 ≡ length (g .clusters)
+    only = omega (arith, one, count, steps-are)
+
+    same-last : length (g .clusters) + length (m .p) - 1 ≡ last
+    same-last = omega (arith, count, steps-are)
+
+    slot-is : getD (run .slots) last 0 ≡ slot (final (g .clusters) (m .p)) last
+    unfolding runOf
+    slot-is = ap (λ (r : Run). getD (r .slots) last 0) (m .is) ∙ getD-block 192 0 (final (g .clusters) (m .p)) last
+
+    rest-is : high * 2 ^ 64 + low ≡ slot (restsOn (length (g .clusters)) (m .p)) last
+    rest-is =
+        let r = slot (restsOn (length (g .clusters)) (m .p)) last in
+        let all : full (h .e) ≡ r =
+        ap full (sym count) ∙ sym (rests-on-all (g .clusters) (sound .simple .pairs) (m .p) (m .valid) only)
+        ∙ ap (slot (restsOn (length (g .clusters)) (m .p))) same-last in
+        ap₂ (λ (x y : ℕ). x * 2 ^ 64 + y) (highs ∙ ap (word 1) all) (lows ∙ ap (word 0) all) ∙ words-are r (few-rests last)
+
+    pub one-reported : (v : Verdict)
+        → oneReport (h .n) (h .e) v steps last (getD (run .slots) last 0) (high * 2 ^ 64 + low) ≡ reportWith g v (m .p)
+    one-reported v =
+        let s = final (g .clusters) (m .p) in
+        let r = restsOn (length (g .clusters)) (m .p) in
+        rw (steps-list, slot-is, rest-is)
+        (ap (λ (e : ℕ). oneReport (h .n) e v (stepsOf g (m .p)) last (slot s last) (slot r last)) (sym count)
+        ∙ sym (one-left (h .n) (length (g .clusters)) v (stepsOf g (m .p)) last s r (omega (arith, used, one)) rests-long
+        (λ n ne. others-dead (g .clusters) (sound .simple .pairs) (m .p) (m .valid) only n (λ q. ne (q ∙ same-last)))))
+
+    pub one-short : (v : Verdict) → length (oneReport (h .n) (h .e) v steps last (getD (run .slots) last 0) (high * 2 ^ 64 + low)) ≤ 4667
+    one-short v = rw (one-reported v) (short v)
 
   -- with the verdict of the arrays
   pub settled-report : {v : Verdict} → Settled h run v → reportWith g v (m .p) ≡ listReport g (m .p)

@@ -32,7 +32,7 @@ pub slot-alone : (k n : ℕ) → n < k → slot (aloneFrom 0 k) n ≡ 2 ^ n
 slot-alone k n h = slot-from k 0 n h ∙ ap (λ (x : ℕ). 2 ^ x) {x = 0 + n} {y = n} (omega arith)
 
 -- a constraint has two ends
-two-ends : (cs : List ℕ) → Pairs cs → (n : ℕ) → n < length cs → ones (slot cs n) ≡ 2
+pub two-ends : (cs : List ℕ) → Pairs cs → (n : ℕ) → n < length cs → ones (slot cs n) ≡ 2
 unfolding Pairs
 two-ends [] pairs n h = absurd (omega arith)
 two-ends (c ∷ cs) pairs zero h = pairs c (inl refl)
@@ -48,7 +48,7 @@ pub record Carrying (cs r s : List ℕ) : Type 0 where
   pub count : (n : ℕ) → slot s n ≢ 0 → ones (slot r n) + 3 ≡ 2 * ones (slot s n)
   pub dead : (n : ℕ) → slot s n ≡ 0 → slot r n ≡ 0
 
-none-in : (i : ℕ) {a : ℕ} → a ≡ 0 → i ∈ a → ⊥
+pub none-in : (i : ℕ) {a : ℕ} → a ≡ 0 → i ∈ a → ⊥
 none-in i e h = omega (arith, h, ap (at i) e, at-zero i)
 
 module _ (cs : List ℕ) (pairs : Pairs cs) where
