@@ -21,8 +21,8 @@ use space::Written;
 use space::put_number64;
 use theory::Verdict;
 
-// The report of a list of merges of the constraints in lent arrays, with the given verdict. Where it leaves one cluster, that is the last one, and it
-// rests on all constraints.
+// The report of a list of merges of the constraints in lent arrays, with the given verdict: where one cluster is left, it is the last one, and it rests
+// on all constraints.
 fn put_list(
     h: Head,
     start: &[u64; 200],
