@@ -304,8 +304,8 @@ fn put_rests(out: &mut [u8; BLOCK], at: usize, text: &[u8; TEXT], low: u64, high
     ensures { λ r. ⌜ Stands (now (out .entry)) at (restWords low high) r (now (out .exit)) ⌝ }
 {
     let a1 = put_word(out, at, b" rests on");
-    let a2 = put_members(out, a1, text, 0, low);
-    let a3 = put_members(out, a2, text, 64, high);
+    let a2 = put_set(out, a1, text, low);
+    let a3 = put_set_from(out, a2, text, 64, high);
     put_word(out, a3, b"\n")
 }
 
@@ -328,8 +328,33 @@ fn put_slot_line(
     }
     let a1 = put_entry(out, at, text, b"cluster", c);
     let a2 = put_word(out, a1, b" holds");
-    let a3 = put_members(out, a2, text, 0, a);
+    let a3 = put_set(out, a2, text, a);
     put_rests(out, a3, text, low, high)
+}
+
+// The same of a cluster that holds, and rests on, numbers that are mostly a run.
+fn put_one_line(
+    out: &mut [u8; BLOCK],
+    at: usize,
+    text: &[u8; TEXT],
+    c: usize,
+    a: u64,
+    low: u64,
+    high: u64,
+) -> usize
+    requires { ⌜ Numerals (now text) × (c < 256) × (at + 800 ≤ block) ⌝ }
+    ensures { λ r. ⌜ Stands (now (out .entry)) at (slotLine c a (high * 2 ^ 64 + low)) r (now (out .exit)) ⌝ }
+{
+    if a == 0 {
+        return at;
+    }
+    let a1 = put_entry(out, at, text, b"cluster", c);
+    let a2 = put_word(out, a1, b" holds");
+    let a3 = put_members(out, a2, text, 0, a);
+    let a4 = put_word(out, a3, b" rests on");
+    let a5 = put_members(out, a4, text, 0, low);
+    let a6 = put_members(out, a5, text, 64, high);
+    put_word(out, a6, b"\n")
 }
 
 // The lines of the steps from `first` to before `last` of a list of merges, from its parts and joints.
@@ -529,7 +554,7 @@ fn put_one(
         parts,
         joints,
     );
-    put_slot_line(out, a1, text, c, set, low, high)
+    put_one_line(out, a1, text, c, set, low, high)
 }
 
 // The report of an over sheet: the first constraint that makes those up to it over, and the smallest set.

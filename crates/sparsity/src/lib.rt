@@ -181,39 +181,32 @@ pub struct Spot {
     pub other: u8,
 }
 
-// A free entry for the constraint between a and b: of a, whose entries are p and q, or of b, whose first is r.
+// One of two numbers: the first where two entries are the same.
+fn where_same(x: u8, y: u8, first: usize, second: usize) -> usize
+    ensures { λ r. ⌜ (x ≡ y → r ≡ first) × (x ≢ y → r ≡ second) ⌝ }
+{
+    if x == y { first } else { second }
+}
+
+// A free entry for the constraint between a and b: of a, whose entries are p and q, or of b, whose first is r. Which one it is can't be foretold, so the
+// way does not part there.
 fn place(p: u8, q: u8, r: u8, a: u8, b: u8) -> Spot
     requires { ⌜ (a < 64) × (b < 64) ⌝ }
     ensures { λ k. ⌜ ((own : List (List ℕ)) → entry own a 0 ≡ p → entry own a 1 ≡ q → entry own b 0 ≡ r → 0 < free own a + free own b
         → Placed own a b (stored own (k .element) (k .entry) (k .other))) × (k .element < 64) × (k .entry < 2) ⌝ }
 {
     let i = peeling::wide(a);
-    if p == a {
-        return Spot {
-            element: i,
-            entry: 0,
-            other: b,
-        };
-    }
-    if q == a {
-        return Spot {
-            element: i,
-            entry: 1,
-            other: b,
-        };
-    }
     let j = peeling::wide(b);
-    if r == b {
-        return Spot {
-            element: j,
-            entry: 0,
-            other: a,
-        };
-    }
+    let of_b = where_same(r, b, 0, 1);
+    let later = where_same(q, a, 1, of_b);
+    let entry = where_same(p, a, 0, later);
+    let end = where_same(q, a, i, j);
+    let element = where_same(p, a, i, end);
+    let other = (i + j - element) as u8;
     Spot {
-        element: j,
-        entry: 1,
-        other: a,
+        element,
+        entry,
+        other,
     }
 }
 

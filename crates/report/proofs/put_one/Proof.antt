@@ -26,8 +26,8 @@ put-front-requires c κs =
     let s = c .before in
     (s .pre .0, s .pre .1 .0 .0, s .pre .1 .0 .1, s .pre .1 .0 .2, s .pre .1 .0 .4, omega (arith, lengths s, s .pre .1 .1))
 
-put-slot-line-requires : tie.Need-put-slot-line-requires
-put-slot-line-requires c κs =
+put-one-line-requires : tie.Need-put-one-line-requires
+put-one-line-requires c κs =
     let front = c .before in
     let s = front .before .before in
     (s .pre .0, s .pre .1 .0 .3, omega (arith, lengths s, s .pre .1 .1, front .put-front .ensures .next-is))
@@ -37,7 +37,7 @@ returns c =
     let front = c .before .before in
     let s = front .before .before in
     stands-as (front-one (s .args .n) (s .args .e) (s .args .verdict) (steps s) (s .args .c) (s .args .set) (rests s))
-    (front .put-front .ensures then c .put-slot-line .ensures)
+    (front .put-front .ensures then c .put-one-line .ensures)
 
 pub put-one-spec : {M : Type 1} → statement M
-put-one-spec = tie.close (tie.spec put-front-requires put-slot-line-requires returns)
+put-one-spec = tie.close (tie.spec put-front-requires put-one-line-requires returns)
