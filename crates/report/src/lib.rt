@@ -177,7 +177,7 @@ fn below(m: usize) -> u64
     !0u64 >> (64 - m)
 }
 
-// A set's numbers from `first` on, a space before each. Where the set has no gap, as that of a large cluster often, they are copied.
+// A set's numbers from `first` on, a space before each: copied where the set is that of the numbers below its size.
 fn put_members(out: &mut [u8; BLOCK], at: usize, text: &[u8; TEXT], first: usize, set: u64) -> usize
     requires { ⌜ Numerals (now text) × (first ≤ 128) × (at + 260 ≤ block) ⌝ }
     ensures { λ r. ⌜ Stands (now (out .entry)) at (numbers (above first (elements set))) r (now (out .exit)) × (r ≤ at + 256) ⌝ }
