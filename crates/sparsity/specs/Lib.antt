@@ -2,3 +2,4 @@
 pub mod Freedoms
 pub mod Reach
 pub mod Answer
+pub mod Inside

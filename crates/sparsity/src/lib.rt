@@ -6,13 +6,15 @@ ghost use mathlib.Core.Logic.{_≢_};
 ghost use mathlib.Core.List.{List};
 ghost use Prim.Native.Nat.{ℕ, _+_, _≤_, _<_};
 ghost use lib.Count.{ones};
-ghost use lib.ListN.{take, getD};
+ghost use lib.Bits.{bitAnd};
+ghost use lib.ListN.{length, take, getD};
 ghost use Rattle.theory.specs.Constraints.{pair, Below};
 ghost use Rattle.theory.specs.Near.{Standing, Near};
 ghost use Rattle.theory.specs.Over.{overOf};
 ghost use Rattle.sparsity.specs.Freedoms.{entry, stored, same, free, Table, FreeBelow};
 ghost use Rattle.sparsity.specs.Reach.{Visit, Lent, Found, Gathered, Placed};
 ghost use Rattle.sparsity.specs.Answer.{Using, More, Took};
+ghost use Rattle.sparsity.specs.Inside.{Inside};
 ghost use Rattle.peeling.specs.Core.{Core};
 ghost use Rattle.peeling.specs.Hard.{Noted};
 use theory::Finding;
@@ -236,6 +238,29 @@ pub fn take_pair(
     t
 }
 
+// One where a set lies within another, else none.
+fn one_within(set: u64, all: u64) -> usize
+    ensures { λ r. ⌜ (bitAnd set all ≡ set → r ≡ 1) × (bitAnd set all ≢ set → r ≡ 0) ⌝ }
+{
+    if set & all == set { 1 } else { 0 }
+}
+
+// The numbers of those of e constraints that lie within core, ascending, and how many they are. Which ones do can't be foretold, so the way does not
+// part there.
+fn list_inside(start: &[u64; 200], e: usize, core: u64, list: &mut [u8; 200]) -> usize
+    requires { ⌜ (e ≤ 200) × (length (now list) ≡ 200) ⌝ }
+    ensures { λ r. ⌜ Inside (now (start .entry)) e core (now (list .exit)) r × (r ≤ e) ⌝ }
+{
+    let mut count: usize = 0;
+    let mut c: usize = 0;
+    while c < e {
+        list[count] = c as u8;
+        count = count + one_within(start[c], core);
+        c = c + 1;
+    }
+    count
+}
+
 // The first of e constraints that makes those up to it over, with the smallest set, where the sets within core tell. Each needs as many free entries
 // on its ends as are noted: four, or one where it closes no over set.
 fn search(start: &[u64; 200], e: usize, core: u64, needs: &[u8; 200]) -> Finding
@@ -247,31 +272,32 @@ fn search(start: &[u64; 200], e: usize, core: u64, needs: &[u8; 200]) -> Finding
     let mut queue = [0u8; 64];
     let mut from = [0u8; 64];
     let mut over: u64 = 0;
-    let mut c: usize = 0;
-    while c < e {
+    let mut list = [0u8; 200];
+    let count = list_inside(start, e, core, &mut list);
+    let mut done: usize = 0;
+    while done < count {
+        let c = peeling::wide(list[done]);
         let pair = start[c];
-        if pair & core == pair {
-            let a = sets::lowest(pair);
-            let b = peeling::other_end(pair, a);
-            let i = peeling::wide(a);
-            let j = peeling::wide(b);
-            let need = peeling::wide(needs[c]);
-            if free_of(own[i][0], own[i][1], a) + free_of(own[j][0], own[j][1], b) < need {
-                let t = gather(own, need, &mut queue, &mut from, a, b, &mut over);
-                if over != 0 {
-                    return Finding::First {
-                        constraint: c,
-                        set: over,
-                    };
-                }
-                own = t;
+        let a = sets::lowest(pair);
+        let b = peeling::other_end(pair, a);
+        let i = peeling::wide(a);
+        let j = peeling::wide(b);
+        let need = peeling::wide(needs[c]);
+        if free_of(own[i][0], own[i][1], a) + free_of(own[j][0], own[j][1], b) < need {
+            let t = gather(own, need, &mut queue, &mut from, a, b, &mut over);
+            if over != 0 {
+                return Finding::First {
+                    constraint: c,
+                    set: over,
+                };
             }
-            let k = place(own[i][0], own[i][1], own[j][0], a, b);
-            let x = k.element;
-            let s = k.entry;
-            own[x][s] = k.other;
+            own = t;
         }
-        c = c + 1;
+        let k = place(own[i][0], own[i][1], own[j][0], a, b);
+        let x = k.element;
+        let s = k.entry;
+        own[x][s] = k.other;
+        done = done + 1;
     }
     Finding::Fine
 }
