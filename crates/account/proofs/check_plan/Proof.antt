@@ -10,7 +10,6 @@ use Rattle.judge.specs.Judged.Laws.{starts}
 use Rattle.judge.specs.Judged.Short.{more-fault}
 use Rattle.plans.specs.Check.{checkOf}
 use Rattle.account.specs.Account.Answers.{saved-refused, Took, saved-taken}
-use Rattle.account.proofs.check_plan.Statement.{statement}
 use Rattle.account.proofs.check_plan.Tie as tie
 
 returns : tie.Need-returns
@@ -26,16 +25,10 @@ module _ (c : tie.Else1) where
   abbrev graph : Graph
   graph = graphIn (start .args .h) (start .args .start .now) (start .args .sizes .now)
 
-check-plan-requires : tie.Need-check-plan-requires
-check-plan-requires c κs = let d = start c .pre in starts d (omega (arith, c .if1 .left, d .sound .most))
-
 over-after-requires : tie.Need-over-after-requires
 over-after-requires c κs =
     let k = c .before .check-plan .ensures in
     (start (c .before .before) .pre, record { merges = k .merges; valid = k .valid; count = k .count })
-
-returns-2 : tie.Need-returns-2
-returns-2 c = answers-refused (rule-some _ _ (c .before .over-after .ensures _) (c .if2 .taken))
 
 -- it is not over
 module _ (c : tie.Else2) where
@@ -76,8 +69,10 @@ returns-4 c =
     answers-items (c .before .before .put-settled .ensures (took a .merged))
     (rule-none _ (sym (k .before .over-after .ensures _) ∙ k .if2 .left) ∙ took a .gives)
 
-pub check-plan-spec : {M : Type 1} → statement M
+pub check-plan-spec : {M : Type 1} → Rattle.account.proofs.check_plan.Statement.statement M
 check-plan-spec =
     tie.close
-    (tie.spec (λ c. search needs) (λ c. search needs) returns check-plan-requires over-after-requires returns-2 (λ c. search needs) (λ c. search needs) put-settled-requires returns-3
-    (λ c. search needs) returns-4)
+    (tie.spec (λ c. search needs) (λ c. search needs) returns
+    (λ c κs. let d = start c .pre in starts d (omega (arith, c .if1 .left, d .sound .most))) over-after-requires
+    (λ c. answers-refused (rule-some _ _ (c .before .over-after .ensures _) (c .if2 .taken))) (λ c. search needs) (λ c. search needs)
+    put-settled-requires returns-3 (λ c. search needs) returns-4)

@@ -5,7 +5,6 @@ use Rattle.space.specs.Space.{answer, after}
 use Rattle.judge.specs.Judged.Laws.{arrays-long}
 use Rattle.account.specs.Account.Laws.{room, reported, all-small, not-long, one-reported, one-short}
 use Rattle.account.specs.Resting.Laws.{parts}
-use Rattle.account.proofs.put_list.Statement.{statement}
 use Rattle.account.proofs.put_list.Tie as tie
 
 module _ (c : tie.Start) where
@@ -93,7 +92,7 @@ returns-2 c m =
     let w = c .before .before .write-report .ensures in
     (w .0 ∙ ap (λ (l : List ℕ). answer l (s .args .out .now)) r, w .1 ∙ ap (λ (l : List ℕ). after l (s .args .out .now)) r)
 
-pub put-list-spec : {M : Type 1} → statement M
+pub put-list-spec : {M : Type 1} → Rattle.account.proofs.put_list.Statement.statement M
 put-list-spec =
     tie.close
     (tie.spec (λ c. omega (arith, few (c .before))) (λ c. omega (arith, few (c .before)))

@@ -2,7 +2,6 @@
 use Rattle.theory.specs.Prelude.{needs, _≡_, refl, sym, ap, _≢_, [], _∷_, ℕ, zero, suc}
 use Rattle.space.specs.Space.Laws.{put-none, put-as, _then_}
 use Rattle.account.specs.Resting.Pairs.{pairsIn}
-use Rattle.account.proofs.put_pair.Statement.{statement}
 use Rattle.account.proofs.put_pair.Tie as tie
 
 dead : (x l h : ℕ) → x ≡ 0 → pairsIn (x ∷ []) (l ∷ []) (h ∷ []) ≡ []
@@ -21,7 +20,7 @@ returns-2 c =
     let put = low .put-number64 .ensures then high .put-number642 .ensures in
     (put-as (sym (living _ _ _ (low .before .before .if1 .left))) put, search needs)
 
-pub put-pair-spec : {M : Type 1} → statement M
+pub put-pair-spec : {M : Type 1} → Rattle.account.proofs.put_pair.Statement.statement M
 put-pair-spec =
     tie.close
     (tie.spec (λ c. (put-as (sym (dead _ _ _ (c .if1 .taken))) (put-none _ _), search needs)) (λ c κs. search needs) (λ c κs. search needs)

@@ -4,7 +4,6 @@ use Rattle.space.specs.Space.{Put}
 use Rattle.space.specs.Space.Laws.{put-none, put-as, _then_}
 use Rattle.account.specs.Resting.Pairs.{pairsIn}
 use Rattle.account.specs.Resting.Laws.{pairs-next}
-use Rattle.account.proofs.put_pairs.Statement.{statement}
 use Rattle.account.proofs.put_pairs.Tie as tie
 
 abbrev Inv-loop : tie.InvT-loop
@@ -37,9 +36,8 @@ returns c =
     let h : l .c ≡ s .used = omega (arith, l .inv .0, c .loop-test .left) in
     put-as (ap (λ (n : ℕ). pairsIn (take n (s .slots .now)) (take n (s .low .now)) (take n (s .high .now))) h) (l .inv .2)
 
-pub put-pairs-spec : {M : Type 1} → statement M
+pub put-pairs-spec : {M : Type 1} → Rattle.account.proofs.put_pairs.Statement.statement M
 put-pairs-spec =
     tie.close
     (tie.spec Inv-loop μ-loop loop-holds (λ c. search needs) (λ c. search needs) (λ c. search needs) (λ c. search needs) (λ c. search needs)
-    (λ c. search needs) (λ c κs. search needs) (λ c. search needs) (λ c. search needs)
-    loop-again (λ c. c .before .loop .inv .2 .length-is) returns)
+    (λ c. search needs) (λ c κs. search needs) (λ c. search needs) (λ c. search needs) loop-again (λ c. c .before .loop .inv .2 .length-is) returns)

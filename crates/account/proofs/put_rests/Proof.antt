@@ -2,7 +2,6 @@
 use Rattle.theory.specs.Prelude.{needs, _≡_, List, [], ℕ, _≤_, _<_, zero-add, length, take}
 use Rattle.space.specs.Space.Laws.{none-left, put-refused, put-done}
 use Rattle.account.specs.Resting.Pairs.{pairsIn}
-use Rattle.account.proofs.put_rests.Statement.{statement}
 use Rattle.account.proofs.put_rests.Tie as tie
 
 -- what is put
@@ -28,7 +27,7 @@ returns-2 c =
     rw (none p, p .put-pairs .ensures .next-is, zero-add) at (c .before .before .before .before .if1 .left) in
     put-done h (rw (none p) at (c .before .before .put-pairs2 .ensures))
 
-pub put-rests-spec : {M : Type 1} → statement M
+pub put-rests-spec : {M : Type 1} → Rattle.account.proofs.put_rests.Statement.statement M
 put-rests-spec =
     tie.close
     (tie.spec (λ c. search needs) (λ c. search needs) (λ c κs. search needs) (λ c κs. search needs) (λ c. search needs) returns

@@ -2,7 +2,6 @@
 use Rattle.theory.specs.Prelude.{needs, ℕ, arith, _≡_, ap, _∙_, List, length}
 use Rattle.space.specs.Space.{answer, after}
 use Rattle.account.specs.Account.Laws.{room, settled-report}
-use Rattle.account.proofs.put_settled.Statement.{statement}
 use Rattle.account.proofs.put_settled.Tie as tie
 
 module _ (c : tie.Start) where
@@ -26,5 +25,5 @@ returns c m =
     let w = c .before .before .put-list .ensures m in
     (w .0 ∙ ap (λ (l : List ℕ). answer l (s .args .out .now)) r, w .1 ∙ ap (λ (l : List ℕ). after l (s .args .out .now)) r)
 
-pub put-settled-spec : {M : Type 1} → statement M
+pub put-settled-spec : {M : Type 1} → Rattle.account.proofs.put_settled.Statement.statement M
 put-settled-spec = tie.close (tie.spec settle-requires (λ c κs. search needs) (λ c. search needs) returns)

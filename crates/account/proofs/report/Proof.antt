@@ -8,7 +8,6 @@ use Rattle.space.specs.Space.{answer, after}
 use Rattle.report.specs.Report.{overReport}
 use Rattle.account.specs.Account.{reportOf}
 use Rattle.account.specs.Account.Answers.{OverFound, over-found, PlanFound, plan-found}
-use Rattle.account.proofs.report.Statement.{statement}
 use Rattle.account.proofs.report.Tie as tie
 
 abbrev graph : tie.Start → Graph
@@ -52,9 +51,6 @@ module _ (c : tie.After-put-list-arg) where
   plan : PlanFound (graph start-plan) (start-plan .pre .sound) _ (judged .judge-on .ensures _ .plan some)
   plan = plan-found _ _ _ _ some
 
-put-list-requires : tie.Need-put-list-requires
-put-list-requires c κs = let d = start-plan c .pre in (d .sound, counted d, plan c .notOver, plan c .merged)
-
 returns-2 : tie.Need-returns-2
 returns-2 c =
     let a = c .before .before .before in
@@ -66,8 +62,8 @@ returns-2 c =
 judge-on-requires : tie.Need-judge-on-requires
 judge-on-requires c κs = (c .before .before .before .before .pre, record { slots-blank = refl; parts-blank = refl; joints-blank = refl })
 
-pub report-spec : {M : Type 1} → statement M
+pub report-spec : {M : Type 1} → Rattle.account.proofs.report.Statement.statement M
 report-spec =
     tie.close
     (tie.spec judge-on-requires (λ c κs. search needs) write-over-report-requires (λ c. search needs) returns
-    put-list-requires (λ c. search needs) returns-2)
+    (λ c κs. let d = start-plan c .pre in (d .sound, counted d, plan c .notOver, plan c .merged)) (λ c. search needs) returns-2)

@@ -8,7 +8,6 @@ use Rattle.judge.specs.Judged.Lists.{Held, judged-held}
 use Rattle.account.specs.Account.Laws.{room}
 use Rattle.account.specs.Account.Answers.{over-found, PlanFound, plan-found}
 use Rattle.account.specs.Resting.Laws.{parts, pairs-are, none-stored}
-use Rattle.account.proofs.rests.Statement.{statement}
 use Rattle.account.proofs.rests.Tie as tie
 
 abbrev graph : tie.Start → List ℤ → Graph
@@ -65,7 +64,7 @@ returns-2 c z =
     let w = c .before .before .put-rests .ensures in
     (w .0 ∙ ap (λ (l : List ℕ). answer l (s .args .out .now)) e, w .1 ∙ ap (λ (l : List ℕ). after l (s .args .out .now)) e)
 
-pub rests-spec : {M : Type 1} → statement M
+pub rests-spec : {M : Type 1} → Rattle.account.proofs.rests.Statement.statement M
 rests-spec =
     tie.close
     (tie.spec (λ c κs. search needs) (λ c κs. search needs) returns carry-requires

@@ -10,7 +10,6 @@ use Rattle.theory.specs.Verdict.{angled, judged}
 use Rattle.theory.specs.Graph.{listVerdict, verdictOf}
 use Rattle.sheet.specs.Facts.{setOf}
 use Rattle.card.specs.Card.{withEach, eachTwo, standing, pointsSheet, setVerdict, allRight}
-use Rattle.card.proofs.card.Statement.{statement}
 use Rattle.card.proofs.card.Tie as tie
 
 returns : tie.Need-returns
@@ -20,5 +19,5 @@ unfolding allRight setVerdict pointsSheet standing eachTwo withEach verdictOf li
     has carried pair setOf ones _∩_ _∪_
 returns c = tt
 
-pub card-spec : {M : Type 1} → statement M
+pub card-spec : {M : Type 1} → Rattle.card.proofs.card.Statement.statement M
 card-spec = tie.close (tie.spec returns)

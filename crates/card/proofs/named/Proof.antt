@@ -3,7 +3,6 @@ use Rattle.theory.specs.Prelude.{_≡_, refl, sym, ap, _∙_, true, false, ℕ,
 use Rattle.theory.specs.declared.Verdict.{Verdict}
 use Rattle.theory.specs.declared.Verdict.the-variants.{Over, Angle, Well, Stuck, Under}
 use Rattle.card.specs.Card.{initial}
-use Rattle.card.proofs.named.Statement.{statement}
 use Rattle.card.proofs.named.Tie as tie
 
 -- the verdict by its letter
@@ -48,5 +47,5 @@ returns-5 c Well e = absurd (omega arith)
 returns-5 c Stuck e = absurd (omega arith)
 returns-5 c Under e = refl
 
-pub named-spec : {M : Type 1} → statement M
+pub named-spec : {M : Type 1} → Rattle.card.proofs.named.Statement.statement M
 named-spec = tie.close (tie.spec returns returns-2 returns-3 returns-4 returns-5)

@@ -1,7 +1,6 @@
 -- `chain::around` meets its contract: the loop keeps `Looked`. Assumes nothing.
 use Rattle.theory.specs.Prelude.{sym, subst, ⊎-elim, ℕ, _+_, _-_, _<_, arith, needs}
 use Rattle.chain.proofs.Loops.{shares, shares-none, Looked, looked-none, looked-yes, looked-no, looked-all}
-use Rattle.chain.proofs.around.Statement.{statement}
 use Rattle.chain.proofs.around.Tie as tie
 
 abbrev Inv-loop : tie.InvT-loop
@@ -23,10 +22,9 @@ loop-again c =
     (λ w. subst (λ (x : ℕ). Looked (a .slots .now) (a .b) x (l .k + 1)) (sym (w .1)) (looked-no (l .inv) (shares-none e (w .0 .left))))
     (c .if1 .came)
 
-pub around-spec : {M : Type 1} → statement M
+pub around-spec : {M : Type 1} → Rattle.chain.proofs.around.Statement.statement M
 around-spec =
     tie.close
     (tie.spec Inv-loop μ-loop (λ c. looked-none) (λ c. omega (arith, low c)) low (λ c κs. search needs)
-    (λ c. omega (arith, low (c .before .before .before)))
-    (λ c. let t = c .before .before .before .loop-test .taken in omega (arith, t)) loop-again
+    (λ c. omega (arith, low (c .before .before .before))) (λ c. let t = c .before .before .before .loop-test .taken in omega (arith, t)) loop-again
     (λ c. looked-all (c .before .loop .inv) (c .before .before .pre) (omega (arith, c .loop-test .left))))

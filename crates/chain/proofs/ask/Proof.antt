@@ -1,7 +1,6 @@
 -- `chain::ask` meets its contract: 25, else the chain. Assumes nothing.
 use Rattle.theory.specs.Prelude.{arith, needs}
 use Rattle.chain.specs.Answer.Merged.{start-beyond, end-beyond, both-below}
-use Rattle.chain.proofs.ask.Statement.{statement}
 use Rattle.chain.proofs.ask.Tie as tie
 
 returns : tie.Need-returns
@@ -24,5 +23,5 @@ returns-3 c =
     (omega (arith, c .before .before .before .before .if2 .left))
     (c .before .before .find .ensures)
 
-pub ask-spec : {M : Type 1} → statement M
+pub ask-spec : {M : Type 1} → Rattle.chain.proofs.ask.Statement.statement M
 ask-spec = tie.close (tie.spec returns returns-2 find-requires (λ c. search needs) returns-3)

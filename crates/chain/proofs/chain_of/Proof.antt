@@ -6,7 +6,6 @@ use Rattle.graph.specs.Lent.Sheets.{counted, found-fine, fine-few}
 use Rattle.judge.specs.Judged.Laws.{starts}
 use Rattle.chain.specs.Answer.{asked}
 use Rattle.chain.specs.Answer.Merged.{ruled, unruled}
-use Rattle.chain.proofs.chain_of.Statement.{statement}
 use Rattle.chain.proofs.chain_of.Tie as tie
 
 returns-2 : tie.Need-returns-2
@@ -28,7 +27,7 @@ returns-3 c = λ z.
     (sym (c .before .before .before .before .before .over-fault .ensures z) ∙ c .before .before .before .before .if2 .left)
     (c .before .before .fine-chain .ensures z)
 
-pub chain-of-spec : {M : Type 1} → statement M
+pub chain-of-spec : {M : Type 1} → Rattle.chain.proofs.chain_of.Statement.statement M
 chain-of-spec =
     tie.close
     (tie.spec (λ c. omega (arith, c .before .before .pre .few)) (λ c. omega (arith, c .before .before .before .pre .sound .most))

@@ -1,7 +1,6 @@
 -- `chain::find` meets its contract: from an element to itself, by none, or by the run that the search finds. Assumes nothing.
 use Rattle.theory.specs.Prelude.{refl, arith, needs}
 use Rattle.chain.specs.Answer.Laws.{answered-same, answered-none, found-way, found-short, found-run}
-use Rattle.chain.proofs.find.Statement.{statement}
 use Rattle.chain.proofs.find.Tie as tie
 
 returns-3 : tie.Need-returns-3
@@ -21,7 +20,7 @@ returns-4 c =
     found-run (c .before .before .before .before .before .before .before .spread .ensures)
     (c .before .before .before .before .before .before .if2 .left) (omega (arith, c .before .before .before .before .before .if3 .left)) (w .0) (w .1)
 
-pub find-spec : {M : Type 1} → statement M
+pub find-spec : {M : Type 1} → Rattle.chain.proofs.find.Statement.statement M
 find-spec =
     tie.close
     (tie.spec (λ c. answered-same (c .if1 .taken))

@@ -3,7 +3,6 @@ use Rattle.theory.specs.Prelude.{refl, [], arith, needs}
 use Rattle.graph.specs.Lent.{graphIn}
 use Rattle.merges.specs.Search.Laws.{begins}
 use Rattle.chain.specs.Answer.Merged.{few-steps, left-begun, asked-left}
-use Rattle.chain.proofs.fine_chain.Statement.{statement}
 use Rattle.chain.proofs.fine_chain.Tie as tie
 
 ask-requires : tie.Need-ask-requires
@@ -26,7 +25,7 @@ returns c = λ z.
     (c .before .before .before .before .before .before .before .before .before .merge-on .ensures) (p .1) g refl)
     (c .before .before .ask .ensures)
 
-pub fine-chain-spec : {M : Type 1} → statement M
+pub fine-chain-spec : {M : Type 1} → Rattle.chain.proofs.fine_chain.Statement.statement M
 fine-chain-spec =
     tie.close
     (tie.spec (λ c κs. c .before .pre .0) (λ c κs. begins (c .before .before .before .before .before .before .before .pre .0)

@@ -1,7 +1,6 @@
 -- `chain::first_in` meets its contract: the loop keeps `Passed`. Assumes nothing.
 use Rattle.theory.specs.Prelude.{_-_, _<_, arith, needs, and-le-r, trailingZeros}
 use Rattle.chain.proofs.Loops.{shares, shares-none, Passed, passed-none, passed-low, passed-next, passed-here, passed-end}
-use Rattle.chain.proofs.first_in.Statement.{statement}
 use Rattle.chain.proofs.first_in.Tie as tie
 
 abbrev Inv-loop : tie.InvT-loop
@@ -27,7 +26,7 @@ loop-again : tie.Need-loop-again Inv-loop μ-loop
 loop-again c = passed-next (c .before .before .before .before .loop .inv) (c .before .before .before .loop-test .taken)
     (shares-none (c .before .shared .ensures) (c .if1 .left))
 
-pub first-in-spec : {M : Type 1} → statement M
+pub first-in-spec : {M : Type 1} → Rattle.chain.proofs.first_in.Statement.statement M
 first-in-spec =
     tie.close
     (tie.spec Inv-loop μ-loop (λ c. passed-none (search needs)) (λ c. omega (arith, c .before .before .pre)) (λ c. omega (arith, low c))

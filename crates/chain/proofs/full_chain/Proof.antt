@@ -11,7 +11,6 @@ use Rattle.merges.specs.Search.Laws.{begins}
 use Rattle.judge.specs.Judged.Laws.{starts}
 use Rattle.chain.specs.Answer.{asked}
 use Rattle.chain.specs.Answer.Merged.{few-steps, one-not-over, left-begun, asked-left, ruled, unruled}
-use Rattle.chain.proofs.full_chain.Statement.{statement}
 use Rattle.chain.proofs.full_chain.Tie as tie
 
 begun : {h : Head} {near start : List ℕ} → Drawn h near start × (h .e + 3 ≡ 2 * h .n) → Start start (h .e)
@@ -86,7 +85,7 @@ returns-3 c = λ z.
     .before .before .before .before .before .before .before .merge-on .ensures) (found (c .before .before .before .before .before .before
     .before .before) (c .before .before .before .before .before .before .before .if2 .left)) g refl) (c .before .before .ask2 .ensures))
 
-pub full-chain-spec : {M : Type 1} → statement M
+pub full-chain-spec : {M : Type 1} → Rattle.chain.proofs.full_chain.Statement.statement M
 full-chain-spec =
     tie.close
     (tie.spec (λ c κs. begun (c .before .pre)) (λ c κs. begins (begun (c .before .before .before .before .before .before .before .pre))

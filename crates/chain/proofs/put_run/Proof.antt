@@ -3,7 +3,6 @@ use Rattle.theory.specs.Prelude.{sym, subst, ℕ, suc, _+_, _*_, _-_, _<_, arit
 use Rattle.chain.specs.Chain.Lead.{Nearer}
 use Rattle.chain.specs.Layers.{Going}
 use Rattle.chain.specs.Layers.Forward.{going-start, going-nearer, going-last, going-next, going-end}
-use Rattle.chain.proofs.put_run.Statement.{statement}
 use Rattle.chain.proofs.put_run.Tie as tie
 
 abbrev Inv-loop : tie.InvT-loop
@@ -51,7 +50,7 @@ returns : tie.Need-returns Inv-loop μ-loop
 returns c = going-end (c .before .before .before .loop .inv) (omega (arith, c .before .before .loop-test .left))
     (c .before .before .before .before .before .before .pre .4) (last c .1)
 
-pub put-run-spec : {M : Type 1} → statement M
+pub put-run-spec : {M : Type 1} → Rattle.chain.proofs.put_run.Statement.statement M
 put-run-spec =
     tie.close
     (tie.spec Inv-loop μ-loop (λ c κs. c .before .pre .2) loop-holds (λ c. let t = c .loop-test .taken in omega (arith, t))

@@ -3,7 +3,6 @@ use Rattle.theory.specs.Prelude.{_-_, _≤_, arith, needs}
 use Rattle.theory.specs.Set.{_∩_}
 use Rattle.chain.specs.Layers.{Spreading}
 use Rattle.chain.specs.Layers.Laws.{met, unmet, spread-begin, spread-next, spread-low, spread-found, spread-none}
-use Rattle.chain.proofs.spread.Statement.{statement}
 use Rattle.chain.proofs.spread.Tie as tie
 
 abbrev Inv-loop : tie.InvT-loop
@@ -45,7 +44,7 @@ loop-again c =
     (unmet (a .from) (l .all) (c .before .before .before .before .before .before .before .single .ensures) (c .before .before .shared .ensures)
     (c .before .if1 .left)) (search needs) (omega (arith, room c))
 
-pub spread-spec : {M : Type 1} → statement M
+pub spread-spec : {M : Type 1} → Rattle.chain.proofs.spread.Statement.statement M
 spread-spec =
     tie.close
     (tie.spec Inv-loop μ-loop (λ c κs. c .pre .2) (λ c κs. c .before .pre .3) (λ c κs. c .before .before .pre .0) loop-holds (λ c κs. search needs)

@@ -2,7 +2,6 @@
 use Rattle.theory.specs.Prelude.{_-_, _<_, arith, needs, and-le-r, trailingZeros}
 use Rattle.theory.specs.Set.Lowest.{lowest-below}
 use Rattle.chain.proofs.Loops.{Turning, turning-none, turning-next, turning-all}
-use Rattle.chain.proofs.turn.Statement.{statement}
 use Rattle.chain.proofs.turn.Tie as tie
 
 abbrev Inv-loop : tie.InvT-loop
@@ -20,13 +19,12 @@ loop-less c =
     let r = c .before .before .before .before .before .loop .rest in
     let n = c .before .before .before .before .loop-test .taken in omega (arith, n, and-le-r r (r - 1))
 
-pub turn-spec : {M : Type 1} → statement M
+pub turn-spec : {M : Type 1} → Rattle.chain.proofs.turn.Statement.statement M
 turn-spec =
     tie.close
     (tie.spec Inv-loop μ-loop (λ c. turning-none (search needs)) (λ c. omega (arith, low c)) (λ c. omega (arith, low c)) low
     (λ c. omega (arith, low (c .before))) (λ c. omega (arith, low (c .before))) (λ c. omega (arith, low (c .before .before)))
-    (λ c. omega (arith, low (c .before .before)))
-    (λ c. omega (arith, low (c .before .before))) (λ c. omega (arith, low (c .before .before .before)))
+    (λ c. omega (arith, low (c .before .before))) (λ c. omega (arith, low (c .before .before))) (λ c. omega (arith, low (c .before .before .before)))
     (λ c. omega (arith, low (c .before .before .before))) (λ c. omega (arith, low (c .before .before .before)))
     (λ c. let n = c .before .before .before .before .loop-test .taken in omega (arith, n)) loop-less
     (λ c. turning-next (c .before .before .before .before .before .loop .inv) (c .before .before .before .before .loop-test .taken))

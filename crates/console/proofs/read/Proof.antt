@@ -4,7 +4,6 @@ use Prim.Native.Nat.{_-_, _≤_}
 use mathlib.Core.Path.{_≡_}
 use lib.ListN.{length}
 use Rattle.console.proofs.Counting.{counts}
-use Rattle.console.proofs.read.Statement.{statement}
 use Rattle.console.proofs.read.Tie as tie
 
 abbrev Inv-loop : tie.InvT-loop
@@ -13,7 +12,7 @@ Inv-loop fd name buffer₀ count₀ buffer count = (length buffer ≡ length buf
 abbrev μ-loop : tie.MeasureT-loop
 μ-loop fd name buffer₀ count₀ buffer count = length buffer₀ - count
 
-pub read-spec : {M : Type 1} → statement M
+pub read-spec : {M : Type 1} → Rattle.console.proofs.read.Statement.statement M
 read-spec =
     tie.close
     (tie.spec Inv-loop μ-loop (λ c. search needs) (λ c. search needs) (λ c. search needs) (λ c. search needs) (λ c κs. search needs)

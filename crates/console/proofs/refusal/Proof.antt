@@ -3,7 +3,6 @@ use borrow.Author.Needs.{needs}
 use native.Mathlib.Omega.{arith}
 use Rattle.space.specs.Space.Laws.{put-stands, _then_}
 use Rattle.space.specs.Text.Laws.{decimal-length}
-use Rattle.console.proofs.refusal.Statement.{statement}
 use Rattle.console.proofs.refusal.Tie as tie
 
 put-decimal-requires : tie.Need-put-decimal-requires
@@ -28,5 +27,5 @@ returns c =
       put-stands (omega (arith, put .next-is, start .pre, three, text .put-text .ensures .next-is, b, c .put-byte .ensures .next-is)) put,
     )
 
-pub refusal-spec : {M : Type 1} → statement M
+pub refusal-spec : {M : Type 1} → Rattle.console.proofs.refusal.Statement.statement M
 refusal-spec = tie.close (tie.spec (λ c. search needs) (λ c κs. search needs) put-decimal-requires put-byte-requires returns)

@@ -3,7 +3,6 @@ use Rattle.theory.specs.Prelude.{_≡_, ℕ, arith, needs, pow-pos}
 use Rattle.theory.specs.Set.Less.{at-room}
 use Rattle.cycles.specs.Cycle.{HoldsLinked}
 use Rattle.cycles.specs.Cycle.Laws.{taken-alone, none-linked}
-use Rattle.cycles.proofs.independent.Statement.{statement}
 use Rattle.cycles.proofs.independent.Tie as tie
 
 abbrev Inv-loop : tie.InvT-loop
@@ -11,9 +10,6 @@ Inv-loop near set todo₀ todo = HoldsLinked near set todo
 
 abbrev μ-loop : tie.MeasureT-loop
 μ-loop near set todo₀ todo = todo
-
-loop-holds : tie.Need-loop-holds Inv-loop μ-loop
-loop-holds c = λ x y h k n. h
 
 sub-todo : tie.Need-sub-todo Inv-loop μ-loop
 sub-todo c =
@@ -39,20 +35,8 @@ returns c e = let z : _≡_ {A = ℕ} 0 1 = cc in absurd (omega arith)
 returns-2 : tie.Need-returns-2 Inv-loop μ-loop
 returns-2 c e = none-linked (c .before .before .args .near .now) _ (c .before .loop .todo) (c .before .loop .inv) (omega (arith, c .loop-test .left))
 
-pub independent-spec : {M : Type 1} → statement M
+pub independent-spec : {M : Type 1} → Rattle.cycles.proofs.independent.Statement.statement M
 independent-spec =
     tie.close
-    (tie.spec
-    Inv-loop
-    μ-loop
-    loop-holds
-    (λ c κs. search needs)
-    (λ c. search needs)
-    (λ c. search needs)
-    (λ c. search needs)
-    returns
-    (λ c κs. search needs)
-    sub-todo
-    loop-less
-    loop-again
-    returns-2)
+    (tie.spec Inv-loop μ-loop (λ c. λ x y h k n. h) (λ c κs. search needs) (λ c. search needs) (λ c. search needs) (λ c. search needs) returns
+    (λ c κs. search needs) sub-todo loop-less loop-again returns-2)

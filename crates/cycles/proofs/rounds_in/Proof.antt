@@ -5,7 +5,6 @@ use Rattle.theory.specs.Set.Laws.{a∩b⊑b, at-le}
 use Rattle.theory.specs.Set.Less.{at-room}
 use Rattle.cycles.specs.Cycle.{Holds}
 use Rattle.cycles.specs.Cycle.Laws.{todo-in, todo-less}
-use Rattle.cycles.proofs.rounds_in.Statement.{statement}
 use Rattle.cycles.proofs.rounds_in.Tie as tie
 
 abbrev Inv-loop : tie.InvT-loop
@@ -43,20 +42,8 @@ loop-again c =
       λ a r low. c .without-run .ensures a r (l .inv .1 a r low),
     )
 
-returns : tie.Need-returns Inv-loop μ-loop
-returns c = c .before .loop .inv .1
-
-pub rounds-in-spec : {M : Type 1} → statement M
+pub rounds-in-spec : {M : Type 1} → Rattle.cycles.proofs.rounds_in.Statement.statement M
 rounds-in-spec =
     tie.close
-    (tie.spec
-    Inv-loop
-    μ-loop
-    loop-holds
-    (λ c κs. search needs)
-    (λ c κs. search needs)
-    without-run-requires
-    sub-todo
-    loop-less
-    loop-again
-    returns)
+    (tie.spec Inv-loop μ-loop loop-holds (λ c κs. search needs) (λ c κs. search needs) without-run-requires sub-todo loop-less loop-again
+    (λ c. c .before .loop .inv .1))

@@ -3,7 +3,6 @@ use Rattle.theory.specs.Prelude.{_≡_, ℕ, arith, needs, not-false, pow-pos}
 use Rattle.theory.specs.Set.Less.{at-room}
 use Rattle.cycles.specs.Cycle.{HoldsThrees}
 use Rattle.cycles.specs.Cycle.Laws.{taken-three, none-three}
-use Rattle.cycles.proofs.threes.Statement.{statement}
 use Rattle.cycles.proofs.threes.Tie as tie
 
 abbrev Inv-loop : tie.InvT-loop
@@ -11,9 +10,6 @@ Inv-loop near all todo₀ todo = HoldsThrees near all todo
 
 abbrev μ-loop : tie.MeasureT-loop
 μ-loop near all todo₀ todo = todo
-
-loop-holds : tie.Need-loop-holds Inv-loop μ-loop
-loop-holds c = λ a r three sub. sub
 
 sub-todo : tie.Need-sub-todo Inv-loop μ-loop
 sub-todo c =
@@ -40,21 +36,8 @@ returns c e = let z : _≡_ {A = ℕ} 0 1 = cc in absurd (omega arith)
 returns-2 : tie.Need-returns-2 Inv-loop μ-loop
 returns-2 c e = none-three (c .before .before .args .near .now) _ (c .before .loop .todo) (c .before .loop .inv) (omega (arith, c .loop-test .left))
 
-pub threes-spec : {M : Type 1} → statement M
+pub threes-spec : {M : Type 1} → Rattle.cycles.proofs.threes.Statement.statement M
 threes-spec =
     tie.close
-    (tie.spec
-    Inv-loop
-    μ-loop
-    loop-holds
-    (λ c κs. search needs)
-    (λ c. search needs)
-    (λ c κs. search needs)
-    sub-todo
-    (λ c. search needs)
-    (λ c. search needs)
-    (λ c κs. search needs)
-    returns
-    loop-less
-    loop-again
-    returns-2)
+    (tie.spec Inv-loop μ-loop (λ c. λ a r three sub. sub) (λ c κs. search needs) (λ c. search needs) (λ c κs. search needs) sub-todo
+    (λ c. search needs) (λ c. search needs) (λ c κs. search needs) returns loop-less loop-again returns-2)

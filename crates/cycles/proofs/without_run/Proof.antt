@@ -5,7 +5,6 @@ use Rattle.theory.specs.Set.Laws.{∈-∩⁻}
 use Rattle.theory.specs.Set.Less.{at-room}
 use Rattle.cycles.specs.Cycle.{Holds}
 use Rattle.cycles.specs.Cycle.Laws.{taken-code}
-use Rattle.cycles.proofs.without_run.Statement.{statement}
 use Rattle.cycles.proofs.without_run.Tie as tie
 
 abbrev Inv-loop : tie.InvT-loop
@@ -13,9 +12,6 @@ Inv-loop near all first left₀ x₀ left x = (x < 64) × (x ∈ left) × Holds 
 
 abbrev μ-loop : tie.MeasureT-loop
 μ-loop near all first left₀ x₀ left x = left
-
-loop-holds : tie.Need-loop-holds Inv-loop μ-loop
-loop-holds c = (c .pre .0, c .pre .1, λ a r sub. sub)
 
 sub-rest : tie.Need-sub-rest Inv-loop μ-loop
 sub-rest c = omega (arith, at-room (c .before .loop .x) (c .before .loop .left) (c .before .loop .inv .1), c .single .ensures)
@@ -39,9 +35,6 @@ loop-again c =
           (omega (arith, c .before .before .if1 .left)),
     )
 
-returns : tie.Need-returns Inv-loop μ-loop
-returns c = c .before .before .before .before .loop .inv .2
-
 returns-2 : tie.Need-returns-2 Inv-loop μ-loop
 returns-2 c =
     let l = c .before .before .before .before .before .loop in
@@ -49,21 +42,9 @@ returns-2 c =
     let w = c .before .before .without-lowest in
     taken-code _ _ (l .left) (l .x) (s .result) (w .result) (l .inv .2) (l .inv .1) (s .ensures) (w .ensures) (omega (arith, c .before .if1 .left))
 
-pub without-run-spec : {M : Type 1} → statement M
+pub without-run-spec : {M : Type 1} → Rattle.cycles.proofs.without_run.Statement.statement M
 without-run-spec =
     tie.close
-    (tie.spec
-    Inv-loop
-    μ-loop
-    loop-holds
-    (λ c κs. search needs)
-    sub-rest
-    (λ c. search needs)
-    (λ c. search needs)
-    (λ c. search needs)
-    (λ c κs. search needs)
-    returns
-    returns-2
-    (λ c κs. search needs)
-    loop-less
+    (tie.spec Inv-loop μ-loop (λ c. (c .pre .0, c .pre .1, λ a r sub. sub)) (λ c κs. search needs) sub-rest (λ c. search needs) (λ c. search needs)
+    (λ c. search needs) (λ c κs. search needs) (λ c. c .before .before .before .before .loop .inv .2) returns-2 (λ c κs. search needs) loop-less
     loop-again)

@@ -5,7 +5,6 @@ use Rattle.sheet.specs.Field.{refused}
 use Rattle.fields.specs.declared.NumberRead.{NumberRead}
 use Rattle.fields.specs.Answers.{ruleOf, asNumber}
 use Rattle.elements.specs.Round.Elements.{straight-element, circle-cut, circle-out, circle-read, stored-none, stored-circle}
-use Rattle.elements.proofs.read_element.Statement.{statement}
 use Rattle.elements.proofs.read_element.Tie as tie
 
 returns : tie.Need-returns
@@ -47,7 +46,7 @@ returns-4 c =
       stored-circle (g .0 .0) (a .i) (a .radii .now) (omega (arith, s .pre .0, s .pre .1)),
     )
 
-pub read-element-spec : {M : Type 1} → statement M
+pub read-element-spec : {M : Type 1} → Rattle.elements.proofs.read_element.Statement.statement M
 read-element-spec =
     tie.close
     (tie.spec returns (λ c κs. search needs) (λ c. search needs) (λ c. search needs) (λ c κs. search needs) returns-2 cast-r

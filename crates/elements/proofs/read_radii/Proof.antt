@@ -5,7 +5,6 @@ use Rattle.sheet.specs.Facts.Laws.{kindsOf-length}
 use Rattle.sheet.specs.Decode.{element}
 use Rattle.elements.specs.Round.{roundNumber, roundKinds}
 use Rattle.elements.specs.Round.Elements.{Partway, partway-none, partway-more, partway-refused, partway-end}
-use Rattle.elements.proofs.read_radii.Statement.{statement}
 use Rattle.elements.proofs.read_radii.Tie as tie
 
 abbrev Inv-loop : tie.InvT-loop
@@ -53,7 +52,7 @@ returns-2 c =
     let s = c .before .before .before in
     (a .inv .1 .es, partway-end (a .inv .1) (omega (arith, ks-long s)), a .inv .1 .stand)
 
-pub read-radii-spec : {M : Type 1} → statement M
+pub read-radii-spec : {M : Type 1} → Rattle.elements.proofs.read_radii.Statement.statement M
 read-radii-spec =
     tie.close
     (tie.spec Inv-loop μ-loop (λ c. omega arith) (λ c. omega arith) loop-holds (λ c κs. omega arith) (λ c κs. (omega arith, omega arith))

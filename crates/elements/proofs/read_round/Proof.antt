@@ -7,7 +7,6 @@ use Rattle.fields.specs.declared.PlaceRead.{PlaceRead}
 use Rattle.fields.specs.Answers.{ruleOf, asPlace}
 use Rattle.elements.specs.Round.{roundNumber, roundKinds, SetsOf}
 use Rattle.elements.specs.Answers.Laws.{round-cut, round-unused, round-unknown, round-known, round-length, round-kinds}
-use Rattle.elements.proofs.read_round.Statement.{statement}
 use Rattle.elements.proofs.read_round.Tie as tie
 
 returns : tie.Need-returns
@@ -75,7 +74,7 @@ returns-5 c =
       round-kinds (a .s .now) (a .c .at) (a .n) t (sets d) (read .1) (read .2),
     )
 
-pub read-round-spec : {M : Type 1} → statement M
+pub read-round-spec : {M : Type 1} → Rattle.elements.proofs.read_round.Statement.statement M
 read-round-spec =
     tie.close
     (tie.spec (λ c. search needs) (λ c κs. search needs) returns (λ c κs. (omega arith, room c)) returns-2

@@ -4,7 +4,6 @@ use Rattle.sheet.specs.declared.Opening.the-variants.{Pf02}
 use Rattle.sheet.specs.Facts.Laws.{kindsOf-length}
 use Rattle.elements.specs.Round.{roundNumber, roundKinds, placesOf, SetsOf}
 use Rattle.elements.specs.Round.Laws.{sets-none, sets-more, kind-before, bit-le, places-small}
-use Rattle.elements.proofs.read_sets.Statement.{statement}
 use Rattle.elements.proofs.read_sets.Tie as tie
 
 abbrev Inv-loop : tie.InvT-loop
@@ -34,16 +33,10 @@ fits c j =
     places-small j (roundKinds (s .args .s .now) (s .args .at) (s .args .n)) (s .args .n) (c .before .loop .i) (ks-long s) (s .pre .0)
     (c .loop-test .taken) (c .before .loop .inv .0)
 
-mul-lines : tie.Need-mul-lines Inv-loop μ-loop
-mul-lines c = omega (arith, fits (c .before) 1, c .before .before .loop .inv .1 .lines-are)
-
 add-lines : tie.Need-add-lines Inv-loop μ-loop
 add-lines c =
     let t = c .before .before in
     omega (arith, fits t 1, t .before .loop .inv .1 .lines-are, c .bit .ensures, bit-le (eqb (c .before .kind-of .result) 1))
-
-mul-circles : tie.Need-mul-circles Inv-loop μ-loop
-mul-circles c = let t = c .before .before in omega (arith, fits t 2, t .before .loop .inv .1 .circles-are)
 
 add-circles : tie.Need-add-circles Inv-loop μ-loop
 add-circles c =
@@ -75,8 +68,10 @@ returns c =
     let a = c .before .loop in
     let z : a .i ≡ 0 = omega arith in rw z at (a .inv .1)
 
-pub read-sets-spec : {M : Type 1} → statement M
+pub read-sets-spec : {M : Type 1} → Rattle.elements.proofs.read_sets.Statement.statement M
 read-sets-spec =
     tie.close
-    (tie.spec Inv-loop μ-loop loop-holds (λ c. search needs) (λ c κs. omega arith) mul-lines (λ c κs. search needs) add-lines mul-circles
-    (λ c κs. search needs) add-circles (λ c κs. search needs) (λ c. search needs) loop-again returns)
+    (tie.spec Inv-loop μ-loop loop-holds (λ c. search needs) (λ c κs. omega arith)
+    (λ c. omega (arith, fits (c .before) 1, c .before .before .loop .inv .1 .lines-are)) (λ c κs. search needs) add-lines
+    (λ c. let t = c .before .before in omega (arith, fits t 2, t .before .loop .inv .1 .circles-are)) (λ c κs. search needs) add-circles
+    (λ c κs. search needs) (λ c. search needs) loop-again returns)

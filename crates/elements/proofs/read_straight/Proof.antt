@@ -4,7 +4,6 @@ use Rattle.sheet.specs.Field.{refused}
 use Rattle.fields.specs.declared.NumberRead.{NumberRead}
 use Rattle.fields.specs.Answers.{ruleOf, asNumber}
 use Rattle.elements.specs.Answers.Laws.{straight, straight-length, straight-kinds, straight-cut, straight-unused, straight-whole}
-use Rattle.elements.proofs.read_straight.Statement.{statement}
 use Rattle.elements.proofs.read_straight.Tie as tie
 
 returns : tie.Need-returns
@@ -37,7 +36,7 @@ returns-3 c =
       straight-kinds (a .n) m radii (ltb-true _ _ h),
     )
 
-pub read-straight-spec : {M : Type 1} → statement M
+pub read-straight-spec : {M : Type 1} → Rattle.elements.proofs.read_straight.Statement.statement M
 read-straight-spec =
     tie.close
     (tie.spec (λ c. search needs) (λ c κs. omega arith) (λ c. search needs) (λ c. search needs) (λ c κs. search needs)

@@ -2,7 +2,6 @@
 use Rattle.theory.specs.Prelude.{needs, ℕ, _+_, _*_, _-_, _/_, _%_, _^_, sym, ap, _∙_, eqb}
 use Rattle.sheet.specs.Field.{Bytes}
 use Rattle.elements.specs.Round.Laws.{last-used}
-use Rattle.elements.proofs.round_bits_used.Statement.{statement}
 use Rattle.elements.proofs.round_bits_used.Tie as tie
 
 returns : tie.Need-returns
@@ -12,7 +11,7 @@ returns c =
     ap (λ (b : ℕ). eqb (b / 2 ^ (2 * ((k .args .n - 1) % 4 + 1))) 0) (c .wide .ensures)
     ∙ sym (last-used (k .args .s .now) all (k .args .at) (k .args .n) (k .pre .0) (k .pre .1))
 
-pub round-bits-used-spec : {M : Type 1} → statement M
+pub round-bits-used-spec : {M : Type 1} → Rattle.elements.proofs.round_bits_used.Statement.statement M
 round-bits-used-spec =
     tie.close
     (tie.spec (λ c. search needs) (λ c. search needs) (λ c. search needs) (λ c κs. search needs) (λ c. search needs) (λ c. search needs)

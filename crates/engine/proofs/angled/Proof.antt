@@ -3,7 +3,6 @@ use Rattle.theory.specs.Prelude.{_≡_, refl, sym, ap, _∙_, Bool, _||_, List,
 use Rattle.theory.specs.Prelude.{length, take, drop, getD, length-take, drop-of-length-le, drop-cons, getD-take}
 use Rattle.theory.specs.Set.{_∩_}
 use Rattle.theory.specs.Verdict.{angled, allLines}
-use Rattle.engine.proofs.angled.Statement.{statement}
 use Rattle.engine.proofs.angled.Tie as tie
 
 abbrev Inv-loop : tie.InvT-loop
@@ -24,9 +23,6 @@ module _ (lines : ℕ) (joints : List ℕ) (steps i : ℕ) (long : length joints
   ahead-is : angled lines (drop i (take steps joints)) ≡ (allLines lines (getD joints i 0) || angled lines (drop (i + 1) (take steps joints)))
   unfolding angled
   ahead-is = ap (angled lines) ahead
-
-loop-holds : tie.Need-loop-holds Inv-loop μ-loop
-loop-holds c = (search needs, refl)
 
 returns : tie.Need-returns Inv-loop μ-loop
 unfolding _∩_
@@ -54,8 +50,8 @@ returns-2 c =
     let h : length (take (a .steps) (a .joints .now)) ≤ l .i = omega (arith, length-take (a .steps) (a .joints .now)) in
     sym (l .inv .1 ∙ ap (angled (a .lines)) (drop-of-length-le (take (a .steps) (a .joints .now)) h))
 
-pub angled-spec : {M : Type 1} → statement M
+pub angled-spec : {M : Type 1} → Rattle.engine.proofs.angled.Statement.statement M
 angled-spec =
     tie.close
-    (tie.spec Inv-loop μ-loop loop-holds (λ c. search needs) (λ c. search needs) returns (λ c. search needs)
-    (λ c. search needs) loop-again returns-2)
+    (tie.spec Inv-loop μ-loop (λ c. (search needs, refl)) (λ c. search needs) (λ c. search needs) returns (λ c. search needs) (λ c. search needs)
+    loop-again returns-2)

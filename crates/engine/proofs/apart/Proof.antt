@@ -4,7 +4,6 @@ use mir.Syntax.{w32, w64}
 use mir.Val.{SFits, toZ, ofZ}
 use mir.Facts.{toZ-ofZ}
 use Rattle.engine.proofs.Signed.{abs-mag, mag-difference, difference-fits, wide, widened}
-use Rattle.engine.proofs.apart.Statement.{statement}
 use Rattle.engine.proofs.apart.Tie as tie
 
 -- the difference of the two numbers as they are
@@ -20,23 +19,13 @@ taken : (c : tie.Start)
     ≡ c .args .y -ℤ c .args .x
 taken c = ap (λ (z : ℤ). toZ w64 (ofZ w64 z)) (difference c) ∙ toZ-ofZ (fits c)
 
-cast-magnitude : tie.Need-cast-magnitude
-cast-magnitude c = wide (c .args .y) (c .fits .y)
-
-cast-magnitude-2 : tie.Need-cast-magnitude-2
-cast-magnitude-2 c = wide (c .args .x) (c .fits .x)
-
-sub-magnitude : tie.Need-sub-magnitude
-sub-magnitude c = subst (SFits w64) (sym (difference c)) (fits c)
-
 magnitude-requires : tie.Need-magnitude-requires
 magnitude-requires c κs =
     subst (λ (z : ℤ). natAbs z < 8589934592) (sym (taken c))
     (omega (arith, abs-mag (c .args .y -ℤ c .args .x), mag-difference (c .args .y) (c .args .x) (c .fits .y) (c .fits .x)))
 
-returns : tie.Need-returns
-returns c = c .magnitude .ensures ∙ ap natAbs (taken (c .before))
-
-pub apart-spec : {M : Type 1} → statement M
+pub apart-spec : {M : Type 1} → Rattle.engine.proofs.apart.Statement.statement M
 apart-spec =
-    tie.close (tie.spec cast-magnitude cast-magnitude-2 sub-magnitude magnitude-requires returns)
+    tie.close
+    (tie.spec (λ c. wide (c .args .y) (c .fits .y)) (λ c. wide (c .args .x) (c .fits .x)) (λ c. subst (SFits w64) (sym (difference c)) (fits c))
+    magnitude-requires (λ c. c .magnitude .ensures ∙ ap natAbs (taken (c .before))))

@@ -3,7 +3,6 @@ use Rattle.theory.specs.Prelude.{_≡_, refl, sym, ap, _≢_, ℕ, zero, suc}
 use Rattle.theory.specs.Set.{_∩_}
 use Rattle.theory.specs.Placement.{withLines, jointKind}
 use Rattle.theory.specs.declared.JointKind.the-variants.{Lll}
-use Rattle.engine.proofs.joint_kind.Statement.{statement}
 use Rattle.engine.proofs.joint_kind.Tie as tie
 
 -- three lines, if none of the other counts
@@ -13,7 +12,7 @@ lines-three (suc zero) a b c = absurd (b refl)
 lines-three (suc (suc zero)) a b c = absurd (c refl)
 lines-three (suc (suc (suc k))) a b c = refl
 
-pub joint-kind-spec : {M : Type 1} → statement M
+pub joint-kind-spec : {M : Type 1} → Rattle.engine.proofs.joint_kind.Statement.statement M
 unfolding jointKind _∩_
 joint-kind-spec =
     tie.close

@@ -4,7 +4,6 @@ use mir.Syntax.{w64}
 use mir.Val.{Fits, SFits, toZ, ofZ}
 use mir.Facts.{toZ-ofZ}
 use Rattle.engine.proofs.Signed.{minus, not-negative}
-use Rattle.engine.proofs.magnitude.Statement.{statement}
 use Rattle.engine.proofs.magnitude.Tie as tie
 
 -- the number itself
@@ -23,9 +22,6 @@ from-zero c =
 taken : (c : tie.Then1) → toZ w64 (ofZ w64 (pos 0 -ℤ toZ w64 (ofZ w64 (c .before .args .z)))) ≡ pos (natAbs (c .before .args .z))
 taken c = ap (λ (z : ℤ). toZ w64 (ofZ w64 z)) (from-zero c) ∙ toZ-ofZ (small (c .before))
 
-sub-result : tie.Need-sub-result
-sub-result c = subst (SFits w64) (sym (from-zero c)) (small (c .before))
-
 cast-result : tie.Need-cast-result
 cast-result c =
     subst (λ (z : ℤ). T (nonNeg z) × Fits w64 (natAbs z)) (sym (taken c)) (tt, record { fits = omega (arith, c .before .pre) })
@@ -37,8 +33,8 @@ cast-result-2 c =
       record { fits = omega (arith, c .before .pre) },
     )
 
-returns : tie.Need-returns
-returns c = ap natAbs (taken c)
-
-pub magnitude-spec : {M : Type 1} → statement M
-magnitude-spec = tie.close (tie.spec sub-result cast-result cast-result-2 returns (λ c. search needs))
+pub magnitude-spec : {M : Type 1} → Rattle.engine.proofs.magnitude.Statement.statement M
+magnitude-spec =
+    tie.close
+    (tie.spec (λ c. subst (SFits w64) (sym (from-zero c)) (small (c .before))) cast-result cast-result-2 (λ c. ap natAbs (taken c))
+    (λ c. search needs))

@@ -2,7 +2,6 @@
 use mir.Facts.{toZ-ofZ}
 use Rattle.theory.specs.Placement.{placed}
 use borrow.Author.Needs.{needs}
-use Rattle.engine.proofs.placements.Statement.{statement}
 use Rattle.engine.proofs.placements.Tie as tie
 
 returns : tie.Need-returns
@@ -34,9 +33,8 @@ returns-4 : tie.Need-returns-4
 unfolding placed
 returns-4 c = simp (c .enum-told4 .given .1)
 
-pub placements-spec : {M : Type 1} → statement M
+pub placements-spec : {M : Type 1} → Rattle.engine.proofs.placements.Statement.statement M
 placements-spec =
     tie.close
-    (tie.spec (λ c. search needs) (λ c κs. search needs) (λ c κs. search needs) (λ c κs. search needs)
-    (λ c κs. search needs) (λ c. search needs) (λ c κs. search needs) (λ c. search needs) (λ c. search needs) returns
-    returns-2 returns-3 returns-4)
+    (tie.spec (λ c. search needs) (λ c κs. search needs) (λ c κs. search needs) (λ c κs. search needs) (λ c κs. search needs) (λ c. search needs)
+    (λ c κs. search needs) (λ c. search needs) (λ c. search needs) returns returns-2 returns-3 returns-4)

@@ -4,7 +4,6 @@ use Rattle.space.specs.Space.{Put}
 use Rattle.space.specs.Space.Laws.{put-none, put-as, _then_}
 use Rattle.engine.specs.Lists.{livingOf}
 use Rattle.engine.specs.Lists.Laws.{living-next}
-use Rattle.engine.proofs.put_all_living.Statement.{statement}
 use Rattle.engine.proofs.put_all_living.Tie as tie
 
 abbrev Inv-loop : tie.InvT-loop
@@ -32,7 +31,7 @@ returns c =
     let h : l .c ≡ s .used = omega (arith, l .inv .0, c .loop-test .left) in
     put-as (ap (λ (n : ℕ). livingOf (take n (s .slots .now))) h) (l .inv .2)
 
-pub put-all-living-spec : {M : Type 1} → statement M
+pub put-all-living-spec : {M : Type 1} → Rattle.engine.proofs.put_all_living.Statement.statement M
 put-all-living-spec =
     tie.close
     (tie.spec Inv-loop μ-loop loop-holds (λ c. search needs) (λ c. search needs) (λ c κs. search needs) (λ c. search needs) (λ c. search needs)

@@ -2,7 +2,6 @@
 use Rattle.theory.specs.Prelude.{needs, _≡_, [], _≤_, _<_, zero-add, length, take}
 use Rattle.space.specs.Space.Laws.{none-left, put-refused, put-done}
 use Rattle.engine.specs.Lists.{livingOf}
-use Rattle.engine.proofs.put_clusters.Statement.{statement}
 use Rattle.engine.proofs.put_clusters.Tie as tie
 
 -- the run that measures leaves no space
@@ -25,7 +24,7 @@ returns-2 c =
     rw (none p, p .put-all-living .ensures .next-is, zero-add) at (c .before .before .before .before .if1 .left) in
     put-done h (rw (none p) at (c .before .before .put-all-living2 .ensures))
 
-pub put-clusters-spec : {M : Type 1} → statement M
+pub put-clusters-spec : {M : Type 1} → Rattle.engine.proofs.put_clusters.Statement.statement M
 put-clusters-spec =
     tie.close
     (tie.spec (λ c. search needs) (λ c. search needs) (λ c κs. search needs) (λ c κs. search needs) (λ c. search needs) returns

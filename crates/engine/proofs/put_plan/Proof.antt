@@ -4,7 +4,6 @@ use Rattle.theory.specs.Prelude.{take-suc}
 use Rattle.space.specs.declared.Written.the-variants.{Done}
 use Rattle.space.specs.Space.{Put, answer, after}
 use Rattle.space.specs.Space.Laws.{put-none, put-as, _then_, put-refused, put-done}
-use Rattle.engine.proofs.put_plan.Statement.{statement}
 use Rattle.engine.proofs.put_plan.Tie as tie
 
 -- the numbers of the plan
@@ -24,12 +23,6 @@ returns c =
     put-refused (take (3 * a .steps) (a .parts .now)) (a .out .now)
     (omega (arith, long (a .parts .now) (a .steps) (s .pre .1) (s .pre .0), c .if1 .taken))
 
-loop-holds : tie.Need-loop-holds Inv-loop μ-loop
-loop-holds c = (search needs, put-none _ 0)
-
-loop-less : tie.Need-loop-less Inv-loop μ-loop
-loop-less c = omega (arith, c .before .before .put-number16 .ensures .next-is)
-
 loop-again : tie.Need-loop-again Inv-loop μ-loop
 loop-again c =
     let s = c .before .before .before .before .before .before .before .before .before in
@@ -43,9 +36,6 @@ loop-again c =
       put-as (sym (ap (λ (n : ℕ). take n parts) (e ∙ add-one (l .i)) ∙ take-suc parts (l .i) 0 h)) (l .inv .1 then q .ensures),
     )
 
-same-length : tie.Need-same-length Inv-loop μ-loop
-same-length c = c .before .loop .inv .1 .length-is
-
 returns-2 : tie.Need-returns-2 Inv-loop μ-loop
 returns-2 c =
     let s = c .before .before .before .before in
@@ -57,8 +47,9 @@ returns-2 c =
     (put-done (omega (arith, long (a .parts .now) (a .steps) (s .pre .1) (s .pre .0), c .before .before .if1 .left))
     (put-as (ap (λ (n : ℕ). take n (a .parts .now)) h) (l .inv .1)))
 
-pub put-plan-spec : {M : Type 1} → statement M
+pub put-plan-spec : {M : Type 1} → Rattle.engine.proofs.put_plan.Statement.statement M
 put-plan-spec =
     tie.close
-    (tie.spec Inv-loop μ-loop (λ c. search needs) returns loop-holds (λ c. search needs) (λ c. search needs)
-    (λ c κs. search needs) loop-less loop-again same-length returns-2)
+    (tie.spec Inv-loop μ-loop (λ c. search needs) returns (λ c. (search needs, put-none _ 0)) (λ c. search needs) (λ c. search needs)
+    (λ c κs. search needs) (λ c. omega (arith, c .before .before .put-number16 .ensures .next-is)) loop-again
+    (λ c. c .before .loop .inv .1 .length-is) returns-2)

@@ -2,7 +2,6 @@
 use Rattle.theory.specs.Prelude.{_≡_, ap, _∙_, ℕ, _+_, _-_, take, arith, needs}
 use Rattle.theory.specs.Ring.{ringed}
 use Rattle.rings.specs.Rows.Laws.{lone-ringed}
-use Rattle.engine.proofs.round.Statement.{statement}
 use Rattle.engine.proofs.round.Tie as tie
 
 returns : tie.Need-returns
@@ -14,7 +13,7 @@ returns-2 c finals are left-is =
     let whole : s .args .e + s .args .steps - 0 ≡ s .args .e + s .args .steps = omega arith in
     c .ringed .ensures ∙ ap (ringed (s .args .lines)) (ap (λ (n : ℕ). take n (s .args .slots .now)) whole ∙ are)
 
-pub round-spec : {M : Type 1} → statement M
+pub round-spec : {M : Type 1} → Rattle.engine.proofs.round.Statement.statement M
 round-spec =
     tie.close
     (tie.spec (λ c. search needs) (λ c. search needs) returns (λ c. search needs) (λ c. search needs) (λ c. search needs) (λ c. search needs) (λ c κs. search needs) returns-2)

@@ -2,7 +2,6 @@
 use Rattle.theory.specs.Prelude.{_≡_, sym, _∙_, _≢_, arith, eq-eqb, ne-eqb, needs}
 use Rattle.theory.specs.Merge.{left}
 use Rattle.theory.specs.Verdict.{judged, angled}
-use Rattle.engine.proofs.settle.Statement.{statement}
 use Rattle.engine.proofs.settle.Tie as tie
 
 returns : tie.Need-returns
@@ -49,7 +48,7 @@ returns-5 c finals are left-is =
       ne-eqb _ _ more,
     )
 
-pub settle-spec : {M : Type 1} → statement M
+pub settle-spec : {M : Type 1} → Rattle.engine.proofs.settle.Statement.statement M
 settle-spec =
     tie.close
     (tie.spec (λ c κs. search needs) returns (λ c κs. search needs) returns-2 (λ c. search needs) (λ c. search needs) returns-3 (λ c. search needs)

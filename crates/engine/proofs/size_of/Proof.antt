@@ -1,14 +1,10 @@
 -- `engine::size_of` meets its contract. Assumes nothing.
 use Rattle.theory.specs.Prelude.{_≡_, sym, ap, _∙_, subst, _<_, arith, ℤ, natAbs}
 use Rattle.engine.proofs.Signed.{abs-mag, wide, widened}
-use Rattle.engine.proofs.size_of.Statement.{statement}
 use Rattle.engine.proofs.size_of.Tie as tie
 
 small : (c : tie.Start) → natAbs (c .args .z) < 4294967296
 small c = omega (arith, abs-mag (c .args .z), c .fits .z .sfits)
-
-cast-magnitude : tie.Need-cast-magnitude
-cast-magnitude c = wide (c .args .z) (c .fits .z)
 
 magnitude-requires : tie.Need-magnitude-requires
 magnitude-requires c κs =
@@ -20,5 +16,5 @@ returns c =
     c .magnitude .ensures ∙ ap natAbs (widened (c .before .args .z) (c .before .fits .z)) in
     (e, omega (arith, small (c .before)))
 
-pub size-of-spec : {M : Type 1} → statement M
-size-of-spec = tie.close (tie.spec cast-magnitude magnitude-requires returns)
+pub size-of-spec : {M : Type 1} → Rattle.engine.proofs.size_of.Statement.statement M
+size-of-spec = tie.close (tie.spec (λ c. wide (c .args .z) (c .fits .z)) magnitude-requires returns)

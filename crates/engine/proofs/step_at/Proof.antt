@@ -2,7 +2,6 @@
 use Rattle.theory.specs.Prelude.{_∙_, _+_, getD, needs}
 use Rattle.theory.specs.Merge.{merge}
 use Rattle.engine.specs.Steps.{waysBy, stepFrom}
-use Rattle.engine.proofs.step_at.Statement.{statement}
 use Rattle.engine.proofs.step_at.Tie as tie
 
 returns : tie.Need-returns
@@ -23,10 +22,9 @@ returns c =
       ways = (c .ways-of .ensures ∙ (λ t. waysBy (a .lines) (g t) (a .e) (a .sizes .now) (a .start .now) (merge (i t) (j t) (k t)))) z;
     }
 
-pub step-at-spec : {M : Type 1} → statement M
+pub step-at-spec : {M : Type 1} → Rattle.engine.proofs.step_at.Statement.statement M
 step-at-spec =
     tie.close
-    (tie.spec (λ c. search needs) (λ c. search needs) (λ c. search needs) (λ c κs. search needs) (λ c. search needs)
-    (λ c. search needs) (λ c. search needs) (λ c. search needs) (λ c κs. search needs) (λ c. search needs)
-    (λ c. search needs) (λ c. search needs) (λ c. search needs) (λ c κs. search needs) (λ c. search needs)
-    (λ c. search needs) (λ c κs. search needs) (λ c κs. search needs) (λ c. search needs) returns)
+    (tie.spec (λ c. search needs) (λ c. search needs) (λ c. search needs) (λ c κs. search needs) (λ c. search needs) (λ c. search needs)
+    (λ c. search needs) (λ c. search needs) (λ c κs. search needs) (λ c. search needs) (λ c. search needs) (λ c. search needs) (λ c. search needs)
+    (λ c κs. search needs) (λ c. search needs) (λ c. search needs) (λ c κs. search needs) (λ c κs. search needs) (λ c. search needs) returns)

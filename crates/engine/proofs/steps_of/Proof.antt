@@ -3,7 +3,6 @@ use Rattle.theory.specs.Prelude.{_≡_, refl, sym, ap, _∙_, List, ℕ, zero, 
 use Rattle.theory.specs.Prelude.{replicate, length-set, getD-set-same, getD-set-other}
 use Rattle.theory.specs.declared.Step.{Step}
 use Rattle.engine.specs.Steps.{stepAt, blankStep}
-use Rattle.engine.proofs.steps_of.Statement.{statement}
 use Rattle.engine.proofs.steps_of.Tie as tie
 
 -- the first t steps stand, and the rest is blank
@@ -66,7 +65,7 @@ returns c =
       blank = λ k h. l .inv .blank k (omega (arith, l .inv .few));
     }
 
-pub steps-of-spec : {M : Type 1} → statement M
+pub steps-of-spec : {M : Type 1} → Rattle.engine.proofs.steps_of.Statement.statement M
 steps-of-spec =
     tie.close
     (tie.spec Inv-loop μ-loop (λ c κs. search needs) loop-holds (λ c κs. search needs) (λ c. search needs)

@@ -3,7 +3,6 @@ use mir.Facts.{toZ-ofZ}
 use Rattle.theory.specs.Prelude.{eq-eqb, ne-eqb, needs}
 use Rattle.theory.specs.Set.{_∩_}
 use Rattle.theory.specs.Placement.{strip, stripOf}
-use Rattle.engine.proofs.strip_of.Statement.{statement}
 use Rattle.engine.proofs.strip_of.Tie as tie
 
 returns : tie.Need-returns
@@ -56,9 +55,8 @@ returns-3 c =
       toZ-ofZ (f .z),
     )
 
-pub strip-of-spec : {M : Type 1} → statement M
+pub strip-of-spec : {M : Type 1} → Rattle.engine.proofs.strip_of.Statement.statement M
 strip-of-spec =
     tie.close
-    (tie.spec (λ c κs. search needs) (λ c κs. search needs) (λ c κs. search needs) returns (λ c κs. search needs)
-    (λ c κs. search needs) (λ c κs. search needs) (λ c κs. search needs) (λ c κs. search needs) (λ c κs. search needs)
-    returns-2 returns-3)
+    (tie.spec (λ c κs. search needs) (λ c κs. search needs) (λ c κs. search needs) returns (λ c κs. search needs) (λ c κs. search needs)
+    (λ c κs. search needs) (λ c κs. search needs) (λ c κs. search needs) (λ c κs. search needs) returns-2 returns-3)

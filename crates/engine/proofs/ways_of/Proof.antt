@@ -4,7 +4,6 @@ use mir.Syntax.{w32}
 use mir.Val.{SFits}
 use mir.Facts.{toZ-ofZ}
 use Rattle.engine.specs.Steps.{waysBy}
-use Rattle.engine.proofs.ways_of.Statement.{statement}
 use Rattle.engine.proofs.ways_of.Tie as tie
 
 returns : tie.Need-returns
@@ -38,10 +37,8 @@ returns-4 c =
       lt-ltb _ _ (k .if3 .left),
     )
 
-pub ways-of-spec : {M : Type 1} → statement M
+pub ways-of-spec : {M : Type 1} → Rattle.engine.proofs.ways_of.Statement.statement M
 ways-of-spec =
     tie.close
-    (tie.spec returns returns-2 returns-3
-    (λ c. search needs) (λ c. search needs) (λ c. search needs)
-    (λ c. search needs) (λ c. search needs) (λ c. search needs) (λ c. search needs) (λ c. search needs)
-    (λ c. search needs) (λ c. search needs) (λ c κs. search needs) returns-4)
+    (tie.spec returns returns-2 returns-3 (λ c. search needs) (λ c. search needs) (λ c. search needs) (λ c. search needs) (λ c. search needs)
+    (λ c. search needs) (λ c. search needs) (λ c. search needs) (λ c. search needs) (λ c. search needs) (λ c κs. search needs) returns-4)

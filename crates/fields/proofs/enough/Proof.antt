@@ -5,7 +5,6 @@ use mathlib.Core.Path.{_≡_, refl, sym, _∙_}
 use mathlib.Core.Bool.{Bool, true, false}
 use borrow.Author.Tests.{leb-true, leb-false, le-leb, lt-leb}
 use lib.Dec.{leb}
-use Rattle.fields.proofs.enough.Statement.{statement}
 use Rattle.fields.proofs.enough.Tie as tie
 
 shifted : (at k len : ℕ) → k ≤ len → leb at (len - k) ≡ leb (at + k) len
@@ -15,6 +14,6 @@ shifted at k len h = by (leb (at + k) len) refl
     by true e = let l = leb-true (at + k) len e in le-leb at (len - k) (omega arith) ∙ sym e
     by false e = let l = leb-false (at + k) len e in lt-leb at (len - k) (omega arith) ∙ sym e
 
-pub enough-spec : {M : Type 1} → statement M
+pub enough-spec : {M : Type 1} → Rattle.fields.proofs.enough.Statement.statement M
 enough-spec = tie.close (tie.spec (λ c. sym (lt-leb (c .before .args .at + c .before .args .k) (c .before .args .len) (omega arith)))
     (λ c. shifted (c .before .args .at) (c .before .args .k) (c .before .args .len) (omega arith)))

@@ -9,7 +9,6 @@ use lib.ListN.{length, take, drop}
 use Rattle.sheet.specs.Field.{value, number}
 use Rattle.fields.specs.Answers.Laws.{no-number}
 use Rattle.fields.specs.Answers.Numbers.{field-short, field-whole, number-none, number-more, below-more, below-most}
-use Rattle.fields.proofs.read_number.Statement.{statement}
 use Rattle.fields.proofs.read_number.Tie as tie
 
 abbrev Inv-loop : tie.InvT-loop
@@ -101,7 +100,7 @@ returns-2 c =
       record { below = λ v d e. let q : a .u ≡ v = cc in omega (arith, ap (λ (m : ℕ). 256 ^ m) w) },
     )
 
-pub read-number-spec : {M : Type 1} → statement M
+pub read-number-spec : {M : Type 1} → Rattle.fields.proofs.read_number.Statement.statement M
 read-number-spec =
     tie.close
     (tie.spec Inv-loop μ-loop (λ c κs. search needs) returns loop-holds (λ c. search needs) mul-u (λ c. omega (arith, room (c .before .before)))

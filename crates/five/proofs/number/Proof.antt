@@ -2,7 +2,6 @@
 use Rattle.theory.specs.Prelude.{arith, needs}
 use Rattle.theory.specs.Set.{at}
 use Rattle.card.specs.Card.{withEach, eachTwo}
-use Rattle.five.proofs.number.Statement.{statement}
 use Rattle.five.proofs.number.Tie as tie
 
 returns : tie.Need-returns
@@ -12,7 +11,7 @@ returns c = record {
   marked = (omega arith, (omega arith, (omega arith, (omega arith, (omega arith, (omega arith, (omega arith, (omega arith, (omega arith, (omega arith, tt))))))))));
 }
 
-pub number-spec : {M : Type 1} → statement M
+pub number-spec : {M : Type 1} → Rattle.five.proofs.number.Statement.statement M
 number-spec =
     tie.close
     (tie.spec (λ c. search needs) (λ c. search needs) (λ c. search needs) (λ c. search needs) (λ c. search needs) (λ c. search needs)

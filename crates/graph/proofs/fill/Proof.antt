@@ -11,7 +11,6 @@ use Rattle.sheet.specs.Rules.Laws.{constraints-most, elements-most}
 use Rattle.sheet.specs.Accepted.Laws.{sheetFault-none, factsOf-accepted}
 use Rattle.graph.specs.Lent.{InArrays, Unpacks}
 use Rattle.graph.specs.Lent.Laws.{in-arrays-none, accepted-unpack}
-use Rattle.graph.proofs.fill.Statement.{statement}
 use Rattle.graph.proofs.fill.Tie as tie
 
 -- what the code reads past the end of a block
@@ -45,23 +44,11 @@ module _ (c : tie.Start Inv-loop μ-loop) where
       let s = c .args .t1 in
       rw (getD-take (s .e) (s .constraints) i zeros l) at (accepted-unpack (factsOf s) i zeros accepted (rw counted l))
 
-loop-holds : tie.Need-loop-holds Inv-loop μ-loop
-loop-holds c = (omega arith, rw (c .pre .1, c .pre .2, c .pre .3) in-arrays-none)
-
-mul-c : tie.Need-mul-c Inv-loop μ-loop
-mul-c c = omega (arith, few (c .before .before))
-
-element-copy-out-c : tie.Need-element-copy-out-c Inv-loop μ-loop
-element-copy-out-c c = omega (arith, few (c .before .before))
-
 note-requires : tie.Need-note-requires Inv-loop μ-loop
 note-requires c κs =
     let s = c .before .before .before .before .before .before .before in
     let p = unpacks s (c .before .before .before .before .before .before .loop .i) (c .before .before .before .before .before .loop-test .taken) in
     (omega (arith, few s), p .ascend, p .below)
-
-add-i : tie.Need-add-i Inv-loop μ-loop
-add-i c = omega (arith, few (c .before .before .before .before .before .before .before .before))
 
 loop-again : tie.Need-loop-again Inv-loop μ-loop
 loop-again c =
@@ -96,8 +83,10 @@ returns c =
       arrays = rw (← same) (a .inv .1);
     }
 
-pub fill-spec : {M : Type 1} → statement M
+pub fill-spec : {M : Type 1} → Rattle.graph.proofs.fill.Statement.statement M
 fill-spec =
     tie.close
-    (tie.spec Inv-loop μ-loop loop-holds mul-c element-copy-out-c (λ c κs. search needs) note-requires add-i (λ c. search needs) loop-again
+    (tie.spec Inv-loop μ-loop (λ c. (omega arith, rw (c .pre .1, c .pre .2, c .pre .3) in-arrays-none)) (λ c. omega (arith, few (c .before .before)))
+    (λ c. omega (arith, few (c .before .before))) (λ c κs. search needs) note-requires
+    (λ c. omega (arith, few (c .before .before .before .before .before .before .before .before))) (λ c. search needs) loop-again
     (λ c κs. (few (c .before .before .before .before) .0, c .before .before .before .before .pre .4)) returns)

@@ -2,17 +2,11 @@
 use Rattle.theory.specs.Prelude.{needs, arith}
 use lib.Count.{leading-top}
 use Rattle.graph.specs.Lent.Laws.{pair-some, pair-highest}
-use Rattle.graph.proofs.highest.Statement.{statement}
 use Rattle.graph.proofs.highest.Tie as tie
 
-returns : tie.Need-returns
-returns c = λ a b l m e. absurd (omega (arith, pair-some a b l m))
-
-sub-result : tie.Need-sub-result
-sub-result c = omega (arith, leading-top 64 (c .before .args .m) (omega (arith, c .if1 .left)) (omega arith))
-
-returns-2 : tie.Need-returns-2
-returns-2 c = λ a b l m e. rw e (pair-highest a b l m)
-
-pub highest-spec : {M : Type 1} → statement M
-highest-spec = tie.close (tie.spec returns sub-result (λ c. search needs) returns-2)
+pub highest-spec : {M : Type 1} → Rattle.graph.proofs.highest.Statement.statement M
+highest-spec =
+    tie.close
+    (tie.spec (λ c. λ a b l m e. absurd (omega (arith, pair-some a b l m)))
+    (λ c. omega (arith, leading-top 64 (c .before .args .m) (omega (arith, c .if1 .left)) (omega arith))) (λ c. search needs)
+    (λ c. λ a b l m e. rw e (pair-highest a b l m)))

@@ -20,7 +20,6 @@ use Rattle.graph.specs.declared.Front.{Front}
 use Rattle.graph.specs.Lent.{codeOf, SheetIn, sizesOf, Unpacks}
 use Rattle.graph.specs.Lent.Laws.{pair-in-start, code-in-codes, accepted-unpack, getD-mapped, radius-most}
 use Rattle.graph.specs.Lent.Sheets.{drawn-in}
-use Rattle.graph.proofs.measure.Statement.{statement}
 use Rattle.graph.proofs.measure.Tie as tie
 
 -- a front that holds so many constraints of these kinds
@@ -102,12 +101,6 @@ module _ (c : tie.After-constraint-in Inv-loop μ-loop) where
         (sym (toZ-ofZ {w = w32} {z = getD (c .before .before .before .before .loop .sizes) i (pos 0)} (search needs) ∙ same
         ∙ code-in-codes (a .arrays) i blankConstraint within))
 
-kind-at-requires : tie.Need-kind-at-requires Inv-loop μ-loop
-kind-at-requires c κs = let a = begun c .pre .2 in rw (is c refl a) (omega (arith, unpacks c refl a .ascend, unpacks c refl a .below))
-
-kind-at-requires-2 : tie.Need-kind-at-requires-2 Inv-loop μ-loop
-kind-at-requires-2 c κs = let a = begun (c .before) .pre .2 in rw (is (c .before) refl a) (unpacks (c .before) refl a .below)
-
 size-of-requires : tie.Need-size-of-requires Inv-loop μ-loop
 size-of-requires c κs =
     let b = c .before .before in
@@ -157,9 +150,10 @@ returns c = λ f near a.
     ∙ ap₂ _++_ (l .inv .made f (s .args .h) near (refl, refl) a) (l .inv .left ∙ rw end (blank-behind a))
     ∙ take-append-drop (l .i) (sizesOf f)
 
-pub measure-spec : {M : Type 1} → statement M
+pub measure-spec : {M : Type 1} → Rattle.graph.proofs.measure.Statement.statement M
 measure-spec =
     tie.close
     (tie.spec Inv-loop μ-loop loop-holds (λ c. search needs) (λ c. search needs) (λ c. search needs) (λ c. search needs) (λ c κs. search needs)
-    kind-at-requires kind-at-requires-2 size-of-requires (λ c. search needs) (λ c. search needs) (λ c. search needs) (λ c. search needs)
-    loop-again returns)
+    (λ c κs. let a = begun c .pre .2 in rw (is c refl a) (omega (arith, unpacks c refl a .ascend, unpacks c refl a .below)))
+    (λ c κs. let a = begun (c .before) .pre .2 in rw (is (c .before) refl a) (unpacks (c .before) refl a .below)) size-of-requires
+    (λ c. search needs) (λ c. search needs) (λ c. search needs) (λ c. search needs) loop-again returns)

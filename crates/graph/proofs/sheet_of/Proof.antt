@@ -10,7 +10,6 @@ use Rattle.graph.specs.declared.Head.{Head}
 use Rattle.graph.specs.declared.Front.{Front}
 use Rattle.graph.specs.Lent.{codeOf, SheetIn}
 use Rattle.graph.specs.Lent.Laws.{pair-in-start, code-in-codes, accepted-unpack}
-use Rattle.graph.proofs.sheet_of.Statement.{statement}
 use Rattle.graph.proofs.sheet_of.Tie as tie
 
 record Turn (h : Front) (start : List ℕ) (codes : List ℤ) (radii : List ℕ) (cs : List Constraint) (i : ℕ) : Type 0 where
@@ -59,10 +58,9 @@ returns c = λ f near in-arrays.
     let elements = c .elements-of .ensures (f .elements) n (in-arrays .kinds-in) in
     rw (in-arrays .opening-is, elements, cs, all, ap (λ (x : Head). x .n) is, ap (λ (x : Head). x .e) is)
 
-pub sheet-of-spec : {M : Type 1} → statement M
+pub sheet-of-spec : {M : Type 1} → Rattle.graph.proofs.sheet_of.Statement.statement M
 sheet-of-spec =
     tie.close
-    (tie.spec Inv-loop μ-loop
-    (λ c. record { turns = omega arith; places = refl; blank = refl; out = λ f near in-arrays. refl })
-    (λ c. search needs) (λ c. search needs) (λ c. search needs) (λ c. search needs) (λ c κs. search needs) (λ c. search needs) (λ c. search needs)
-    (λ c. search needs) (λ c. search needs) loop-again (λ c κs. c .before .before .before .pre .0) returns)
+    (tie.spec Inv-loop μ-loop (λ c. record { turns = omega arith; places = refl; blank = refl; out = λ f near in-arrays. refl }) (λ c. search needs)
+    (λ c. search needs) (λ c. search needs) (λ c. search needs) (λ c κs. search needs) (λ c. search needs) (λ c. search needs) (λ c. search needs)
+    (λ c. search needs) loop-again (λ c κs. c .before .before .before .pre .0) returns)

@@ -6,7 +6,6 @@ use mir.Val.{SFits, toZ}
 use mir.Syntax.{w32}
 use Rattle.sheet.specs.Facts.{isCircle, radiusOf}
 use Rattle.sheet.specs.Graph.{sizeOf}
-use Rattle.graph.proofs.size_of.Statement.{statement}
 use Rattle.graph.proofs.size_of.Tie as tie
 
 small-negative : (n : ℕ) → n < 2 ^ 31 → SFits w32 (negℤ (pos n))
@@ -32,9 +31,6 @@ returns : tie.Need-returns
 returns c =
     let g = c .before .size .given in
     toZ-ofZ {w = w32} {z = g .0 .0} (search needs) ∙ sym (ap (sizeOf (c .before .before .before .args .j) (c .before .before .before .args .k)) (g .1))
-
-returns-2 : tie.Need-returns-2
-returns-2 c = sym (ap (sizeOf (c .before .before .args .j) (c .before .before .args .k)) (c .enum-told .given .1))
 
 returns-3 : tie.Need-returns-3
 returns-3 c =
@@ -69,13 +65,11 @@ returns-5 c =
     ∙ sym (ap (sizeOf (a .args .j) (a .args .k)) (c .before .before .before .before .enum-told3 .given .1)
     ∙ other-not (isCircle (a .args .j) && isCircle (a .args .k)) _ _ (sym (b .ensures) ∙ c .before .before .if1 .left))
 
-returns-6 : tie.Need-returns-6
-returns-6 c = sym (ap (sizeOf (c .before .before .args .j) (c .before .before .args .k)) (c .enum-told4 .given .1))
-
-pub size-of-spec : {M : Type 1} → statement M
+pub size-of-spec : {M : Type 1} → Rattle.graph.proofs.size_of.Statement.statement M
 size-of-spec =
     tie.close
-    (tie.spec (λ c. search needs) (λ c. search needs) (λ c. search needs) (λ c κs. search needs) (λ c κs. search needs)
-    (λ c. search needs) (λ c. search needs) (λ c. search needs) (λ c κs. search needs) (λ c κs. search needs) (λ c κs. search needs)
-    (λ c κs. search needs) (λ c. search needs) (λ c κs. search needs) (λ c κs. search needs) (λ c. search needs) (λ c. search needs)
-    sub-result (λ c. search needs) returns returns-2 returns-3 returns-4 returns-5 returns-6)
+    (tie.spec (λ c. search needs) (λ c. search needs) (λ c. search needs) (λ c κs. search needs) (λ c κs. search needs) (λ c. search needs)
+    (λ c. search needs) (λ c. search needs) (λ c κs. search needs) (λ c κs. search needs) (λ c κs. search needs) (λ c κs. search needs)
+    (λ c. search needs) (λ c κs. search needs) (λ c κs. search needs) (λ c. search needs) (λ c. search needs) sub-result (λ c. search needs) returns
+    (λ c. sym (ap (sizeOf (c .before .before .args .j) (c .before .before .args .k)) (c .enum-told .given .1))) returns-3 returns-4 returns-5
+    (λ c. sym (ap (sizeOf (c .before .before .args .j) (c .before .before .args .k)) (c .enum-told4 .given .1))))

@@ -6,7 +6,6 @@ use Rattle.graph.specs.Lent.{graphIn}
 use Rattle.judge.specs.Found.Laws.{fine-found}
 use Rattle.judge.specs.Angles.Laws.{run-judged, planned-run, few-angles}
 use Rattle.judge.specs.Angles.Drawn.{drawn-starts, drawn-fewer, planned-places, planned-verdict}
-use Rattle.judge.proofs.fine_judged.Statement.{statement}
 use Rattle.judge.proofs.fine_judged.Tie as tie
 
 fine-run-requires : tie.Need-fine-run-requires
@@ -51,7 +50,5 @@ returns-2 c = λ z.
     (planned-verdict d fine (a .around .result) (l .lines-in .ensures) p (a .around .ensures) ne (c .angle-or-under .ensures) z)
     (planned-run g _ o p))
 
-pub fine-judged-spec : {M : Type 1} → statement M
-fine-judged-spec =
-    tie.close
-    (tie.spec (λ c κs. search needs) fine-run-requires (λ c κs. search needs) returns angle-or-under-requires returns-2)
+pub fine-judged-spec : {M : Type 1} → Rattle.judge.proofs.fine_judged.Statement.statement M
+fine-judged-spec = tie.close (tie.spec (λ c κs. search needs) fine-run-requires (λ c κs. search needs) returns angle-or-under-requires returns-2)

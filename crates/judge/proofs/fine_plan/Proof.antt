@@ -4,7 +4,6 @@ use Rattle.graph.specs.Lent.{graphIn}
 use Rattle.graph.specs.Lent.Sheets.{found-fine}
 use Rattle.judge.specs.Judged.Short.{run-planned}
 use Rattle.judge.specs.Angles.Drawn.{drawn-starts}
-use Rattle.judge.proofs.fine_plan.Statement.{statement}
 use Rattle.judge.proofs.fine_plan.Tie as tie
 
 fine-run-requires : tie.Need-fine-run-requires
@@ -19,5 +18,5 @@ returns c = λ z.
     let (d, ne, fine, blank) = s .pre in
     run-planned (graphIn (s .args .h) (s .args .start .now) z) (d .sound) (c .fine-run .ensures) (found-fine (d .sound) (fine z))
 
-pub fine-plan-spec : {M : Type 1} → statement M
+pub fine-plan-spec : {M : Type 1} → Rattle.judge.proofs.fine_plan.Statement.statement M
 fine-plan-spec = tie.close (tie.spec (λ c κs. search needs) fine-run-requires returns)

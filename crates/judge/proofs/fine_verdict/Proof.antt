@@ -5,7 +5,6 @@ use Rattle.graph.specs.declared.Head.{Head}
 use Rattle.graph.specs.Lent.{graphIn}
 use Rattle.judge.specs.Angles.Laws.{few-angles}
 use Rattle.judge.specs.Angles.Drawn.{drawn-starts, drawn-fewer, planned-places, planned-verdict, unmerged-places, unmerged-verdict}
-use Rattle.judge.proofs.fine_verdict.Statement.{statement}
 use Rattle.judge.proofs.fine_verdict.Tie as tie
 
 returns : tie.Need-returns
@@ -51,7 +50,7 @@ returns-3 c =
     planned-verdict d fine (a .result) (l .lines-in .ensures) (k .merge-into .ensures) (a .ensures) (λ e. omega (arith, below, e))
     (c .angle-or-under .ensures)
 
-pub fine-verdict-spec : {M : Type 1} → statement M
+pub fine-verdict-spec : {M : Type 1} → Rattle.judge.proofs.fine_verdict.Statement.statement M
 fine-verdict-spec =
     tie.close
     (tie.spec (λ c κs. search needs) (λ c κs. search needs) returns (λ c κs. search needs) unmerged-verdict-requires returns-2 merge-into-requires

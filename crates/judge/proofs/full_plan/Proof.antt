@@ -4,14 +4,10 @@ use Rattle.graph.specs.Lent.{graphIn}
 use Rattle.graph.specs.Lent.Sheets.{counted, found-fine}
 use Rattle.judge.specs.Judged.Laws.{starts, run-room}
 use Rattle.judge.specs.Judged.Short.{one-left, run-planned, run-first}
-use Rattle.judge.proofs.full_plan.Statement.{statement}
 use Rattle.judge.proofs.full_plan.Tie as tie
 
 few : (s : tie.Start) → s .args .h .e ≤ 125
 few s = omega (arith, s .pre .1, s .pre .0 .sound .most)
-
-merge-into-requires : tie.Need-merge-into-requires
-merge-into-requires c κs = let s = c .before .before .before in (starts (s .pre .0) (few s), s .pre .2)
 
 -- the engine's merges
 module _ (c : tie.After-merge-into) where
@@ -43,8 +39,8 @@ returns-3 c = λ z.
     run-planned (graphIn (start k .args .h) (start k .args .start .now) z) (d .sound) (k .merge-into .ensures)
     (found-fine (d .sound) (sym (c .before .before .over-of .ensures z) ∙ c .enum-told2 .given .1))
 
-pub full-plan-spec : {M : Type 1} → statement M
+pub full-plan-spec : {M : Type 1} → Rattle.judge.proofs.full_plan.Statement.statement M
 full-plan-spec =
     tie.close
-    (tie.spec merge-into-requires (λ c. omega (arith, half c)) (λ c. omega (arith, half c)) returns (λ c κs. search needs)
-    (λ c. search needs) (λ c κs. search needs) (λ c. search needs) returns-2 returns-3)
+    (tie.spec (λ c κs. let s = c .before .before .before in (starts (s .pre .0) (few s), s .pre .2)) (λ c. omega (arith, half c))
+    (λ c. omega (arith, half c)) returns (λ c κs. search needs) (λ c. search needs) (λ c κs. search needs) (λ c. search needs) returns-2 returns-3)

@@ -3,7 +3,6 @@
 use Rattle.theory.specs.Prelude.{needs, arith}
 use Rattle.graph.specs.Lent.Sheets.{counted}
 use Rattle.judge.specs.Judged.Short.{angle-peeled, well-peeled}
-use Rattle.judge.proofs.full_told.Statement.{statement}
 use Rattle.judge.proofs.full_told.Tie as tie
 
 returns-3 : tie.Need-returns-3
@@ -18,11 +17,8 @@ returns-4 c =
     let t = c .before .before .before .peel-of .ensures _ (s .0 .sound .simple) (s .0 .near-is) .0 in
     λ z. well-peeled _ (s .0 .sound) (omega (arith, s .1, counted (s .0))) t (omega (arith, c .before .if2 .left)) (c .if3 .left)
 
-few-told-requires : tie.Need-few-told-requires
-few-told-requires c κs = let s = c .before .before .pre in (s .0, s .1, omega (arith, c .if1 .taken))
-
-pub full-told-spec : {M : Type 1} → statement M
+pub full-told-spec : {M : Type 1} → Rattle.judge.proofs.full_told.Statement.statement M
 full-told-spec =
     tie.close
-    (tie.spec few-told-requires (λ c. c .few-told .ensures) (λ c κs. search needs) (λ c κs. search needs) (λ c. c .merged-told .ensures) returns-3
-    returns-4)
+    (tie.spec (λ c κs. let s = c .before .before .pre in (s .0, s .1, omega (arith, c .if1 .taken))) (λ c. c .few-told .ensures)
+    (λ c κs. search needs) (λ c κs. search needs) (λ c. c .merged-told .ensures) returns-3 returns-4)

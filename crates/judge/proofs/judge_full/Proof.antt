@@ -4,14 +4,10 @@ use Rattle.graph.specs.Lent.{graphIn}
 use Rattle.graph.specs.Lent.Sheets.{counted, found-fine}
 use Rattle.judge.specs.Judged.Laws.{starts, run-room}
 use Rattle.judge.specs.Judged.Short.{one-left}
-use Rattle.judge.proofs.judge_full.Statement.{statement}
 use Rattle.judge.proofs.judge_full.Tie as tie
 
 few : (s : tie.Start) → s .args .h .e ≤ 125
 few s = omega (arith, s .pre .1, s .pre .0 .sound .most)
-
-merge-into-requires : tie.Need-merge-into-requires
-merge-into-requires c κs = let s = c .before .before .before in (starts (s .pre .0) (few s), s .pre .2)
 
 -- the engine's merges
 module _ (c : tie.After-merge-into) where
@@ -52,8 +48,9 @@ returns-3 c = λ z.
     (found-fine (d .sound) (sym (c .before .before .before .before .before .over-of .ensures z) ∙ c .before .before .before .enum-told .given .1)) refl
     refl (counted d)
 
-pub judge-full-spec : {M : Type 1} → statement M
+pub judge-full-spec : {M : Type 1} → Rattle.judge.proofs.judge_full.Statement.statement M
 judge-full-spec =
     tie.close
-    (tie.spec merge-into-requires (λ c. omega (arith, half c)) (λ c. omega (arith, half c)) listed-requires
-    returns (λ c κs. search needs) (λ c. search needs) (λ c κs. search needs) (λ c. search needs) listed-requires-2 returns-2 returns-3)
+    (tie.spec (λ c κs. let s = c .before .before .before in (starts (s .pre .0) (few s), s .pre .2)) (λ c. omega (arith, half c))
+    (λ c. omega (arith, half c)) listed-requires returns (λ c κs. search needs) (λ c. search needs) (λ c κs. search needs) (λ c. search needs)
+    listed-requires-2 returns-2 returns-3)

@@ -8,7 +8,6 @@ use Rattle.judge.specs.Judged.{listed}
 use Rattle.judge.specs.Judged.Laws.{listed-verdict}
 use Rattle.judge.specs.Judged.Short.{fine-judged}
 use Rattle.judge.specs.Found.Laws.{fine-found}
-use Rattle.judge.proofs.listed.Statement.{statement}
 use Rattle.judge.proofs.listed.Tie as tie
 
 returns : tie.Need-returns
@@ -20,5 +19,5 @@ returns c g parts p sound fine n lines e =
     (listed-verdict g pairs (p .merged) {h = c .before .args .h} n lines e (c .settle .ensures)) (p .merged .is)
     ∙ fine-judged g sound p fine)
 
-pub listed-spec : {M : Type 1} → statement M
+pub listed-spec : {M : Type 1} → Rattle.judge.proofs.listed.Statement.statement M
 listed-spec = tie.close (tie.spec (λ c κs. search needs) returns)

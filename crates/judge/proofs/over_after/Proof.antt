@@ -3,7 +3,6 @@ use Rattle.theory.specs.Prelude.{needs, _*_, _≤_, arith, sym, _∙_, []}
 use Rattle.graph.specs.Lent.{graphIn}
 use Rattle.graph.specs.Lent.Sheets.{counted}
 use Rattle.judge.specs.Judged.Short.{reached-few, one-fault}
-use Rattle.judge.proofs.over_after.Statement.{statement}
 use Rattle.judge.proofs.over_after.Tie as tie
 
 -- not many merges
@@ -16,7 +15,5 @@ returns c =
     let d = s .pre .0 in
     λ z. sym (one-fault _ (d .sound) (s .pre .1) (sym (c .if1 .taken) ∙ sym (counted d)))
 
-pub over-after-spec : {M : Type 1} → statement M
-over-after-spec =
-    tie.close
-    (tie.spec (λ c. omega (arith, few c)) (λ c. omega (arith, few c)) returns (λ c κs. search needs) (λ c. search needs))
+pub over-after-spec : {M : Type 1} → Rattle.judge.proofs.over_after.Statement.statement M
+over-after-spec = tie.close (tie.spec (λ c. omega (arith, few c)) (λ c. omega (arith, few c)) returns (λ c κs. search needs) (λ c. search needs))

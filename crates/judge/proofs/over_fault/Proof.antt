@@ -3,19 +3,14 @@ use Rattle.theory.specs.Prelude.{needs, arith, sym, _∙_}
 use Rattle.sheet.specs.Graph.Laws.{fine-fault, first-fault}
 use Rattle.graph.specs.Lent.Sheets.{counted}
 use Rattle.judge.specs.Judged.Short.{more-fault}
-use Rattle.judge.proofs.over_fault.Statement.{statement}
 use Rattle.judge.proofs.over_fault.Tie as tie
 
 returns : tie.Need-returns
 returns c = let d = c .before .before .before .pre in λ z. sym (more-fault _ (d .sound) (omega (arith, c .if1 .taken, counted d)))
 
-returns-2 : tie.Need-returns-2
-returns-2 c = λ z. sym (first-fault _ (sym (c .before .before .over-of .ensures z) ∙ c .enum-told .given .1))
-
-returns-3 : tie.Need-returns-3
-returns-3 c = λ z. sym (fine-fault _ (sym (c .before .before .over-of .ensures z) ∙ c .enum-told2 .given .1))
-
-pub over-fault-spec : {M : Type 1} → statement M
+pub over-fault-spec : {M : Type 1} → Rattle.judge.proofs.over_fault.Statement.statement M
 over-fault-spec =
     tie.close
-    (tie.spec (λ c. search needs) (λ c. search needs) returns (λ c κs. search needs) (λ c. search needs) (λ c. search needs) returns-2 returns-3)
+    (tie.spec (λ c. search needs) (λ c. search needs) returns (λ c κs. search needs) (λ c. search needs) (λ c. search needs)
+    (λ c. λ z. sym (first-fault _ (sym (c .before .before .over-of .ensures z) ∙ c .enum-told .given .1)))
+    (λ c. λ z. sym (fine-fault _ (sym (c .before .before .over-of .ensures z) ∙ c .enum-told2 .given .1))))

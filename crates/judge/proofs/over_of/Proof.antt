@@ -1,10 +1,6 @@
 -- `judge::over_of` meets its contract: the search finds what the definition does. Assumes nothing.
 use borrow.Author.Needs.{needs}
-use Rattle.judge.proofs.over_of.Statement.{statement}
 use Rattle.judge.proofs.over_of.Tie as tie
 
-returns : tie.Need-returns
-returns c = λ z. c .find-over .ensures _ (c .before .pre .sound .below)
-
-pub over-of-spec : {M : Type 1} → statement M
-over-of-spec = tie.close (tie.spec (λ c κs. search needs) returns)
+pub over-of-spec : {M : Type 1} → Rattle.judge.proofs.over_of.Statement.statement M
+over-of-spec = tie.close (tie.spec (λ c κs. search needs) (λ c. λ z. c .find-over .ensures _ (c .before .pre .sound .below)))

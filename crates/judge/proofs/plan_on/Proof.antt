@@ -3,7 +3,6 @@ use Rattle.theory.specs.Prelude.{needs, arith, sym, _∙_}
 use Rattle.graph.specs.Lent.{graphIn}
 use Rattle.graph.specs.Lent.Sheets.{counted}
 use Rattle.judge.specs.Judged.Short.{run-first, run-more}
-use Rattle.judge.proofs.plan_on.Statement.{statement}
 use Rattle.judge.proofs.plan_on.Tie as tie
 
 returns : tie.Need-returns
@@ -25,7 +24,7 @@ returns-3 c = λ z.
     run-first (graphIn (s .args .h) (s .args .start .now) z) (d .sound)
     (sym (c .before .before .over-of .ensures z) ∙ c .enum-told .given .1) blank
 
-pub plan-on-spec : {M : Type 1} → statement M
+pub plan-on-spec : {M : Type 1} → Rattle.judge.proofs.plan_on.Statement.statement M
 plan-on-spec =
     tie.close
     (tie.spec (λ c. search needs) (λ c. search needs) returns (λ c. search needs) (λ c κs. search needs) (λ c. search needs)

@@ -7,7 +7,6 @@ use Rattle.theory.specs.declared.Verdict.the-variants.{Angle, Under}
 use Rattle.rings.specs.Rows.{Turned}
 use Rattle.judge.specs.Angles.{Fewer, PlanIn}
 use Rattle.judge.specs.Angles.Laws.{turned-verdict}
-use Rattle.judge.proofs.unmerged_verdict.Statement.{statement}
 use Rattle.judge.proofs.unmerged_verdict.Tie as tie
 
 -- what a ring says
@@ -29,7 +28,7 @@ module _ (c : tie.After-ringed) where
       (subst (λ (k : ℕ). Turned (start .args .near .now) (take k (drop n slots)) (start .args .h .lines) (turning .result)) none (turning .ensures))
       (λ finals are left. c .ringed .ensures ∙ ap (ringed (turning .result)) (ap (λ (k : ℕ). take k slots) whole ∙ are))
 
-pub unmerged-verdict-spec : {M : Type 1} → statement M
+pub unmerged-verdict-spec : {M : Type 1} → Rattle.judge.proofs.unmerged_verdict.Statement.statement M
 unmerged-verdict-spec =
     tie.close
     (tie.spec (λ c. search needs) (λ c. search needs) (λ c. search needs) (λ c. search needs) (λ c κs. search needs) (λ c. search needs)

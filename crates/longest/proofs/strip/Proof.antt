@@ -3,7 +3,6 @@ use Rattle.theory.specs.Prelude.{_≡_, refl, ap, subst, [], _∷_, ℕ, _≤_,
 use Rattle.sheet.specs.declared.Constraint.{Constraint}
 use Rattle.longest.specs.Longest.{strip}
 use Rattle.longest.specs.Longest.Block.{strip-next}
-use Rattle.longest.proofs.strip.Statement.{statement}
 use Rattle.longest.proofs.strip.Tie as tie
 
 abbrev Inv-loop : tie.InvT-loop
@@ -29,7 +28,7 @@ returns c =
     let e : c .before .loop .j ≡ c .before .before .before .args .steps = omega arith in
     subst (λ (m : ℕ). take (2 * m + 1) (c .before .loop .cs) ≡ strip m) e (c .before .loop .inv .2)
 
-pub strip-spec : {M : Type 1} → statement M
+pub strip-spec : {M : Type 1} → Rattle.longest.proofs.strip.Statement.statement M
 strip-spec =
     tie.close
     (tie.spec Inv-loop μ-loop (λ c κs. search needs) loop-holds (λ c. search needs) (λ c κs. search needs) (λ c. search needs) (λ c. search needs)

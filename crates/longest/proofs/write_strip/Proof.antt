@@ -7,11 +7,7 @@ use Rattle.sheet.specs.Facts.{Facts}
 use Rattle.sheet.specs.Encode.{sheetBytes}
 use Rattle.longest.specs.Longest.{points}
 use Rattle.longest.specs.Longest.Block.{facts-are, no-fault}
-use Rattle.longest.proofs.write_strip.Statement.{statement}
 use Rattle.longest.proofs.write_strip.Tie as tie
-
-write-accepted-requires : tie.Need-write-accepted-requires
-write-accepted-requires c κs = no-fault _ (search needs) (search needs) refl refl refl (c .before .strip .ensures)
 
 returns : tie.Need-returns
 returns c =
@@ -24,8 +20,8 @@ returns c =
       h .1 ∙ ap (λ (f : Facts). after (sheetBytes f) (now (args .out))) e,
     )
 
-pub write-strip-spec : {M : Type 1} → statement M
+pub write-strip-spec : {M : Type 1} → Rattle.longest.proofs.write_strip.Statement.statement M
 write-strip-spec =
     tie.close
-    (tie.spec (λ c. search needs) (λ c κs. search needs) (λ c. search needs) (λ c. search needs) write-accepted-requires
-    (λ c. search needs) returns)
+    (tie.spec (λ c. search needs) (λ c κs. search needs) (λ c. search needs) (λ c. search needs)
+    (λ c κs. no-fault _ (search needs) (search needs) refl refl refl (c .before .strip .ensures)) (λ c. search needs) returns)

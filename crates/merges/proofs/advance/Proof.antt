@@ -3,7 +3,6 @@ use Rattle.theory.specs.Prelude.{sym, ap, _∙_, subst, inl, inr, _+_, _-_, _�
 use Rattle.merges.specs.Search.{hitOf, Tested, Running}
 use Rattle.merges.specs.declared.Hit.the-variants.{At}
 use Rattle.merges.proofs.Running.{running-few, running-kept, running-ended, running-fewer, running-next}
-use Rattle.merges.proofs.advance.Statement.{statement}
 use Rattle.merges.proofs.advance.Tie as tie
 
 abbrev Inv-loop : tie.InvT-loop
@@ -75,7 +74,7 @@ loop-again c =
       search needs,
     )
 
-pub advance-spec : {M : Type 1} → statement M
+pub advance-spec : {M : Type 1} → Rattle.merges.proofs.advance.Statement.statement M
 advance-spec =
     tie.close
     (tie.spec Inv-loop μ-loop (λ c. (c .pre .1, search needs)) (λ c. omega (arith, few (c .before)))

@@ -7,7 +7,6 @@ use Rattle.theory.specs.Plan.Laws.{first-is}
 use Rattle.theory.specs.Plan.Search.{open-test, test-open}
 use Rattle.search.specs.State.{Ready}
 use Rattle.merges.proofs.Finding.{none-found, chosen-first, chosen-used}
-use Rattle.merges.proofs.first_open.Statement.{statement}
 use Rattle.merges.proofs.first_open.Tie as tie
 
 -- where the search is ready, the three make the first open merge
@@ -72,7 +71,7 @@ returns-6 c =
       ),
     )
 
-pub first-open-spec : {M : Type 1} → statement M
+pub first-open-spec : {M : Type 1} → Rattle.merges.proofs.first_open.Statement.statement M
 first-open-spec =
     tie.close
     (tie.spec (λ c κs. search needs) returns (λ c. search needs) (λ c. search needs)

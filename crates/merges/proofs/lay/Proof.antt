@@ -4,7 +4,6 @@ use Rattle.theory.specs.Prelude.{take-suc}
 use Rattle.theory.specs.Block.{block}
 use Rattle.theory.specs.Block.Laws.{store-block}
 use Rattle.merges.specs.Run.{Start}
-use Rattle.merges.proofs.lay.Statement.{statement}
 use Rattle.merges.proofs.lay.Tie as tie
 
 abbrev Inv-loop : tie.InvT-loop
@@ -34,7 +33,7 @@ returns c =
     let h : l .i ≡ a .e = omega (arith, l .inv .0, c .loop-test .left) in
     l .inv .1 ∙ ap (λ (n : ℕ). block 192 0 (take n (a .start .now))) h
 
-pub lay-spec : {M : Type 1} → statement M
+pub lay-spec : {M : Type 1} → Rattle.merges.proofs.lay.Statement.statement M
 lay-spec =
     tie.close
     (tie.spec Inv-loop μ-loop (λ c. (omega arith, c .pre .1)) (λ c. search needs) (λ c. search needs) (λ c. search needs)

@@ -1,7 +1,6 @@
 -- `merges::one_each` meets its contract: each test is one part of `openTest`. Assumes nothing.
 use Rattle.theory.specs.Prelude.{sym, eq-eqb, ne-eqb}
 use Rattle.theory.specs.Plan.{openTest}
-use Rattle.merges.proofs.one_each.Statement.{statement}
 use Rattle.merges.proofs.one_each.Tie as tie
 
 returns : tie.Need-returns
@@ -57,5 +56,5 @@ returns-6 c a b d x y z =
       ne-eqb _ _ (c .if5 .left),
     )
 
-pub one-each-spec : {M : Type 1} → statement M
+pub one-each-spec : {M : Type 1} → Rattle.merges.proofs.one_each.Statement.statement M
 one-each-spec = tie.close (tie.spec returns returns-2 returns-3 returns-4 returns-5 returns-6)

@@ -1,5 +1,6 @@
 -- `merges::some_open` meets its contract: the loop keeps that no cluster so far reaches an element. Assumes nothing.
-use Rattle.theory.specs.Prelude.{_≡_, sym, ap, _∙_, subst, _≢_, List, ℕ, _+_, _-_, _/_, _%_, _≤_, _<_, arith, ℕ-discrete, needs, replicate, getD-replicate}
+use Rattle.theory.specs.Prelude.{_≡_, sym, ap, _∙_, subst, _≢_, List, ℕ, _+_, _-_, _/_, _%_, _≤_, _<_, arith, ℕ-discrete, needs, replicate}
+use Rattle.theory.specs.Prelude.{getD-replicate}
 use Rattle.theory.specs.Set.{_∩_, at}
 use Rattle.theory.specs.Set.Laws.{at-zero, element}
 use Rattle.theory.specs.Constraints.{NotOver}
@@ -11,7 +12,6 @@ use Rattle.merges.specs.Going.{Slots}
 use Rattle.merges.specs.Going.Laws.{slots-same, used-few}
 use Rattle.merges.proofs.Finding.{first-of-same, reaching-open, none-reaching}
 use Rattle.merges.proofs.Running.{ready-begun}
-use Rattle.merges.proofs.some_open.Statement.{statement}
 use Rattle.merges.proofs.some_open.Tie as tie
 
 -- no cluster below c reaches an element
@@ -68,7 +68,7 @@ returns-2 c cs p fine w =
     (λ d m. c .before .loop .inv .1 d (omega (arith, c .loop-test .left))))
     ∙ ap isSome (first-of-same _ (final cs p) (slots-same w))
 
-pub some-open-spec : {M : Type 1} → statement M
+pub some-open-spec : {M : Type 1} → Rattle.merges.proofs.some_open.Statement.statement M
 some-open-spec =
     tie.close
     (tie.spec Inv-loop μ-loop (λ c κs. search needs) (λ c. (omega arith, λ d l r. omega arith)) (λ c. search needs) (λ c. search needs)

@@ -2,7 +2,6 @@
 use Rattle.theory.specs.Prelude.{refl, ap, needs, set}
 use Rattle.theory.specs.Set.{_∪_}
 use Rattle.theory.specs.Merge.{union, cleared, merge, three}
-use Rattle.merges.proofs.step.Statement.{statement}
 use Rattle.merges.proofs.step.Tie as tie
 
 returns : tie.Need-returns
@@ -16,12 +15,11 @@ returns c =
       joints-are = ap (set (a .joints .now) (a .steps)) (c .joint3 .ensures (three (a .slots .now) (merge (a .i) (a .j) (a .k))) refl refl refl);
     }
 
-pub step-spec : {M : Type 1} → statement M
+pub step-spec : {M : Type 1} → Rattle.merges.proofs.step.Statement.statement M
 step-spec =
     tie.close
-    (tie.spec (λ c. search needs) (λ c. search needs) (λ c. search needs) (λ c. search needs) (λ c. search needs)
-    (λ c. search needs) (λ c κs. search needs) (λ c. search needs) (λ c. search needs) (λ c. search needs) (λ c. search needs)
-    (λ c. search needs) (λ c. search needs) (λ c. search needs) (λ c. search needs) (λ c. search needs)
-    (λ c. search needs) (λ c. search needs) (λ c. search needs) (λ c. search needs) (λ c. search needs)
-    (λ c. search needs) (λ c. search needs) (λ c. search needs) (λ c. search needs) (λ c. search needs)
-    (λ c. search needs) (λ c. search needs) (λ c. search needs) (λ c. search needs) (λ c. search needs) returns)
+    (tie.spec (λ c. search needs) (λ c. search needs) (λ c. search needs) (λ c. search needs) (λ c. search needs) (λ c. search needs)
+    (λ c κs. search needs) (λ c. search needs) (λ c. search needs) (λ c. search needs) (λ c. search needs) (λ c. search needs) (λ c. search needs)
+    (λ c. search needs) (λ c. search needs) (λ c. search needs) (λ c. search needs) (λ c. search needs) (λ c. search needs) (λ c. search needs)
+    (λ c. search needs) (λ c. search needs) (λ c. search needs) (λ c. search needs) (λ c. search needs) (λ c. search needs) (λ c. search needs)
+    (λ c. search needs) (λ c. search needs) (λ c. search needs) (λ c. search needs) returns)

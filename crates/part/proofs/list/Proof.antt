@@ -7,7 +7,6 @@ use Rattle.report.specs.Report.{stepLines}
 use Rattle.report.specs.Block.Buffered.{buffered}
 use Rattle.part.specs.Part.{heldField, linesField}
 use Rattle.part.specs.Tallies.Answers.{Had, had, not-had}
-use Rattle.part.proofs.list.Statement.{statement}
 use Rattle.part.proofs.list.Tie as tie
 
 -- what was measured
@@ -48,7 +47,7 @@ returns-2 c =
     (ap linesField
     (not-had (heldField g (s .args .c)) (c .before .before .before .put-cluster .ensures .measured) (c .before .got2 .given .1)))
 
-pub list-spec : {M : Type 1} → statement M
+pub list-spec : {M : Type 1} → Rattle.part.proofs.list.Statement.statement M
 list-spec =
     tie.close
     (tie.spec (λ c κs. search needs) (λ c. search needs) (λ c. search needs) (λ c. search needs) part-put-whole-end (λ c κs. search needs)

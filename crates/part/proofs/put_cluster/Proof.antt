@@ -7,7 +7,6 @@ use Rattle.graph.specs.Lent.Sheets.{counted}
 use Rattle.part.specs.Tallies.Plan as plan
 use Rattle.part.specs.Tallies.Judged.{over-refused, PlanFound, plan-found, number-refused}
 use Rattle.part.specs.Tallies.Answers.{tallied-refused}
-use Rattle.part.proofs.put_cluster.Statement.{statement}
 use Rattle.part.proofs.put_cluster.Tie as tie
 
 abbrev graph : tie.Start → Graph
@@ -74,7 +73,7 @@ returns-3 c =
     plan.all-listed (s .args .h) (s .args .start .now) (s .args .sizes .now) (s .pre .sound) (counted (s .pre)) (found x .notOver) _ (found x .run-is)
     (s .args .c) (omega (arith, y .if2 .left)) (found x .none) (c .put-part .ensures)
 
-pub put-cluster-spec : {M : Type 1} → statement M
+pub put-cluster-spec : {M : Type 1} → Rattle.part.proofs.put_cluster.Statement.statement M
 put-cluster-spec =
     tie.close
     (tie.spec (λ c κs. search needs) (λ c κs. search needs) returns add-if2 returns-2 (λ c κs. search needs) put-part-requires returns-3)

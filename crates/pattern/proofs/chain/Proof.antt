@@ -3,7 +3,6 @@ use Rattle.theory.specs.Prelude.{needs, refl}
 use Rattle.pattern.specs.Entries.{heldSheet}
 use Rattle.pattern.specs.Entries.Reading.{FactsRead, refused-read, facts-read}
 use Rattle.pattern.specs.Entries.Chains.{chain-read}
-use Rattle.pattern.proofs.chain.Statement.{statement}
 use Rattle.pattern.proofs.chain.Tie as tie
 
 returns : tie.Need-returns
@@ -26,7 +25,7 @@ returns-2 c =
     let f = read (c .before .before .before .before) in chain-read _ (a .from) (a .to) (f .reads) (f .graph-read) (a .out .now) _ _
     (c .before .before .chain-of .ensures _)
 
-pub chain-spec : {M : Type 1} → statement M
+pub chain-spec : {M : Type 1} → Rattle.pattern.proofs.chain.Statement.statement M
 chain-spec =
     tie.close
     (tie.spec (λ c κs. (refl, refl, refl)) (λ c. search needs) (λ c. search needs) (λ c κs. search needs) returns (λ c κs. read (c .before) .drawn-is)

@@ -9,7 +9,6 @@ use Rattle.sheet.specs.Answer.Laws.{next-rule, answers-refused}
 use Rattle.account.specs.Account.{savedField}
 use Rattle.pattern.specs.Entries.{heldSheet}
 use Rattle.pattern.specs.Entries.Reading.{FactsRead, refused-read, facts-read}
-use Rattle.pattern.proofs.check_plan.Statement.{statement}
 use Rattle.pattern.proofs.check_plan.Tie as tie
 
 returns : tie.Need-returns
@@ -45,7 +44,7 @@ returns-2 c =
     )
     (by-graph (a .plan .now) (f .graph-read) (c .before .before .check-plan .ensures))
 
-pub check-plan-spec : {M : Type 1} → statement M
+pub check-plan-spec : {M : Type 1} → Rattle.pattern.proofs.check_plan.Statement.statement M
 check-plan-spec =
     tie.close
     (tie.spec (λ c κs. (refl, refl, refl)) (λ c. search needs) (λ c. search needs) (λ c κs. search needs) returns

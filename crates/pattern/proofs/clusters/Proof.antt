@@ -11,7 +11,6 @@ use Rattle.judge.specs.Judged.Lists.{Held, judged-held}
 use Rattle.sheet.specs.Field.{value}
 use Rattle.sheet.specs.Answer.Laws.{answers-refused, answers-items}
 use Rattle.pattern.specs.Entries.Reading.{FactsRead, refused-read, facts-read}
-use Rattle.pattern.proofs.clusters.Statement.{statement}
 use Rattle.pattern.proofs.clusters.Tie as tie
 
 returns : tie.Need-returns
@@ -56,7 +55,7 @@ returns-2 c =
     (rw (read (lent k) .reads)
     (ap (λ (l : List ℕ). value l []) (sym (ap (λ (r : Run). livingOf (take 192 (r .slots))) (run-is k) ∙ held k .finals))))
 
-pub clusters-spec : {M : Type 1} → statement M
+pub clusters-spec : {M : Type 1} → Rattle.pattern.proofs.clusters.Statement.statement M
 clusters-spec =
     tie.close
     (tie.spec (λ c κs. (refl, refl, refl)) (λ c. search needs) (λ c. search needs) (λ c κs. search needs) returns

@@ -9,7 +9,6 @@ use Rattle.reader.specs.declared.Outcome.the-variants.{Accepted}
 use Rattle.reader.specs.Answers.{asReading}
 use Rattle.pattern.specs.Entries.{heldSheet}
 use Rattle.pattern.specs.Entries.Reading.{SheetFound, refused-sheet, sheet-found}
-use Rattle.pattern.proofs.hold.Statement.{statement}
 use Rattle.pattern.proofs.hold.Tie as tie
 
 returns : tie.Need-returns
@@ -34,17 +33,11 @@ over-is c =
     ∙ ap overFault (ap (λ (h : Head). graphIn h (c .before .before .before .before .before .before .before .read-codes .last .1 .1 .0) (sizesOf (f .facts)))
     (c .before .before .before .head-of .ensures) ∙ f .graph-read)
 
-over-fault-requires : tie.Need-over-fault-requires
-over-fault-requires c κs = rw (c .before .before .head-of .ensures) (read c .drawn-is)
-
 returns-2 : tie.Need-returns-2
 unfolding heldSheet
 returns-2 c =
     rw (read (c .before .before .before) .reads)
     (c .refuse2 .ensures ∙ ap asReading (sym (rule-some _ _ (over-is (c .before .before)) (c .before .if1 .taken))))
-
-sheet-of-requires : tie.Need-sheet-of-requires
-sheet-of-requires c κs = let d = read (c .before .before .before .before .before) .drawn-is in (d .sound .most, d .few)
 
 returns-3 : tie.Need-returns-3
 unfolding heldSheet
@@ -54,8 +47,9 @@ returns-3 c =
     rw (f .reads, sym (over-is o) ∙ c .before .before .before .before .if1 .left)
     (ap (λ (s : Sheet). record { outcome = Accepted; sheet = s }) (c .sheet-of .ensures (f .facts) _ (f .sheet-in)))
 
-pub hold-spec : {M : Type 1} → statement M
+pub hold-spec : {M : Type 1} → Rattle.pattern.proofs.hold.Statement.statement M
 hold-spec =
     tie.close
     (tie.spec (λ c κs. (refl, refl, refl, refl)) (λ c. search needs) (λ c. search needs) (λ c κs. search needs) (λ c κs. search needs) returns
-    (λ c κs. search needs) over-fault-requires (λ c κs. search needs) returns-2 sheet-of-requires returns-3)
+    (λ c κs. search needs) (λ c κs. rw (c .before .before .head-of .ensures) (read c .drawn-is)) (λ c κs. search needs) returns-2
+    (λ c κs. let d = read (c .before .before .before .before .before) .drawn-is in (d .sound .most, d .few)) returns-3)

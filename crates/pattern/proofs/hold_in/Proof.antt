@@ -10,7 +10,6 @@ use Rattle.graph.specs.declared.Head.{Head}
 use Rattle.graph.specs.Lent.{graphIn, sizesOf}
 use Rattle.pattern.specs.Entries.{heldSheet}
 use Rattle.pattern.specs.Entries.Reading.{SheetFound, refused-sheet, sheet-found}
-use Rattle.pattern.proofs.hold_in.Statement.{statement}
 use Rattle.pattern.proofs.hold_in.Tie as tie
 
 returns : tie.Need-returns
@@ -33,17 +32,11 @@ over-is c =
     ∙ ap overFault (ap (λ (h : Head). graphIn h (c .before .before .before .before .before .before .before .read-codes .last .1 .1 .0) (sizesOf (f .facts)))
     (c .before .before .before .head-of .ensures) ∙ f .graph-read)
 
-over-fault-requires : tie.Need-over-fault-requires
-over-fault-requires c κs = rw (c .before .before .head-of .ensures) (read c .drawn-is)
-
 returns-2 : tie.Need-returns-2
 unfolding heldSheet
 returns-2 c =
     let f = read (c .before .before) in
     answers-refused (rw (f .reads, rule-some (value (f .facts) (f .rest)) _ (over-is (c .before)) (c .if1 .taken)))
-
-sheet-of-requires : tie.Need-sheet-of-requires
-sheet-of-requires c κs = let d = read (c .before .before .before .before .before) .drawn-is in (d .sound .most, d .few)
 
 module _ (c : tie.After-sheet-of) where
   abbrev sheet-read : tie.After-start2
@@ -64,8 +57,10 @@ returns-3 c =
     answers-items (c .before .before .write .ensures)
     (rw (f .reads, sym (over-is (o .before .before .before .before .before)) ∙ o .before .before .before .before .if1 .left, sheet-is o))
 
-pub hold-in-spec : {M : Type 1} → statement M
+pub hold-in-spec : {M : Type 1} → Rattle.pattern.proofs.hold_in.Statement.statement M
 hold-in-spec =
     tie.close
-    (tie.spec (λ c κs. (refl, refl, refl, refl)) (λ c. search needs) (λ c. search needs) (λ c κs. search needs) returns
-    (λ c κs. search needs) over-fault-requires returns-2 sheet-of-requires (λ c κs. no-fault (c .before)) (λ c. search needs) returns-3)
+    (tie.spec (λ c κs. (refl, refl, refl, refl)) (λ c. search needs) (λ c. search needs) (λ c κs. search needs) returns (λ c κs. search needs)
+    (λ c κs. rw (c .before .before .head-of .ensures) (read c .drawn-is)) returns-2
+    (λ c κs. let d = read (c .before .before .before .before .before) .drawn-is in (d .sound .most, d .few)) (λ c κs. no-fault (c .before))
+    (λ c. search needs) returns-3)

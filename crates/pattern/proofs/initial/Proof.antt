@@ -4,7 +4,6 @@ use Rattle.theory.specs.Graph.{Graph}
 use Rattle.sheet.specs.Field.{value}
 use Rattle.sheet.specs.Answer.Laws.{answers-refused, answers-items}
 use Rattle.pattern.specs.Entries.Reading.{FactsRead, refused-read, facts-read}
-use Rattle.pattern.proofs.initial.Statement.{statement}
 use Rattle.pattern.proofs.initial.Tie as tie
 
 returns : tie.Need-returns
@@ -26,7 +25,7 @@ returns-2 c =
     answers-items (c .before .before .put-start .ensures)
     (rw (f .reads) (ap (λ (g : Graph). value (g .clusters) []) (sym (f .graph-read))))
 
-pub initial-spec : {M : Type 1} → statement M
+pub initial-spec : {M : Type 1} → Rattle.pattern.proofs.initial.Statement.statement M
 initial-spec =
     tie.close
     (tie.spec (λ c κs. (refl, refl, refl)) (λ c. search needs) (λ c. search needs) (λ c κs. search needs) returns

@@ -9,7 +9,6 @@ use Rattle.sheet.specs.Answer.Laws.{next-rule, answers-refused}
 use Rattle.missing.specs.Missing.{cheapestField}
 use Rattle.pattern.specs.Entries.{heldSheet}
 use Rattle.pattern.specs.Entries.Reading.{FactsRead, refused-read, facts-read}
-use Rattle.pattern.proofs.missing.Statement.{statement}
 use Rattle.pattern.proofs.missing.Tie as tie
 
 returns : tie.Need-returns
@@ -45,7 +44,7 @@ returns-2 c =
     )
     (by-graph (a .prices .now) (f .graph-read) (c .before .before .missing .ensures _))
 
-pub missing-spec : {M : Type 1} → statement M
+pub missing-spec : {M : Type 1} → Rattle.pattern.proofs.missing.Statement.statement M
 missing-spec =
     tie.close
     (tie.spec (λ c κs. (refl, refl, refl)) (λ c. search needs) (λ c. search needs) (λ c κs. search needs) returns

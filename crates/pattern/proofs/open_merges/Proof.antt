@@ -9,7 +9,6 @@ use Rattle.sheet.specs.Answer.Laws.{next-rule, answers-refused}
 use Rattle.opens.specs.Opens.{openField, heldField}
 use Rattle.pattern.specs.Entries.{heldSheet}
 use Rattle.pattern.specs.Entries.Reading.{FactsRead, refused-read, facts-read}
-use Rattle.pattern.proofs.open_merges.Statement.{statement}
 use Rattle.pattern.proofs.open_merges.Tie as tie
 
 returns : tie.Need-returns
@@ -42,7 +41,7 @@ returns-2 c =
     )
     (by-graph (a .count) (f .graph-read) (c .before .before .open-of .ensures _))
 
-pub open-merges-spec : {M : Type 1} → statement M
+pub open-merges-spec : {M : Type 1} → Rattle.pattern.proofs.open_merges.Statement.statement M
 open-merges-spec =
     tie.close
     (tie.spec (λ c κs. (refl, refl, refl)) (λ c. search needs) (λ c. search needs) (λ c κs. search needs) returns

@@ -4,7 +4,6 @@ use Rattle.theory.specs.Graph.{Graph, findingOf}
 use Rattle.sheet.specs.Graph.{graphOf}
 use Rattle.sheet.specs.Answer.Laws.{answers-refused, answers-items}
 use Rattle.pattern.specs.Entries.Reading.{FactsRead, refused-read, facts-read, stored-items}
-use Rattle.pattern.proofs.over.Statement.{statement}
 use Rattle.pattern.proofs.over.Tie as tie
 
 returns : tie.Need-returns
@@ -34,9 +33,8 @@ returns-3 c =
     answers-items (c .before .before .put-two .ensures)
     (rw (read (o .before) .reads, found o ∙ c .before .before .before .before .before .found .given .1))
 
-pub over-spec : {M : Type 1} → statement M
+pub over-spec : {M : Type 1} → Rattle.pattern.proofs.over.Statement.statement M
 over-spec =
     tie.close
-    (tie.spec (λ c κs. (refl, refl, refl)) (λ c. search needs) (λ c. search needs) (λ c κs. search needs) returns
-    (λ c κs. read c .drawn-is) (λ c. search needs) (λ c. search needs) returns-2 (λ c κs. search needs) (λ c. search needs)
-    returns-3)
+    (tie.spec (λ c κs. (refl, refl, refl)) (λ c. search needs) (λ c. search needs) (λ c κs. search needs) returns (λ c κs. read c .drawn-is)
+    (λ c. search needs) (λ c. search needs) returns-2 (λ c κs. search needs) (λ c. search needs) returns-3)

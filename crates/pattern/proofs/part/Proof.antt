@@ -8,7 +8,6 @@ use Rattle.part.specs.Part.{heldField, linesField}
 use Rattle.pattern.specs.Entries.{heldSheet}
 use Rattle.pattern.specs.Entries.Reading.{FactsRead, refused-read, facts-read}
 use Rattle.pattern.specs.Entries.Parts.{part-held}
-use Rattle.pattern.proofs.part.Statement.{statement}
 use Rattle.pattern.proofs.part.Tie as tie
 
 returns : tie.Need-returns
@@ -38,7 +37,7 @@ returns-2 c =
     let f = read (c .before .before .before) in
     rw (part-held (a .bytes .now) (a .number) (f .reads)) (by-graph (a .number) (f .graph-read) (c .before .before .list .ensures))
 
-pub part-spec : {M : Type 1} → statement M
+pub part-spec : {M : Type 1} → Rattle.pattern.proofs.part.Statement.statement M
 part-spec =
     tie.close
     (tie.spec (λ c κs. (refl, refl, refl)) (λ c. search needs) (λ c. search needs) (λ c κs. search needs) returns

@@ -6,7 +6,6 @@ use Rattle.part.specs.Tallies.{measureOf}
 use Rattle.pattern.specs.Entries.{heldSheet}
 use Rattle.pattern.specs.Entries.Reading.{FactsRead, refused-read, facts-read}
 use Rattle.pattern.specs.Entries.Parts.{part-held}
-use Rattle.pattern.proofs.part_size.Statement.{statement}
 use Rattle.pattern.proofs.part_size.Tie as tie
 
 returns : tie.Need-returns
@@ -30,7 +29,7 @@ returns-2 c =
     c .measure .ensures ∙ ap (λ (g : Graph). measureOf (heldField g (a .number))) (f .graph-read)
     ∙ ap measureOf (sym (part-held (a .bytes .now) (a .number) (f .reads)))
 
-pub part-size-spec : {M : Type 1} → statement M
+pub part-size-spec : {M : Type 1} → Rattle.pattern.proofs.part_size.Statement.statement M
 part-size-spec =
     tie.close
     (tie.spec (λ c κs. (refl, refl, refl)) (λ c. search needs) (λ c. search needs) (λ c κs. search needs) returns

@@ -2,7 +2,6 @@
 use borrow.Author.Needs.{needs}
 use Rattle.pattern.specs.Entries.{partOf}
 use Rattle.pattern.specs.Entries.Parts.{steps-counted, steps-refused}
-use Rattle.pattern.proofs.part_steps.Statement.{statement}
 use Rattle.pattern.proofs.part_steps.Tie as tie
 
 returns : tie.Need-returns
@@ -15,5 +14,5 @@ returns-2 c =
     let s = c .before .before .before .before .before .args in
     steps-refused (partOf (s .bytes .now) (s .number)) (c .before .before .before .part-size .ensures) (c .before .k .given .1)
 
-pub part-steps-spec : {M : Type 1} → statement M
+pub part-steps-spec : {M : Type 1} → Rattle.pattern.proofs.part_steps.Statement.statement M
 part-steps-spec = tie.close (tie.spec (λ c κs. search needs) (λ c. search needs) (λ c. search needs) returns returns-2)

@@ -10,7 +10,6 @@ use Rattle.judge.specs.Judged.Lists.{HeldRun, run-held}
 use Rattle.sheet.specs.Field.{value}
 use Rattle.sheet.specs.Answer.Laws.{answers-refused, answers-items}
 use Rattle.pattern.specs.Entries.Reading.{FactsRead, refused-read, facts-read}
-use Rattle.pattern.proofs.plan.Statement.{statement}
 use Rattle.pattern.proofs.plan.Tie as tie
 
 returns : tie.Need-returns
@@ -40,17 +39,14 @@ module _ (c : tie.After-plan-on) where
   held : HeldRun (graphOf (read lent .facts)) (accepted-sound _ (read lent .stands .accepted)) run
   held = run-held _ _ (c .plan-on .ensures _ ∙ ap (λ (g : Graph). judgedOf g .run) (read lent .graph-read))
 
-put-plan-requires : tie.Need-put-plan-requires
-put-plan-requires c κs = let j = held (c .before .before) in (j .few-steps, j .all-parts)
-
 returns-2 : tie.Need-returns-2
 returns-2 c =
     let k = c .before .before .before .before .before in
     answers-items (c .before .before .put-plan .ensures)
     (rw (read (lent k) .reads) (ap (λ (l : List ℕ). value l []) (sym (held k .plan-is))))
 
-pub plan-spec : {M : Type 1} → statement M
+pub plan-spec : {M : Type 1} → Rattle.pattern.proofs.plan.Statement.statement M
 plan-spec =
     tie.close
-    (tie.spec (λ c κs. (refl, refl, refl)) (λ c. search needs) (λ c. search needs) (λ c κs. search needs) returns
-    plan-on-requires put-plan-requires (λ c. search needs) returns-2)
+    (tie.spec (λ c κs. (refl, refl, refl)) (λ c. search needs) (λ c. search needs) (λ c κs. search needs) returns plan-on-requires
+    (λ c κs. let j = held (c .before .before) in (j .few-steps, j .all-parts)) (λ c. search needs) returns-2)

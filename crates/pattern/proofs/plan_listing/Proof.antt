@@ -4,7 +4,6 @@ use Rattle.sheet.specs.Field.{value}
 use Rattle.steps.specs.Records.{planSteps}
 use Rattle.pattern.specs.Entries.Reading.{FactsRead, refused-read, facts-read}
 use Rattle.pattern.specs.Entries.Steps.{refused-listed, read-listed}
-use Rattle.pattern.proofs.plan_listing.Statement.{statement}
 use Rattle.pattern.proofs.plan_listing.Tie as tie
 
 returns : tie.Need-returns
@@ -23,11 +22,8 @@ read : (c : tie.After-sizes2)
 read c =
     facts-read _ _ _ _ _ (c .before .before .before .before .before .before .read-graph .ensures) (c .before .before .before .before .got .given .1)
 
-returns-2 : tie.Need-returns-2
-returns-2 c = read-listed (λ g. value (planSteps g) []) _ (read (c .before)) (c .plan-steps .ensures)
-
-pub plan-listing-spec : {M : Type 1} → statement M
+pub plan-listing-spec : {M : Type 1} → Rattle.pattern.proofs.plan_listing.Statement.statement M
 plan-listing-spec =
     tie.close
     (tie.spec (λ c κs. (refl, refl, refl)) (λ c. search needs) (λ c. search needs) (λ c κs. search needs) (λ c κs. search needs) returns
-    (λ c κs. read c .drawn-is) returns-2)
+    (λ c κs. read c .drawn-is) (λ c. read-listed (λ g. value (planSteps g) []) _ (read (c .before)) (c .plan-steps .ensures)))

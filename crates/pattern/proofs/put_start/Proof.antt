@@ -3,7 +3,6 @@ use Rattle.theory.specs.Prelude.{_≡_, sym, ap, _∙_, subst, ℕ, _+_, _-_, _
 use Rattle.space.specs.declared.Written.the-variants.{Done}
 use Rattle.space.specs.Space.{Put, answer, after}
 use Rattle.space.specs.Space.Laws.{put-none, put-as, _then_, put-refused, put-done}
-use Rattle.pattern.proofs.put_start.Statement.{statement}
 use Rattle.pattern.proofs.put_start.Tie as tie
 
 abbrev Inv-loop : tie.InvT-loop
@@ -18,12 +17,6 @@ returns c =
     let p = c .before .before .pre in
     put-refused (take (a .e) (a .start .now)) (a .out .now) (omega (arith, length-take (a .e) (a .start .now), p .0, p .1, c .if1 .taken))
 
-loop-holds : tie.Need-loop-holds Inv-loop μ-loop
-loop-holds c = (search needs, put-none _ 0)
-
-loop-less : tie.Need-loop-less Inv-loop μ-loop
-loop-less c = omega (arith, c .before .before .put-number64 .ensures .next-is)
-
 loop-again : tie.Need-loop-again Inv-loop μ-loop
 loop-again c =
     let s = c .before .before .before .before .before .before .before .before .before in
@@ -37,9 +30,6 @@ loop-again c =
       put-as (sym (ap (λ (n : ℕ). take n (a .start .now)) (e ∙ add-one (l .i)) ∙ take-suc (a .start .now) (l .i) 0 h)) (l .inv .1 then q .ensures),
     )
 
-same-length : tie.Need-same-length Inv-loop μ-loop
-same-length c = c .before .loop .inv .1 .length-is
-
 returns-2 : tie.Need-returns-2 Inv-loop μ-loop
 returns-2 c =
     let s = c .before .before .before .before in
@@ -50,8 +40,8 @@ returns-2 c =
     (put-done (omega (arith, length-take (a .e) (a .start .now), s .pre .0, s .pre .1, c .before .before .if1 .left))
     (put-as (ap (λ (n : ℕ). take n (a .start .now)) h) (l .inv .1)))
 
-pub put-start-spec : {M : Type 1} → statement M
+pub put-start-spec : {M : Type 1} → Rattle.pattern.proofs.put_start.Statement.statement M
 put-start-spec =
     tie.close
-    (tie.spec Inv-loop μ-loop returns loop-holds (λ c. search needs) (λ c. search needs)
-    (λ c κs. search needs) loop-less loop-again same-length returns-2)
+    (tie.spec Inv-loop μ-loop returns (λ c. (search needs, put-none _ 0)) (λ c. search needs) (λ c. search needs) (λ c κs. search needs)
+    (λ c. omega (arith, c .before .before .put-number64 .ensures .next-is)) loop-again (λ c. c .before .loop .inv .1 .length-is) returns-2)

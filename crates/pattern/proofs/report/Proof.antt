@@ -5,7 +5,6 @@ use Rattle.account.specs.Account.{reportOf}
 use Rattle.sheet.specs.Field.{value}
 use Rattle.sheet.specs.Answer.Laws.{answers-refused, answers-items}
 use Rattle.pattern.specs.Entries.Reading.{FactsRead, refused-read, facts-read}
-use Rattle.pattern.proofs.report.Statement.{statement}
 use Rattle.pattern.proofs.report.Tie as tie
 
 returns : tie.Need-returns
@@ -28,7 +27,7 @@ returns-2 c =
     let f = read (c .before .before .before) in
     answers-items (c .before .before .report .ensures) (rw (f .reads) (ap (λ (g : Graph). value (reportOf g) []) (sym (f .graph-read))))
 
-pub report-spec : {M : Type 1} → statement M
+pub report-spec : {M : Type 1} → Rattle.pattern.proofs.report.Statement.statement M
 report-spec =
     tie.close
     (tie.spec (λ c κs. (refl, refl, refl)) (λ c. search needs) (λ c. search needs) (λ c κs. search needs) returns

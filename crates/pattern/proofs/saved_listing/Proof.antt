@@ -3,7 +3,6 @@ use Rattle.theory.specs.Prelude.{needs, refl}
 use Rattle.steps.specs.Records.{savedRecords}
 use Rattle.pattern.specs.Entries.Reading.{FactsRead, refused-read, facts-read}
 use Rattle.pattern.specs.Entries.Steps.{refused-listed, read-listed}
-use Rattle.pattern.proofs.saved_listing.Statement.{statement}
 use Rattle.pattern.proofs.saved_listing.Tie as tie
 
 returns : tie.Need-returns
@@ -27,7 +26,7 @@ returns-2 c =
     read-listed (λ g. savedRecords g (c .before .before .before .before .before .before .before .before .before .before .before .before
     .before .args .plan .now)) _ (read (c .before)) (c .saved-steps .ensures)
 
-pub saved-listing-spec : {M : Type 1} → statement M
+pub saved-listing-spec : {M : Type 1} → Rattle.pattern.proofs.saved_listing.Statement.statement M
 saved-listing-spec =
     tie.close
     (tie.spec (λ c κs. (refl, refl, refl)) (λ c. search needs) (λ c. search needs) (λ c κs. search needs) (λ c κs. search needs) returns

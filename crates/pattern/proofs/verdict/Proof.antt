@@ -3,7 +3,6 @@ use Rattle.theory.specs.Prelude.{needs, refl, ap, _∙_}
 use Rattle.theory.specs.Graph.{verdictOf}
 use Rattle.sketch.specs.declared.Judgement.the-variants.{Is}
 use Rattle.pattern.specs.Entries.Reading.{FactsRead, refused-read, facts-read}
-use Rattle.pattern.proofs.verdict.Statement.{statement}
 use Rattle.pattern.proofs.verdict.Tie as tie
 
 returns : tie.Need-returns
@@ -18,11 +17,8 @@ read : (c : tie.After-start2)
 read c =
     facts-read _ _ _ _ _ (c .before .before .before .before .before .read-graph .ensures) (c .before .before .before .got .given .1)
 
-returns-2 : tie.Need-returns-2
-returns-2 c = let f = read (c .before) in rw (f .reads) (ap Is (c .verdict-of .ensures _ ∙ ap verdictOf (f .graph-read)))
-
-pub verdict-spec : {M : Type 1} → statement M
+pub verdict-spec : {M : Type 1} → Rattle.pattern.proofs.verdict.Statement.statement M
 verdict-spec =
     tie.close
-    (tie.spec (λ c κs. (refl, refl, refl)) (λ c. search needs) (λ c. search needs) (λ c κs. search needs) returns
-    (λ c κs. read c .drawn-is) returns-2)
+    (tie.spec (λ c κs. (refl, refl, refl)) (λ c. search needs) (λ c. search needs) (λ c κs. search needs) returns (λ c κs. read c .drawn-is)
+    (λ c. let f = read (c .before) in rw (f .reads) (ap Is (c .verdict-of .ensures _ ∙ ap verdictOf (f .graph-read)))))

@@ -1,13 +1,6 @@
 -- `pattern_c::columns_fault` meets its contract, rule by rule. Assumes nothing.
 use Rattle.theory.specs.Prelude.{needs, le-leb, lt-leb, not-true, not-false, sym, _∙_}
-use Rattle.pattern_c.proofs.columns_fault.Statement.{statement}
 use Rattle.pattern_c.proofs.columns_fault.Tie as tie
-
-returns : tie.Need-returns
-returns c = rw (lt-leb _ _ (c .if1 .taken))
-
-returns-2 : tie.Need-returns-2
-returns-2 c = rw (le-leb _ _ (c .before .if1 .left), lt-leb _ _ (c .if2 .taken))
 
 returns-3 : tie.Need-returns-3
 returns-3 c =
@@ -35,6 +28,8 @@ returns-5 c =
       sym (c .before .kinds-listed .ensures) ∙ c .if4 .left,
     )
 
-pub columns-fault-spec : {M : Type 1} → statement M
+pub columns-fault-spec : {M : Type 1} → Rattle.pattern_c.proofs.columns_fault.Statement.statement M
 columns-fault-spec =
-    tie.close (tie.spec returns returns-2 (λ c κs. search needs) returns-3 (λ c κs. search needs) returns-4 returns-5)
+    tie.close
+    (tie.spec (λ c. rw (lt-leb _ _ (c .if1 .taken))) (λ c. rw (le-leb _ _ (c .before .if1 .left), lt-leb _ _ (c .if2 .taken))) (λ c κs. search needs)
+    returns-3 (λ c κs. search needs) returns-4 returns-5)

@@ -4,7 +4,6 @@ use mir.Syntax.{w32}
 use mir.Facts.{toZ-ofZ}
 use Rattle.pattern_c.specs.Columns.{constraintFrom}
 use Rattle.pattern_c.specs.Columns.Laws.{short-firsts, short-seconds, short-maps, short-sizes, without-size, with-size}
-use Rattle.pattern_c.proofs.constraint_at.Statement.{statement}
 use Rattle.pattern_c.proofs.constraint_at.Tie as tie
 
 returns : tie.Need-returns
@@ -47,7 +46,7 @@ returns-6 c =
     ∙ sym (with-size (a .firsts .now) (a .seconds .now) (a .maps .now) (a .sizes .now) (a .i) (search needs) (search needs) (search needs)
     (c .before .before .if4 .left) (search needs))
 
-pub constraint-at-spec : {M : Type 1} → statement M
+pub constraint-at-spec : {M : Type 1} → Rattle.pattern_c.proofs.constraint_at.Statement.statement M
 constraint-at-spec =
     tie.close
     (tie.spec (λ c κs. search needs) returns (λ c κs. search needs) returns-2 (λ c κs. search needs) returns-3 (λ c. search needs) (λ c. search needs) (λ c. search needs)

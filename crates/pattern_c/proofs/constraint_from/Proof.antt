@@ -2,11 +2,9 @@
 use borrow.Author.Needs.{needs}
 use mir.Syntax.{w32}
 use mir.Facts.{toZ-ofZ}
-use Rattle.pattern_c.proofs.constraint_from.Statement.{statement}
 use Rattle.pattern_c.proofs.constraint_from.Tie as tie
 
-returns : tie.Need-returns
-returns c = rw (c .size-by .ensures, toZ-ofZ {w = w32} {z = c .before .args .size} (search needs))
-
-pub constraint-from-spec : {M : Type 1} → statement M
-constraint-from-spec = tie.close (tie.spec (λ c κs. search needs) returns)
+pub constraint-from-spec : {M : Type 1} → Rattle.pattern_c.proofs.constraint_from.Statement.statement M
+constraint-from-spec =
+    tie.close
+    (tie.spec (λ c κs. search needs) (λ c. rw (c .size-by .ensures, toZ-ofZ {w = w32} {z = c .before .args .size} (search needs))))

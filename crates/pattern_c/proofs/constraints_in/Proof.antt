@@ -2,7 +2,6 @@
 use Rattle.theory.specs.Prelude.{needs, _-_, arith, refl}
 use Rattle.pattern_c.specs.Columns.{constraintIn}
 use Rattle.pattern_c.specs.Columns.Laws.{Filling, filling-none, filling-more, filling-all}
-use Rattle.pattern_c.proofs.constraints_in.Statement.{statement}
 use Rattle.pattern_c.proofs.constraints_in.Tie as tie
 
 abbrev Inv-loop : tie.InvT-loop
@@ -10,15 +9,6 @@ Inv-loop firsts seconds maps sizes cs₀ i₀ cs i = Filling (constraintIn first
 
 abbrev μ-loop : tie.MeasureT-loop
 μ-loop firsts seconds maps sizes cs₀ i₀ cs i = 200 - i
-
-loop-holds : tie.Need-loop-holds Inv-loop μ-loop
-loop-holds c = filling-none _ _ _ refl
-
-array-set-from-cs : tie.Need-array-set-from-cs Inv-loop μ-loop
-array-set-from-cs c = omega (arith, c .before .loop-test .taken)
-
-loop-less : tie.Need-loop-less Inv-loop μ-loop
-loop-less c = omega (arith, c .before .before .loop .inv .within)
 
 loop-again : tie.Need-loop-again Inv-loop μ-loop
 loop-again c =
@@ -34,8 +24,9 @@ returns c =
     filling-all (constraintIn (a .firsts .now) (a .seconds .now) (a .maps .now) (a .sizes .now)) 200 (c .before .loop .i) (c .before .loop .cs)
     (c .loop-test .left) (c .before .loop .inv)
 
-pub constraints-in-spec : {M : Type 1} → statement M
+pub constraints-in-spec : {M : Type 1} → Rattle.pattern_c.proofs.constraints_in.Statement.statement M
 constraints-in-spec =
     tie.close
-    (tie.spec Inv-loop μ-loop (λ c κs. search needs) loop-holds (λ c κs. search needs) (λ c. search needs) array-set-from-cs
-    (λ c. search needs) loop-less loop-again returns)
+    (tie.spec Inv-loop μ-loop (λ c κs. search needs) (λ c. filling-none _ _ _ refl) (λ c κs. search needs) (λ c. search needs)
+    (λ c. omega (arith, c .before .loop-test .taken)) (λ c. search needs) (λ c. omega (arith, c .before .before .loop .inv .within)) loop-again
+    returns)

@@ -4,7 +4,6 @@ use mir.Val.{toZ}
 use mir.Facts.{toZ-pos, toZ-ofZ}
 use Rattle.pattern_c.specs.Numbers.{asCount, minus}
 use Rattle.pattern_c.specs.Numbers.Laws.{zero-minus, minus-fits}
-use Rattle.pattern_c.proofs.count.Statement.{statement}
 use Rattle.pattern_c.proofs.count.Tie as tie
 
 -- the rule's number is a byte
@@ -15,9 +14,6 @@ negative : (c : tie.After-known-told2) → pos 0 -ℤ toZ w32 (c .before .w2 .gi
 negative c =
     let h : c .before .w2 .given .0 .0 < 2147483648 = omega (arith, rule c) in
     ap (λ z. pos 0 -ℤ z) (toZ-pos w32 h) ∙ zero-minus (c .before .w2 .given .0 .0)
-
-sub-result : tie.Need-sub-result
-sub-result c = rw (negative c) (minus-fits (c .before .w2 .given .0 .0) (rule c))
 
 returns : tie.Need-returns
 returns c =
@@ -34,8 +30,8 @@ returns-3 c =
     rw (negative c, toZ-ofZ {w = w32} (minus-fits (c .before .w2 .given .0 .0) (rule c)))
     (sym (ap asCount (c .before .w2 .given .1)))
 
-pub count-spec : {M : Type 1} → statement M
+pub count-spec : {M : Type 1} → Rattle.pattern_c.proofs.count.Statement.statement M
 count-spec =
     tie.close
-    (tie.spec (λ c. search needs) (λ c. search needs) (λ c. search needs) (λ c. search needs) sub-result returns
-    returns-2 returns-3)
+    (tie.spec (λ c. search needs) (λ c. search needs) (λ c. search needs) (λ c. search needs)
+    (λ c. rw (negative c) (minus-fits (c .before .w2 .given .0 .0) (rule c))) returns returns-2 returns-3)

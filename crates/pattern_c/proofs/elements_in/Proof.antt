@@ -2,7 +2,6 @@
 use Rattle.theory.specs.Prelude.{needs, _-_, arith, refl}
 use Rattle.pattern_c.specs.Columns.{elementIn}
 use Rattle.pattern_c.specs.Columns.Laws.{Filling, filling-none, filling-more, filling-all}
-use Rattle.pattern_c.proofs.elements_in.Statement.{statement}
 use Rattle.pattern_c.proofs.elements_in.Tie as tie
 
 abbrev Inv-loop : tie.InvT-loop
@@ -10,15 +9,6 @@ Inv-loop kinds radii elements₀ i₀ elements i = Filling (elementIn kinds radi
 
 abbrev μ-loop : tie.MeasureT-loop
 μ-loop kinds radii elements₀ i₀ elements i = 64 - i
-
-loop-holds : tie.Need-loop-holds Inv-loop μ-loop
-loop-holds c = filling-none _ _ _ refl
-
-array-set-from-elements : tie.Need-array-set-from-elements Inv-loop μ-loop
-array-set-from-elements c = omega (arith, c .before .before .before .loop-test .taken)
-
-loop-less : tie.Need-loop-less Inv-loop μ-loop
-loop-less c = omega (arith, c .before .before .before .before .loop .inv .within)
 
 loop-again : tie.Need-loop-again Inv-loop μ-loop
 loop-again c =
@@ -34,8 +24,9 @@ returns c =
     filling-all (elementIn (a .kinds .now) (a .radii .now)) 64 (c .before .loop .i) (c .before .loop .elements) (c .loop-test .left)
     (c .before .loop .inv)
 
-pub elements-in-spec : {M : Type 1} → statement M
+pub elements-in-spec : {M : Type 1} → Rattle.pattern_c.proofs.elements_in.Statement.statement M
 elements-in-spec =
     tie.close
-    (tie.spec Inv-loop μ-loop loop-holds (λ c κs. search needs) (λ c κs. search needs) (λ c κs. search needs) (λ c. search needs)
-    array-set-from-elements (λ c. search needs) loop-less loop-again returns)
+    (tie.spec Inv-loop μ-loop (λ c. filling-none _ _ _ refl) (λ c κs. search needs) (λ c κs. search needs) (λ c κs. search needs) (λ c. search needs)
+    (λ c. omega (arith, c .before .before .before .loop-test .taken)) (λ c. search needs)
+    (λ c. omega (arith, c .before .before .before .before .loop .inv .within)) loop-again returns)

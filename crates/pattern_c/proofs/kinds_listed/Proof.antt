@@ -2,7 +2,6 @@
 use Rattle.theory.specs.Prelude.{needs, _-_, _≤_, arith, _≡_, sym, ap, _∙_, true}
 use Rattle.pattern_c.specs.Columns.{kindsListed}
 use Rattle.pattern_c.specs.Columns.Laws.{kinds-none-listed, kinds-more, kinds-none}
-use Rattle.pattern_c.proofs.kinds_listed.Statement.{statement}
 use Rattle.pattern_c.proofs.kinds_listed.Tie as tie
 
 abbrev Inv-loop : tie.InvT-loop
@@ -10,9 +9,6 @@ Inv-loop kinds n i₀ i = (i ≤ n) × (kindsListed kinds i ≡ true)
 
 abbrev μ-loop : tie.MeasureT-loop
 μ-loop kinds n i₀ i = n - i
-
-loop-holds : tie.Need-loop-holds Inv-loop μ-loop
-loop-holds c = (omega arith, kinds-none-listed _)
 
 returns : tie.Need-returns Inv-loop μ-loop
 returns c =
@@ -35,7 +31,8 @@ returns-2 c =
     let e : l .i ≡ n = omega (arith, c .loop-test .left, l .inv .0) in
     sym (l .inv .1) ∙ ap (kindsListed (c .before .before .before .args .kinds .now)) e
 
-pub kinds-listed-spec : {M : Type 1} → statement M
+pub kinds-listed-spec : {M : Type 1} → Rattle.pattern_c.proofs.kinds_listed.Statement.statement M
 kinds-listed-spec =
     tie.close
-    (tie.spec Inv-loop μ-loop loop-holds (λ c κs. search needs) returns (λ c. search needs) (λ c. omega arith) loop-again returns-2)
+    (tie.spec Inv-loop μ-loop (λ c. (omega arith, kinds-none-listed _)) (λ c κs. search needs) returns (λ c. search needs) (λ c. omega arith)
+    loop-again returns-2)

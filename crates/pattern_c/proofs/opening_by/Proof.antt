@@ -1,13 +1,6 @@
 -- `pattern_c::opening_by` meets its contract. Assumes nothing.
 use borrow.Author.Tests.{eq-eqb, ne-eqb}
-use Rattle.pattern_c.proofs.opening_by.Statement.{statement}
 use Rattle.pattern_c.proofs.opening_by.Tie as tie
 
-returns : tie.Need-returns
-returns c = rw (eq-eqb _ _ (c .if1 .taken))
-
-returns-2 : tie.Need-returns-2
-returns-2 c = rw (ne-eqb _ _ (c .if1 .left))
-
-pub opening-by-spec : {M : Type 1} → statement M
-opening-by-spec = tie.close (tie.spec returns returns-2)
+pub opening-by-spec : {M : Type 1} → Rattle.pattern_c.proofs.opening_by.Statement.statement M
+opening-by-spec = tie.close (tie.spec (λ c. rw (eq-eqb _ _ (c .if1 .taken))) (λ c. rw (ne-eqb _ _ (c .if1 .left))))

@@ -7,7 +7,6 @@ use Rattle.records.specs.Record.{asJudgement, askField}
 use Rattle.pattern_c.specs.Columns.{constraintFrom}
 use Rattle.pattern_c.specs.Numbers.{asNumber}
 use Rattle.pattern_c.specs.Numbers.Laws.{counted}
-use Rattle.pattern_c.proofs.pattern_ask.Statement.{statement}
 use Rattle.pattern_c.proofs.pattern_ask.Tie as tie
 
 returns : tie.Need-returns
@@ -19,6 +18,5 @@ returns c =
     counted (c .count .result) (w .result) _ (record { sfits = c .count .ok }) (c .count .ensures)
     (w .ensures ∙ ap asNumber (c .before .before .ask-in .ensures ∙ ap (λ (x : Constraint). asJudgement (askField (a .lent .now) x)) of))
 
-pub pattern-ask-spec : {M : Type 1} → statement M
-pattern-ask-spec =
-    tie.close (tie.spec (λ c κs. search needs) (λ c κs. search needs) (λ c κs. search needs) (λ c κs. search needs) returns)
+pub pattern-ask-spec : {M : Type 1} → Rattle.pattern_c.proofs.pattern_ask.Statement.statement M
+pattern-ask-spec = tie.close (tie.spec (λ c κs. search needs) (λ c κs. search needs) (λ c κs. search needs) (λ c κs. search needs) returns)

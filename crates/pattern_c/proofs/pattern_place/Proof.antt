@@ -8,7 +8,6 @@ use Rattle.records.specs.Record.{placeField, writtenField, placedIn}
 use Rattle.pattern_c.specs.Columns.{constraintFrom}
 use Rattle.pattern_c.specs.Numbers.{asNumber}
 use Rattle.pattern_c.specs.Numbers.Laws.{counted}
-use Rattle.pattern_c.proofs.pattern_place.Statement.{statement}
 use Rattle.pattern_c.proofs.pattern_place.Tie as tie
 
 returns : tie.Need-returns
@@ -25,7 +24,7 @@ returns c =
       left-is = p .1 ∙ ap (λ (y : Constraint). afterTo (writtenField (placeField (a .lent .now) y (a .held))) (a .lent .now)) of;
     }
 
-pub pattern-place-spec : {M : Type 1} → statement M
+pub pattern-place-spec : {M : Type 1} → Rattle.pattern_c.proofs.pattern_place.Statement.statement M
 pattern-place-spec =
     tie.close
     (tie.spec (λ c κs. search needs) (λ c κs. search needs) (λ c κs. search needs) (λ c κs. search needs) (λ c. search needs) returns)

@@ -3,7 +3,6 @@ use Rattle.theory.specs.Prelude.{needs, sym, _∙_}
 use Rattle.sheet.specs.Answer.Laws.{answers-refused}
 use Rattle.pattern_c.specs.Columns.Laws.{columns-refused, columns-taken}
 use Rattle.pattern_c.specs.Numbers.Laws.{counts}
-use Rattle.pattern_c.proofs.pattern_write.Statement.{statement}
 use Rattle.pattern_c.proofs.pattern_write.Tie as tie
 
 returns : tie.Need-returns
@@ -23,7 +22,7 @@ returns-2 c =
     (c .before .before .before .before .before .before .constraints-in .ensures) in
     counts (c .count2 .result) (w .result) (record { sfits = c .count2 .ok }) (c .count2 .ensures) (rw (← e) (w .ensures))
 
-pub pattern-write-spec : {M : Type 1} → statement M
+pub pattern-write-spec : {M : Type 1} → Rattle.pattern_c.proofs.pattern_write.Statement.statement M
 pattern-write-spec =
     tie.close
     (tie.spec (λ c κs. search needs) (λ c κs. search needs) returns (λ c κs. search needs) (λ c κs. search needs) (λ c κs. search needs)

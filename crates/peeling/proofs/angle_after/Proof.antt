@@ -1,7 +1,6 @@
 -- `angle_after` meets its contract: an angle stays one, and else three lines decide. Assumes nothing.
 use Rattle.theory.specs.Prelude.{_≡_, refl, sym, _∙_, Bool, true, false, _&&_, _||_, eqb, ones, needs}
 use Rattle.theory.specs.Verdict.{allLines}
-use Rattle.peeling.proofs.angle_after.Statement.{statement}
 use Rattle.peeling.proofs.angle_after.Tie as tie
 
 -- one of two tests, where the other is true and where it is false
@@ -16,8 +15,5 @@ or-false false b c e h = h ∙ sym e
 returns : tie.Need-returns
 returns c = let a = c .before .args in or-true (eqb (ones (a .around)) 3 && allLines (a .lines) (a .around)) (a .angle) (c .if1 .taken)
 
-returns-2 : tie.Need-returns-2
-returns-2 c = or-false _ _ _ (c .before .if1 .left) (c .three-lines .ensures)
-
-pub angle-after-spec : {M : Type 1} → statement M
-angle-after-spec = tie.close (tie.spec (λ c κs. search needs) returns returns-2)
+pub angle-after-spec : {M : Type 1} → Rattle.peeling.proofs.angle_after.Statement.statement M
+angle-after-spec = tie.close (tie.spec (λ c κs. search needs) returns (λ c. or-false _ _ _ (c .before .if1 .left) (c .three-lines .ensures)))

@@ -6,7 +6,6 @@ use Rattle.peeling.specs.Core.{Light, Heavy, Mutual, Peeled}
 use Rattle.peeling.specs.Core.Neighbours.{heavy-start}
 use Rattle.peeling.specs.Core.Peeling.{heavy-none, light-room, round, core-peeled, peeled-largest}
 use Rattle.peeling.specs.Core.Angle.{taken-start}
-use Rattle.peeling.proofs.core_of.Statement.{statement}
 use Rattle.peeling.proofs.core_of.Tie as tie
 
 abbrev Inv-loop : tie.InvT-loop
@@ -14,12 +13,6 @@ Inv-loop near n left₀ todo₀ left todo = Peeled near left × Light near left 
 
 abbrev μ-loop : tie.MeasureT-loop
 μ-loop near n left₀ todo₀ left todo = left
-
-below-requires : tie.Need-below-requires Inv-loop μ-loop
-below-requires c κs = omega (arith, c .wide .ensures, c .before .used .ensures .0, c .before .used .ensures .1)
-
-light-all-requires : tie.Need-light-all-requires Inv-loop μ-loop
-light-all-requires c κs = c .before .before .used .ensures .1
 
 loop-holds : tie.Need-loop-holds Inv-loop μ-loop
 loop-holds c =
@@ -32,15 +25,9 @@ loop-holds c =
       λ m. heavy-start near (n .result) (low .result) (n .ensures .1) (n .ensures .2) m (low .ensures .1),
     )
 
-sub-left : tie.Need-sub-left Inv-loop μ-loop
-sub-left c = light-room (c .before .loop .inv .1)
-
 light-of-requires : tie.Need-light-of-requires Inv-loop μ-loop
 unfolding _∩_
 light-of-requires c κs = let l = c .before .before .loop in a∩b⊑b (c .neighbours .result) (l .left - l .todo)
-
-loop-less : tie.Need-loop-less Inv-loop μ-loop
-loop-less c = omega (arith, c .before .before .loop-test .taken, light-room (c .before .before .before .loop .inv .1))
 
 loop-again : tie.Need-loop-again Inv-loop μ-loop
 loop-again c =
@@ -62,8 +49,10 @@ returns c =
       ),
     )
 
-pub core-of-spec : {M : Type 1} → statement M
+pub core-of-spec : {M : Type 1} → Rattle.peeling.proofs.core_of.Statement.statement M
 core-of-spec =
     tie.close
-    (tie.spec Inv-loop μ-loop (λ c κs. search needs) (λ c κs. search needs) below-requires light-all-requires loop-holds sub-left (λ c κs. search needs)
-    light-of-requires loop-less loop-again returns)
+    (tie.spec Inv-loop μ-loop (λ c κs. search needs) (λ c κs. search needs)
+    (λ c κs. omega (arith, c .wide .ensures, c .before .used .ensures .0, c .before .used .ensures .1)) (λ c κs. c .before .before .used .ensures .1)
+    loop-holds (λ c. light-room (c .before .loop .inv .1)) (λ c κs. search needs) light-of-requires
+    (λ c. omega (arith, c .before .before .loop-test .taken, light-room (c .before .before .before .loop .inv .1))) loop-again returns)

@@ -1,11 +1,7 @@
 -- `drop_pair` meets its contract. Assumes nothing.
 use Rattle.theory.specs.Prelude.{refl, needs}
 use Rattle.peeling.specs.Hard.Laws.{two-pos, drop-first, drop-second, left-dropped, left-shrunk}
-use Rattle.peeling.proofs.drop_pair.Statement.{statement}
 use Rattle.peeling.proofs.drop_pair.Tie as tie
-
-lowest-requires : tie.Need-lowest-requires
-lowest-requires c κs = two-pos (c .args .pair) (c .pre .0)
 
 sub-near : tie.Need-sub-near
 sub-near c =
@@ -34,9 +30,9 @@ returns c = λ cs simple k lk is w.
     (c .before .before .before .before .single2 .ensures) (c .before .before .before .before .before .before .single .ensures) cs simple k lk is w)
     (c .shrink .ensures)
 
-pub drop-pair-spec : {M : Type 1} → statement M
+pub drop-pair-spec : {M : Type 1} → Rattle.peeling.proofs.drop_pair.Statement.statement M
 drop-pair-spec =
     tie.close
-    (tie.spec lowest-requires (λ c κs. search needs) (λ c κs. search needs) (λ c κs. search needs) (λ c. search needs) (λ c. search needs)
-    (λ c κs. search needs) sub-near (λ c. search needs) (λ c. search needs) (λ c. search needs) (λ c. search needs) (λ c κs. search needs)
-    sub-near-2 (λ c. search needs) (λ c. search needs) (λ c κs. search needs) (λ c κs. search needs) returns)
+    (tie.spec (λ c κs. two-pos (c .args .pair) (c .pre .0)) (λ c κs. search needs) (λ c κs. search needs) (λ c κs. search needs) (λ c. search needs)
+    (λ c. search needs) (λ c κs. search needs) sub-near (λ c. search needs) (λ c. search needs) (λ c. search needs) (λ c. search needs)
+    (λ c κs. search needs) sub-near-2 (λ c. search needs) (λ c. search needs) (λ c κs. search needs) (λ c κs. search needs) returns)

@@ -3,7 +3,6 @@ use Rattle.theory.specs.Prelude.{_≡_, ap, _∙_, subst, inl, inr, ⊎-elim, �
 use Rattle.theory.specs.Set.{at, full}
 use Rattle.peeling.specs.Core.{Light}
 use Rattle.peeling.specs.Core.Neighbours.{light-none, light-all-code, light-same, two-most, three-least, heavy-tried}
-use Rattle.peeling.proofs.light_all.Statement.{statement}
 use Rattle.peeling.proofs.light_all.Tie as tie
 
 abbrev Inv-loop : tie.InvT-loop
@@ -12,15 +11,6 @@ Inv-loop near n todo₀ x₀ todo x =
 
 abbrev μ-loop : tie.MeasureT-loop
 μ-loop near n todo₀ x₀ todo x = n - x
-
-loop-holds : tie.Need-loop-holds Inv-loop μ-loop
-loop-holds c = (omega arith, light-none (c .args .near .now) (full (c .args .n)), λ y l z. absurd (omega arith))
-
-mul-without-lowest : tie.Need-mul-without-lowest Inv-loop μ-loop
-mul-without-lowest c = omega (arith, c .wide .ensures)
-
-element-copy-out-without-lowest : tie.Need-element-copy-out-without-lowest Inv-loop μ-loop
-element-copy-out-without-lowest c = omega (arith, c .wide .ensures)
 
 loop-again : tie.Need-loop-again Inv-loop μ-loop
 loop-again c =
@@ -50,9 +40,9 @@ returns c =
     let l = c .before .loop in
     (l .inv .1, λ x h o. l .inv .2 x (omega (arith, c .loop-test .left)) o)
 
-pub light-all-spec : {M : Type 1} → statement M
+pub light-all-spec : {M : Type 1} → Rattle.peeling.proofs.light_all.Statement.statement M
 light-all-spec =
     tie.close
-    (tie.spec Inv-loop μ-loop loop-holds (λ c κs. search needs) mul-without-lowest element-copy-out-without-lowest
-    (λ c κs. search needs) (λ c κs. search needs) (λ c κs. search needs) (λ c. omega arith) (λ c. omega arith)
-    loop-again returns)
+    (tie.spec Inv-loop μ-loop (λ c. (omega arith, light-none (c .args .near .now) (full (c .args .n)), λ y l z. absurd (omega arith)))
+    (λ c κs. search needs) (λ c. omega (arith, c .wide .ensures)) (λ c. omega (arith, c .wide .ensures)) (λ c κs. search needs)
+    (λ c κs. search needs) (λ c κs. search needs) (λ c. omega arith) (λ c. omega arith) loop-again returns)

@@ -5,7 +5,6 @@ use Rattle.theory.specs.Set.Laws.{at-le, at-zero, ⊑-trans}
 use Rattle.theory.specs.Set.Less.{at-room, less-other, less-sub}
 use Rattle.peeling.specs.Core.{Light}
 use Rattle.peeling.specs.Core.Neighbours.{light-none, light-code, light-same, two-most, three-least, heavy-tried}
-use Rattle.peeling.proofs.light_of.Statement.{statement}
 use Rattle.peeling.proofs.light_of.Tie as tie
 
 abbrev Inv-loop : tie.InvT-loop
@@ -14,18 +13,6 @@ Inv-loop near left who todo₀ m₀ todo m =
 
 abbrev μ-loop : tie.MeasureT-loop
 μ-loop near left who todo₀ m₀ todo m = m
-
-loop-holds : tie.Need-loop-holds Inv-loop μ-loop
-loop-holds c = (c .pre, light-none (c .args .near .now) (c .args .left), λ y o z. absurd (omega (arith, o .0, o .1)))
-
-single-requires : tie.Need-single-requires Inv-loop μ-loop
-single-requires c κs = c .before .lowest .ensures .0
-
-mul-without-lowest : tie.Need-mul-without-lowest Inv-loop μ-loop
-mul-without-lowest c = omega (arith, c .before .wide .ensures, c .before .before .lowest .ensures .0)
-
-element-copy-out-without-lowest : tie.Need-element-copy-out-without-lowest Inv-loop μ-loop
-element-copy-out-without-lowest c = omega (arith, c .before .wide .ensures, c .before .before .lowest .ensures .0)
 
 sub-m : tie.Need-sub-m Inv-loop μ-loop
 sub-m c = omega (
@@ -78,8 +65,11 @@ returns c =
     let z : l .m ≡ 0 = omega (arith, c .loop-test .left) in
     (l .inv .1, record { heavy = λ x i o. l .inv .2 x (i, ap (at x) z ∙ at-zero x) o })
 
-pub light-of-spec : {M : Type 1} → statement M
+pub light-of-spec : {M : Type 1} → Rattle.peeling.proofs.light_of.Statement.statement M
 light-of-spec =
     tie.close
-    (tie.spec Inv-loop μ-loop loop-holds (λ c κs. search needs) (λ c κs. search needs) single-requires mul-without-lowest
-    element-copy-out-without-lowest (λ c κs. search needs) (λ c κs. search needs) sub-m loop-less loop-again returns)
+    (tie.spec Inv-loop μ-loop (λ c. (c .pre, light-none (c .args .near .now) (c .args .left), λ y o z. absurd (omega (arith, o .0, o .1))))
+    (λ c κs. search needs) (λ c κs. search needs) (λ c κs. c .before .lowest .ensures .0)
+    (λ c. omega (arith, c .before .wide .ensures, c .before .before .lowest .ensures .0))
+    (λ c. omega (arith, c .before .wide .ensures, c .before .before .lowest .ensures .0)) (λ c κs. search needs) (λ c κs. search needs) sub-m
+    loop-less loop-again returns)

@@ -5,7 +5,6 @@ use Rattle.theory.specs.Near.Laws.{standing-count, standing-item, standing-two}
 use Rattle.peeling.specs.Hard.{Linked, Left, Marks}
 use Rattle.peeling.specs.Hard.Laws.{left-start, left-skip, left-linked, left-harmless, told-in, told-out, two-out}
 use Rattle.peeling.specs.Hard.Laws.{marks-start, marks-easy, marks-hard, marks-rest, in-list}
-use Rattle.peeling.proofs.mark_hard.Statement.{statement}
 use Rattle.peeling.proofs.mark_hard.Tie as tie
 
 abbrev Inv-loop : tie.InvT-loop
@@ -29,18 +28,9 @@ returns c =
     let lk = in-list (s .pre .0) (omega (arith, h, l .inv .0)) in
     left-harmless (take (s .args .e) (s .args .start .now)) (s .pre .0 .simple) (l .inv .1) k h lk (two-out (s .pre .0 .simple) k lk (c .if1 .taken)))
 
-sub-c : tie.Need-sub-c Inv-loop μ-loop
-sub-c c = omega (arith, c .before .loop-test .taken)
-
-mul-pair : tie.Need-mul-pair Inv-loop μ-loop
-mul-pair c = omega (arith, c .before .before .loop .inv .0, c .before .before .before .before .pre .0 .few)
-
 element-copy-out-pair : tie.Need-element-copy-out-pair Inv-loop μ-loop
 element-copy-out-pair c =
     omega (arith, c .before .loop-test .taken, c .before .before .loop .inv .0, c .before .before .before .before .pre .0 .few)
-
-element-write-needs : tie.Need-element-write-needs Inv-loop μ-loop
-element-write-needs c = element-copy-out-pair (c .before .before)
 
 drop-pair-requires : tie.Need-drop-pair-requires Inv-loop μ-loop
 drop-pair-requires c κs =
@@ -58,9 +48,6 @@ drop-pair-requires c κs =
           (left-linked cs (s .pre .0 .simple) k (in-list (s .pre .0) lt) (subst (λ (z : ℕ). Left cs z (l .rest) (l .left)) up (l .inv .1)) i),
     )
 
-loop-less : tie.Need-loop-less Inv-loop μ-loop
-loop-less c = omega (arith, c .before .before .before .before .before .loop-test .taken)
-
 loop-again : tie.Need-loop-again Inv-loop μ-loop
 loop-again c =
     let s = c .before .before .before .before .before .before .before .before in
@@ -74,9 +61,6 @@ loop-again c =
           (subst (λ (z : ℕ). Left cs z (l .rest) (l .left)) up (l .inv .1)),
       marks-hard (subst (λ (z : ℕ). Marks cs z (s .args .needs .now) (l .needs)) up (l .inv .2)) (omega (arith, lt, s .pre .0 .few)),
     )
-
-loop-less-2 : tie.Need-loop-less-2 Inv-loop μ-loop
-loop-less-2 c = omega (arith, c .before .before .before .loop-test .taken)
 
 loop-again-2 : tie.Need-loop-again-2 Inv-loop μ-loop
 loop-again-2 c =
@@ -101,8 +85,11 @@ returns-2 c =
     subst (λ (z : ℕ). Marks (take (s .args .e) (s .args .start .now)) z (s .args .needs .now) (l .needs)) (omega (arith, c .loop-test .left)) (l
     .inv .2)
 
-pub mark-hard-spec : {M : Type 1} → statement M
+pub mark-hard-spec : {M : Type 1} → Rattle.peeling.proofs.mark_hard.Statement.statement M
 mark-hard-spec =
     tie.close
-    (tie.spec Inv-loop μ-loop loop-holds returns sub-c mul-pair element-copy-out-pair element-write-needs drop-pair-requires loop-less loop-again
-    loop-less-2 loop-again-2 returns-2)
+    (tie.spec Inv-loop μ-loop loop-holds returns (λ c. omega (arith, c .before .loop-test .taken))
+    (λ c. omega (arith, c .before .before .loop .inv .0, c .before .before .before .before .pre .0 .few)) element-copy-out-pair
+    (λ c. element-copy-out-pair (c .before .before)) drop-pair-requires
+    (λ c. omega (arith, c .before .before .before .before .before .loop-test .taken)) loop-again
+    (λ c. omega (arith, c .before .before .before .loop-test .taken)) loop-again-2 returns-2)

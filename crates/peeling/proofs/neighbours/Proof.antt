@@ -3,7 +3,6 @@ use Rattle.theory.specs.Prelude.{_≡_, sym, ap, _∙_, subst, ℕ, _-_, ℕ-di
 use Rattle.theory.specs.Set.{_∈_, _∪_, _⊑_, at}
 use Rattle.theory.specs.Set.Laws.{at-zero, ⊑-trans, a⊑a∪b, b⊑a∪b}
 use Rattle.theory.specs.Set.Less.{at-room, less-other}
-use Rattle.peeling.proofs.neighbours.Statement.{statement}
 use Rattle.peeling.proofs.neighbours.Tie as tie
 
 abbrev Inv-loop : tie.InvT-loop
@@ -12,25 +11,10 @@ Inv-loop near who all₀ m₀ all m = (x : ℕ) → x ∈ who → at x m ≡ 0 �
 abbrev μ-loop : tie.MeasureT-loop
 μ-loop near who all₀ m₀ all m = m
 
-loop-holds : tie.Need-loop-holds Inv-loop μ-loop
-loop-holds c = λ x i o. absurd (omega (arith, i, o))
-
-mul-all : tie.Need-mul-all Inv-loop μ-loop
-mul-all c = omega (arith, c .wide .ensures, c .before .lowest .ensures .0)
-
-element-copy-out-all : tie.Need-element-copy-out-all Inv-loop μ-loop
-element-copy-out-all c = omega (arith, c .wide .ensures, c .before .lowest .ensures .0)
-
-single-requires : tie.Need-single-requires Inv-loop μ-loop
-single-requires c κs = c .before .before .lowest .ensures .0
-
 sub-m : tie.Need-sub-m Inv-loop μ-loop
 sub-m c =
     let x = c .before .before .before .lowest in
     omega (arith, at-room (x .result) (c .before .before .before .before .before .loop .m) (x .ensures .1), c .single .ensures)
-
-loop-less : tie.Need-loop-less Inv-loop μ-loop
-loop-less c = omega (arith, sub-m c, c .single .ensures, pow-pos (c .before .before .before .lowest .result))
 
 loop-again : tie.Need-loop-again Inv-loop μ-loop
 unfolding _∪_
@@ -53,8 +37,10 @@ returns c =
     let z : l .m ≡ 0 = omega (arith, c .loop-test .left) in
     λ x i. l .inv x i (ap (at x) z ∙ at-zero x)
 
-pub neighbours-spec : {M : Type 1} → statement M
+pub neighbours-spec : {M : Type 1} → Rattle.peeling.proofs.neighbours.Statement.statement M
 neighbours-spec =
     tie.close
-    (tie.spec Inv-loop μ-loop loop-holds (λ c κs. search needs) (λ c κs. search needs) mul-all element-copy-out-all single-requires sub-m loop-less
-    loop-again returns)
+    (tie.spec Inv-loop μ-loop (λ c. λ x i o. absurd (omega (arith, i, o))) (λ c κs. search needs) (λ c κs. search needs)
+    (λ c. omega (arith, c .wide .ensures, c .before .lowest .ensures .0)) (λ c. omega (arith, c .wide .ensures, c .before .lowest .ensures .0))
+    (λ c κs. c .before .before .lowest .ensures .0) sub-m
+    (λ c. omega (arith, sub-m c, c .single .ensures, pow-pos (c .before .before .before .lowest .result))) loop-again returns)

@@ -2,11 +2,7 @@
 use Rattle.theory.specs.Prelude.{sym, subst, ℕ, _-_, _^_, _<_, arith, needs}
 use Rattle.theory.specs.Set.{_∈_}
 use Rattle.theory.specs.Set.Less.{at-room, less-in, less-some}
-use Rattle.peeling.proofs.other_end.Statement.{statement}
 use Rattle.peeling.proofs.other_end.Tie as tie
-
-sub-lowest : tie.Need-sub-lowest
-sub-lowest c = omega (arith, at-room (c .before .args .a) (c .before .args .pair) (c .before .pre .2))
 
 lowest-requires : tie.Need-lowest-requires
 lowest-requires c κs =
@@ -23,5 +19,8 @@ returns c =
     let o = less-in (s .args .a) (l .result) (s .args .pair) (s .pre .2) i in
     (l .ensures .0, o .0, o .1)
 
-pub other-end-spec : {M : Type 1} → statement M
-other-end-spec = tie.close (tie.spec (λ c κs. search needs) sub-lowest lowest-requires returns)
+pub other-end-spec : {M : Type 1} → Rattle.peeling.proofs.other_end.Statement.statement M
+other-end-spec =
+    tie.close
+    (tie.spec (λ c κs. search needs) (λ c. omega (arith, at-room (c .before .args .a) (c .before .args .pair) (c .before .pre .2))) lowest-requires
+    returns)

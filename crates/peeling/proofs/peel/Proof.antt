@@ -6,7 +6,6 @@ use Rattle.peeling.specs.Core.Peeling.{peeled-small, peel-room, todo-roo
 use Rattle.peeling.specs.Core.Angle.{taken-start, taken-next}
 use Rattle.theory.specs.Set.{_∩_, _∪_, full}
 use Rattle.theory.specs.Set.Laws.{a∩b⊑b}
-use Rattle.peeling.proofs.peel.Statement.{statement}
 use Rattle.peeling.proofs.peel.Tie as tie
 
 abbrev Inv-loop : tie.InvT-loop
@@ -25,15 +24,6 @@ loop-holds c =
       s .pre .3,
       λ m. heavy-start near (s .args .n) (s .args .low) (s .pre .1) (s .pre .2) m (s .pre .4),
     )
-
-single-requires : tie.Need-single-requires Inv-loop μ-loop
-single-requires c κs = c .before .lowest .ensures .0
-
-mul-angle-after : tie.Need-mul-angle-after Inv-loop μ-loop
-mul-angle-after c = omega (arith, c .before .wide2 .ensures, c .before .before .lowest .ensures .0)
-
-element-copy-out-angle-after : tie.Need-element-copy-out-angle-after Inv-loop μ-loop
-element-copy-out-angle-after c = omega (arith, c .before .wide2 .ensures, c .before .before .lowest .ensures .0)
 
 sub-left : tie.Need-sub-left Inv-loop μ-loop
 sub-left c =
@@ -98,9 +88,11 @@ returns c =
     let l = c .before .loop in
     (l .inv .0, heavy-none (omega (arith, c .loop-test .left)) (l .inv .2))
 
-pub peel-spec : {M : Type 1} → statement M
+pub peel-spec : {M : Type 1} → Rattle.peeling.proofs.peel.Statement.statement M
 peel-spec =
     tie.close
     (tie.spec Inv-loop μ-loop (λ c κs. search needs) (λ c κs. omega (arith, c .wide .ensures, c .before .pre .0, c .before .pre .1)) loop-holds
-    (λ c κs. search needs) (λ c κs. search needs) single-requires mul-angle-after element-copy-out-angle-after (λ c κs. search needs) sub-left sub-todo
-    mul-light-of element-copy-out-light-of light-of-requires loop-less loop-again returns)
+    (λ c κs. search needs) (λ c κs. search needs) (λ c κs. c .before .lowest .ensures .0)
+    (λ c. omega (arith, c .before .wide2 .ensures, c .before .before .lowest .ensures .0))
+    (λ c. omega (arith, c .before .wide2 .ensures, c .before .before .lowest .ensures .0)) (λ c κs. search needs) sub-left sub-todo mul-light-of
+    element-copy-out-light-of light-of-requires loop-less loop-again returns)

@@ -2,7 +2,6 @@
 use Rattle.peeling.specs.Core.Angle.{all-told}
 use Rattle.peeling.specs.Core.Peeling.{peeled-largest}
 use borrow.Author.Needs.{needs}
-use Rattle.peeling.proofs.peel_of.Statement.{statement}
 use Rattle.peeling.proofs.peel_of.Tie as tie
 
 returns : tie.Need-returns
@@ -14,5 +13,5 @@ returns c =
       peeled-largest cs (a .near .now) simple near (c .peel-all .result .left) (t .0 .peeled) (t .1),
     )
 
-pub peel-of-spec : {M : Type 1} → statement M
+pub peel-of-spec : {M : Type 1} → Rattle.peeling.proofs.peel_of.Statement.statement M
 peel-of-spec = tie.close (tie.spec (λ c κs. search needs) returns)

@@ -6,7 +6,6 @@ use Rattle.peeling.specs.Core.{Light, Peeled}
 use Rattle.peeling.specs.Core.Peeling.{peel-room, todo-room, peel-less, light-next}
 use Rattle.peeling.specs.Hard.{Shown}
 use Rattle.peeling.specs.Hard.Laws.{shown-next}
-use Rattle.peeling.proofs.shrink.Statement.{statement}
 use Rattle.peeling.proofs.shrink.Tie as tie
 
 abbrev Inv-loop : tie.InvT-loop
@@ -15,12 +14,6 @@ Inv-loop near all low left₀ todo₀ left todo =
 
 abbrev μ-loop : tie.MeasureT-loop
 μ-loop near all low left₀ todo₀ left todo = left
-
-loop-holds : tie.Need-loop-holds Inv-loop μ-loop
-loop-holds c = (c .pre, λ real s p. (p, s))
-
-single-requires : tie.Need-single-requires Inv-loop μ-loop
-single-requires c κs = c .before .lowest .ensures .0
 
 sub-left : tie.Need-sub-left Inv-loop μ-loop
 sub-left c =
@@ -35,12 +28,6 @@ sub-todo c =
     let l = c .before .before .before .before .loop in
     let x = c .before .before .lowest in
     todo-room (s .args .near .now) (l .left) (l .todo) (x .result) (c .single .result) (l .inv .0) (x .ensures .1) (c .single .ensures)
-
-mul-light-of : tie.Need-mul-light-of Inv-loop μ-loop
-mul-light-of c = omega (arith, c .before .wide .ensures, c .before .before .lowest .ensures .0)
-
-element-copy-out-light-of : tie.Need-element-copy-out-light-of Inv-loop μ-loop
-element-copy-out-light-of c = omega (arith, c .before .wide .ensures, c .before .before .lowest .ensures .0)
 
 light-of-requires : tie.Need-light-of-requires Inv-loop μ-loop
 unfolding _∩_
@@ -70,11 +57,10 @@ loop-again c =
       λ real t p. let o = l .inv .1 real t p in shown-next (x .result) (b .result) (o .1) (o .0) (g .0) (g .1) (b .ensures),
     )
 
-returns : tie.Need-returns Inv-loop μ-loop
-returns c = c .before .loop .inv .1
-
-pub shrink-spec : {M : Type 1} → statement M
+pub shrink-spec : {M : Type 1} → Rattle.peeling.proofs.shrink.Statement.statement M
 shrink-spec =
     tie.close
-    (tie.spec Inv-loop μ-loop loop-holds (λ c κs. search needs) (λ c κs. search needs) single-requires sub-left sub-todo mul-light-of
-    element-copy-out-light-of light-of-requires loop-less loop-again returns)
+    (tie.spec Inv-loop μ-loop (λ c. (c .pre, λ real s p. (p, s))) (λ c κs. search needs) (λ c κs. search needs)
+    (λ c κs. c .before .lowest .ensures .0) sub-left sub-todo (λ c. omega (arith, c .before .wide .ensures, c .before .before .lowest .ensures .0))
+    (λ c. omega (arith, c .before .wide .ensures, c .before .before .lowest .ensures .0)) light-of-requires loop-less loop-again
+    (λ c. c .before .loop .inv .1))

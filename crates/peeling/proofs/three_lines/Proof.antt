@@ -1,7 +1,6 @@
 -- `three_lines` meets its contract. Assumes nothing.
 use Rattle.theory.specs.Prelude.{_≡_, refl, sym, ap, _∙_, Bool, true, false, _&&_, eq-eqb, ne-eqb, ones, eqb}
 use Rattle.theory.specs.Set.{_∩_}
-use Rattle.peeling.proofs.three_lines.Statement.{statement}
 use Rattle.peeling.proofs.three_lines.Tie as tie
 
 -- whether there are three, where all are lines and where one is not
@@ -25,5 +24,5 @@ returns-2 c =
     let a = c .before .args in
     sym (ap (λ (t : Bool). eqb (ones (a .around)) 3 && t) (ne-eqb (a .around ∩ a .lines) (a .around) (c .if1 .left)) ∙ none (eqb (ones (a .around)) 3))
 
-pub three-lines-spec : {M : Type 1} → statement M
+pub three-lines-spec : {M : Type 1} → Rattle.peeling.proofs.three_lines.Statement.statement M
 three-lines-spec = tie.close (tie.spec returns returns-2)

@@ -1,7 +1,6 @@
 -- `peeling::used` meets its contract: the elements passed have no neighbour. Assumes nothing.
 use Rattle.theory.specs.Prelude.{needs, ℕ, _-_, _≤_, _<_, ℕ-discrete, arith, _≡_, ap, _∙_, List, getD}
 use Rattle.peeling.specs.Core.{Beyond}
-use Rattle.peeling.proofs.used.Statement.{statement}
 use Rattle.peeling.proofs.used.Tie as tie
 
 abbrev Inv-loop : tie.InvT-loop
@@ -24,7 +23,7 @@ loop-again c =
     let i = c .before .before .wide in
     (omega (arith, c .before .before .before .loop-test .taken), omega (arith, l .inv .1), one-more _ (l .n) (i .result) (i .ensures) (c .if1 .left) (l .inv .2))
 
-pub used-spec : {M : Type 1} → statement M
+pub used-spec : {M : Type 1} → Rattle.peeling.proofs.used.Statement.statement M
 used-spec =
     tie.close
     (tie.spec Inv-loop μ-loop (λ c. (omega arith, omega arith, record { none = λ x l m. absurd (omega arith) }))

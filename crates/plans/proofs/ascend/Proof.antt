@@ -1,7 +1,6 @@
 -- `plans::ascend` meets its contract. Assumes nothing.
 use Rattle.theory.specs.Prelude.{ap, ap₂, _∙_, ℕ, min, max, needs}
 use Rattle.theory.specs.Plan.{ascending}
-use Rattle.plans.proofs.ascend.Statement.{statement}
 use Rattle.plans.proofs.ascend.Tie as tie
 
 returns : tie.Need-returns
@@ -16,7 +15,7 @@ returns c =
       k = (c .higher3 .ensures ∙ ap (λ (x : ℕ). max x k) high) t;
     }
 
-pub ascend-spec : {M : Type 1} → statement M
+pub ascend-spec : {M : Type 1} → Rattle.plans.proofs.ascend.Statement.statement M
 ascend-spec =
     tie.close
     (tie.spec (λ c κs. search needs) (λ c κs. search needs) (λ c κs. search needs) (λ c κs. search needs)

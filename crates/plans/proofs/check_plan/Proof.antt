@@ -9,7 +9,6 @@ use Rattle.merges.specs.Going.Laws.{slots-long, used-few, below-i, below-j, bel
 use Rattle.plans.specs.Check.{stepFault, savedSteps, planFault, answerOf, checkOf, asMerge, Checks}
 use Rattle.plans.specs.declared.Checked.{Checked}
 use Rattle.plans.proofs.Checking.{named, fault-12, Checking, checking-start, open-here, refuses, checking-next, still-open, accepts}
-use Rattle.plans.proofs.check_plan.Statement.{statement}
 use Rattle.plans.proofs.check_plan.Tie as tie
 
 abbrev Inv-loop : tie.InvT-loop
@@ -62,15 +61,6 @@ up : (c : tie.After-ascend Inv-loop μ-loop)
     ascending (named (d .before .before .before .before .before .args .plan .now) (d .loop .at)) ≡ asMerge (c .ascend .result)
 up c = sym (c .ascend .ensures ∙ ap ascending (named-is (c .before .before)))
 
-returns : tie.Need-returns Inv-loop μ-loop
-returns c = refused-by _ _ (c .refused .ensures) (λ fine. fault-12 _ _ (c .before .if1 .taken))
-
-loop-holds : tie.Need-loop-holds Inv-loop μ-loop
-loop-holds c = checking-start (c .before .before .before .before .pre) (c .lay .ensures)
-
-fault-at-requires : tie.Need-fault-at-requires Inv-loop μ-loop
-fault-at-requires c κs = slots-long (c .before .before .before .before .before .before .before .before .loop .inv .going .clusters)
-
 returns-2 : tie.Need-returns-2 Inv-loop μ-loop
 returns-2 c =
     let f = c .before .before in
@@ -92,9 +82,6 @@ loop-again c =
     let d = c .before .before .before .before in
     let t = d .before .before .before .before .before .before .before .before .before .before in
     checking-next (t .before .loop .inv) (mult (t .before)) (t .loop-test .taken) (none-here d) (up d) (c .step .ensures)
-
-still-open-requires : tie.Need-still-open-requires Inv-loop μ-loop
-still-open-requires c κs = let g = c .before .before .loop .inv .going .clusters in (used-few g, slots-long g)
 
 returns-3 : tie.Need-returns-3 Inv-loop μ-loop
 returns-3 c =
@@ -119,10 +106,13 @@ returns-4 c =
       count = omega (arith, w .going .clusters .count, w .going .size);
     }
 
-pub check-plan-spec : {M : Type 1} → statement M
+pub check-plan-spec : {M : Type 1} → Rattle.plans.proofs.check_plan.Statement.statement M
 check-plan-spec =
     tie.close
-    (tie.spec Inv-loop μ-loop (λ c κs. search needs) returns (λ c κs. (c .before .before .before .pre, refl)) loop-holds (λ c. search needs) (λ c. search needs)
-    (λ c κs. search needs) (λ c. search needs) (λ c. search needs) (λ c. search needs) (λ c κs. search needs) (λ c. search needs)
-    (λ c. search needs) (λ c. search needs) (λ c κs. search needs) fault-at-requires (λ c κs. search needs) returns-2 (λ c κs. search needs)
-    (λ c. search needs) step-requires (λ c. search needs) (λ c. search needs) (λ c. search needs) loop-again still-open-requires (λ c κs. search needs) returns-3 returns-4)
+    (tie.spec Inv-loop μ-loop (λ c κs. search needs) (λ c. refused-by _ _ (c .refused .ensures) (λ fine. fault-12 _ _ (c .before .if1 .taken)))
+    (λ c κs. (c .before .before .before .pre, refl)) (λ c. checking-start (c .before .before .before .before .pre) (c .lay .ensures))
+    (λ c. search needs) (λ c. search needs) (λ c κs. search needs) (λ c. search needs) (λ c. search needs) (λ c. search needs) (λ c κs. search needs)
+    (λ c. search needs) (λ c. search needs) (λ c. search needs) (λ c κs. search needs)
+    (λ c κs. slots-long (c .before .before .before .before .before .before .before .before .loop .inv .going .clusters)) (λ c κs. search needs)
+    returns-2 (λ c κs. search needs) (λ c. search needs) step-requires (λ c. search needs) (λ c. search needs) (λ c. search needs) loop-again
+    (λ c κs. let g = c .before .before .loop .inv .going .clusters in (used-few g, slots-long g)) (λ c κs. search needs) returns-3 returns-4)

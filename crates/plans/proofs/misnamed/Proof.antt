@@ -1,7 +1,6 @@
 -- `plans::misnamed` meets its contract: each test is one part of rule 13. Assumes nothing.
 use Rattle.theory.specs.Prelude.{sym, _||_, eqb, eq-eqb, ne-eqb}
 use Rattle.plans.specs.Check.{misnamed}
-use Rattle.plans.proofs.misnamed.Statement.{statement}
 use Rattle.plans.proofs.misnamed.Tie as tie
 
 returns-6 : tie.Need-returns-6
@@ -13,7 +12,7 @@ returns-6 c =
     || (ne-eqb (a .c) 0 (c .before .before .if3 .left) t
     || (ne-eqb (a .i) (a .j) (c .before .if4 .left) t || (ne-eqb (a .j) (a .k) (c .if5 .left) t || eqb (a .i) (a .k))))))
 
-pub misnamed-spec : {M : Type 1} → statement M
+pub misnamed-spec : {M : Type 1} → Rattle.plans.proofs.misnamed.Statement.statement M
 unfolding misnamed
 misnamed-spec =
     tie.close

@@ -5,7 +5,6 @@ use Rattle.merges.specs.declared.Run.{Run}
 use Rattle.plans.specs.Check.{answerOf}
 use Rattle.plans.specs.declared.Outcome.the-variants.{Refused}
 use Rattle.plans.specs.declared.Checked.{Checked}
-use Rattle.plans.proofs.refused.Statement.{statement}
 use Rattle.plans.proofs.refused.Tie as tie
 
 -- a refusal gives its number alone
@@ -18,5 +17,5 @@ returns : tie.Need-returns
 unfolding runOf
 returns c = (refusal (c .before .args .rule) (c .before .pre) (c .no-run .ensures), ap (λ (x : Run). x .steps) (c .no-run .ensures))
 
-pub refused-spec : {M : Type 1} → statement M
+pub refused-spec : {M : Type 1} → Rattle.plans.proofs.refused.Statement.statement M
 refused-spec = tie.close (tie.spec (λ c κs. search needs) returns)

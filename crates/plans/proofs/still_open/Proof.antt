@@ -4,7 +4,6 @@ use Rattle.theory.specs.Merge.{final, left, Ended}
 use Rattle.theory.specs.Merge.Count.{left-put, steps-left}
 use Rattle.theory.specs.Plan.{isSome}
 use Rattle.theory.specs.Plan.Laws.{none-is}
-use Rattle.plans.proofs.still_open.Statement.{statement}
 use Rattle.plans.proofs.still_open.Tie as tie
 
 -- one cluster is left
@@ -17,10 +16,8 @@ returns c = λ cs p fine n s.
     let l : left (final cs p) ≡ 1 = omega (arith, steps-left cs (s .pairs) p (s .valid), s .count, c .if1 .taken) in
     sym (ap isSome (none-is (final cs p) (one-ended (final cs p) l)))
 
-returns-2 : tie.Need-returns-2
-returns-2 c = λ cs p fine n s. c .some-open .ensures cs p fine s
-
-pub still-open-spec : {M : Type 1} → statement M
+pub still-open-spec : {M : Type 1} → Rattle.plans.proofs.still_open.Statement.statement M
 still-open-spec =
     tie.close
-    (tie.spec (λ c. search needs) (λ c. search needs) returns (λ c. search needs) (λ c κs. search needs) returns-2)
+    (tie.spec (λ c. search needs) (λ c. search needs) returns (λ c. search needs) (λ c κs. search needs)
+    (λ c. λ cs p fine n s. c .some-open .ensures cs p fine s))

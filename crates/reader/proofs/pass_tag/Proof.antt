@@ -5,7 +5,6 @@ use mir.Syntax.{w32}
 use Rattle.sheet.specs.Field.{value, refused}
 use Rattle.sheet.specs.Decode.{tag}
 use Rattle.fields.specs.Answers.Numbers.{field-short, field-whole}
-use Rattle.reader.proofs.pass_tag.Statement.{statement}
 use Rattle.reader.proofs.pass_tag.Tie as tie
 
 module _ (s : List ℕ) (at : ℕ) where
@@ -34,5 +33,5 @@ returns-2 c =
       toZ-ofZ {w = w32} {z = g .args .z} (search needs),
     )
 
-pub pass-tag-spec : {M : Type 1} → statement M
+pub pass-tag-spec : {M : Type 1} → Rattle.reader.proofs.pass_tag.Statement.statement M
 pass-tag-spec = tie.close (tie.spec (λ c. search needs) (λ c κs. search needs) returns (λ c. search needs) returns-2)

@@ -4,7 +4,6 @@ use mir.Facts.{toZ-ofZ}
 use mir.Syntax.{w32}
 use Rattle.reader.specs.Answers.{asSize}
 use Rattle.reader.proofs.Dimension.{unsized-by, no-size-by, size-by}
-use Rattle.reader.proofs.read_bare.Statement.{statement}
 use Rattle.reader.proofs.read_bare.Tie as tie
 
 returns : tie.Need-returns
@@ -44,7 +43,7 @@ returns-4 c = λ j k e.
     (sym (z .before .before .before .read-size .ensures) ∙ ap (asSize (s .args .s .now)) (z .before .sized .given .1)))
     (rw (toZ-ofZ {w = w32} {z = z .before .sized .given .0 .0} (search needs)) at (c .pass-tag2 .ensures))
 
-pub read-bare-spec : {M : Type 1} → statement M
+pub read-bare-spec : {M : Type 1} → Rattle.reader.proofs.read_bare.Statement.statement M
 read-bare-spec =
     tie.close
     (tie.spec (λ c κs. search needs) returns (λ c κs. omega (arith, c .before .before .before .before .pre)) returns-2 (λ c κs. search needs)

@@ -7,7 +7,6 @@ use Rattle.graph.specs.Lent.Laws.{in-arrays-none}
 use Rattle.reader.specs.declared.FrontRead.{FrontRead}
 use Rattle.reader.specs.Answers.{frontRule, Follows, Fronted, ListRead, outcomeNumber}
 use Rattle.reader.proofs.Sheets.{list-refused, list-read}
-use Rattle.reader.proofs.read_codes.Statement.{statement}
 use Rattle.reader.proofs.read_codes.Tie as tie
 
 -- what the reading of the front answers
@@ -33,9 +32,6 @@ module _ (c : tie.After-read-constraints-arg4) where
   follows : Follows (readSheet (begun .before .before .before .args .s .now)) (begun .before .before .before .args .s .now)
       (begun .read-front .last .1 .0) head (c .before .before .before .before .before .before .front .given .0 .1 .0)
   follows = told begun (c .before .before .before .before .before .before .front .given .1)
-
-read-constraints-requires : tie.Need-read-constraints-requires
-read-constraints-requires c κs = (follows c .most, omega arith, follows c .few)
 
 -- the constraints after it
 module _ (c : tie.After-read-constraints) where
@@ -64,11 +60,9 @@ returns-2 c =
     let t = c .before .enum-told3 .given in
     list-refused (follows (k .before)) (read k) (t .0 .0) (t .1) ∙ ap refused (sym (c .refusal2 .ensures ∙ ap outcomeNumber (t .1)))
 
-returns-3 : tie.Need-returns-3
-returns-3 c = let k = c .before .before in list-read (follows (k .before)) (read k) (all k) (c .enum-told2 .given .1)
-
-pub read-codes-spec : {M : Type 1} → statement M
+pub read-codes-spec : {M : Type 1} → Rattle.reader.proofs.read_codes.Statement.statement M
 read-codes-spec =
     tie.close
     (tie.spec (λ c κs. c .before .before .pre .3) (λ c. search needs) (λ c. search needs) (λ c κs. search needs) returns
-    read-constraints-requires (λ c. search needs) (λ c. search needs) (λ c κs. search needs) returns-2 returns-3)
+    (λ c κs. (follows c .most, omega arith, follows c .few)) (λ c. search needs) (λ c. search needs) (λ c κs. search needs) returns-2
+    (λ c. let k = c .before .before in list-read (follows (k .before)) (read k) (all k) (c .enum-told2 .given .1)))

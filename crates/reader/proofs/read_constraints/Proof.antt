@@ -14,7 +14,6 @@ use Rattle.graph.specs.Lent.{InArrays}
 use Rattle.graph.specs.Lent.Laws.{ends-in, codes-in, in-arrays}
 use Rattle.reader.specs.Answers.{between, asEnds, endsRule, sizeRule, asSize}
 use Rattle.reader.proofs.Constraints.{Turn, stopped, one-more, at-end, bytes-follow, no-size, sized}
-use Rattle.reader.proofs.read_constraints.Statement.{statement}
 use Rattle.reader.proofs.read_constraints.Tie as tie
 
 abbrev Inv-loop : tie.InvT-loop
@@ -121,13 +120,12 @@ returns-4 c = λ es done en el n h.
     let g : Given (c .before .before) = record { es = es; done = done; n-is = en; kinds-in = el; count = n; holds = h } in
     at-end (turn (c .before .before) g) (c .before .loop-test .left) (c .if1 .left)
 
-pub read-constraints-spec : {M : Type 1} → statement M
+pub read-constraints-spec : {M : Type 1} → Rattle.reader.proofs.read_constraints.Statement.statement M
 read-constraints-spec =
     tie.close
-    (tie.spec Inv-loop μ-loop
-    (λ c. (c .before .pre .1, λ es done en el n h. record { read = done; count = n; holds = h; left = refl }))
+    (tie.spec Inv-loop μ-loop (λ c. (c .before .pre .1, λ es done en el n h. record { read = done; count = n; holds = h; left = refl }))
     (λ c κs. c .before .before .before .before .pre .0) (λ c. search needs) (λ c. search needs) (λ c κs. search needs) returns
     (λ c κs. let k = c .before .before in (room k, below k .0, below k .1))
-    (λ c κs. let k = c .before .before .before in (omega (arith, below k), below k .1)) (λ c. search needs) (λ c. search needs) (λ c κs. search needs)
-    returns-2 (λ c κs. room (c .before .before .before .before .before .before .before .before))
-    (λ c. omega arith) (λ c. omega arith) loop-again returns-3 returns-4)
+    (λ c κs. let k = c .before .before .before in (omega (arith, below k), below k .1)) (λ c. search needs) (λ c. search needs)
+    (λ c κs. search needs) returns-2 (λ c κs. room (c .before .before .before .before .before .before .before .before)) (λ c. omega arith)
+    (λ c. omega arith) loop-again returns-3 returns-4)

@@ -4,7 +4,6 @@ use mir.Facts.{toZ-ofZ}
 use mir.Syntax.{w32}
 use Rattle.sheet.specs.Rules.{sizeAllowed, radiiDiffer}
 use Rattle.reader.proofs.Dimension.{contact-by, code-tagged}
-use Rattle.reader.proofs.read_contact.Statement.{statement}
 use Rattle.reader.proofs.read_contact.Tie as tie
 
 returns : tie.Need-returns
@@ -53,7 +52,7 @@ returns-3 c =
       toZ-ofZ {w = w32} {z = c .before .code-of .result} (record { sfits = c .before .code-of .ok }),
     )
 
-pub read-contact-spec : {M : Type 1} → statement M
+pub read-contact-spec : {M : Type 1} → Rattle.reader.proofs.read_contact.Statement.statement M
 read-contact-spec =
     tie.close
     (tie.spec (λ c κs. search needs) (λ c κs. search needs) returns (λ c κs. search needs) returns-2 (λ c κs. search needs) (λ c κs. omega arith) returns-3)

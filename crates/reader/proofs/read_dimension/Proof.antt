@@ -8,7 +8,6 @@ use Rattle.sheet.specs.Facts.{kindAt}
 use Rattle.sheet.specs.Facts.Laws.{kind-in}
 use Rattle.sheet.specs.Rules.Laws.{pair-lines}
 use Rattle.reader.proofs.Dimension.{dimension-is}
-use Rattle.reader.proofs.read_dimension.Statement.{statement}
 use Rattle.reader.proofs.read_dimension.Tie as tie
 
 returns : tie.Need-returns
@@ -61,7 +60,7 @@ returns-4 c = λ es h.
       ← c .before .kind-at2 .ensures,
     ) (c .read-contact .ensures)
 
-pub read-dimension-spec : {M : Type 1} → statement M
+pub read-dimension-spec : {M : Type 1} → Rattle.reader.proofs.read_dimension.Statement.statement M
 read-dimension-spec =
     tie.close
     (tie.spec (λ c κs. search needs) (λ c. search needs) (λ c. search needs) (λ c κs. search needs) returns

@@ -4,7 +4,6 @@ use Rattle.sheet.specs.Rules.Laws.{ends-true}
 use Rattle.sheet.specs.Rules.{endsAscend}
 use Rattle.sheet.specs.Decode.{constraint}
 use Rattle.reader.proofs.Constraints.{no-ends}
-use Rattle.reader.proofs.read_ends.Statement.{statement}
 use Rattle.reader.proofs.read_ends.Tie as tie
 
 returns : tie.Need-returns
@@ -89,9 +88,8 @@ returns-5 c =
       record { ascend = λ x y d e. let p : k .start .given .0 .0 ≡ x = cc in let q : b .end .given .0 .0 ≡ y = cc in rw (← p, ← q) o },
     )
 
-pub read-ends-spec : {M : Type 1} → statement M
+pub read-ends-spec : {M : Type 1} → Rattle.reader.proofs.read_ends.Statement.statement M
 read-ends-spec =
     tie.close
-    (tie.spec (λ c κs. search needs) (λ c. search needs) (λ c. search needs) (λ c κs. search needs) returns
-    (λ c κs. search needs) (λ c. search needs) (λ c. search needs) (λ c κs. search needs) returns-2
-    (λ c κs. search needs) returns-3 (λ c κs. small c) returns-4 returns-5)
+    (tie.spec (λ c κs. search needs) (λ c. search needs) (λ c. search needs) (λ c κs. search needs) returns (λ c κs. search needs)
+    (λ c. search needs) (λ c. search needs) (λ c κs. search needs) returns-2 (λ c κs. search needs) returns-3 (λ c κs. small c) returns-4 returns-5)

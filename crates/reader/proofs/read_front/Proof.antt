@@ -12,7 +12,6 @@ use Rattle.elements.specs.declared.KindsRead.{KindsRead}
 use Rattle.fields.specs.Answers.{asByte}
 use Rattle.reader.specs.Answers.{asOpening}
 use Rattle.reader.proofs.Sheets.{sheet-tail}
-use Rattle.reader.proofs.read_front.Statement.{statement}
 use Rattle.reader.proofs.read_front.Tie as tie
 
 returns : tie.Need-returns
@@ -133,11 +132,10 @@ returns-7 c =
       few = constraints-most _ few;
     }
 
-pub read-front-spec : {M : Type 1} → statement M
+pub read-front-spec : {M : Type 1} → Rattle.reader.proofs.read_front.Statement.statement M
 read-front-spec =
     tie.close
-    (tie.spec (λ c κs. search needs) (λ c. search needs) (λ c. search needs) (λ c κs. search needs) returns
-    (λ c κs. search needs) (λ c. search needs) (λ c. search needs) (λ c κs. search needs) returns-2 (λ c. search needs)
-    (λ c κs. search needs) returns-3 read-elements-requires (λ c. search needs) (λ c. search needs)
-    (λ c κs. search needs) returns-4 (λ c κs. search needs) (λ c. search needs) (λ c. search needs) (λ c κs. search needs) returns-5
-    (λ c. search needs) (λ c κs. search needs) returns-6 returns-7)
+    (tie.spec (λ c κs. search needs) (λ c. search needs) (λ c. search needs) (λ c κs. search needs) returns (λ c κs. search needs)
+    (λ c. search needs) (λ c. search needs) (λ c κs. search needs) returns-2 (λ c. search needs) (λ c κs. search needs) returns-3
+    read-elements-requires (λ c. search needs) (λ c. search needs) (λ c κs. search needs) returns-4 (λ c κs. search needs) (λ c. search needs)
+    (λ c. search needs) (λ c κs. search needs) returns-5 (λ c. search needs) (λ c κs. search needs) returns-6 returns-7)

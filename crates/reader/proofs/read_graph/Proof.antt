@@ -6,7 +6,6 @@ use Rattle.graph.specs.Lent.Sheets.{stands-in}
 use Rattle.graph.specs.Lent.Plain.{plain-sizes}
 use Rattle.reader.specs.declared.CodesRead.{CodesRead}
 use Rattle.reader.specs.Answers.{codesRule, SheetRead}
-use Rattle.reader.proofs.read_graph.Statement.{statement}
 use Rattle.reader.proofs.read_graph.Tie as tie
 
 -- what the reading of the sheet answers
@@ -46,7 +45,7 @@ returns-2 c =
           (c .before .if1 .came),
     )
 
-pub read-graph-spec : {M : Type 1} → statement M
+pub read-graph-spec : {M : Type 1} → Rattle.reader.proofs.read_graph.Statement.statement M
 read-graph-spec =
     tie.close
     (tie.spec (λ c κs. (c .before .before .before .before .before .pre .0, c .before .before .before .before .before .pre .1, c .before .before .before .before .before .pre .2, refl))

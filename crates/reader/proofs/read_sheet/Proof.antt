@@ -5,7 +5,6 @@ use Rattle.sheet.specs.Decode.{readSheet}
 use Rattle.graph.specs.Lent.Sheets.{drawn-in}
 use Rattle.reader.specs.declared.CodesRead.{CodesRead}
 use Rattle.reader.specs.Answers.{codesRule, SheetRead, asReading}
-use Rattle.reader.proofs.read_sheet.Statement.{statement}
 use Rattle.reader.proofs.read_sheet.Tie as tie
 
 -- what the reading of the sheet answers
@@ -37,7 +36,7 @@ returns-2 c =
     let t = told (k .before .before .before .before .before .before) (k .before .before .before .before .got .given .1) in
     rw (t .2, c .sheet-of .ensures (t .0) _ (t .3))
 
-pub read-sheet-spec : {M : Type 1} → statement M
+pub read-sheet-spec : {M : Type 1} → Rattle.reader.proofs.read_sheet.Statement.statement M
 read-sheet-spec =
     tie.close
     (tie.spec (λ c κs. (refl, refl, refl, refl)) (λ c. search needs) (λ c. search needs) (λ c κs. search needs)

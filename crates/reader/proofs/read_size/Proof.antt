@@ -6,7 +6,6 @@ use Rattle.sheet.specs.Field.{value, field, signed32}
 use Rattle.sheet.specs.Rules.{sizeInRange}
 use Rattle.sheet.specs.Decode.{size}
 use Rattle.fields.specs.Answers.{asNumber}
-use Rattle.reader.proofs.read_size.Statement.{statement}
 use Rattle.reader.proofs.read_size.Tie as tie
 
 returns : tie.Need-returns
@@ -50,7 +49,7 @@ returns-3 c =
       not-false (c .before .size-in-range .result) (c .if1 .left),
     )
 
-pub read-size-spec : {M : Type 1} → statement M
+pub read-size-spec : {M : Type 1} → Rattle.reader.proofs.read_size.Statement.statement M
 read-size-spec =
     tie.close
     (tie.spec (λ c κs. search needs) (λ c. search needs) (λ c. search needs) (λ c κs. search needs) returns

@@ -6,7 +6,6 @@ use Rattle.graph.specs.declared.Head.{Head}
 use Rattle.sketch.specs.Sketch.{extended, asJudged}
 use Rattle.sketch.specs.Placing.Laws.{place-asked}
 use Rattle.records.specs.Record.Laws.{RecordRead, read-refused, record-read, asked-refused, asked-value}
-use Rattle.records.proofs.ask.Statement.{statement}
 use Rattle.records.proofs.ask.Tie as tie
 
 returns : tie.Need-returns
@@ -29,7 +28,7 @@ returns-2 c =
     ∙ ap (λ (k : ℕ). asJudged k (verdictOf (graphOf (extended (f .facts) one)))) (place-asked (f .facts) one _ n)
     ∙ sym (asked-value _ one (f .reads))
 
-pub ask-spec : {M : Type 1} → statement M
+pub ask-spec : {M : Type 1} → Rattle.records.proofs.ask.Statement.statement M
 ask-spec =
     tie.close
     (tie.spec (λ c κs. (refl, refl, refl, refl)) (λ c. search needs) (λ c. search needs) (λ c κs. search needs) returns

@@ -8,7 +8,6 @@ use Rattle.graph.specs.Lent.Sheets.{drawn-in}
 use Rattle.sketch.specs.Sketch.{extended}
 use Rattle.sketch.specs.Placing.{withMore, PlacedIn}
 use Rattle.records.specs.Record.Laws.{RecordRead, read-refused, record-read, placed-unread, placed-refused, placed-none, placed-taken}
-use Rattle.records.proofs.place.Statement.{statement}
 use Rattle.records.proofs.place.Tie as tie
 
 returns : tie.Need-returns
@@ -69,7 +68,7 @@ returns-3 c =
     placed-taken _ _ _ (read (told k) .reads) (placed k .answer-is) (taken o .enum-told2 .given .1) (sheet-is o) (c .before .before .before .write .ensures)
     (c .judged .ensures)
 
-pub place-spec : {M : Type 1} → statement M
+pub place-spec : {M : Type 1} → Rattle.records.proofs.place.Statement.statement M
 place-spec =
     tie.close
     (tie.spec (λ c κs. (refl, refl, refl, refl)) (λ c. search needs) (λ c. search needs) (λ c κs. search needs) (λ c. search needs) returns

@@ -5,11 +5,7 @@ use Rattle.reader.specs.declared.CodesRead.{CodesRead}
 use Rattle.reader.specs.Answers.{SheetRead}
 use Rattle.records.specs.Record.{as27, recordSheet}
 use Rattle.records.specs.Record.Laws.{told, record-short, record-cut, record-whole}
-use Rattle.records.proofs.read.Statement.{statement}
 use Rattle.records.proofs.read.Tie as tie
-
-returns : tie.Need-returns
-returns c = record-short _ (c .if1 .taken)
 
 -- the count
 module _ (c : tie.After-wide2) where
@@ -21,9 +17,6 @@ module _ (c : tie.After-wide2) where
 
   count : c .before .before .wide .result + 256 * c .wide2 .result ≡ told lent
   count = omega (arith, c .wide2 .ensures .0, c .before .before .wide .ensures .0)
-
-returns-2 : tie.Need-returns-2
-returns-2 c = record-cut _ (two (c .before)) (omega (arith, c .if2 .taken, count (c .before)))
 
 -- the bytes that follow
 module _ (c : tie.Else2) where
@@ -55,10 +48,11 @@ returns-4 c =
     let (f, rest, q, a) = told-of (c .before .before .before) (c .before .got .given .1) in
     (f, rest, whole (c .before .before .before .before .before .before .before .before .before) ∙ ap as27 q, a)
 
-pub read-spec : {M : Type 1} → statement M
+pub read-spec : {M : Type 1} → Rattle.records.proofs.read.Statement.statement M
 read-spec =
     tie.close
-    (tie.spec returns (λ c. search needs) (λ c κs. search needs) (λ c. search needs) (λ c κs. search needs)
+    (tie.spec (λ c. record-short _ (c .if1 .taken)) (λ c. search needs) (λ c κs. search needs) (λ c. search needs) (λ c κs. search needs)
     (λ c. omega (arith, c .wide2 .ensures .1)) (λ c. omega (arith, c .wide2 .ensures .1, c .before .before .wide .ensures .1))
-    (λ c. omega (arith, c .wide2 .ensures .1, c .before .before .wide .ensures .1)) returns-2 (λ c. search needs) (λ c. search needs) (λ c. search needs)
-    (λ c κs. search needs) (λ c. search needs) (λ c. search needs) returns-3 returns-4)
+    (λ c. omega (arith, c .wide2 .ensures .1, c .before .before .wide .ensures .1))
+    (λ c. record-cut _ (two (c .before)) (omega (arith, c .if2 .taken, count (c .before)))) (λ c. search needs) (λ c. search needs)
+    (λ c. search needs) (λ c κs. search needs) (λ c. search needs) (λ c. search needs) returns-3 returns-4)

@@ -9,7 +9,6 @@ use Rattle.graph.specs.declared.Head.{Head}
 use Rattle.graph.specs.Lent.{graphIn, sizesOf}
 use Rattle.graph.specs.Lent.Sheets.{graph-is, drawn-in}
 use Rattle.records.specs.Record.Laws.{RecordRead, read-refused, record-read, sheet-refused, sheet-over, sheet-value}
-use Rattle.records.proofs.sheet.Statement.{statement}
 use Rattle.records.proofs.sheet.Tie as tie
 
 returns : tie.Need-returns
@@ -53,7 +52,7 @@ returns-3 c =
     answers-items (c .before .before .write-accepted .ensures)
     (sheet-value _ (f .reads) (sheet-is o) (sym (over-is (o .before .before .before .before .before)) ∙ o .before .before .before .before .if1 .left))
 
-pub sheet-spec : {M : Type 1} → statement M
+pub sheet-spec : {M : Type 1} → Rattle.records.proofs.sheet.Statement.statement M
 sheet-spec =
     tie.close
     (tie.spec (λ c κs. (refl, refl, refl, refl)) (λ c. search needs) (λ c. search needs) (λ c κs. search needs) returns (λ c κs. search needs)

@@ -4,7 +4,6 @@ use Rattle.space.specs.Space.Laws.{put-refused}
 use Rattle.sheet.specs.Facts.{factsOf}
 use Rattle.records.specs.Record.{recordBytes}
 use Rattle.records.specs.Record.Laws.{record-length, record-refused, record-done, record-counted}
-use Rattle.records.proofs.write.Statement.{statement}
 use Rattle.records.proofs.write.Tie as tie
 
 returns : tie.Need-returns
@@ -33,7 +32,7 @@ returns-3 c =
     record-done (factsOf (a .s)) (a .out .now) (c .before .before .before .before .before .before .before .before .before .before .before .before .before .before .before .if1 .left) (c .before .before .before .before .before .before .before .before .before .before .before .before .before .write-accepted .ensures) (c .before .before .before .before .before .before .before .before .before .written .given .1)
     (c .before .before .before .before .before .before .put-byte .ensures) (c .before .before .put-byte2 .ensures)
 
-pub write-spec : {M : Type 1} → statement M
+pub write-spec : {M : Type 1} → Rattle.records.proofs.write.Statement.statement M
 write-spec =
     tie.close
     (tie.spec returns (λ c. search needs) (λ c. search needs) (λ c. search needs) (λ c κs. search needs) (λ c. search needs) (λ c. search needs)

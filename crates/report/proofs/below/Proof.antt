@@ -2,7 +2,6 @@
 use Rattle.theory.specs.Prelude.{needs, ℕ, _+_, _-_, _/_, _^_, arith, sym, ap, _∙_, _≡_}
 use lib.Pow.{high, ones-lt, ones-split}
 use Rattle.theory.specs.Set.{full}
-use Rattle.report.proofs.below.Statement.{statement}
 use Rattle.report.proofs.below.Tie as tie
 
 returns : tie.Need-returns
@@ -14,5 +13,5 @@ returns c =
     ∙ ap (λ (n : ℕ). n / 2 ^ (64 - m)) (ones-split m (64 - m))
     ∙ high (2 ^ m - 1) (64 - m) (ones-lt (64 - m))
 
-pub below-spec : {M : Type 1} → statement M
+pub below-spec : {M : Type 1} → Rattle.report.proofs.below.Statement.statement M
 below-spec = tie.close (tie.spec (λ c. search needs) (λ c. search needs) returns)

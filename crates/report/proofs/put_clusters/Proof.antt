@@ -7,7 +7,6 @@ use Rattle.report.specs.Block.{Stands}
 use Rattle.report.proofs.Standing.{stands}
 use Rattle.report.specs.Going.{Going}
 use Rattle.report.specs.Going.Laws.{start, put-next, put-last, place}
-use Rattle.report.proofs.put_clusters.Statement.{statement}
 use Rattle.report.proofs.put_clusters.Tie as tie
 
 abbrev Inv-loop : tie.InvT-loop
@@ -51,7 +50,7 @@ returns c =
     put-last stands (clusters-none (a .slots .now) (wide (a .low .now) (a .high .now)) (a .used) (c .before .loop .c) (c .loop-test .left))
     (c .before .loop .inv .1)
 
-pub put-clusters-spec : {M : Type 1} → statement M
+pub put-clusters-spec : {M : Type 1} → Rattle.report.proofs.put_clusters.Statement.statement M
 put-clusters-spec =
     tie.close
     (tie.spec Inv-loop μ-loop (λ c. (omega arith, start _)) (λ c. omega arith) (λ c. omega arith) (λ c. omega arith) (λ c. omega arith)

@@ -2,7 +2,6 @@
 use Rattle.theory.specs.Prelude.{needs, arith}
 use Rattle.space.specs.Text.Laws.{decimal-length}
 use Rattle.report.specs.Block.Laws.{stands-put, _then_}
-use Rattle.report.proofs.put_count.Statement.{statement}
 use Rattle.report.proofs.put_count.Tie as tie
 
 put-decimal-requires : tie.Need-put-decimal-requires
@@ -16,5 +15,5 @@ returns c =
     let put = word .put-word .ensures then stands-put (c .put-decimal .ensures) in
     (put, omega (arith, put .next-is, decimal-length (word .before .before .before .args .n)))
 
-pub put-count-spec : {M : Type 1} → statement M
+pub put-count-spec : {M : Type 1} → Rattle.report.proofs.put_count.Statement.statement M
 put-count-spec = tie.close (tie.spec (λ c. search needs) (λ c κs. search needs) put-decimal-requires returns)

@@ -1,7 +1,6 @@
 -- `report::put_elements_line` meets its contract: its pieces make the line. Assumes nothing.
 use borrow.Author.Needs.{needs}
 use Rattle.report.specs.Block.Laws.{_then_}
-use Rattle.report.proofs.put_elements_line.Statement.{statement}
 use Rattle.report.proofs.put_elements_line.Tie as tie
 
 returns : tie.Need-returns
@@ -14,7 +13,7 @@ returns c =
       search needs,
     )
 
-pub put-elements-line-spec : {M : Type 1} → statement M
+pub put-elements-line-spec : {M : Type 1} → Rattle.report.proofs.put_elements_line.Statement.statement M
 put-elements-line-spec =
     tie.close
     (tie.spec (λ c. search needs) (λ c κs. search needs) (λ c κs. search needs) (λ c. search needs) (λ c κs. search needs)

@@ -4,7 +4,6 @@ use Rattle.engine.specs.Steps.{stepsIn}
 use Rattle.report.specs.Block.Laws.{_then_}
 use Rattle.report.specs.Pieces.{front}
 use Rattle.report.specs.Report.One.{front-length}
-use Rattle.report.proofs.put_front.Statement.{statement}
 use Rattle.report.proofs.put_front.Tie as tie
 
 put-steps-requires : tie.Need-put-steps-requires
@@ -34,5 +33,5 @@ returns c =
     let verdict = elements .before .before in
     verdict .put-verdict-line .ensures .0 then (elements .put-elements-line .ensures .0 then c .put-steps .ensures)
 
-pub put-front-spec : {M : Type 1} → statement M
+pub put-front-spec : {M : Type 1} → Rattle.report.proofs.put_front.Statement.statement M
 put-front-spec = tie.close (tie.spec (λ c κs. search needs) (λ c κs. search needs) put-steps-requires returns)

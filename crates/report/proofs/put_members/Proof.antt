@@ -6,7 +6,6 @@ use Rattle.report.specs.Elements.{elements, consecutive}
 use Rattle.report.specs.Pieces.{numbers, above}
 use Rattle.report.specs.Pieces.Consecutive.{full-numbers}
 use Rattle.report.specs.Report.Length.{above-most}
-use Rattle.report.proofs.put_members.Statement.{statement}
 use Rattle.report.proofs.put_members.Tie as tie
 
 few : (s : tie.Start) → ones (s .args .set) ≤ 64
@@ -29,9 +28,6 @@ module _ (c : tie.After-put-run-arg) where
   same : numbers (consecutive first (first + ones (entry .args .set) - first)) ≡ numbers (above first (elements (entry .args .set)))
   same = full-numbers first (entry .args .set) _ (few entry) (c .before .if2 .taken ∙ c .before .before .below .ensures)
 
-add-put-run : tie.Need-add-put-run
-add-put-run c = omega (arith, few (entry c), entry c .pre .1)
-
 put-run-requires : tie.Need-put-run-requires
 put-run-requires c κs =
     let s = entry c in
@@ -43,7 +39,8 @@ returns c =
     let put = stands-as (same (c .before)) (c .put-run .ensures) in
     (put, omega (arith, put .next-is, above-most (first (c .before)) (s .args .set)))
 
-pub put-members-spec : {M : Type 1} → statement M
+pub put-members-spec : {M : Type 1} → Rattle.report.proofs.put_members.Statement.statement M
 put-members-spec =
     tie.close
-    (tie.spec (λ c. omega (arith, few (c .before))) below-requires add-put-run put-run-requires returns (λ c κs. search needs) (λ c. search needs))
+    (tie.spec (λ c. omega (arith, few (c .before))) below-requires (λ c. omega (arith, few (entry c), entry c .pre .1)) put-run-requires returns
+    (λ c κs. search needs) (λ c. search needs))

@@ -6,7 +6,6 @@ use Rattle.report.specs.Block.Laws.{stands-as, _then_}
 use Rattle.report.specs.Report.{slotLine}
 use Rattle.report.specs.Pieces.{front, oneReport}
 use Rattle.report.specs.Report.One.{front-one, one-long}
-use Rattle.report.proofs.put_one.Statement.{statement}
 use Rattle.report.proofs.put_one.Tie as tie
 
 -- the parts, and how long they are
@@ -39,5 +38,5 @@ returns c =
     stands-as (front-one (s .args .n) (s .args .e) (s .args .verdict) (steps s) (s .args .c) (s .args .set) (rests s))
     (front .put-front .ensures then c .put-one-line .ensures)
 
-pub put-one-spec : {M : Type 1} → statement M
+pub put-one-spec : {M : Type 1} → Rattle.report.proofs.put_one.Statement.statement M
 put-one-spec = tie.close (tie.spec put-front-requires put-one-line-requires returns)

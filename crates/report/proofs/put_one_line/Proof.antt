@@ -3,7 +3,6 @@ use Rattle.theory.specs.Prelude.{needs, sym}
 use Rattle.report.specs.Block.Laws.{stands-none, stands-as, _then_}
 use Rattle.report.specs.Report.Laws.{slot-dead, slot-living}
 use Rattle.report.proofs.Standing.{from-zero}
-use Rattle.report.proofs.put_one_line.Statement.{statement}
 use Rattle.report.proofs.put_one_line.Tie as tie
 
 returns : tie.Need-returns
@@ -26,7 +25,7 @@ returns-2 c =
     then (rests .put-word2 .ensures then (from-zero (a .low) (low .put-members2 .ensures .0) .0
     then (high .put-members3 .ensures .0 then c .put-word3 .ensures))))))
 
-pub put-one-line-spec : {M : Type 1} → statement M
+pub put-one-line-spec : {M : Type 1} → Rattle.report.proofs.put_one_line.Statement.statement M
 put-one-line-spec =
     tie.close
     (tie.spec returns (λ c. search needs) (λ c κs. search needs) (λ c. search needs) (λ c κs. search needs) (λ c κs. search needs)

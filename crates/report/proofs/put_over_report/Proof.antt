@@ -2,7 +2,6 @@
 use Rattle.theory.specs.Prelude.{needs, sym}
 use Rattle.report.specs.Block.Laws.{stands-as, _then_}
 use Rattle.report.specs.Report.Laws.{over-pieces}
-use Rattle.report.proofs.put_over_report.Statement.{statement}
 use Rattle.report.proofs.put_over_report.Tie as tie
 
 returns : tie.Need-returns
@@ -18,7 +17,7 @@ returns c =
       search needs,
     )
 
-pub put-over-report-spec : {M : Type 1} → statement M
+pub put-over-report-spec : {M : Type 1} → Rattle.report.proofs.put_over_report.Statement.statement M
 put-over-report-spec =
     tie.close
     (tie.spec (λ c κs. search needs) (λ c κs. search needs) (λ c. search needs) (λ c κs. search needs) (λ c κs. search needs)

@@ -6,7 +6,6 @@ use Rattle.report.specs.Block.Laws.{stands-as, _then_}
 use Rattle.report.specs.Report.{clusterLines, report}
 use Rattle.report.specs.Pieces.{wide, front}
 use Rattle.report.specs.Report.One.{front-clusters, clusters-long}
-use Rattle.report.proofs.put_report.Statement.{statement}
 use Rattle.report.proofs.put_report.Tie as tie
 
 -- the parts, and how long they are
@@ -48,5 +47,5 @@ returns c =
     stands-as (front-clusters (s .args .n) (s .args .e) (s .args .verdict) (steps s) (finals s) (rests s))
     (front .put-front .ensures then c .put-clusters .ensures)
 
-pub put-report-spec : {M : Type 1} → statement M
+pub put-report-spec : {M : Type 1} → Rattle.report.proofs.put_report.Statement.statement M
 put-report-spec = tie.close (tie.spec put-front-requires (λ c. search needs) put-clusters-requires returns)

@@ -5,7 +5,6 @@ use Rattle.report.specs.Elements.{consecutive}
 use Rattle.report.specs.Pieces.{numbers}
 use Rattle.report.specs.Pieces.Consecutive.{end-split, end-most, between}
 use Rattle.report.specs.Block.Laws.{stands-as}
-use Rattle.report.proofs.put_run.Statement.{statement}
 use Rattle.report.proofs.put_run.Tie as tie
 
 sub-put-word : tie.Need-sub-put-word
@@ -13,9 +12,6 @@ sub-put-word c =
     let b = c .before in
     let s = b .before .before in
     omega (arith, b .before .run-end .ensures, b .run-end2 .ensures, end-split (s .args .first) (s .args .last) (s .pre .0))
-
-part-put-word-start : tie.Need-part-put-word-start
-part-put-word-start c = sub-put-word (c .before)
 
 part-put-word-end : tie.Need-part-put-word-end
 part-put-word-end c =
@@ -44,7 +40,7 @@ returns c =
     stands-as (between (s .args .first) (s .args .last) (s .pre .0) (s .pre .1) refl (b .before .run-end .ensures) (b .run-end2 .ensures))
     (c .put-word .ensures)
 
-pub put-run-spec : {M : Type 1} → statement M
+pub put-run-spec : {M : Type 1} → Rattle.report.proofs.put_run.Statement.statement M
 put-run-spec =
     tie.close
-    (tie.spec (λ c κs. search needs) (λ c κs. search needs) sub-put-word part-put-word-start part-put-word-end put-word-requires returns)
+    (tie.spec (λ c κs. search needs) (λ c κs. search needs) sub-put-word (λ c. sub-put-word (c .before)) part-put-word-end put-word-requires returns)

@@ -8,7 +8,6 @@ use Rattle.report.specs.Block.{Stands}
 use Rattle.report.proofs.Standing.{stands}
 use Rattle.report.specs.Going.{Going}
 use Rattle.report.specs.Going.Laws.{start, put-next, put-last, place}
-use Rattle.report.proofs.put_set_from.Statement.{statement}
 use Rattle.report.proofs.put_set_from.Tie as tie
 
 abbrev Inv-loop : tie.InvT-loop
@@ -40,7 +39,7 @@ returns c =
     let put = put-last stands (ap (λ (x : ℕ). numbers (above (a .first) (elements x))) (search needs) ∙ above-none (a .first)) (c .before .loop .inv .1) in
     (put, omega (arith, put .next-is, above-most (a .first) (a .set)))
 
-pub put-set-from-spec : {M : Type 1} → statement M
+pub put-set-from-spec : {M : Type 1} → Rattle.report.proofs.put_set_from.Statement.statement M
 put-set-from-spec =
     tie.close
     (tie.spec Inv-loop μ-loop (λ c. (search needs, start _)) (λ c. omega (arith, trailing-le 64 (c .before .loop .rest)))

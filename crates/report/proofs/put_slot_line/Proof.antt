@@ -2,7 +2,6 @@
 use Rattle.theory.specs.Prelude.{needs, sym}
 use Rattle.report.specs.Block.Laws.{stands-none, stands-as, _then_}
 use Rattle.report.specs.Report.Laws.{slot-dead, slot-living}
-use Rattle.report.proofs.put_slot_line.Statement.{statement}
 use Rattle.report.proofs.put_slot_line.Tie as tie
 
 returns : tie.Need-returns
@@ -20,7 +19,7 @@ returns-2 c =
     stands-as (sym (slot-living (a .c) (a .a) (a .low) (a .high) (living .if1 .left) (search needs) (search needs)))
     (number .put-entry .ensures .0 then (word .put-word .ensures then (set .put-set .ensures .0 then c .put-rests .ensures)))
 
-pub put-slot-line-spec : {M : Type 1} → statement M
+pub put-slot-line-spec : {M : Type 1} → Rattle.report.proofs.put_slot_line.Statement.statement M
 put-slot-line-spec =
     tie.close
     (tie.spec returns (λ c. search needs) (λ c κs. search needs) (λ c. search needs) (λ c κs. search needs) (λ c κs. search needs)

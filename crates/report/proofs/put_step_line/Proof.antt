@@ -2,7 +2,6 @@
 use Rattle.theory.specs.Prelude.{needs, sym}
 use Rattle.report.specs.Block.Laws.{stands-as, _then_}
 use Rattle.report.specs.Report.Laws.{step-pieces}
-use Rattle.report.proofs.put_step_line.Statement.{statement}
 use Rattle.report.proofs.put_step_line.Tie as tie
 
 returns : tie.Need-returns
@@ -14,7 +13,7 @@ returns c =
     stands-as (sym (step-pieces (parts .before .before .args .s))) (parts .put-parts .ensures .0 then (word .put-word .ensures
     then (set .put-set .ensures .0 then (kind .put-kind .ensures .0 then c .put-ways .ensures))))
 
-pub put-step-line-spec : {M : Type 1} → statement M
+pub put-step-line-spec : {M : Type 1} → Rattle.report.proofs.put_step_line.Statement.statement M
 put-step-line-spec =
     tie.close
     (tie.spec (λ c κs. search needs) (λ c. search needs) (λ c κs. search needs) (λ c κs. search needs) (λ c κs. search needs)

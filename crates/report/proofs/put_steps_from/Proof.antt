@@ -10,7 +10,6 @@ use Rattle.report.specs.Block.{Stands}
 use Rattle.report.proofs.Standing.{stands}
 use Rattle.report.specs.Going.{Going}
 use Rattle.report.specs.Going.Laws.{start, put-next, put-last, place}
-use Rattle.report.proofs.put_steps_from.Statement.{statement}
 use Rattle.report.proofs.put_steps_from.Tie as tie
 
 abbrev Inv-loop : tie.InvT-loop
@@ -24,9 +23,6 @@ abbrev μ-loop : tie.MeasureT-loop
 -- the steps in the arrays
 abbrev steps : tie.Start Inv-loop μ-loop → ℕ → Step
 steps s = stepAt (s .args .lines) (s .args .e) (s .args .sizes .now) (s .args .start .now) (s .args .parts .now) (s .args .joints .now)
-
-loop-holds : tie.Need-loop-holds Inv-loop μ-loop
-loop-holds c = (omega arith, start _)
 
 put-step-line-requires : tie.Need-put-step-line-requires Inv-loop μ-loop
 put-step-line-requires c κs =
@@ -53,7 +49,8 @@ returns c =
     let s = c .before .before in
     put-last stands (steps-none (steps s) (s .args .last) (c .before .loop .t) (c .loop-test .left)) (c .before .loop .inv .1)
 
-pub put-steps-from-spec : {M : Type 1} → statement M
+pub put-steps-from-spec : {M : Type 1} → Rattle.report.proofs.put_steps_from.Statement.statement M
 put-steps-from-spec =
     tie.close
-    (tie.spec Inv-loop μ-loop loop-holds (λ c κs. omega arith) put-step-line-requires (λ c. omega arith) (λ c. omega arith) loop-again returns)
+    (tie.spec Inv-loop μ-loop (λ c. (omega arith, start _)) (λ c κs. omega arith) put-step-line-requires (λ c. omega arith) (λ c. omega arith)
+    loop-again returns)

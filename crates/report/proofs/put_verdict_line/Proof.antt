@@ -2,10 +2,9 @@
 use Rattle.theory.specs.Prelude.{needs, sym, ap}
 use Rattle.report.specs.Block.Laws.{stands-as}
 use Rattle.report.specs.Report.{verdictLine}
-use Rattle.report.proofs.put_verdict_line.Statement.{statement}
 use Rattle.report.proofs.put_verdict_line.Tie as tie
 
-pub put-verdict-line-spec : {M : Type 1} → statement M
+pub put-verdict-line-spec : {M : Type 1} → Rattle.report.proofs.put_verdict_line.Statement.statement M
 put-verdict-line-spec =
     tie.close
     (tie.spec (λ c. search needs) (λ c. search needs) (λ c κs. search needs) (λ c. search needs) (λ c. search needs) (λ c κs. search needs)

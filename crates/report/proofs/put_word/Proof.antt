@@ -5,7 +5,6 @@ use Rattle.report.specs.Block.{Stands}
 use Rattle.report.proofs.Standing.{stands}
 use Rattle.report.specs.Going.{Going}
 use Rattle.report.specs.Going.Laws.{start, put-next, put-last}
-use Rattle.report.proofs.put_word.Statement.{statement}
 use Rattle.report.proofs.put_word.Tie as tie
 
 abbrev Inv-loop : tie.InvT-loop
@@ -26,7 +25,7 @@ loop-again c =
 returns : tie.Need-returns Inv-loop μ-loop
 returns c = put-last stands (drop-of-length-le (c .before .before .args .word .now) (c .loop-test .left)) (c .before .loop .inv .1)
 
-pub put-word-spec : {M : Type 1} → statement M
+pub put-word-spec : {M : Type 1} → Rattle.report.proofs.put_word.Statement.statement M
 put-word-spec =
     tie.close
     (tie.spec Inv-loop μ-loop (λ c. (omega arith, rw add-zero (start _))) (λ c. search needs) (λ c. search needs) (λ c. search needs)

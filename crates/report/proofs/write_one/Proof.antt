@@ -1,11 +1,7 @@
 -- `report::write_one` meets its contract: the buffer has room for the report. Assumes nothing.
 use Rattle.theory.specs.Prelude.{needs, arith}
 use Rattle.report.specs.Block.Buffered.{buffered}
-use Rattle.report.proofs.write_one.Statement.{statement}
 use Rattle.report.proofs.write_one.Tie as tie
-
-put-one-requires : tie.Need-put-one-requires
-put-one-requires c κs = (c .before .before .numerals .ensures, c .before .before .before .before .pre)
 
 returns : tie.Need-returns
 returns c =
@@ -13,8 +9,8 @@ returns c =
     let entry = lines .before .before .before .before .before in
     buffered (omega (arith, entry .pre .1)) (lines .put-one .ensures) (entry .args .out .now) (c .before .before .put-whole .ensures)
 
-pub write-one-spec : {M : Type 1} → statement M
+pub write-one-spec : {M : Type 1} → Rattle.report.proofs.write_one.Statement.statement M
 write-one-spec =
     tie.close
-    (tie.spec (λ c κs. search needs) put-one-requires (λ c. search needs) (λ c. search needs) (λ c. search needs)
-    (λ c κs. search needs) (λ c. search needs) returns)
+    (tie.spec (λ c κs. search needs) (λ c κs. (c .before .before .numerals .ensures, c .before .before .before .before .pre)) (λ c. search needs)
+    (λ c. search needs) (λ c. search needs) (λ c κs. search needs) (λ c. search needs) returns)

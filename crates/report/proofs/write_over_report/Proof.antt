@@ -1,7 +1,6 @@
 -- `report::write_over_report` meets its contract: the buffer has room for every such report. Assumes nothing.
 use Rattle.theory.specs.Prelude.{needs, arith}
 use Rattle.report.specs.Block.Buffered.{buffered}
-use Rattle.report.proofs.write_over_report.Statement.{statement}
 use Rattle.report.proofs.write_over_report.Tie as tie
 
 returns : tie.Need-returns
@@ -11,7 +10,7 @@ returns c =
     buffered (omega (arith, put .0 .next-is, put .1)) (put .0) (lines .before .before .before .before .before .args .out .now)
     (c .before .before .put-whole .ensures)
 
-pub write-over-report-spec : {M : Type 1} → statement M
+pub write-over-report-spec : {M : Type 1} → Rattle.report.proofs.write_over_report.Statement.statement M
 write-over-report-spec =
     tie.close
     (tie.spec (λ c κs. search needs) (λ c κs. search needs) (λ c. search needs) (λ c. search needs) (λ c. search needs)

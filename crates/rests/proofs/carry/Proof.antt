@@ -3,7 +3,6 @@ use Rattle.theory.specs.Prelude.{_≡_, sym, _∙_, subst, List, ℕ, _+_, _-_,
 use Rattle.theory.specs.Set.{_∪_}
 use Rattle.rests.specs.Words.{Listed, Told}
 use Rattle.rests.specs.Words.Laws.{alone-low, alone-high, below, told-start, told-next, told-end}
-use Rattle.rests.proofs.carry.Statement.{statement}
 use Rattle.rests.proofs.carry.Tie as tie
 
 abbrev Inv-loop : tie.InvT-loop
@@ -78,7 +77,7 @@ returns c l =
     let e : n .t ≡ c .before .before .before .before .before .before .args .steps = omega (arith, n .inv .0) in
     (told-end l 0 (n .t) (n .low) e (t .0), told-end l 1 (n .t) (n .high) e (t .1))
 
-pub carry-spec : {M : Type 1} → statement M
+pub carry-spec : {M : Type 1} → Rattle.rests.proofs.carry.Statement.statement M
 carry-spec =
     tie.close
     (tie.spec Inv-loop μ-loop (λ c κs. search needs) (λ c κs. search needs) loop-holds (λ c. search needs) (λ c. search needs) (λ c. search needs) (λ c κs. search needs) (λ c. search needs) (λ c. search needs) (λ c. search needs) (λ c. search needs) (λ c κs. search needs) (λ c. search needs) (λ c. search needs) (λ c. search needs) (λ c. search needs) (λ c κs. search needs) (λ c. search needs) (λ c κs. used (c .before)) (λ c κs. used (c .before .before .before)) (λ c. search needs) (λ c. search needs) loop-again returns)

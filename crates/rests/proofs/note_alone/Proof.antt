@@ -3,7 +3,6 @@ use Rattle.theory.specs.Prelude.{_≡_, refl, sym, ap, _∙_, List, ℕ, _+_, _
 use Rattle.theory.specs.Prelude.{getD-set-same, getD-set-other}
 use Rattle.theory.specs.Block.Laws.{getD-blank}
 use Rattle.rests.specs.Words.{Alone}
-use Rattle.rests.proofs.note_alone.Statement.{statement}
 use Rattle.rests.proofs.note_alone.Tie as tie
 
 abbrev Inv-loop : tie.InvT-loop
@@ -50,7 +49,7 @@ returns c =
     let a = c .before .loop .inv .1 in
     record { long = a .long; each = λ n f k m. a .each n f (omega (arith, c .loop-test .left)) m; less = a .less; more = a .more }
 
-pub note-alone-spec : {M : Type 1} → statement M
+pub note-alone-spec : {M : Type 1} → Rattle.rests.proofs.note_alone.Statement.statement M
 note-alone-spec =
     tie.close
     (tie.spec Inv-loop μ-loop loop-holds (λ c. search needs) (λ c κs. search needs) (λ c. search needs) (λ c. search needs) (λ c. search needs)

@@ -5,7 +5,6 @@ use Rattle.theory.specs.Set.Laws.{at-le}
 use Rattle.theory.specs.Set.Less.{at-room}
 use Rattle.rings.specs.Rows.{Joining}
 use Rattle.rings.specs.Rows.Laws.{join-start, join-turn, join-end}
-use Rattle.rings.proofs.join.Statement.{statement}
 use Rattle.rings.proofs.join.Tie as tie
 
 abbrev Inv-loop : tie.InvT-loop
@@ -13,9 +12,6 @@ Inv-loop near₀ lines twice₀ rest₀ near twice rest = Joining near₀ lines 
 
 abbrev μ-loop : tie.MeasureT-loop
 μ-loop near₀ lines twice₀ rest₀ near twice rest = rest
-
-loop-holds : tie.Need-loop-holds Inv-loop μ-loop
-loop-holds c = join-start _ _ (c .pre)
 
 sub-twice : tie.Need-sub-twice Inv-loop μ-loop
 sub-twice c =
@@ -46,9 +42,8 @@ loop-again c =
 returns : tie.Need-returns Inv-loop μ-loop
 returns c = let l = c .before .loop in join-end _ _ (l .near) (l .twice) (l .rest) (l .inv) (omega (arith, c .loop-test .left))
 
-pub join-spec : {M : Type 1} → statement M
+pub join-spec : {M : Type 1} → Rattle.rings.proofs.join.Statement.statement M
 join-spec =
     tie.close
-    (tie.spec Inv-loop μ-loop loop-holds (λ c κs. search needs) (λ c. search needs) (λ c κs. search needs) (λ c. search needs)
-    (λ c. search needs) sub-twice (λ c. search needs)
-    (λ c. search needs) sub-rest loop-less loop-again returns)
+    (tie.spec Inv-loop μ-loop (λ c. join-start _ _ (c .pre)) (λ c κs. search needs) (λ c. search needs) (λ c κs. search needs) (λ c. search needs)
+    (λ c. search needs) sub-twice (λ c. search needs) (λ c. search needs) sub-rest loop-less loop-again returns)

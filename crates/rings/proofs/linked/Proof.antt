@@ -3,7 +3,6 @@ use Rattle.theory.specs.Prelude.{_≡_, ap, ⊎-elim, ℕ, _-_, arith, bitAnd, 
 use Rattle.theory.specs.Set.Laws.{size-zero}
 use Rattle.theory.specs.Set.Less.{drop-low}
 use Rattle.rings.specs.Turns.Laws.{many, few, one-in, two-in}
-use Rattle.rings.proofs.linked.Statement.{statement}
 use Rattle.rings.proofs.linked.Tie as tie
 
 module _ (c : tie.Joined1) where
@@ -15,12 +14,9 @@ module _ (c : tie.Joined1) where
       ⊎-elim (λ v. omega (arith, size-zero, ap ones (v .0 .taken), ap ones (v .1)))
       (λ v. omega (arith, drop-low both (omega (arith, v .0 .left)), ap ones (v .1))) (c .if1 .came)
 
-returns : tie.Need-returns
-returns c = few _ _ (one-in (both (c .before)) _ (fewer (c .before)) (c .if2 .taken))
-
 returns-2 : tie.Need-returns-2
 returns-2 c =
     let a = c .before .before .args in many (a .l) (a .cluster) (two-in (both (c .before)) _ (fewer (c .before)) (c .if2 .left))
 
-pub linked-spec : {M : Type 1} → statement M
-linked-spec = tie.close (tie.spec (λ c. search needs) returns returns-2)
+pub linked-spec : {M : Type 1} → Rattle.rings.proofs.linked.Statement.statement M
+linked-spec = tie.close (tie.spec (λ c. search needs) (λ c. few _ _ (one-in (both (c .before)) _ (fewer (c .before)) (c .if2 .taken))) returns-2)

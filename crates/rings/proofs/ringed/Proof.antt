@@ -5,7 +5,6 @@ use Rattle.theory.specs.Ring.{strip}
 use Rattle.rings.specs.Rows.{Keeps}
 use Rattle.rings.specs.Rows.Laws.{all-kept, keep-on, strip-keeps, kept-some, kept-none}
 use Rattle.rings.specs.Turns.Laws.{strip-fewer}
-use Rattle.rings.proofs.ringed.Statement.{statement}
 use Rattle.rings.proofs.ringed.Tie as tie
 
 abbrev Inv-loop : tie.InvT-loop
@@ -41,7 +40,7 @@ loop-again c =
     (subst (Keeps (a .lines) s) (sym (next .ensures)) (keep-on (a .lines) s (l .l) (strip (l .l) s) (l .inv) (strip-keeps (l .l) s)))
     (c .strip-rows .ensures)
 
-pub ringed-spec : {M : Type 1} → statement M
+pub ringed-spec : {M : Type 1} → Rattle.rings.proofs.ringed.Statement.statement M
 ringed-spec =
     tie.close
     (tie.spec Inv-loop μ-loop (λ c. all-kept _ _) (λ c κs. search needs) returns (λ c κs. search needs) loop-less loop-again

@@ -2,7 +2,6 @@
 use borrow.Author.Needs.{needs}
 use Rattle.rings.specs.Turns.{Swept}
 use Rattle.rings.specs.Turns.Laws.{sweep-start, sweep, sweep-end}
-use Rattle.rings.proofs.strip_lines.Statement.{statement}
 use Rattle.rings.proofs.strip_lines.Tie as tie
 
 abbrev Inv-loop : tie.InvT-loop
@@ -14,7 +13,7 @@ abbrev μ-loop : tie.MeasureT-loop
 loop-again : tie.Need-loop-again Inv-loop μ-loop
 loop-again c = let l = c .before .before .before .loop in sweep _ _ (l .i) (l .once) (l .twice) (l .inv) (search needs) (c .linked .ensures)
 
-pub strip-lines-spec : {M : Type 1} → statement M
+pub strip-lines-spec : {M : Type 1} → Rattle.rings.proofs.strip_lines.Statement.statement M
 strip-lines-spec =
     tie.close
     (tie.spec Inv-loop μ-loop (λ c. sweep-start (c .before .args .l) (c .before .args .clusters .now)) (λ c. search needs) (λ c. search needs) (λ c. search needs)

@@ -2,7 +2,6 @@
 use Rattle.theory.specs.Prelude.{refl, _-_, _≤_, arith, needs, length}
 use Rattle.rings.specs.Rows.{Noted}
 use Rattle.rings.specs.Rows.Laws.{note-start, note-turn, rows-keep, all-kept}
-use Rattle.rings.proofs.strip_rows.Statement.{statement}
 use Rattle.rings.proofs.strip_rows.Tie as tie
 
 abbrev Inv-loop : tie.InvT-loop
@@ -10,12 +9,6 @@ Inv-loop clusters l near₀ twice₀ i₀ near twice i = (i ≤ length clusters)
 
 abbrev μ-loop : tie.MeasureT-loop
 μ-loop clusters l near₀ twice₀ i₀ near twice i = length clusters - i
-
-loop-holds : tie.Need-loop-holds Inv-loop μ-loop
-loop-holds c = (omega arith, note-start _ _ _ refl)
-
-join-requires : tie.Need-join-requires Inv-loop μ-loop
-join-requires c κs = c .before .before .before .before .loop .inv .1 .places
 
 loop-again : tie.Need-loop-again Inv-loop μ-loop
 loop-again c =
@@ -31,9 +24,9 @@ returns-3 c =
     rows-keep _ _ (l .near) (l .twice) (l .i) (c .rounds-in .result) (l .inv .1) (omega (arith, c .before .before .before .loop-test .left))
     (omega (arith, c .before .before .if2 .left)) (c .rounds-in .ensures)
 
-pub strip-rows-spec : {M : Type 1} → statement M
+pub strip-rows-spec : {M : Type 1} → Rattle.rings.proofs.strip_rows.Statement.statement M
 strip-rows-spec =
     tie.close
-    (tie.spec Inv-loop μ-loop (λ c. all-kept _ _) loop-holds (λ c. search needs) (λ c. search needs) (λ c κs. search needs) join-requires
-    (λ c. search needs) (λ c. search needs)
-    loop-again (λ c. all-kept _ _) (λ c κs. search needs) returns-3)
+    (tie.spec Inv-loop μ-loop (λ c. all-kept _ _) (λ c. (omega arith, note-start _ _ _ refl)) (λ c. search needs) (λ c. search needs)
+    (λ c κs. search needs) (λ c κs. c .before .before .before .before .loop .inv .1 .places) (λ c. search needs) (λ c. search needs) loop-again
+    (λ c. all-kept _ _) (λ c κs. search needs) returns-3)

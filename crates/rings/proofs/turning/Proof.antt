@@ -3,7 +3,6 @@
 use Rattle.theory.specs.Prelude.{_-_, _≤_, arith, needs, length}
 use Rattle.rings.specs.Rows.{Neighbours}
 use Rattle.rings.specs.Rows.Merged.{neighbours-start, neighbours-turn, neighbours-end}
-use Rattle.rings.proofs.turning.Statement.{statement}
 use Rattle.rings.proofs.turning.Tie as tie
 
 abbrev Inv-loop : tie.InvT-loop
@@ -11,12 +10,6 @@ Inv-loop near merged lines among₀ i₀ among i = (i ≤ length merged) × Neig
 
 abbrev μ-loop : tie.MeasureT-loop
 μ-loop near merged lines among₀ i₀ among i = length merged - i
-
-loop-holds : tie.Need-loop-holds Inv-loop μ-loop
-loop-holds c = (omega arith, neighbours-start _ _ _ (c .before .before .before .pre))
-
-join-requires : tie.Need-join-requires Inv-loop μ-loop
-join-requires c κs = c .before .before .before .before .loop .inv .1 .places
 
 loop-again : tie.Need-loop-again Inv-loop μ-loop
 loop-again c =
@@ -38,8 +31,9 @@ returns-2 c =
     neighbours-end _ _ _ (l .among) (l .i) (c .rounds-in2 .result) (l .inv .1) (omega (arith, c .before .before .loop-test .left))
     (c .rounds-in2 .ensures)
 
-pub turning-spec : {M : Type 1} → statement M
+pub turning-spec : {M : Type 1} → Rattle.rings.proofs.turning.Statement.statement M
 turning-spec =
     tie.close
-    (tie.spec Inv-loop μ-loop (λ c κs. search needs) returns loop-holds (λ c. search needs) (λ c. search needs) (λ c κs. search needs) join-requires
+    (tie.spec Inv-loop μ-loop (λ c κs. search needs) returns (λ c. (omega arith, neighbours-start _ _ _ (c .before .before .before .pre)))
+    (λ c. search needs) (λ c. search needs) (λ c κs. search needs) (λ c κs. c .before .before .before .before .loop .inv .1 .places)
     (λ c. search needs) (λ c. search needs) loop-again (λ c κs. search needs) returns-2)

@@ -2,7 +2,6 @@
 use Rattle.theory.specs.Prelude.{_≡_, refl, ap, _∙_, ℕ, _*_, _%_, _-_, _^_, _<_, one-mul, lt-suc-self, arith, shl-exact, pow-pos, needs}
 use Rattle.theory.specs.Set.{full}
 use Rattle.search.proofs.Starting.{ahead-all, ahead-some}
-use Rattle.search.proofs.ahead.Statement.{statement}
 use Rattle.search.proofs.ahead.Tie as tie
 
 -- a shift by less than 64
@@ -27,7 +26,7 @@ returns-3 c =
     λ x l h. ahead-some (a .w) (a .e) (1 * 2 ^ k % 18446744073709551616 - 1) k x
     (ap (λ (z : ℕ). z - 1) (shifted (a .w) (a .e) (omega (arith, c .if2 .left)))) refl h
 
-pub ahead-spec : {M : Type 1} → statement M
+pub ahead-spec : {M : Type 1} → Rattle.search.proofs.ahead.Statement.statement M
 ahead-spec =
     tie.close
     (tie.spec (λ c. search needs) (λ c. search needs) (λ c. search needs) (λ c. search needs) returns-2 (λ c. search needs) (λ c. search needs)

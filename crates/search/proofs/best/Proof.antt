@@ -3,7 +3,6 @@ use Rattle.theory.specs.Prelude.{_-_, _^_, _<_, arith, bitAnd, and-le-l, traili
 use Rattle.theory.specs.Set.Lowest.{lowest-below}
 use Rattle.search.specs.Words.{by-two, by-links}
 use Rattle.search.proofs.Two.{double}
-use Rattle.search.proofs.best.Statement.{statement}
 use Rattle.search.proofs.best.Tie as tie
 
 best-of-two-requires : tie.Need-best-of-two-requires
@@ -26,7 +25,7 @@ returns c =
       c .best-of-two .ensures .1,
     )
 
-pub best-spec : {M : Type 1} → statement M
+pub best-spec : {M : Type 1} → Rattle.search.proofs.best.Statement.statement M
 best-spec =
     tie.close
     (tie.spec (λ c. search needs) (λ c. search needs) (λ c. omega (arith, trailing-le 64 (c .before .before .before .args .x)))

@@ -3,7 +3,6 @@ use Rattle.theory.specs.Prelude.{sym, subst, ⊎-elim, _-_, arith, needs, bitAn
 use Rattle.theory.specs.Set.Lowest.{lowest-below}
 use Rattle.search.specs.State.{Met}
 use Rattle.search.proofs.Two.{Leading, leading-one, leading-new, leading-same, leading-best}
-use Rattle.search.proofs.best_of_two.Statement.{statement}
 use Rattle.search.proofs.best_of_two.Tie as tie
 
 abbrev Inv-loop : tie.InvT-loop
@@ -48,7 +47,7 @@ returns c =
     let l = c .before .loop in
     (leading-best (l .inv) (search needs), l .inv .small)
 
-pub best-of-two-spec : {M : Type 1} → statement M
+pub best-of-two-spec : {M : Type 1} → Rattle.search.proofs.best_of_two.Statement.statement M
 best-of-two-spec =
     tie.close
     (tie.spec Inv-loop μ-loop (λ c. omega (arith, trailing-le 64 (c .args .o)))

@@ -4,7 +4,6 @@ use Rattle.theory.specs.Set.Lowest.{lowest-below}
 use Rattle.theory.specs.Set.{_∩_}
 use Rattle.search.specs.State.{linked, Joined}
 use Rattle.search.proofs.Two.{Leading, leading-one, leading-new, leading-same, leading-best}
-use Rattle.search.proofs.best_pair.Statement.{statement}
 use Rattle.search.proofs.best_pair.Tie as tie
 
 abbrev Inv-loop : tie.InvT-loop
@@ -44,7 +43,7 @@ returns c =
     let l = c .before .loop in
     (leading-best (l .inv) (search needs), l .inv .small)
 
-pub best-pair-spec : {M : Type 1} → statement M
+pub best-pair-spec : {M : Type 1} → Rattle.search.proofs.best_pair.Statement.statement M
 best-pair-spec =
     tie.close
     (tie.spec Inv-loop μ-loop (λ c. omega (arith, trailing-le 64 (c .args .o))) (λ c κs. lowest-below 64 (c .args .o) (search needs) (c .pre))

@@ -1,7 +1,6 @@
 -- `search::call_up` meets its contract: three stores, and three more where a holder does not wait yet. Assumes nothing.
 use borrow.Author.Needs.{needs}
 use Rattle.search.proofs.Calling.{calls-kept, calls-all}
-use Rattle.search.proofs.call_up.Statement.{statement}
 use Rattle.search.proofs.call_up.Tie as tie
 
 returns : tie.Need-returns
@@ -19,7 +18,7 @@ returns-2 c =
     let a = s .args in
     calls-all (a .todo .now) (a .dead .a) (a .dead .b) (a .dead .c) (a .made .a) (a .made .b) (a .made .c) (s .pre) (h .0) (h .1) (h .2)
 
-pub call-up-spec : {M : Type 1} → statement M
+pub call-up-spec : {M : Type 1} → Rattle.search.proofs.call_up.Statement.statement M
 call-up-spec =
     tie.close
     (tie.spec (λ c. search needs) (λ c. search needs) (λ c. search needs) (λ c κs. search needs) (λ c. search needs) (λ c. search needs)

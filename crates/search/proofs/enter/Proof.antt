@@ -2,7 +2,6 @@
 use Rattle.theory.specs.Prelude.{refl, _∙_, _-_, _%_, _^_, _<_, one-mul, lt-suc-self, arith, shl-exact, needs, and-le-r, trailingZeros}
 use Rattle.theory.specs.Set.Lowest.{lowest-below}
 use Rattle.search.proofs.Storing.{Entering, entering-none, entering-next, entering-all}
-use Rattle.search.proofs.enter.Statement.{statement}
 use Rattle.search.proofs.enter.Tie as tie
 
 abbrev Inv-loop : tie.InvT-loop
@@ -14,9 +13,6 @@ abbrev μ-loop : tie.MeasureT-loop
 -- the lowest element is below 64
 low : (c : tie.In-loop Inv-loop μ-loop) → trailingZeros 64 (c .before .loop .rest) < 64
 low c = lowest-below 64 (c .before .loop .rest) (c .before .loop .inv .left .fits) (c .loop-test .taken)
-
-loop-holds : tie.Need-loop-holds Inv-loop μ-loop
-loop-holds c = entering-none (c .pre .0) (search needs) (c .pre .1) (c .pre .2)
 
 loop-less : tie.Need-loop-less Inv-loop μ-loop
 loop-less c =
@@ -33,13 +29,13 @@ loop-again c =
 returns : tie.Need-returns Inv-loop μ-loop
 returns c = entering-all (c .before .before .pre .0) (c .before .loop .inv) (c .loop-test .left) (c .before .before .pre .1)
 
-pub enter-spec : {M : Type 1} → statement M
+pub enter-spec : {M : Type 1} → Rattle.search.proofs.enter.Statement.statement M
 enter-spec =
     tie.close
-    (tie.spec Inv-loop μ-loop (λ c. search needs) (λ c. search needs) (λ c. search needs) (λ c. search needs) loop-holds (λ c. omega (arith, low c))
-    (λ c. omega (arith, low c)) low (λ c. omega (arith, low (c .before))) (λ c. low (c .before))
+    (tie.spec Inv-loop μ-loop (λ c. search needs) (λ c. search needs) (λ c. search needs) (λ c. search needs)
+    (λ c. entering-none (c .pre .0) (search needs) (c .pre .1) (c .pre .2)) (λ c. omega (arith, low c)) (λ c. omega (arith, low c)) low
+    (λ c. omega (arith, low (c .before))) (λ c. low (c .before)) (λ c. omega (arith, low (c .before), c .before .before .before .pre .0))
     (λ c. omega (arith, low (c .before), c .before .before .before .pre .0)) (λ c. omega (arith, low (c .before), c .before .before .before .pre .0))
-    (λ c. omega (arith, low (c .before), c .before .before .before .pre .0))
     (λ c. omega (arith, low (c .before .before), c .before .before .before .before .pre .0))
     (λ c. omega (arith, low (c .before .before), c .before .before .before .before .pre .0))
     (λ c. omega (arith, low (c .before .before), c .before .before .before .before .pre .0)) (λ c. search needs) loop-less loop-again returns)

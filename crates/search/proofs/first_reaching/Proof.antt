@@ -3,7 +3,6 @@ use Rattle.theory.specs.Set.{_∩_}
 use Rattle.theory.specs.Prelude.{_-_, _<_, arith, needs, and-le-r, trailingZeros}
 use Rattle.theory.specs.Set.Lowest.{lowest-below}
 use Rattle.search.proofs.Passing.{Passed, passed-none, passed-next, passed-here, passed-end}
-use Rattle.search.proofs.first_reaching.Statement.{statement}
 use Rattle.search.proofs.first_reaching.Tie as tie
 
 abbrev Inv-loop : tie.InvT-loop
@@ -39,7 +38,7 @@ returns-2 c =
     let l = c .before .loop in
     passed-end (l .inv) (c .loop-test .left)
 
-pub first-reaching-spec : {M : Type 1} → statement M
+pub first-reaching-spec : {M : Type 1} → Rattle.search.proofs.first_reaching.Statement.statement M
 first-reaching-spec =
     tie.close
     (tie.spec Inv-loop μ-loop (λ c. passed-none (search needs))

@@ -5,7 +5,6 @@ use Rattle.theory.specs.Set.Laws.{at-zero}
 use Rattle.theory.specs.Set.Lowest.{lowest-below}
 use Rattle.search.specs.Words.{Nearly}
 use Rattle.search.specs.Words.Laws.{nearly-none, nearly-next}
-use Rattle.search.proofs.holders.Statement.{statement}
 use Rattle.search.proofs.holders.Tie as tie
 
 abbrev Inv-loop : tie.InvT-loop
@@ -45,7 +44,7 @@ returns c =
       record { every = λ z x h e. i .2 .every z x h (none z) e },
     )
 
-pub holders-spec : {M : Type 1} → statement M
+pub holders-spec : {M : Type 1} → Rattle.search.proofs.holders.Statement.statement M
 holders-spec =
     tie.close
     (tie.spec Inv-loop μ-loop loop-holds (λ c. omega (arith, low c)) (λ c. omega (arith, low c)) (λ c. omega (arith, low c))

@@ -2,7 +2,6 @@
 use Rattle.theory.specs.Prelude.{sym, subst, List, ℕ, _-_, _≤_, arith, needs}
 use Rattle.search.specs.State.{Begun}
 use Rattle.search.proofs.Starting.{begun-none, begun-next}
-use Rattle.search.proofs.join_all.Statement.{statement}
 use Rattle.search.proofs.join_all.Tie as tie
 
 abbrev Inv-loop : tie.InvT-loop
@@ -34,7 +33,7 @@ returns c =
     let l = c .before .loop in
     subst (λ (n : ℕ). Begun (c .before .before .args .slots .now) n (l .links) (l .hold)) (omega (arith, l .inv .0, c .loop-test .left)) (l .inv .1)
 
-pub join-all-spec : {M : Type 1} → statement M
+pub join-all-spec : {M : Type 1} → Rattle.search.proofs.join_all.Statement.statement M
 join-all-spec =
     tie.close
     (tie.spec Inv-loop μ-loop loop-holds (λ c. search needs) (λ c. search needs) enter-requires

@@ -3,7 +3,6 @@ use Rattle.theory.specs.Prelude.{_-_, _^_, _<_, arith, bitAnd, and-le-l, and-le
 use Rattle.theory.specs.Set.{_∩_}
 use Rattle.theory.specs.Set.Lowest.{lowest-below}
 use Rattle.search.proofs.Two.{joined-none, joined-one, joined-two}
-use Rattle.search.proofs.joined.Statement.{statement}
 use Rattle.search.proofs.joined.Tie as tie
 
 returns : tie.Need-returns
@@ -48,7 +47,5 @@ returns-3 c =
       c .met .ensures .1,
     )
 
-pub joined-spec : {M : Type 1} → statement M
-joined-spec =
-    tie.close
-    (tie.spec (λ c. search needs) (λ c. search needs) returns (λ c. search needs) returns-2 cast-p cast-q met-requires returns-3)
+pub joined-spec : {M : Type 1} → Rattle.search.proofs.joined.Statement.statement M
+joined-spec = tie.close (tie.spec (λ c. search needs) (λ c. search needs) returns (λ c. search needs) returns-2 cast-p cast-q met-requires returns-3)

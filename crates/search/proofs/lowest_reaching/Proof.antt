@@ -1,7 +1,6 @@
 -- `search::lowest_reaching` meets its contract: word after word, `Swept`. Assumes nothing.
 use Rattle.theory.specs.Prelude.{arith, needs, trailing-le}
 use Rattle.search.proofs.Swept.{swept-none, swept-next, swept-found, swept-end}
-use Rattle.search.proofs.lowest_reaching.Statement.{statement}
 use Rattle.search.proofs.lowest_reaching.Tie as tie
 
 returns : tie.Need-returns
@@ -31,7 +30,7 @@ returns-4 c =
     let three = swept-next two (omega arith) (c .before .first-reaching3 .ensures) (c .if3 .left) in
     (swept-end three, ((λ h. absurd (omega arith)), (three .kept, three .long)))
 
-pub lowest-reaching-spec : {M : Type 1} → statement M
+pub lowest-reaching-spec : {M : Type 1} → Rattle.search.proofs.lowest_reaching.Statement.statement M
 lowest-reaching-spec =
     tie.close
     (tie.spec (λ c. search needs) (λ c κs. search needs) (λ c. search needs)

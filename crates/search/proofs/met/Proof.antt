@@ -1,6 +1,5 @@
 -- `search::met` meets its contract: the two clusters in order. Assumes nothing.
 use Rattle.theory.specs.Prelude.{arith, needs}
-use Rattle.search.proofs.met.Statement.{statement}
 use Rattle.search.proofs.met.Tie as tie
 
 returns : tie.Need-returns
@@ -15,7 +14,7 @@ returns-2 c =
     let b = c .before .joining2 in
     ((a .result, b .result, a .ensures, b .ensures, omega (arith, c .if1 .left)), omega (arith, a .ensures .high, b .ensures .high))
 
-pub met-spec : {M : Type 1} → statement M
+pub met-spec : {M : Type 1} → Rattle.search.proofs.met.Statement.statement M
 met-spec =
     tie.close
     (tie.spec (λ c κs. search needs) (λ c κs. search needs) (λ c. search needs) (λ c. search needs) (λ c. search needs) (λ c. search needs) returns

@@ -3,7 +3,6 @@ use Rattle.theory.specs.Prelude.{subst, ℕ, _-_, _<_, arith, needs, bitAnd, bi
 use Rattle.theory.specs.Set.Lowest.{lowest-below}
 use Rattle.search.specs.Words.{Nearly}
 use Rattle.search.specs.Words.Laws.{nearly-none, nearly-next, nearly-near}
-use Rattle.search.proofs.near_of.Statement.{statement}
 use Rattle.search.proofs.near_of.Tie as tie
 
 abbrev Inv-loop : tie.InvT-loop
@@ -29,7 +28,7 @@ returns c =
     let l = c .before .loop in
     nearly-near (a .links .now) (a .x) (l .rest) (l .all) (l .inv) (search needs)
 
-pub near-of-spec : {M : Type 1} → statement M
+pub near-of-spec : {M : Type 1} → Rattle.search.proofs.near_of.Statement.statement M
 near-of-spec =
     tie.close
     (tie.spec Inv-loop μ-loop (λ c. nearly-none (c .args .links .now) 0 (c .args .x) (search needs)) (λ c. omega (arith, low c))

@@ -2,7 +2,6 @@
 use Rattle.theory.specs.Prelude.{refl, _-_, _<_, arith, needs, and-le-r, trailingZeros}
 use Rattle.theory.specs.Set.Lowest.{lowest-below}
 use Rattle.search.proofs.Rejoining.{Rejoining, rejoining-none, rejoining-next, rejoining-all}
-use Rattle.search.proofs.rejoin.Statement.{statement}
 use Rattle.search.proofs.rejoin.Tie as tie
 
 abbrev Inv-loop : tie.InvT-loop
@@ -15,9 +14,6 @@ abbrev μ-loop : tie.MeasureT-loop
 -- the lowest element is below 64
 low : (c : tie.In-loop Inv-loop μ-loop) → trailingZeros 64 (c .before .loop .rest) < 64
 low c = lowest-below 64 (c .before .loop .rest) (c .before .loop .inv .joining .left .fits) (c .loop-test .taken)
-
-loop-holds : tie.Need-loop-holds Inv-loop μ-loop
-loop-holds c = rejoining-none (search needs) (c .pre .0) (c .pre .1)
 
 -- the same, further on in the loop
 low-b : (c : tie.After-where-same Inv-loop μ-loop) → trailingZeros 64 (c .before .before .before .loop .rest) < 64
@@ -37,21 +33,22 @@ low-e c = low-d (c .before .before .before)
 loop-again : tie.Need-loop-again Inv-loop μ-loop
 loop-again c =
     let t = c .before .before .before .before .before .before .before .before .before .before .before in
-    rejoining-next (t .before .loop .inv) _ _ refl (t .loop-test .taken) (c .before .before .before .before .before .before .before .before .before .where-same .ensures)
+    rejoining-next (t .before .loop .inv) _ _ refl (t .loop-test .taken)
+    (c .before .before .before .before .before .before .before .before .before .where-same .ensures)
 
 loop-less : tie.Need-loop-less Inv-loop μ-loop
 loop-less c =
-    let r = c .before .before .before .before .before .before .before .before .before .before .before .before .loop .rest in
-    omega (arith, c .before .before .before .before .before .before .before .before .before .before .before .loop-test .taken, and-le-r r (r - 1))
+    let t = c .before .before .before .before .before .before .before .before .before .before .before in
+    let r = t .before .loop .rest in
+    omega (arith, t .loop-test .taken, and-le-r r (r - 1))
 
-returns : tie.Need-returns Inv-loop μ-loop
-returns c = rejoining-all (c .before .loop .inv) (c .loop-test .left) (search needs) (c .before .before .pre .0)
-
-pub rejoin-spec : {M : Type 1} → statement M
+pub rejoin-spec : {M : Type 1} → Rattle.search.proofs.rejoin.Statement.statement M
 rejoin-spec =
     tie.close
-    (tie.spec Inv-loop μ-loop loop-holds (λ c. omega (arith, low c)) (λ c. let n = c .loop-test .taken in omega (arith, n))
-    (λ c. omega (arith, low c)) low (λ c κs. search needs) (λ c. omega (arith, low-b c)) low-b (λ c. omega (arith, low-b c)) (λ c. omega (arith, low-b c))
-    (λ c. omega (arith, low-c c)) (λ c. omega (arith, low-c c)) (λ c. omega (arith, low-c c)) (λ c. omega (arith, low-c c)) (λ c. omega (arith, low-c c))
-    (λ c. omega (arith, low-d c)) (λ c. omega (arith, low-d c)) (λ c. omega (arith, low-d c)) (λ c. omega (arith, low-d c)) (λ c. omega (arith, low-d c)) (λ c. omega (arith, low-d c))
-    (λ c. omega (arith, low-e c)) (λ c. omega (arith, low-e c)) (λ c. omega (arith, low-e c)) loop-less loop-again returns)
+    (tie.spec Inv-loop μ-loop (λ c. rejoining-none (search needs) (c .pre .0) (c .pre .1)) (λ c. omega (arith, low c))
+    (λ c. let n = c .loop-test .taken in omega (arith, n)) (λ c. omega (arith, low c)) low (λ c κs. search needs) (λ c. omega (arith, low-b c)) low-b
+    (λ c. omega (arith, low-b c)) (λ c. omega (arith, low-b c)) (λ c. omega (arith, low-c c)) (λ c. omega (arith, low-c c))
+    (λ c. omega (arith, low-c c)) (λ c. omega (arith, low-c c)) (λ c. omega (arith, low-c c)) (λ c. omega (arith, low-d c))
+    (λ c. omega (arith, low-d c)) (λ c. omega (arith, low-d c)) (λ c. omega (arith, low-d c)) (λ c. omega (arith, low-d c))
+    (λ c. omega (arith, low-d c)) (λ c. omega (arith, low-e c)) (λ c. omega (arith, low-e c)) (λ c. omega (arith, low-e c)) loop-less loop-again
+    (λ c. rejoining-all (c .before .loop .inv) (c .loop-test .left) (search needs) (c .before .before .pre .0)))

@@ -4,7 +4,6 @@ use borrow.Author.Needs.{needs}
 use Rattle.theory.specs.Set.{_∩_, _∪_}
 use Rattle.theory.specs.Merge.{union}
 use Rattle.search.proofs.Calling.{called, holding, gone-of}
-use Rattle.search.proofs.renew.Statement.{statement}
 use Rattle.search.proofs.renew.Tie as tie
 
 returns : tie.Need-returns
@@ -29,7 +28,7 @@ returns c =
       calling = called dead made (c .call-up .ensures);
     }
 
-pub renew-spec : {M : Type 1} → statement M
+pub renew-spec : {M : Type 1} → Rattle.search.proofs.renew.Statement.statement M
 renew-spec =
     tie.close
     (tie.spec (λ c κs. search needs) (λ c κs. search needs) (λ c κs. search needs) (λ c κs. search needs) (λ c κs. search needs) returns)

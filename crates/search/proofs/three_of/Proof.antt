@@ -1,7 +1,6 @@
 -- `search::three_of` meets its contract: the union of three. Assumes nothing.
 use Rattle.search.proofs.Sets3.{three-set}
 use borrow.Author.Needs.{needs}
-use Rattle.search.proofs.three_of.Statement.{statement}
 use Rattle.search.proofs.three_of.Tie as tie
 
 returns : tie.Need-returns
@@ -12,7 +11,5 @@ returns c =
     let z = c .before .before .before .before .before .before .before .before .before .alone3 in
     three-set (a .i) (a .j) (a .k) (x .ensures) (y .ensures) (z .ensures)
 
-pub three-of-spec : {M : Type 1} → statement M
-three-of-spec =
-    tie.close
-    (tie.spec (λ c κs. search needs) (λ c κs. search needs) (λ c κs. search needs) returns)
+pub three-of-spec : {M : Type 1} → Rattle.search.proofs.three_of.Statement.statement M
+three-of-spec = tie.close (tie.spec (λ c κs. search needs) (λ c κs. search needs) (λ c κs. search needs) returns)

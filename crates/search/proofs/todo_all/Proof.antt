@@ -1,7 +1,6 @@
 -- `search::todo_all` meets its contract: three words. Assumes nothing.
 use Rattle.theory.specs.Prelude.{refl, replicate, needs}
 use Rattle.search.proofs.Starting.{todo-words}
-use Rattle.search.proofs.todo_all.Statement.{statement}
 use Rattle.search.proofs.todo_all.Tie as tie
 
 returns : tie.Need-returns
@@ -12,7 +11,7 @@ returns c =
       refl,
     )
 
-pub todo-all-spec : {M : Type 1} → statement M
+pub todo-all-spec : {M : Type 1} → Rattle.search.proofs.todo_all.Statement.statement M
 todo-all-spec =
     tie.close
     (tie.spec (λ c κs. search needs) (λ c κs. search needs) (λ c κs. search needs) (λ c. search needs) (λ c. search needs) (λ c. search needs)

@@ -1,7 +1,6 @@
 -- `without_lowest` meets its contract. Assumes nothing.
 use Rattle.theory.specs.Prelude.{refl, needs}
 use Rattle.theory.specs.Set.{_∩_}
-use Rattle.sets.proofs.without_lowest.Statement.{statement}
 use Rattle.sets.proofs.without_lowest.Tie as tie
 
 returns : tie.Need-returns
@@ -12,5 +11,5 @@ returns-2 : tie.Need-returns-2
 unfolding _∩_
 returns-2 c = refl
 
-pub without-lowest-spec : {M : Type 1} → statement M
+pub without-lowest-spec : {M : Type 1} → Rattle.sets.proofs.without_lowest.Statement.statement M
 without-lowest-spec = tie.close (tie.spec (λ c. search needs) returns returns-2)

@@ -1,6 +1,5 @@
 -- `sheet::bits_used` meets its contract: the number is below 2 ^ n, and any number of 64 bits where n is 64. Assumes nothing.
 use Rattle.theory.specs.Prelude.{needs, lt-ltb, ℕ, _^_, _<_, _≤_, _≡_, sym, subst, one-mul, mod-eq-of-lt, arith, pow-lt}
-use Rattle.sheet.proofs.bits_used.Statement.{statement}
 use Rattle.sheet.proofs.bits_used.Tie as tie
 
 returns : tie.Need-returns
@@ -15,5 +14,5 @@ returns-2 : tie.Need-returns-2
 returns-2 c =
     sym (lt-ltb _ _ (all (c .before .args .n) (c .before .args .m) (c .before .pre) (c .if1 .left) (c .before .fits .m .fits)))
 
-pub bits-used-spec : {M : Type 1} → statement M
+pub bits-used-spec : {M : Type 1} → Rattle.sheet.proofs.bits_used.Statement.statement M
 bits-used-spec = tie.close (tie.spec (λ c. search needs) returns returns-2)

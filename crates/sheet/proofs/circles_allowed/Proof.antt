@@ -2,15 +2,14 @@
 use Rattle.theory.specs.Prelude.{needs, sym, ap, _∙_, eqb}
 use Rattle.sheet.specs.Rules.{kindsAllowed}
 use Rattle.sheet.specs.Rules.Kinds.{straight-allowed, all-allowed}
-use Rattle.sheet.proofs.circles_allowed.Statement.{statement}
 use Rattle.sheet.proofs.circles_allowed.Tie as tie
 
 returns : tie.Need-returns
 returns c = λ es e.
     ap (λ m. eqb m 0) e ∙ straight-allowed es ∙ sym (ap (λ o. kindsAllowed o es) (c .enum-told .given .1))
 
-returns-2 : tie.Need-returns-2
-returns-2 c = λ es e. sym (ap (λ o. kindsAllowed o es) (c .enum-told2 .given .1) ∙ all-allowed es)
-
-pub circles-allowed-spec : {M : Type 1} → statement M
-circles-allowed-spec = tie.close (tie.spec (λ c. search needs) (λ c. search needs) returns returns-2)
+pub circles-allowed-spec : {M : Type 1} → Rattle.sheet.proofs.circles_allowed.Statement.statement M
+circles-allowed-spec =
+    tie.close
+    (tie.spec (λ c. search needs) (λ c. search needs) returns
+    (λ c. λ es e. sym (ap (λ o. kindsAllowed o es) (c .enum-told2 .given .1) ∙ all-allowed es)))

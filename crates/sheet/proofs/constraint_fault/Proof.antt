@@ -3,7 +3,6 @@ use Rattle.theory.specs.Prelude.{needs, not-true, not-false, _<_, arith, _≡_,
 use Rattle.sheet.specs.Facts.Laws.{kind-in}
 use Rattle.sheet.specs.Rules.{endsAscend, constraintFault}
 use Rattle.sheet.specs.Rules.Laws.{ends-true}
-use Rattle.sheet.proofs.constraint_fault.Statement.{statement}
 use Rattle.sheet.proofs.constraint_fault.Tie as tie
 
 returns : tie.Need-returns
@@ -39,7 +38,7 @@ returns-3 c = λ es cs en ks h.
       sym (c .before .before .before .before .pair-stands .ensures cs h) ∙ c .before .before .before .if2 .left,
     )
 
-pub constraint-fault-spec : {M : Type 1} → statement M
+pub constraint-fault-spec : {M : Type 1} → Rattle.sheet.proofs.constraint_fault.Statement.statement M
 constraint-fault-spec =
     tie.close
     (tie.spec (λ c κs. search needs) returns (λ c κs. both c) returns-2 (λ c κs. omega (arith, both (c .before .before)))

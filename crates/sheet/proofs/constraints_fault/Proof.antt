@@ -10,7 +10,6 @@ use Rattle.sheet.specs.Rules.{endsAscend, constraintFault, constraintsFa
 use Rattle.sheet.specs.Rules.Laws.{ends-true, unless-none, or-else-some, faults-turn, faults-spent}
 use Rattle.sheet.specs.Noted.{Noted}
 use Rattle.sheet.specs.Noted.Laws.{noted-none}
-use Rattle.sheet.proofs.constraints_fault.Statement.{statement}
 use Rattle.sheet.proofs.constraints_fault.Tie as tie
 
 -- what the code reads past the end of a block
@@ -79,9 +78,8 @@ returns-2 c = λ es p q.
     let a = c .before .loop in
     sym (a .inv .2 es p q ∙ faults-spent es _ _ _ (room (c .before .before)) _ (c .loop-test .left))
 
-pub constraints-fault-spec : {M : Type 1} → statement M
+pub constraints-fault-spec : {M : Type 1} → Rattle.sheet.proofs.constraints_fault.Statement.statement M
 constraints-fault-spec =
     tie.close
-    (tie.spec Inv-loop μ-loop (λ c. (search needs, noted-none, λ es p q. refl)) (λ c. search needs) (λ c. search needs)
-    (λ c κs. search needs) returns (λ c κs. below (c .before .before) (c .before .if1 .left)) (λ c. search needs) (λ c. search needs)
-    loop-again returns-2)
+    (tie.spec Inv-loop μ-loop (λ c. (search needs, noted-none, λ es p q. refl)) (λ c. search needs) (λ c. search needs) (λ c κs. search needs)
+    returns (λ c κs. below (c .before .before) (c .before .if1 .left)) (λ c. search needs) (λ c. search needs) loop-again returns-2)

@@ -7,7 +7,6 @@ use Rattle.theory.specs.Block.{block}
 use Rattle.sheet.specs.Facts.{blankElement}
 use Rattle.sheet.specs.Facts.Kinds.{KindsIn}
 use Rattle.sheet.specs.Facts.Laws.{still-blank, filled, kind-in}
-use Rattle.sheet.proofs.elements_of.Statement.{statement}
 use Rattle.sheet.proofs.elements_of.Tie as tie
 
 abbrev Inv-loop : tie.InvT-loop
@@ -43,7 +42,7 @@ returns c = λ es l ks.
     filled (a .elements) 64 (a .i) blankElement h (a .inv .3)
     ∙ ap (block 64 blankElement) (a .inv .2 es l ks ∙ take-all (a .i) es (omega arith))
 
-pub elements-of-spec : {M : Type 1} → statement M
+pub elements-of-spec : {M : Type 1} → Rattle.sheet.proofs.elements_of.Statement.statement M
 elements-of-spec =
     tie.close
     (tie.spec Inv-loop μ-loop (λ c. (search needs, refl, λ es l ks. refl, refl)) (λ c. omega arith) (λ c κs. omega arith)

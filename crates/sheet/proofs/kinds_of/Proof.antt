@@ -7,7 +7,6 @@ use Rattle.sheet.specs.declared.Kind.{Kind}
 use Rattle.sheet.specs.declared.Element.{Element}
 use Rattle.sheet.specs.Facts.{isLine, isCircle, radiusOf, bitOf, setOf, kindAt, blankElement}
 use Rattle.sheet.specs.Facts.Laws.{turn, spent, setOf-below}
-use Rattle.sheet.proofs.kinds_of.Statement.{statement}
 use Rattle.sheet.proofs.kinds_of.Tie as tie
 
 -- the radii of the circles from i on stand
@@ -82,16 +81,10 @@ fits c is =
     let s = c .before .before in
     small (s .args .t1) (s .args .n) (c .before .loop .i) (c .loop-test .taken) (c .before .loop .inv .0) (room s) (s .pre .0) is
 
-mul-lines : tie.Need-mul-lines Inv-loop μ-loop
-mul-lines c = omega (arith, fits (c .before) isLine, c .before .before .loop .inv .1)
-
 add-lines : tie.Need-add-lines Inv-loop μ-loop
 add-lines c =
     let t = c .before .before .before in
     omega (arith, fits t isLine, t .before .loop .inv .1, c .bit-of .ensures, bit-le (c .before .is-line .result))
-
-mul-circles : tie.Need-mul-circles Inv-loop μ-loop
-mul-circles c = let t = c .before .before .before in omega (arith, fits t isCircle, t .before .loop .inv .2)
 
 add-circles : tie.Need-add-circles Inv-loop μ-loop
 add-circles c =
@@ -125,9 +118,10 @@ returns c =
       radii-are = λ k e. a .inv .4 k (omega arith) e;
     }
 
-pub kinds-of-spec : {M : Type 1} → statement M
+pub kinds-of-spec : {M : Type 1} → Rattle.sheet.proofs.kinds_of.Statement.statement M
 kinds-of-spec =
     tie.close
-    (tie.spec Inv-loop μ-loop loop-holds (λ c. search needs) (λ c. search needs) (λ c. search needs) mul-lines (λ c κs. search needs)
-    (λ c κs. search needs) add-lines mul-circles (λ c κs. search needs) (λ c κs. search needs) add-circles (λ c κs. search needs)
-    (λ c. search needs) (λ c. search needs) (λ c. search needs) loop-again returns)
+    (tie.spec Inv-loop μ-loop loop-holds (λ c. search needs) (λ c. search needs) (λ c. search needs)
+    (λ c. omega (arith, fits (c .before) isLine, c .before .before .loop .inv .1)) (λ c κs. search needs) (λ c κs. search needs) add-lines
+    (λ c. let t = c .before .before .before in omega (arith, fits t isCircle, t .before .loop .inv .2)) (λ c κs. search needs) (λ c κs. search needs)
+    add-circles (λ c κs. search needs) (λ c. search needs) (λ c. search needs) (λ c. search needs) loop-again returns)

@@ -3,7 +3,6 @@ use Rattle.theory.specs.Prelude.{needs, _-_, _≤_, arith, _≡_, refl, sym, _�
 use Rattle.sheet.specs.Facts.{blankElement}
 use Rattle.sheet.specs.Rules.{radiiInRange}
 use Rattle.sheet.specs.Rules.Kinds.{radii-turn, radii-spent}
-use Rattle.sheet.proofs.radii_in_range.Statement.{statement}
 use Rattle.sheet.proofs.radii_in_range.Tie as tie
 
 abbrev Inv-loop : tie.InvT-loop
@@ -46,7 +45,7 @@ returns-2 c =
     let s = c .before .before in
     sym (a .inv .1 ∙ radii-spent (s .args .t1) (s .args .n) (a .i) blankElement (room s) (c .loop-test .left))
 
-pub radii-in-range-spec : {M : Type 1} → statement M
+pub radii-in-range-spec : {M : Type 1} → Rattle.sheet.proofs.radii_in_range.Statement.statement M
 radii-in-range-spec =
     tie.close
     (tie.spec Inv-loop μ-loop (λ c. (search needs, refl)) (λ c. search needs) (λ c. search needs) (λ c κs. search needs)

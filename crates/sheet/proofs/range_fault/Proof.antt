@@ -3,7 +3,6 @@ use Rattle.theory.specs.Prelude.{needs, ap}
 use mir.Facts.{toZ-ofZ}
 use mir.Syntax.{w32}
 use Rattle.sheet.specs.Rules.{rangeFault}
-use Rattle.sheet.proofs.range_fault.Statement.{statement}
 use Rattle.sheet.proofs.range_fault.Tie as tie
 
 returns : tie.Need-returns
@@ -24,7 +23,7 @@ returns-2 c =
       c .if1 .left,
     )
 
-pub range-fault-spec : {M : Type 1} → statement M
+pub range-fault-spec : {M : Type 1} → Rattle.sheet.proofs.range_fault.Statement.statement M
 range-fault-spec =
     tie.close
     (tie.spec (λ c. search needs) (λ c κs. search needs) (λ c. search needs) (λ c. search needs) (λ c. search needs)

@@ -1,6 +1,5 @@
 -- `sheet::same_radii` meets its contract: two circles, then their radii. Assumes nothing.
 use Rattle.theory.specs.Prelude.{needs, sym, _∙_}
-use Rattle.sheet.proofs.same_radii.Statement.{statement}
 use Rattle.sheet.proofs.same_radii.Tie as tie
 
 returns : tie.Need-returns
@@ -12,7 +11,7 @@ returns c =
       sym (c .before .before .before .before .before .is-circle .ensures) ∙ c .before .before .before .before .if1 .taken,
     )
 
-pub same-radii-spec : {M : Type 1} → statement M
+pub same-radii-spec : {M : Type 1} → Rattle.sheet.proofs.same_radii.Statement.statement M
 same-radii-spec =
     tie.close
     (tie.spec (λ c κs. search needs) (λ c κs. search needs) (λ c κs. search needs) (λ c κs. search needs) returns

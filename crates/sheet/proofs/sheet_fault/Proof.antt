@@ -5,7 +5,6 @@ use Rattle.sheet.specs.declared.Sheet.{Sheet}
 use Rattle.sheet.specs.Facts.{factsOf}
 use Rattle.sheet.specs.Rules.{elementsInRange, kindsAllowed, radiiInRange, constraintsInRange, elementsFault, sheetFault}
 use Rattle.sheet.specs.Rules.Laws.{elements-most, constraints-most}
-use Rattle.sheet.proofs.sheet_fault.Statement.{statement}
 use Rattle.sheet.proofs.sheet_fault.Tie as tie
 
 returns : tie.Need-returns
@@ -66,7 +65,7 @@ returns-5 c =
     let k = a .before .before in
     c .constraints-fault .ensures _ (sized k) (k .kinds-of .ensures) ∙ rw (counted k, allowed a, round b, listed d)
 
-pub sheet-fault-spec : {M : Type 1} → statement M
+pub sheet-fault-spec : {M : Type 1} → Rattle.sheet.proofs.sheet_fault.Statement.statement M
 sheet-fault-spec =
     tie.close
     (tie.spec (λ c κs. search needs) returns

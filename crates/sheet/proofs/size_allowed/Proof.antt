@@ -1,7 +1,6 @@
 -- `sheet::size_allowed` meets its contract: rule 8 case by case. Assumes nothing.
 use Rattle.theory.specs.Prelude.{needs, sym, ap, _∙_}
 use Rattle.sheet.specs.Rules.{sizeAllowed}
-use Rattle.sheet.proofs.size_allowed.Statement.{statement}
 use Rattle.sheet.proofs.size_allowed.Tie as tie
 
 missing : tie.Need-returns-2
@@ -34,7 +33,7 @@ no-circle c =
     let a = c .before .before .before .before .args in
     rw (ap (sizeAllowed (a .j) (a .k)) (c .before .before .enum-told4 .given .1), sym (c .before .some-circle2 .ensures) ∙ c .if1 .left)
 
-pub size-allowed-spec : {M : Type 1} → statement M
+pub size-allowed-spec : {M : Type 1} → Rattle.sheet.proofs.size_allowed.Statement.statement M
 size-allowed-spec =
     tie.close
     (tie.spec (λ c. search needs) (λ c. search needs) (λ c κs. search needs) (λ c κs. search needs) (λ c κs. search needs)

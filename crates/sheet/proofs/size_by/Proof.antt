@@ -2,7 +2,6 @@
 use Rattle.theory.specs.Prelude.{needs, eq-eqb, ne-eqb}
 use mir.Facts.{toZ-ofZ}
 use Rattle.sheet.specs.Rules.{sizeBy}
-use Rattle.sheet.proofs.size_by.Statement.{statement}
 use Rattle.sheet.proofs.size_by.Tie as tie
 
 returns : tie.Need-returns
@@ -37,5 +36,5 @@ returns-5 c =
       ne-eqb _ _ (c .if4 .left),
     )
 
-pub size-by-spec : {M : Type 1} → statement M
+pub size-by-spec : {M : Type 1} → Rattle.sheet.proofs.size_by.Statement.statement M
 size-by-spec = tie.close (tie.spec (λ c. search needs) (λ c. search needs) returns returns-2 returns-3 returns-4 returns-5)

@@ -1,7 +1,6 @@
 -- `sheet::size_fault` meets its contract: the rules in their order. Assumes nothing.
 use Rattle.theory.specs.Prelude.{needs, not-true, not-false, sym, _∙_}
 use Rattle.sheet.specs.Rules.{sizeFault}
-use Rattle.sheet.proofs.size_fault.Statement.{statement}
 use Rattle.sheet.proofs.size_fault.Tie as tie
 
 returns : tie.Need-returns
@@ -29,7 +28,7 @@ returns-3 c =
       sym (c .before .before .before .before .before .radii-differ .ensures) ∙ not-false _ (c .before .before .before .before .if2 .left),
     )
 
-pub size-fault-spec : {M : Type 1} → statement M
+pub size-fault-spec : {M : Type 1} → Rattle.sheet.proofs.size_fault.Statement.statement M
 size-fault-spec =
     tie.close
     (tie.spec (λ c κs. search needs) returns (λ c κs. search needs) returns-2 (λ c κs. search needs) (λ c κs. search needs)

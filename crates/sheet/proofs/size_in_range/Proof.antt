@@ -5,7 +5,6 @@ use mir.Val.{toZ, ofZ}
 use mir.Syntax.{w32}
 use Rattle.sheet.specs.Range.Laws.{range-without-zero, no-zero}
 use Rattle.sheet.specs.Rules.{sizeInRange}
-use Rattle.sheet.proofs.size_in_range.Statement.{statement}
 use Rattle.sheet.proofs.size_in_range.Tie as tie
 
 returns : tie.Need-returns
@@ -23,6 +22,5 @@ returns-2 c =
     (c .within .ensures)
     ∙ sym (range-without-zero (g .p) (g .z) (λ e. c .before .before .before .if1 .left (ap (ofZ w32) e)))
 
-pub size-in-range-spec : {M : Type 1} → statement M
-size-in-range-spec =
-    tie.close (tie.spec returns (λ c κs. search needs) (λ c κs. search needs) (λ c κs. search needs) returns-2)
+pub size-in-range-spec : {M : Type 1} → Rattle.sheet.proofs.size_in_range.Statement.statement M
+size-in-range-spec = tie.close (tie.spec returns (λ c κs. search needs) (λ c κs. search needs) (λ c κs. search needs) returns-2)

@@ -7,11 +7,7 @@ use Rattle.graph.specs.declared.Head.{Head}
 use Rattle.sketch.specs.Sketch.{extended, asJudged}
 use Rattle.sketch.specs.Sketch.Laws.{ask-unsound, ask-sound}
 use Rattle.sketch.specs.Placing.Laws.{place-asked}
-use Rattle.sketch.proofs.asking.Statement.{statement}
 use Rattle.sketch.proofs.asking.Tie as tie
-
-returns : tie.Need-returns
-returns c = sym (ask-unsound _ _ (λ e. c .if1 .taken (c .before .sheet-fault .ensures ∙ e)))
 
 returns-2 : tie.Need-returns-2
 returns-2 c =
@@ -24,9 +20,9 @@ returns-2 c =
     ∙ ap (λ (k : ℕ). asJudged k (verdictOf (graphOf (extended facts one)))) (place-asked facts one _ n)
     ∙ sym (ask-sound _ _ (sym (s .sheet-fault .ensures) ∙ f .before .before .before .before .before .if1 .left))
 
-pub asking-spec : {M : Type 1} → statement M
+pub asking-spec : {M : Type 1} → Rattle.sketch.proofs.asking.Statement.statement M
 asking-spec =
     tie.close
-    (tie.spec (λ c κs. search needs) returns
+    (tie.spec (λ c κs. search needs) (λ c. sym (ask-unsound _ _ (λ e. c .if1 .taken (c .before .sheet-fault .ensures ∙ e))))
     (λ c κs. (sym (c .before .before .before .before .before .sheet-fault .ensures) ∙ c .before .before .before .before .if1 .left, refl, refl, refl, refl))
     (λ c κs. (_, c .before .before .before .before .fill .ensures)) returns-2)

@@ -3,7 +3,6 @@ use Rattle.theory.specs.Prelude.{needs, arith, _≡_, sym, ap, _∙_, []}
 use Rattle.theory.specs.Verdict.{verdictNumber}
 use Rattle.theory.specs.declared.Verdict.the-variants.{Over}
 use Rattle.sketch.specs.Placing.Laws.{number-over, last-not-over, told-listed, last-told}
-use Rattle.sketch.proofs.judge_full_last.Statement.{statement}
 use Rattle.sketch.proofs.judge_full_last.Tie as tie
 
 returns : tie.Need-returns
@@ -13,14 +12,13 @@ returns c = λ z.
 over : (c : tie.Else1) → c .before .before .full-told .result .verdict ≡ Over
 over c = number-over _ (sym (c .before .number .ensures) ∙ omega (arith, c .if1 .left))
 
-last-rule-requires : tie.Need-last-rule-requires
-last-rule-requires c κs = told-listed (c .before .before .before .pre .0) [] (c .before .before .full-told .ensures []) (over c)
-
 returns-2 : tie.Need-returns-2
 returns-2 c = λ z.
     let k = c .before in
     last-told (k .before .before .before .pre .0) z (k .before .before .full-told .ensures z) (over k) (c .last-rule .ensures)
 
-pub judge-full-last-spec : {M : Type 1} → statement M
+pub judge-full-last-spec : {M : Type 1} → Rattle.sketch.proofs.judge_full_last.Statement.statement M
 judge-full-last-spec =
-    tie.close (tie.spec (λ c κs. search needs) (λ c κs. search needs) returns last-rule-requires returns-2)
+    tie.close
+    (tie.spec (λ c κs. search needs) (λ c κs. search needs) returns
+    (λ c κs. told-listed (c .before .before .before .pre .0) [] (c .before .before .full-told .ensures []) (over c)) returns-2)

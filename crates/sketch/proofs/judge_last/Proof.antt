@@ -1,7 +1,6 @@
 -- `sketch::judge_last` meets its contract: what is found decides. Assumes nothing.
 use Rattle.theory.specs.Prelude.{needs, arith, sym, _∙_, []}
 use Rattle.sketch.specs.Placing.Laws.{last-fine, last-first, first-listed}
-use Rattle.sketch.proofs.judge_last.Statement.{statement}
 use Rattle.sketch.proofs.judge_last.Tie as tie
 
 last-rule-requires : tie.Need-last-rule-requires
@@ -24,7 +23,7 @@ returns-3 : tie.Need-returns-3
 returns-3 c = λ z.
     last-fine _ (c .fine-verdict .ensures z) (sym (c .before .before .before .over-of .ensures z) ∙ c .before .enum-told .given .1)
 
-pub judge-last-spec : {M : Type 1} → statement M
+pub judge-last-spec : {M : Type 1} → Rattle.sketch.proofs.judge_last.Statement.statement M
 judge-last-spec =
     tie.close
     (tie.spec (λ c. search needs) (λ c. search needs) (λ c κs. search needs) (λ c. search needs) (λ c κs. search needs) (λ c. search needs)

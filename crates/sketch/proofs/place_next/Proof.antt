@@ -16,7 +16,6 @@ use Rattle.sketch.specs.Sketch.Laws.{extended-in}
 use Rattle.sketch.specs.Placing.{withMore, lastAnswer}
 use Rattle.sketch.specs.Placing.Laws.{more-fault, place-over, place-stale, place-asked, place-fault}
 use Rattle.sketch.specs.Placing.Laws.{place-full, refused-in, unless-in, last-asked}
-use Rattle.sketch.proofs.place_next.Statement.{statement}
 use Rattle.sketch.proofs.place_next.Tie as tie
 
 -- the counts of facts in the arrays
@@ -41,9 +40,6 @@ returns-2 c = λ f a.
     let s = c .before .before .before .before .before .before in
     unless-in a (s .args .c) (s .args .held) 24 (c .unless-over .ensures) (λ z. omega arith)
     (place-stale f _ _ (λ e. c .before .before .before .if2 .taken (e ∙ sym (count s a))))
-
-constraint-fault-requires : tie.Need-constraint-fault-requires
-constraint-fault-requires c κs = small (c .before .before .before .before) .0
 
 -- the number is the one held, and the constraint is tried by 6 to 9
 module _ (c : tie.After-constraint-fault) where
@@ -137,11 +133,11 @@ returns-5 c = λ f a.
       holds = λ e. m;
     }
 
-pub place-next-spec : {M : Type 1} → statement M
+pub place-next-spec : {M : Type 1} → Rattle.sketch.proofs.place_next.Statement.statement M
 place-next-spec =
     tie.close
     (tie.spec (λ c. omega (arith, small (c .before))) (λ c. omega (arith, small (c .before))) returns
-    (λ c κs. drawn-in (c .before .before .before .before .before .pre .1)) returns-2 constraint-fault-requires
-    (λ c κs. drawn-in (offered (c .before .before .before) .pre .1)) returns-3 (λ c. omega (arith, small (start c))) (λ c. omega (arith, small (start c)))
-    (λ c κs. drawn-in (start (c .before .before .before) .pre .1)) returns-4 (λ c κs. search needs) note-requires
-    (λ c. omega (arith, small (start (took c)))) judge-last-requires returns-5)
+    (λ c κs. drawn-in (c .before .before .before .before .before .pre .1)) returns-2 (λ c κs. small (c .before .before .before .before) .0)
+    (λ c κs. drawn-in (offered (c .before .before .before) .pre .1)) returns-3 (λ c. omega (arith, small (start c)))
+    (λ c. omega (arith, small (start c))) (λ c κs. drawn-in (start (c .before .before .before) .pre .1)) returns-4 (λ c κs. search needs)
+    note-requires (λ c. omega (arith, small (start (took c)))) judge-last-requires returns-5)

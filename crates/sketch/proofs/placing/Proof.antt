@@ -9,7 +9,6 @@ use Rattle.sketch.specs.declared.Placed.{Placed}
 use Rattle.sketch.specs.Sketch.{placeRule, placeAnswer}
 use Rattle.sketch.specs.Sketch.Laws.{unsound-placed, place-sound, answer-sound, taken-placed}
 use Rattle.sketch.specs.Sketch.Laws.{not-placed, is-placed}
-use Rattle.sketch.proofs.placing.Statement.{statement}
 use Rattle.sketch.proofs.placing.Tie as tie
 
 -- an answer and a sketch that are the definition's
@@ -72,7 +71,7 @@ returns-3 c =
     let s = start (judged k) .args in
     both (answered (judged k)) (c .store .ensures ∙ sym (taken-placed (s .s) (s .c) (s .held) (none k) .1))
 
-pub placing-spec : {M : Type 1} → statement M
+pub placing-spec : {M : Type 1} → Rattle.sketch.proofs.placing.Statement.statement M
 placing-spec =
     tie.close
     (tie.spec (λ c κs. search needs) returns

@@ -2,7 +2,6 @@
 use Rattle.theory.specs.Prelude.{needs, sym, ap, _∙_}
 use Rattle.theory.specs.Verdict.{verdictNumber}
 use Rattle.sketch.specs.Placing.Laws.{number-over, over-fault, no-over-fault}
-use Rattle.sketch.proofs.unless_over.Statement.{statement}
 use Rattle.sketch.proofs.unless_over.Tie as tie
 
 returns : tie.Need-returns
@@ -14,5 +13,5 @@ returns-2 : tie.Need-returns-2
 returns-2 c = λ z.
     rw (no-over-fault _ (λ v. c .if1 .left (c .before .number .ensures ∙ ap verdictNumber (c .before .before .verdict-of .ensures z ∙ v))))
 
-pub unless-over-spec : {M : Type 1} → statement M
+pub unless-over-spec : {M : Type 1} → Rattle.sketch.proofs.unless_over.Statement.statement M
 unless-over-spec = tie.close (tie.spec (λ c κs. search needs) (λ c κs. search needs) returns returns-2)

@@ -8,7 +8,6 @@ use lib.ListN.{length}
 use Rattle.space.specs.Text.{digit, decimal}
 use Rattle.space.specs.Space.Laws.{put-as, _then_}
 use Rattle.space.specs.Text.Laws.{decimal-1, decimal-2, decimal-3}
-use Rattle.space.proofs.put_decimal.Statement.{statement}
 use Rattle.space.proofs.put_decimal.Tie as tie
 
 -- the digits in each arm
@@ -62,13 +61,11 @@ returns-3 c =
     (c .before .before .before .before .before .before .before .before .before .before .before .before .put-byte4 .ensures
     then c .before .before .before .before .before .before .before .put-byte5 .ensures then c .before .before .put-byte6 .ensures)
 
-pub put-decimal-spec : {M : Type 1} → statement M
+pub put-decimal-spec : {M : Type 1} → Rattle.space.proofs.put_decimal.Statement.statement M
 put-decimal-spec =
     tie.close
     (tie.spec (λ c κs. search needs) (λ c κs. omega (arith, ap length (one (c .before .before)))) (λ c. search needs)
     (λ c. put-as (cc (one (c .before .before .before .before .before))) (c .before .before .put-byte .ensures)) (λ c κs. search needs)
     (λ c κs. omega (arith, ap length (two (c .before .before)))) (λ c κs. search needs) put-byte-requires-3 (λ c. search needs) returns-2
-    (λ c κs. search needs)
-    (λ c κs. omega (arith, ap length (three (c .before .before)))) (λ c κs. search needs) put-byte-requires-5 (λ c κs. search needs)
-    put-byte-requires-6
-    (λ c. search needs) returns-3)
+    (λ c κs. search needs) (λ c κs. omega (arith, ap length (three (c .before .before)))) (λ c κs. search needs) put-byte-requires-5
+    (λ c κs. search needs) put-byte-requires-6 (λ c. search needs) returns-3)

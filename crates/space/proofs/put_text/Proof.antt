@@ -9,7 +9,6 @@ use mathlib.Core.Path.{_≡_, refl, sym, _∙_}
 use lib.ListN.{length, drop, length-set, drop-of-length-le}
 use lib.Seq.{sets, drop-cons}
 use Rattle.space.specs.Space.Laws.{put-all, put-short}
-use Rattle.space.proofs.put_text.Statement.{statement}
 use Rattle.space.proofs.put_text.Tie as tie
 
 abbrev Inv-loop : tie.InvT-loop
@@ -29,9 +28,8 @@ loop-again c =
 returns-2 : tie.Need-returns-2 Inv-loop μ-loop
 returns-2 c = put-all refl (sym (c .before .loop .inv .2 ∙ rw (drop-of-length-le (c .before .before .before .args .text .now) (c .loop-test .left))))
 
-pub put-text-spec : {M : Type 1} → statement M
+pub put-text-spec : {M : Type 1} → Rattle.space.proofs.put_text.Statement.statement M
 put-text-spec =
     tie.close
     (tie.spec Inv-loop μ-loop (λ c. search needs) (λ c. put-short refl (c .if1 .taken)) (λ c. (search needs, refl, rw add-zero)) (λ c. search needs)
-    (λ c. search needs)
-    (λ c. search needs) (λ c. search needs) (λ c. search needs) loop-again (λ c. c .before .loop .inv .1) returns-2)
+    (λ c. search needs) (λ c. search needs) (λ c. search needs) (λ c. search needs) loop-again (λ c. c .before .loop .inv .1) returns-2)

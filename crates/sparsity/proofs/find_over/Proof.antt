@@ -5,7 +5,6 @@ use Rattle.peeling.specs.Core.Peeling.{core-none}
 use Rattle.peeling.specs.Hard.{Noted}
 use Rattle.peeling.specs.Hard.Laws.{in-list}
 use Rattle.sparsity.specs.Answer.Laws.{answer-not}
-use Rattle.sparsity.proofs.find_over.Statement.{statement}
 use Rattle.sparsity.proofs.find_over.Tie as tie
 
 returns : tie.Need-returns
@@ -27,5 +26,5 @@ search-requires c κs =
           (c .before .mark-hard .ensures .noted k (omega arith) (in-list (s .pre .0) h)),
     )
 
-pub find-over-spec : {M : Type 1} → statement M
+pub find-over-spec : {M : Type 1} → Rattle.sparsity.proofs.find_over.Statement.statement M
 find-over-spec = tie.close (tie.spec (λ c κs. search needs) returns (λ c κs. search needs) search-requires (λ c. search needs))

@@ -7,7 +7,6 @@ use Rattle.sparsity.specs.Freedoms.Sums.{same-bit, free-count}
 use Rattle.sparsity.specs.Reach.{Lent, Rebalanced, Way, Walked}
 use Rattle.sparsity.specs.Reach.Laws.{found-stuck, found-first}
 use Rattle.sparsity.specs.Reach.Back.{way-of, walk-start, walk-stored, walk-end, j-less, x-fits, y-fits, again-refl, again-trans, gained-ends}
-use Rattle.sparsity.proofs.gather.Statement.{statement}
 use Rattle.sparsity.proofs.gather.Tie as tie
 
 abbrev Inv-loop2 : tie.InvT-loop2
@@ -174,14 +173,13 @@ returns-2 c =
     in
     (record { again = l .inv .0; enough = λ z. omega (arith, fa, fb, c .if1 .left); stuck = λ z. absurd (z refl) }, l .inv .1)
 
-pub gather-spec : {M : Type 1} → statement M
+pub gather-spec : {M : Type 1} → Rattle.sparsity.proofs.gather.Statement.statement M
 gather-spec =
     tie.close
-    (tie.spec Inv-loop2 μ-loop2 Inv-loop μ-loop (λ c κs. search needs) (λ c κs. search needs) loop-holds mul-free-of index-1-free-of (λ c. omega
-    arith)
-    (λ c. mul-free-of (c .before)) (λ c. index-1-free-of (c .before)) (λ c. omega arith) (λ c κs. search needs) mul-free-of-3 index-1-free-of-3
-    (λ c. omega arith) (λ c. mul-free-of-3 (c .before)) (λ c. index-1-free-of-3 (c .before)) (λ c. omega arith) (λ c κs. search needs) add-if1
-    seek-requires returns loop2-holds loop-less loop-again element-copy-out-wide (λ c κs. search needs) element-copy-out-bx element-copy-out-by
-    (λ c κs. search needs) (λ c κs. search needs) mul-one-if-same index-1-one-if-same (λ c. omega arith) (λ c κs. search needs) mul-one-if-same-2
-    index-1-one-if-same-2 (λ c. omega arith) (λ c κs. search needs) mul-t index-1-t index-2-t mul-t-2 index-1-t-2 index-2-t-2 loop2-less
-    loop2-again returns-2)
+    (tie.spec Inv-loop2 μ-loop2 Inv-loop μ-loop (λ c κs. search needs) (λ c κs. search needs) loop-holds mul-free-of index-1-free-of
+    (λ c. omega arith) (λ c. mul-free-of (c .before)) (λ c. index-1-free-of (c .before)) (λ c. omega arith) (λ c κs. search needs) mul-free-of-3
+    index-1-free-of-3 (λ c. omega arith) (λ c. mul-free-of-3 (c .before)) (λ c. index-1-free-of-3 (c .before)) (λ c. omega arith)
+    (λ c κs. search needs) add-if1 seek-requires returns loop2-holds loop-less loop-again element-copy-out-wide (λ c κs. search needs)
+    element-copy-out-bx element-copy-out-by (λ c κs. search needs) (λ c κs. search needs) mul-one-if-same index-1-one-if-same (λ c. omega arith)
+    (λ c κs. search needs) mul-one-if-same-2 index-1-one-if-same-2 (λ c. omega arith) (λ c κs. search needs) mul-t index-1-t index-2-t mul-t-2
+    index-1-t-2 index-2-t-2 loop2-less loop2-again returns-2)

@@ -1,9 +1,8 @@
 -- `list_inside` meets its contract: the loop keeps the numbers below c that lie within core. Assumes nothing.
-use Rattle.theory.specs.Prelude.{_≡_, _≢_, ap, _∙_, subst, List, ℕ, _+_, _-_, _≤_, _<_, add-zero, arith, ℕ-discrete, bitAnd, length, length-set, getD, set}
-use Rattle.theory.specs.Prelude.{sym, needs}
+use Rattle.theory.specs.Prelude.{_≡_, _≢_, sym, ap, _∙_, subst, List, ℕ, _+_, _-_, _≤_, _<_, add-zero, arith, ℕ-discrete, bitAnd, length, getD}
+use Rattle.theory.specs.Prelude.{length-set, set, needs}
 use Rattle.sparsity.specs.Inside.{Inside}
 use Rattle.sparsity.specs.Inside.Laws.{inside-none, inside-in, inside-out}
-use Rattle.sparsity.proofs.list_inside.Statement.{statement}
 use Rattle.sparsity.proofs.list_inside.Tie as tie
 
 abbrev Inv-loop : tie.InvT-loop
@@ -34,11 +33,12 @@ module _ (c : tie.After-one-within Inv-loop μ-loop) where
   loop = c .before .before .before
 
   longer : (loop .loop .count + c .one-within .result ≤ loop .loop .c + 1)
-      × Inside (loop .before .args .start .now) (loop .loop .c + 1) (loop .before .args .core) (set (loop .loop .list) (loop .loop .count) (loop .loop .c))
-      (loop .loop .count + c .one-within .result)
+      × Inside (loop .before .args .start .now) (loop .loop .c + 1) (loop .before .args .core)
+      (set (loop .loop .list) (loop .loop .count) (loop .loop .c)) (loop .loop .count + c .one-within .result)
   longer =
       let h = c .before .before .loop-test .taken in
-      next (loop .loop .inv .3) (omega (arith, loop .loop .inv .1, loop .loop .inv .2, h, loop .before .pre .0)) (loop .loop .inv .1) (c .one-within .ensures)
+      next (loop .loop .inv .3) (omega (arith, loop .loop .inv .1, loop .loop .inv .2, h, loop .before .pre .0)) (loop .loop .inv .1)
+      (c .one-within .ensures)
 
 loop-again : tie.Need-loop-again Inv-loop μ-loop
 loop-again c =
@@ -53,7 +53,7 @@ returns c =
       omega (arith, l .inv .1, end),
     )
 
-pub list-inside-spec : {M : Type 1} → statement M
+pub list-inside-spec : {M : Type 1} → Rattle.sparsity.proofs.list_inside.Statement.statement M
 list-inside-spec =
     tie.close
     (tie.spec Inv-loop μ-loop (λ c. (omega arith, omega arith, c .pre .1, inside-none))

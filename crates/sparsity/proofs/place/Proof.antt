@@ -3,7 +3,6 @@ use Rattle.theory.specs.Prelude.{_≡_, _≢_, sym, ap, _∙_, subst, List, ℕ
 use Rattle.sparsity.specs.Freedoms.{entry, free, stored}
 use Rattle.sparsity.specs.Reach.{Placed}
 use Rattle.sparsity.specs.Reach.Back.{placed-first, placed-second, last-free}
-use Rattle.sparsity.proofs.place.Statement.{statement}
 use Rattle.sparsity.proofs.place.Tie as tie
 
 -- r is s where x and y are the same, else t
@@ -18,7 +17,8 @@ data Case (a b p q r x s : ℕ) : Type 0 where
   fourth : x ≡ b → s ≡ 1 → p ≢ a → q ≢ a → r ≢ b → Case a b p q r x s
 
 module _ {a b p q r i j x s : ℕ} (ia : i ≡ a) (jb : j ≡ b) where
-  cases : {of-b later end : ℕ} → Where r b 0 1 of-b → Where q a 1 of-b later → Where p a 0 later s → Where q a i j end → Where p a i end x → Case a b p q r x s
+  cases : {of-b later end : ℕ} → Where r b 0 1 of-b → Where q a 1 of-b later → Where p a 0 later s → Where q a i j end → Where p a i end x
+      → Case a b p q r x s
   cases f g h m n = by (ℕ-discrete p a) (ℕ-discrete q a) (ℕ-discrete r b)
     where
       by : Dec (p ≡ a) → Dec (q ≡ a) → Dec (r ≡ b) → Case a b p q r x s
@@ -79,7 +79,7 @@ returns c = (
   bounds c .1,
 )
 
-pub place-spec : {M : Type 1} → statement M
+pub place-spec : {M : Type 1} → Rattle.sparsity.proofs.place.Statement.statement M
 place-spec =
     tie.close
     (tie.spec (λ c κs. search needs) (λ c κs. search needs) (λ c κs. search needs) (λ c κs. search needs) (λ c κs. search needs)

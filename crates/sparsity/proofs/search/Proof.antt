@@ -12,7 +12,6 @@ use Rattle.sparsity.specs.Answer.Laws.{free-using, two-ends, ends-at, re
 use Rattle.sparsity.specs.Answer.Laws.{answer-not, answer-first}
 use Rattle.sparsity.specs.Inside.{after}
 use Rattle.sparsity.specs.Inside.Laws.{number-below, number-within, reached, passed, reached-end}
-use Rattle.sparsity.proofs.search.Statement.{statement}
 use Rattle.sparsity.proofs.search.Tie as tie
 
 abbrev Inv-loop : tie.InvT-loop
@@ -56,9 +55,6 @@ array-read-wide c =
     let listed = c .before .before in
     omega (arith, c .loop-test .taken, listed .list-inside .ensures .1, listed .before .before .before .pre .0 .few)
 
-mul-pair : tie.Need-mul-pair Inv-loop μ-loop
-mul-pair c = omega (arith, below c, begin c .pre .0 .few)
-
 element-copy-out-pair : tie.Need-element-copy-out-pair Inv-loop μ-loop
 element-copy-out-pair c = omega (arith, below c, begin c .pre .0 .few)
 
@@ -71,9 +67,6 @@ other-end-requires : tie.Need-other-end-requires Inv-loop μ-loop
 other-end-requires c κs =
     let w = c .before .before in
     (two-ends (begin w .pre .0) (below w) refl, c .lowest .ensures .0, c .lowest .ensures .1)
-
-element-copy-out-wide : tie.Need-element-copy-out-wide Inv-loop μ-loop
-element-copy-out-wide c = element-copy-out-pair (c .before .before .before .before .before)
 
 -- what is known of its ends, once all numbers are read
 module _ (c : tie.After-wide4 Inv-loop μ-loop) where
@@ -99,9 +92,6 @@ module _ (c : tie.After-wide4 Inv-loop μ-loop) where
 abbrev read : tie.After-free-of2 Inv-loop μ-loop → tie.After-wide4 Inv-loop μ-loop
 read c = c .before .before .before .before .before .before
 
-add-if1 : tie.Need-add-if1 Inv-loop μ-loop
-add-if1 c = omega (arith, c .before .before .before .free-of .ensures .1, c .free-of2 .ensures .1)
-
 gather-requires : tie.Need-gather-requires Inv-loop μ-loop
 gather-requires c κs =
     let q = read (c .before .before .before .before) in
@@ -126,9 +116,6 @@ place-requires : tie.Need-place-requires Inv-loop μ-loop
 place-requires c κs =
     let q = read (c .before .before .before .before) in
     (low q, ends q .other-end .ensures .0)
-
-mul-own : tie.Need-mul-own Inv-loop μ-loop
-mul-own c = omega (arith, c .place .ensures .1)
 
 -- one more is taken
 abbrev kept : tie.After-place Inv-loop μ-loop → tie.After-wide4 Inv-loop μ-loop
@@ -181,17 +168,18 @@ returns-2 c =
     λ n below-n.
     answer-not (s .pre .0 .simple) n below-n (subst NotOver (take-all (s .args .e) cs (omega (arith, standing-count (s .pre .0)))) (ended .fine))
 
-pub search-spec : {M : Type 1} → statement M
+pub search-spec : {M : Type 1} → Rattle.sparsity.proofs.search.Statement.statement M
 search-spec =
     tie.close
     (tie.spec Inv-loop μ-loop (λ c κs. search needs) (λ c κs. (c .before .before .pre .0 .few, refl)) loop-holds array-read-wide
-    (λ c κs. search needs) mul-pair element-copy-out-pair lowest-requires other-end-requires (λ c κs. search needs) (λ c κs. search needs)
-    element-copy-out-wide (λ c κs. search needs) (λ c. omega (arith, first c)) first (λ c. omega arith) (λ c. omega (arith, first (c .before)))
-    (λ c. first (c .before)) (λ c. omega arith) (λ c κs. search needs) (λ c. omega (arith, second (c .before .before .before)))
-    (λ c. second (c .before .before .before)) (λ c. omega arith) (λ c. omega (arith, second (c .before .before .before .before)))
-    (λ c. second (c .before .before .before .before)) (λ c. omega arith) (λ c κs. search needs) add-if1 gather-requires returns
+    (λ c κs. search needs) (λ c. omega (arith, below c, begin c .pre .0 .few)) element-copy-out-pair lowest-requires other-end-requires
+    (λ c κs. search needs) (λ c κs. search needs) (λ c. element-copy-out-pair (c .before .before .before .before .before)) (λ c κs. search needs)
+    (λ c. omega (arith, first c)) first (λ c. omega arith) (λ c. omega (arith, first (c .before))) (λ c. first (c .before)) (λ c. omega arith)
+    (λ c κs. search needs) (λ c. omega (arith, second (c .before .before .before))) (λ c. second (c .before .before .before)) (λ c. omega arith)
+    (λ c. omega (arith, second (c .before .before .before .before))) (λ c. second (c .before .before .before .before)) (λ c. omega arith)
+    (λ c κs. search needs) (λ c. omega (arith, c .before .before .before .free-of .ensures .1, c .free-of2 .ensures .1)) gather-requires returns
     (λ c. omega (arith, first (read (c .before)))) (λ c. first (read (c .before))) (λ c. omega arith)
     (λ c. omega (arith, first (read (c .before .before)))) (λ c. first (read (c .before .before))) (λ c. omega arith)
     (λ c. omega (arith, second (read (c .before .before .before)))) (λ c. second (read (c .before .before .before))) (λ c. omega arith)
-    place-requires mul-own (λ c. c .place .ensures .1) (λ c. c .place .ensures .2) add-done
+    place-requires (λ c. omega (arith, c .place .ensures .1)) (λ c. c .place .ensures .1) (λ c. c .place .ensures .2) add-done
     (λ c. omega (arith, taken (kept c) .before .loop-test .taken)) loop-again returns-2)

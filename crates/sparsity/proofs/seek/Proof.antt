@@ -4,7 +4,6 @@ use Rattle.theory.specs.Prelude.{_-_, _≤_, zero-lt-suc, le-refl, arith, needs
 use Rattle.sparsity.specs.Reach.{Reached, Scanned, Shut}
 use Rattle.sparsity.specs.Reach.Laws.{begun-with, scanned-none, shut-two, reached-most, scan-fits, scan-low, mid-size, scan-reached, scan-next}
 use Rattle.sparsity.specs.Reach.Laws.{scan-below, scan-shut, opens-some, opens-none, found-first-visit, found-second-visit, found-all}
-use Rattle.sparsity.proofs.seek.Statement.{statement}
 use Rattle.sparsity.proofs.seek.Tie as tie
 
 abbrev Inv-loop : tie.InvT-loop
@@ -23,23 +22,11 @@ loop-holds c = let s = c .before .before in (
   omega arith,
 )
 
-element-copy-out-x : tie.Need-element-copy-out-x Inv-loop μ-loop
-element-copy-out-x c = omega (arith, reached-most (c .before .before .loop .inv .0))
-
 index-1-y : tie.Need-index-1-y Inv-loop μ-loop
 index-1-y c =
     let s = c .before .before .before .before .before .before .before in
     let l = c .before .before .before .before .loop in
     scan-fits (s .pre .0) (l .inv .0) (l .p) (c .before .before .if1 .taken) (c .wide .ensures)
-
-mul-y : tie.Need-mul-y Inv-loop μ-loop
-mul-y c = omega (arith, index-1-y c)
-
-index-1-z : tie.Need-index-1-z Inv-loop μ-loop
-index-1-z c = index-1-y (c .before)
-
-mul-z : tie.Need-mul-z Inv-loop μ-loop
-mul-z c = omega (arith, index-1-y (c .before))
 
 cast-visit : tie.Need-cast-visit Inv-loop μ-loop
 cast-visit c = omega (
@@ -64,15 +51,6 @@ index-1-opens c =
     let h = c .before .before .before .before .before .before .before .before .if1 .taken in
     let e = c .before .before .before .before .before .before .wide .ensures in
     omega (arith, c .wide2 .ensures, scan-low (s .pre .0) (l .inv .0) (l .p) h e 0 (zero-lt-suc 1))
-
-mul-opens : tie.Need-mul-opens Inv-loop μ-loop
-mul-opens c = omega (arith, index-1-opens c)
-
-index-1-opens-2 : tie.Need-index-1-opens-2 Inv-loop μ-loop
-index-1-opens-2 c = index-1-opens (c .before)
-
-mul-opens-2 : tie.Need-mul-opens-2 Inv-loop μ-loop
-mul-opens-2 c = omega (arith, index-1-opens (c .before))
 
 returns : tie.Need-returns Inv-loop μ-loop
 returns c =
@@ -115,15 +93,6 @@ index-1-opens-3 c =
     .taken in
     let e = c .before .before .before .before .before .before .before .before .before .before .before .before .before .before .wide .ensures in
     omega (arith, c .wide3 .ensures, scan-low (s .pre .0) (l .inv .0) (l .p) h e 1 (le-refl 2))
-
-mul-opens-3 : tie.Need-mul-opens-3 Inv-loop μ-loop
-mul-opens-3 c = omega (arith, index-1-opens-3 c)
-
-index-1-opens-4 : tie.Need-index-1-opens-4 Inv-loop μ-loop
-index-1-opens-4 c = index-1-opens-3 (c .before)
-
-mul-opens-4 : tie.Need-mul-opens-4 Inv-loop μ-loop
-mul-opens-4 c = omega (arith, index-1-opens-3 (c .before))
 
 returns-2 : tie.Need-returns-2 Inv-loop μ-loop
 returns-2 c =
@@ -182,11 +151,13 @@ loop-again c =
 returns-3 : tie.Need-returns-3 Inv-loop μ-loop
 returns-3 c = let l = c .before .before .loop in found-all (l .p) (l .inv .0) (l .inv .1) (l .inv .2) (l .inv .3) (c .if1 .left)
 
-pub seek-spec : {M : Type 1} → statement M
+pub seek-spec : {M : Type 1} → Rattle.sparsity.proofs.seek.Statement.statement M
 seek-spec =
     tie.close
-    (tie.spec Inv-loop μ-loop (λ c. omega arith) (λ c. omega arith) (λ c κs. search needs) (λ c κs. search needs)
-    loop-holds element-copy-out-x (λ c κs. search needs) mul-y index-1-y (λ c. omega arith) mul-z index-1-z (λ c. omega arith)
-    cast-visit visit-requires (λ c κs. search needs) mul-opens index-1-opens (λ c. omega arith) mul-opens-2 index-1-opens-2 (λ c. omega arith)
-    (λ c κs. search needs) returns cast-visit-2 visit-requires-2 (λ c κs. search needs) mul-opens-3 index-1-opens-3 (λ c. omega arith)
-    mul-opens-4 index-1-opens-4 (λ c. omega arith) (λ c κs. search needs) returns-2 add-p loop-less loop-again returns-3)
+    (tie.spec Inv-loop μ-loop (λ c. omega arith) (λ c. omega arith) (λ c κs. search needs) (λ c κs. search needs) loop-holds
+    (λ c. omega (arith, reached-most (c .before .before .loop .inv .0))) (λ c κs. search needs) (λ c. omega (arith, index-1-y c)) index-1-y
+    (λ c. omega arith) (λ c. omega (arith, index-1-y (c .before))) (λ c. index-1-y (c .before)) (λ c. omega arith) cast-visit visit-requires
+    (λ c κs. search needs) (λ c. omega (arith, index-1-opens c)) index-1-opens (λ c. omega arith) (λ c. omega (arith, index-1-opens (c .before)))
+    (λ c. index-1-opens (c .before)) (λ c. omega arith) (λ c κs. search needs) returns cast-visit-2 visit-requires-2 (λ c κs. search needs)
+    (λ c. omega (arith, index-1-opens-3 c)) index-1-opens-3 (λ c. omega arith) (λ c. omega (arith, index-1-opens-3 (c .before)))
+    (λ c. index-1-opens-3 (c .before)) (λ c. omega arith) (λ c κs. search needs) returns-2 add-p loop-less loop-again returns-3)

@@ -2,7 +2,6 @@
 use Rattle.theory.specs.Prelude.{sym, ap, ℕ, arith, needs}
 use Rattle.sparsity.specs.Freedoms.{entry}
 use Rattle.sparsity.specs.Answer.Laws.{took-four, took-over}
-use Rattle.sparsity.proofs.take_pair.Statement.{statement}
 use Rattle.sparsity.proofs.take_pair.Tie as tie
 
 returns : tie.Need-returns
@@ -25,7 +24,7 @@ returns-2 c =
       g .1,
     )
 
-pub take-pair-spec : {M : Type 1} → statement M
+pub take-pair-spec : {M : Type 1} → Rattle.sparsity.proofs.take_pair.Statement.statement M
 take-pair-spec =
     tie.close
     (tie.spec (λ c κs. search needs) returns (λ c κs. search needs) (λ c κs. search needs) (λ c. search needs) (λ c. search needs)

@@ -4,7 +4,6 @@ use Rattle.theory.specs.Set.{_∪_}
 use Rattle.theory.specs.Set.Less.{meets-at, misses-at}
 use Rattle.sparsity.specs.Reach.{Visit, known, fresh}
 use Rattle.sparsity.specs.Reach.Visits.{visit-room}
-use Rattle.sparsity.proofs.visit.Statement.{statement}
 use Rattle.sparsity.proofs.visit.Tie as tie
 
 returns : tie.Need-returns
@@ -18,12 +17,6 @@ element-write-queue c =
     visit-room (s .args .f .seen) (s .args .f .count) (s .args .y) (omega (arith, c .before .struct-known .given .0)) (s .pre .0) (s .pre .1)
     (misses-at (s .args .y) (s .args .f .seen) (c .before .before .single .result) (c .before .before .single .ensures) (c .if1 .left))
 
-element-write-from : tie.Need-element-write-from
-element-write-from c = element-write-queue c
-
-add-t14 : tie.Need-add-t14
-add-t14 c = omega (arith, element-write-queue (c .before))
-
 returns-2 : tie.Need-returns-2
 unfolding _∪_
 returns-2 c =
@@ -33,5 +26,7 @@ returns-2 c =
     (set (a .from .now) (a .f .count) (a .p)) (bitOr (a .f .seen) b) (a .f .count + 1))
     (sym (b .ensures)) (fresh (misses-at (a .y) (a .f .seen) (b .result) (b .ensures) (c .before .if1 .left)))
 
-pub visit-spec : {M : Type 1} → statement M
-visit-spec = tie.close (tie.spec (λ c κs. search needs) returns element-write-queue element-write-from add-t14 returns-2)
+pub visit-spec : {M : Type 1} → Rattle.sparsity.proofs.visit.Statement.statement M
+visit-spec =
+    tie.close
+    (tie.spec (λ c κs. search needs) returns element-write-queue element-write-queue (λ c. omega (arith, element-write-queue (c .before))) returns-2)

@@ -1,7 +1,6 @@
 -- `steps::listed` meets its contract: what the arrays give is the block of the list's own steps. Assumes nothing.
 use Rattle.account.specs.Account.Laws.{room}
 use Rattle.steps.specs.Records.Laws.{listed-are}
-use Rattle.steps.proofs.listed.Statement.{statement}
 use Rattle.steps.proofs.listed.Tie as tie
 
 steps-of-requires : tie.Need-steps-of-requires
@@ -11,5 +10,5 @@ steps-of-requires c κs =
 returns : tie.Need-returns
 returns c m = let s = c .before in listed-are _ _ _ (s .pre .0) (s .pre .1) (s .pre .2) m (c .steps-of .ensures)
 
-pub listed-spec : {M : Type 1} → statement M
+pub listed-spec : {M : Type 1} → Rattle.steps.proofs.listed.Statement.statement M
 listed-spec = tie.close (tie.spec steps-of-requires returns)

@@ -4,7 +4,6 @@ use Rattle.theory.specs.Graph.{Graph}
 use Rattle.graph.specs.Lent.{graphIn}
 use Rattle.graph.specs.Lent.Sheets.{counted}
 use Rattle.steps.specs.Records.Laws.{over-refused, PlanRun, plan-run, as-listed, as-refused}
-use Rattle.steps.proofs.plan_steps.Statement.{statement}
 use Rattle.steps.proofs.plan_steps.Tie as tie
 
 abbrev graph : tie.Start → Graph
@@ -26,12 +25,9 @@ module _ (c : tie.After-run) where
   plan : PlanRun (graph start) (start .pre .sound) (c .before .before .before .judge .result) (c .before .before .before .judge .ensures _)
   plan = plan-run _ _ _ _ (λ v. c .before .if1 .left (c .before .before .number .ensures ∙ v))
 
-listed-requires : tie.Need-listed-requires
-listed-requires c κs = let d = start c .pre in (d .sound, counted d, plan c .notOver, plan c .merged)
-
-returns-2 : tie.Need-returns-2
-returns-2 c = as-listed (c .listed .ensures (plan (c .before) .merged)) (plan (c .before) .gives)
-
-pub plan-steps-spec : {M : Type 1} → statement M
+pub plan-steps-spec : {M : Type 1} → Rattle.steps.proofs.plan_steps.Statement.statement M
 plan-steps-spec =
-    tie.close (tie.spec (λ c κs. search needs) (λ c κs. search needs) (λ c κs. search needs) returns listed-requires returns-2)
+    tie.close
+    (tie.spec (λ c κs. search needs) (λ c κs. search needs) (λ c κs. search needs) returns
+    (λ c κs. let d = start c .pre in (d .sound, counted d, plan c .notOver, plan c .merged))
+    (λ c. as-listed (c .listed .ensures (plan (c .before) .merged)) (plan (c .before) .gives)))

@@ -2,15 +2,11 @@
 use Rattle.theory.specs.Prelude.{needs, arith, _≡_, sym, _∙_, length, length-map}
 use Rattle.theory.proofs.Step as T
 use Rattle.steps.specs.Records.Laws.{numbers-short, numbers-put}
-use Rattle.steps.proofs.put_numbers.Statement.{statement}
 use Rattle.steps.proofs.put_numbers.Tie as tie
 
 -- a list has 62 places
 long : (c : tie.Start) → length (c .args .f .list) ≡ 62
 long c = sym (length-map (c .args .f .list) (T.the-type .to)) ∙ c .good .0 .1 .1 .1 .0 .1 .0 .1
-
-returns : tie.Need-returns
-returns c = search needs
 
 returns-2 : tie.Need-returns-2
 returns-2 c =
@@ -24,8 +20,8 @@ returns-3 c =
     (k .before .at-most-62 .ensures) (k .if1 .left)
     (c .before .before .put-records .ensures)
 
-pub put-numbers-spec : {M : Type 1} → statement M
+pub put-numbers-spec : {M : Type 1} → Rattle.steps.proofs.put_numbers.Statement.statement M
 put-numbers-spec =
     tie.close
-    (tie.spec (λ c. search needs) (λ c. search needs) returns (λ c κs. search needs) (λ c. omega (arith, c .at-most-62 .ensures)) returns-2
-    (λ c κs. omega (arith, c .before .before .at-most-62 .ensures)) (λ c. search needs) returns-3)
+    (tie.spec (λ c. search needs) (λ c. search needs) (λ c. search needs) (λ c κs. search needs) (λ c. omega (arith, c .at-most-62 .ensures))
+    returns-2 (λ c κs. omega (arith, c .before .before .at-most-62 .ensures)) (λ c. search needs) returns-3)

@@ -1,7 +1,6 @@
 -- `steps::put_record` meets its contract: seven numbers, one after another. Assumes nothing.
 use Rattle.theory.specs.Prelude.{needs, ℕ, ap, [], _∷_}
 use Rattle.space.specs.Space.Laws.{put-as, _then_}
-use Rattle.steps.proofs.put_record.Statement.{statement}
 use Rattle.steps.proofs.put_record.Tie as tie
 
 returns : tie.Need-returns
@@ -17,7 +16,7 @@ returns c =
     then (joint .put-number645 .ensures then (put-as (ap (λ (x : ℕ). x ∷ []) (kind .before .kind-number .ensures)) (kind .put-number646 .ensures)
     then put-as (ap (λ (x : ℕ). x ∷ []) (ways .before .ways-number .ensures)) (ways .put-number647 .ensures))))))
 
-pub put-record-spec : {M : Type 1} → statement M
+pub put-record-spec : {M : Type 1} → Rattle.steps.proofs.put_record.Statement.statement M
 put-record-spec =
     tie.close
     (tie.spec (λ c κs. search needs) (λ c κs. search needs) (λ c κs. search needs) (λ c κs. search needs) (λ c κs. search needs)

@@ -7,7 +7,6 @@ use Rattle.report.specs.Going.{Composes, Going}
 use Rattle.report.specs.Going.Laws.{start, put-next, put-last, place}
 use Rattle.steps.specs.Records.{stepNumbers}
 use Rattle.steps.specs.Records.Laws.{length-numbers, numbers-next, numbers-none}
-use Rattle.steps.proofs.put_records.Statement.{statement}
 use Rattle.steps.proofs.put_records.Tie as tie
 
 -- numbers put into lent space one after another are put together
@@ -47,7 +46,7 @@ returns c =
     let a = c .before .before .before .args in
     put-last puts (numbers-none (a .t2 .list) (a .count) (c .before .loop .i) (c .loop-test .left)) (c .before .loop .inv .1)
 
-pub put-records-spec : {M : Type 1} → statement M
+pub put-records-spec : {M : Type 1} → Rattle.steps.proofs.put_records.Statement.statement M
 put-records-spec =
     tie.close
     (tie.spec Inv-loop μ-loop (λ c. (omega arith, start _)) (λ c. omega arith) (λ c. omega arith) put-record-requires (λ c. omega arith)

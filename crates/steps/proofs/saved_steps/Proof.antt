@@ -10,7 +10,6 @@ use Rattle.judge.specs.Judged.Laws.{starts}
 use Rattle.judge.specs.Judged.Short.{more-fault}
 use Rattle.plans.specs.Check.{checkOf}
 use Rattle.steps.specs.Records.Laws.{saved-refused, SavedRun, saved-run, as-listed, as-refused}
-use Rattle.steps.proofs.saved_steps.Statement.{statement}
 use Rattle.steps.proofs.saved_steps.Tie as tie
 
 returns : tie.Need-returns
@@ -26,9 +25,6 @@ module _ (c : tie.Else1) where
 
   abbrev graph : Graph
   graph = graphIn (start .args .h) (start .args .start .now) (start .args .sizes .now)
-
-check-plan-requires : tie.Need-check-plan-requires
-check-plan-requires c κs = let d = start c .pre in starts d (omega (arith, c .if1 .left, d .sound .most))
 
 over-after-requires : tie.Need-over-after-requires
 over-after-requires c κs =
@@ -77,8 +73,9 @@ returns-4 c =
     as-listed (c .listed .ensures (took (c .before) .merged))
     (rule-none _ (sym (k .before .over-after .ensures _) ∙ k .if2 .left) ∙ took (c .before) .gives)
 
-pub saved-steps-spec : {M : Type 1} → statement M
+pub saved-steps-spec : {M : Type 1} → Rattle.steps.proofs.saved_steps.Statement.statement M
 saved-steps-spec =
     tie.close
-    (tie.spec (λ c. search needs) (λ c. search needs) (λ c κs. search needs) returns check-plan-requires over-after-requires (λ c κs. search needs)
-    returns-2 (λ c. search needs) (λ c κs. search needs) (λ c. search needs) listed-requires returns-3 returns-4)
+    (tie.spec (λ c. search needs) (λ c. search needs) (λ c κs. search needs) returns
+    (λ c κs. let d = start c .pre in starts d (omega (arith, c .if1 .left, d .sound .most))) over-after-requires (λ c κs. search needs) returns-2
+    (λ c. search needs) (λ c κs. search needs) (λ c. search needs) listed-requires returns-3 returns-4)

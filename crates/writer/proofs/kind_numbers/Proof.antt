@@ -3,7 +3,6 @@ use Rattle.theory.specs.Prelude.{needs, _≤_, min, arith, _≡_, ap, _∙_, le
 use Rattle.sheet.specs.Facts.{kindsNumber}
 use Rattle.writer.specs.Spread.{kindsInEight}
 use Rattle.writer.proofs.Spread.{front-least, rest-least, allowed-take, rest-few}
-use Rattle.writer.proofs.kind_numbers.Statement.{statement}
 use Rattle.writer.proofs.kind_numbers.Tie as tie
 
 room : (c : tie.Start) → c .args .n ≤ length (c .args .elements)
@@ -44,6 +43,5 @@ returns c =
           ∙ ap (kindsNumber (s .args .o)) (rw split (rest-least (s .args .elements) (s .args .n) (kindsInEight (s .args .o)) (room s)));
     }
 
-pub kind-numbers-spec : {M : Type 1} → statement M
-kind-numbers-spec =
-    tie.close (tie.spec (λ c κs. search needs) (λ c κs. search needs) kinds-number-requires kinds-number-requires-2 returns)
+pub kind-numbers-spec : {M : Type 1} → Rattle.writer.proofs.kind_numbers.Statement.statement M
+kind-numbers-spec = tie.close (tie.spec (λ c κs. search needs) (λ c κs. search needs) kinds-number-requires kinds-number-requires-2 returns)

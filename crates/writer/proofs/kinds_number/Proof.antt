@@ -4,7 +4,6 @@ use Rattle.sheet.specs.declared.Opening.{Opening}
 use Rattle.sheet.specs.Facts.{kindBase, kindDigit, kindsNumber, blankElement}
 use Rattle.sheet.specs.Facts.Laws.{spent}
 use Rattle.writer.proofs.Spread.{one-more, more-fits}
-use Rattle.writer.proofs.kinds_number.Statement.{statement}
 use Rattle.writer.proofs.kinds_number.Tie as tie
 
 abbrev Inv-loop : tie.InvT-loop
@@ -37,12 +36,6 @@ fits c =
     rw (a .inv .2 (s .args .o) b, b)
     (more-fits (s .args .o) (s .args .t2) (s .args .from) (s .args .to) (a .i) (c .loop-test .taken) (a .inv .1) (room s) (s .pre .2) (s .pre .3))
 
-mul-u : tie.Need-mul-u Inv-loop μ-loop
-mul-u c = omega (arith, fits (c .before))
-
-add-u : tie.Need-add-u Inv-loop μ-loop
-add-u c = omega (arith, fits (c .before .before), c .kind-digit .ensures)
-
 loop-again : tie.Need-loop-again Inv-loop μ-loop
 loop-again c =
     let t = c .before .before in
@@ -62,8 +55,9 @@ returns c =
     let last : a .i ≡ s .args .from = omega arith in
     rw last at (a .inv .2 (s .args .o) (c .before .before .kind-base .ensures))
 
-pub kinds-number-spec : {M : Type 1} → statement M
+pub kinds-number-spec : {M : Type 1} → Rattle.writer.proofs.kinds_number.Statement.statement M
 kinds-number-spec =
     tie.close
-    (tie.spec Inv-loop μ-loop (λ c κs. search needs) loop-holds (λ c. search needs) (λ c. search needs) (λ c. search needs) mul-u
-    (λ c κs. search needs) add-u (λ c. search needs) loop-again returns)
+    (tie.spec Inv-loop μ-loop (λ c κs. search needs) loop-holds (λ c. search needs) (λ c. search needs) (λ c. search needs)
+    (λ c. omega (arith, fits (c .before))) (λ c κs. search needs) (λ c. omega (arith, fits (c .before .before), c .kind-digit .ensures))
+    (λ c. search needs) loop-again returns)

@@ -2,7 +2,6 @@
 use Rattle.theory.specs.Prelude.{ℕ, _-_, arith, List, []}
 use Rattle.writer.specs.Walk.{Walk}
 use Rattle.writer.proofs.Untagged.{walk-sized, walk-bare}
-use Rattle.writer.proofs.pass_untagged.Statement.{statement}
 use Rattle.writer.proofs.pass_untagged.Tie as tie
 
 abbrev Inv-loop : tie.InvT-loop
@@ -21,7 +20,7 @@ loop-again-2 c = λ space.
     let l = c .before .before .before .before .before .loop in
     walk-bare (l .inv space) (c .before .before .before .before .loop-test .taken) (omega (arith, c .before .before .before .if1 .left)) (omega (arith, c .if3 .left))
 
-pub pass-untagged-spec : {M : Type 1} → statement M
+pub pass-untagged-spec : {M : Type 1} → Rattle.writer.proofs.pass_untagged.Statement.statement M
 pass-untagged-spec =
     tie.close
     (tie.spec Inv-loop μ-loop (λ c. c .pre) (λ c. omega (arith, c .before .loop .inv [] .at-in, c .before .before .fits))

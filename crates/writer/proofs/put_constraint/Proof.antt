@@ -2,7 +2,6 @@
 use borrow.Author.Needs.{needs}
 use Rattle.sheet.specs.Encode.{constraintBytes}
 use Rattle.space.specs.Space.Laws.{put-as, _then_}
-use Rattle.writer.proofs.put_constraint.Statement.{statement}
 use Rattle.writer.proofs.put_constraint.Tie as tie
 
 returns : tie.Need-returns
@@ -11,7 +10,5 @@ returns c =
     let h = c .before .before .before .before .before .before in
     put-as (rw (h .before .map-of .ensures)) (h .put-head .ensures then c .before .before .put-size .ensures)
 
-pub put-constraint-spec : {M : Type 1} → statement M
-put-constraint-spec =
-    tie.close
-    (tie.spec (λ c κs. search needs) (λ c κs. search needs) (λ c κs. search needs) (λ c. search needs) returns)
+pub put-constraint-spec : {M : Type 1} → Rattle.writer.proofs.put_constraint.Statement.statement M
+put-constraint-spec = tie.close (tie.spec (λ c κs. search needs) (λ c κs. search needs) (λ c κs. search needs) (λ c. search needs) returns)

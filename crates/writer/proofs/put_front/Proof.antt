@@ -6,7 +6,6 @@ use Rattle.sheet.specs.Encode.Laws.{kinds-length}
 use Rattle.space.specs.Space.Laws.{put-as, _then_}
 use Rattle.writer.specs.Spread.{kindsInEight}
 use Rattle.writer.proofs.Pieces.{front-pieces}
-use Rattle.writer.proofs.put_front.Statement.{statement}
 use Rattle.writer.proofs.put_front.Tie as tie
 
 -- the place after each piece
@@ -38,12 +37,6 @@ kinds-end c =
       byte-end (c .before .before .before .before),
     )
 
-put-text-requires : tie.Need-put-text-requires
-put-text-requires c κs = omega (arith, opening-end (c .before .before))
-
-put-byte-requires : tie.Need-put-byte-requires
-put-byte-requires c κs = omega (arith, text-end (c .before .before .before))
-
 put-kinds-requires : tie.Need-put-kinds-requires
 put-kinds-requires c κs =
     let s = c .before .before .before .before .before .before .before .before .before .before .before .before in
@@ -70,8 +63,8 @@ returns c =
     (front-pieces (s .args .o) _ (length-take-le (s .args .n) (s .args .elements) (room s)) (s .pre .1) (s .pre .2)))
     (t .put-text .ensures then b .put-byte .ensures then k .put-kinds .ensures then c .before .before .put-radii-by .ensures)
 
-pub put-front-spec : {M : Type 1} → statement M
+pub put-front-spec : {M : Type 1} → Rattle.writer.proofs.put_front.Statement.statement M
 put-front-spec =
     tie.close
-    (tie.spec (λ c κs. search needs) (λ c. search needs) put-text-requires (λ c. search needs) put-byte-requires put-kinds-requires
-    put-radii-by-requires (λ c. search needs) returns)
+    (tie.spec (λ c κs. search needs) (λ c. search needs) (λ c κs. omega (arith, opening-end (c .before .before))) (λ c. search needs)
+    (λ c κs. omega (arith, text-end (c .before .before .before))) put-kinds-requires put-radii-by-requires (λ c. search needs) returns)

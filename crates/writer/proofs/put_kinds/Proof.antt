@@ -3,7 +3,6 @@ use Rattle.theory.specs.Prelude.{needs, _-_, arith}
 use Rattle.sheet.specs.Field.Laws.{length-digits}
 use Rattle.sheet.specs.Encode.Laws.{kinds-length}
 use Rattle.space.specs.Space.Laws.{put-as, _then_}
-use Rattle.writer.proofs.put_kinds.Statement.{statement}
 use Rattle.writer.proofs.put_kinds.Tie as tie
 
 put-number-requires : tie.Need-put-number-requires
@@ -34,7 +33,7 @@ returns c =
     put-as (rw (b .kind-bytes .ensures, c .before .before .before .kind-bytes2 .ensures, l .least .ensures, l .before .kinds-in-eight .ensures))
     (p .put-number .ensures then c .before .before .put-number2 .ensures)
 
-pub put-kinds-spec : {M : Type 1} → statement M
+pub put-kinds-spec : {M : Type 1} → Rattle.writer.proofs.put_kinds.Statement.statement M
 put-kinds-spec =
     tie.close
     (tie.spec (λ c κs. search needs) (λ c κs. search needs) (λ c κs. search needs) put-number-requires (λ c. search needs)

@@ -4,7 +4,6 @@ use Rattle.theory.specs.Prelude.{needs, suc, _+_, _-_, _≤_, add-one, arith, _
 use Rattle.sheet.specs.Field.{digits}
 use Rattle.sheet.specs.Field.Laws.{length-digits}
 use Rattle.space.specs.Space.Laws.{put-all, put-short}
-use Rattle.writer.proofs.put_number.Statement.{statement}
 use Rattle.writer.proofs.put_number.Tie as tie
 
 abbrev Inv-loop : tie.InvT-loop
@@ -36,9 +35,8 @@ returns-2 c =
     let none : s .at + s .k - a .i ≡ 0 = omega arith in
     put-all (rw length-digits) (sym (a .inv .3 ∙ rw none))
 
-pub put-number-spec : {M : Type 1} → statement M
+pub put-number-spec : {M : Type 1} → Rattle.writer.proofs.put_number.Statement.statement M
 put-number-spec =
     tie.close
     (tie.spec Inv-loop μ-loop (λ c. search needs) (λ c. put-short (rw length-digits) (c .if1 .taken)) loop-holds (λ c. search needs)
-    (λ c. search needs)
-    (λ c. search needs) (λ c. search needs) loop-again (λ c. c .before .loop .inv .2) returns-2)
+    (λ c. search needs) (λ c. search needs) (λ c. search needs) loop-again (λ c. c .before .loop .inv .2) returns-2)

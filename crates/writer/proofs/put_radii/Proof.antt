@@ -6,7 +6,6 @@ use Rattle.sheet.specs.Facts.{blankElement}
 use Rattle.space.specs.Space.{Put}
 use Rattle.space.specs.Space.Laws.{put-as, put-none, _then_}
 use Rattle.writer.proofs.Spread.{radii-more}
-use Rattle.writer.proofs.put_radii.Statement.{statement}
 use Rattle.writer.proofs.put_radii.Tie as tie
 
 abbrev Inv-loop : tie.InvT-loop
@@ -42,7 +41,7 @@ returns c =
     let last : a .i ≡ c .before .before .before .args .n = omega arith in
     rw last at (a .inv .1)
 
-pub put-radii-spec : {M : Type 1} → statement M
+pub put-radii-spec : {M : Type 1} → Rattle.writer.proofs.put_radii.Statement.statement M
 put-radii-spec =
     tie.close
     (tie.spec Inv-loop μ-loop loop-holds (λ c. search needs) (λ c. search needs) put-radius-requires (λ c. search needs) (λ c. search needs)

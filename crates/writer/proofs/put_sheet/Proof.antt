@@ -7,7 +7,6 @@ use Rattle.sheet.specs.Encode.Laws.{constraints-more, constraints-length}
 use Rattle.space.specs.Space.{Put}
 use Rattle.space.specs.Space.Laws.{put-as, put-none, _then_}
 use Rattle.writer.proofs.Pieces.{front-length, sheet-pieces}
-use Rattle.writer.proofs.put_sheet.Statement.{statement}
 use Rattle.writer.proofs.put_sheet.Tie as tie
 
 abbrev Inv-loop : tie.InvT-loop
@@ -82,10 +81,9 @@ all c =
     put-as (sheet-pieces (factsOf (s .args .t2)) n-is e-is)
     (n .put-front .ensures then c .before .before .before .before .put-byte .ensures then (rw last at (a .inv .1)))
 
-pub put-sheet-spec : {M : Type 1} → statement M
+pub put-sheet-spec : {M : Type 1} → Rattle.writer.proofs.put_sheet.Statement.statement M
 put-sheet-spec =
     tie.close
     (tie.spec Inv-loop μ-loop (λ c κs. let s = c .before .before .before in (s .pre .0, s .pre .2, s .pre .3)) (λ c. search needs)
-    (λ c κs. omega (arith, few (c .before .before .before))) loop-holds
-    (λ c. search needs) (λ c. search needs) put-constraint-requires (λ c. search needs) (λ c. search needs) loop-again
-    (λ c. all c .length-is) (λ c. all c))
+    (λ c κs. omega (arith, few (c .before .before .before))) loop-holds (λ c. search needs) (λ c. search needs) put-constraint-requires
+    (λ c. search needs) (λ c. search needs) loop-again (λ c. all c .length-is) (λ c. all c))

@@ -4,7 +4,6 @@ use mir.Facts.{toZ-ofZ}
 use mir.Syntax.{w32}
 use Rattle.sheet.specs.Encode.{sizeBytes}
 use Rattle.space.specs.Space.Laws.{put-as, put-none}
-use Rattle.writer.proofs.put_size.Statement.{statement}
 use Rattle.writer.proofs.put_size.Tie as tie
 
 returns : tie.Need-returns
@@ -29,7 +28,7 @@ returns-5 : tie.Need-returns-5
 unfolding sizeBytes
 returns-5 c = rw (ap sizeBytes (c .enum-told4 .given .1)) (put-none _ _)
 
-pub put-size-spec : {M : Type 1} → statement M
+pub put-size-spec : {M : Type 1} → Rattle.writer.proofs.put_size.Statement.statement M
 put-size-spec =
     tie.close
     (tie.spec (λ c. search needs) (λ c κs. search needs) (λ c. search needs) (λ c κs. search needs) (λ c. search needs)

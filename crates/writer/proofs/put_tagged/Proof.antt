@@ -2,7 +2,6 @@
 use Rattle.theory.specs.Prelude.{needs, _+_, arith, append-assoc}
 use Rattle.space.specs.Space.Laws.{put-as, _then_}
 use Rattle.writer.proofs.Untagged.{cut-least}
-use Rattle.writer.proofs.put_tagged.Statement.{statement}
 use Rattle.writer.proofs.put_tagged.Tie as tie
 
 returns : tie.Need-returns
@@ -16,10 +15,9 @@ returns c =
     (c .before .before .before .before .before .before .before .before .before .before .before .before .put-text .ensures
     then c .before .before .before .before .before .before .before .put-byte .ensures then c .before .before .put-text2 .ensures)
 
-pub put-tagged-spec : {M : Type 1} → statement M
+pub put-tagged-spec : {M : Type 1} → Rattle.writer.proofs.put_tagged.Statement.statement M
 put-tagged-spec =
     tie.close
-    (tie.spec (λ c. search needs) (λ c. search needs) (λ c. search needs) (λ c κs. search needs) (λ c. search needs)
-    (λ c. search needs) (λ c. search needs) (λ c κs. search needs) (λ c. search needs) (λ c. search needs)
-    (λ c κs. search needs) (λ c. search needs) (λ c. search needs) (λ c. search needs) (λ c κs. search needs)
-    (λ c. search needs) returns)
+    (tie.spec (λ c. search needs) (λ c. search needs) (λ c. search needs) (λ c κs. search needs) (λ c. search needs) (λ c. search needs)
+    (λ c. search needs) (λ c κs. search needs) (λ c. search needs) (λ c. search needs) (λ c κs. search needs) (λ c. search needs) (λ c. search needs)
+    (λ c. search needs) (λ c κs. search needs) (λ c. search needs) returns)

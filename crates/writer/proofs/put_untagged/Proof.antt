@@ -4,7 +4,6 @@ use Rattle.space.specs.Space.Laws.{put-as}
 use Rattle.sheet.specs.WithoutTags.{listed}
 use Rattle.writer.specs.Walk.{Walk}
 use Rattle.writer.proofs.Untagged.{before-some, take-rest, walk-none, walk-plain, walk-tagged, walked-short, walked-all}
-use Rattle.writer.proofs.put_untagged.Statement.{statement}
 use Rattle.writer.proofs.put_untagged.Tie as tie
 
 abbrev Inv-loop : tie.InvT-loop
@@ -21,9 +20,6 @@ pass-untagged-requires : tie.Need-pass-untagged-requires Inv-loop μ-loop
 pass-untagged-requires c κs = λ space.
     let s = c .before .before .before in
     rw (counted c, s .pre) (walk-none space (s .args .s .now) (c .before .shared-slice-known .given 4 .fits))
-
-loop-holds : tie.Need-loop-holds Inv-loop μ-loop
-loop-holds c = rw (← counted (c .before)) (c .pass-untagged .ensures (c .before .before .before .before .args .out .now))
 
 put-text-requires : tie.Need-put-text-requires Inv-loop μ-loop
 put-text-requires c κs =
@@ -73,12 +69,13 @@ returns-2 c =
     (take-rest (c .before .before .before .before .before .before .before .before .before .before .before .args .s .now)
     (c .before .before .before .before .before .before .loop .from)) (c .before .before .put-text2 .ensures))
 
-pub put-untagged-spec : {M : Type 1} → statement M
+pub put-untagged-spec : {M : Type 1} → Rattle.writer.proofs.put_untagged.Statement.statement M
 put-untagged-spec =
     tie.close
-    (tie.spec Inv-loop μ-loop
-    (λ c. omega (arith, c .before .before .pre, before-some (c .before .before .args .s .now))) (λ c κs. search needs) (λ c. search needs) pass-untagged-requires loop-holds (λ c. search needs) (λ c. search needs) (λ c. search needs) (λ c. search needs) put-text-requires (λ c. search needs) returns
-    (λ c. search needs) (λ c. search needs) (λ c. search needs) (λ c. search needs) put-tagged-requires (λ c. search needs) (λ c. search needs)
-    (λ c κs. search needs) (λ c. search needs) (λ c. search needs) (λ c. search needs) (λ c. search needs)
-    loop-again (λ c. search needs) (λ c. search needs)
-    (λ c. search needs) put-text-requires-2 (λ c. search needs) returns-2)
+    (tie.spec Inv-loop μ-loop (λ c. omega (arith, c .before .before .pre, before-some (c .before .before .args .s .now))) (λ c κs. search needs)
+    (λ c. search needs) pass-untagged-requires
+    (λ c. rw (← counted (c .before)) (c .pass-untagged .ensures (c .before .before .before .before .args .out .now))) (λ c. search needs)
+    (λ c. search needs) (λ c. search needs) (λ c. search needs) put-text-requires (λ c. search needs) returns (λ c. search needs) (λ c. search needs)
+    (λ c. search needs) (λ c. search needs) put-tagged-requires (λ c. search needs) (λ c. search needs) (λ c κs. search needs) (λ c. search needs)
+    (λ c. search needs) (λ c. search needs) (λ c. search needs) loop-again (λ c. search needs) (λ c. search needs) (λ c. search needs)
+    put-text-requires-2 (λ c. search needs) returns-2)

@@ -4,7 +4,6 @@ use mir.Syntax.{w32}
 use mir.Val.{toZ, ofZ, SFits}
 use mir.Facts.{toZ-ofZ, toZ-pos}
 use Rattle.sheet.specs.Field.{unsigned32}
-use Rattle.writer.proofs.unsigned.Statement.{statement}
 use Rattle.writer.proofs.unsigned.Tie as tie
 
 record Below (z : ℤ) : Type 0 where
@@ -47,7 +46,7 @@ returns c =
     let n = negative c in
     rw (flipped c, toZ-pos w32 (n .small)) (omega (arith, of-below (c .before .args .z) (n .m) (n .is), n .small))
 
-pub unsigned-spec : {M : Type 1} → statement M
+pub unsigned-spec : {M : Type 1} → Rattle.writer.proofs.unsigned.Statement.statement M
 unsigned-spec =
     tie.close (tie.spec (λ c. rw (flipped c) (record { sfits = negative c .small }))
     (λ c. rw (flipped c, toZ-pos w32 (negative c .small)) (tt, record { fits = omega (arith, negative c .small) }))

@@ -8,7 +8,6 @@ use Rattle.sheet.specs.Encode.Laws.{sheet-length}
 use Rattle.sheet.specs.Rules.{kindsAllowed}
 use Rattle.sheet.specs.Rules.Laws.{elements-most, constraints-most, elements-taken}
 use Rattle.space.specs.Space.Laws.{none-left, put-refused, put-done}
-use Rattle.writer.proofs.write_accepted.Statement.{statement}
 use Rattle.writer.proofs.write_accepted.Tie as tie
 
 few-elements : (c : tie.Start) → c .args .s .n ≤ 64
@@ -71,7 +70,7 @@ returns-3 c =
     rw (none p, p .put-sheet2 .ensures .next-is, zero-add) at (c .before .before .before .before .if2 .left) in
     put-done h (rw (none p) at (c .before .before .put-sheet3 .ensures))
 
-pub write-accepted-spec : {M : Type 1} → statement M
+pub write-accepted-spec : {M : Type 1} → Rattle.writer.proofs.write_accepted.Statement.statement M
 write-accepted-spec =
     tie.close
     (tie.spec (λ c κs. (few-elements (c .before .before), allowed (c .before .before))) put-sheet-requires (λ c. search needs) returns (λ c. search needs) (λ c. search needs)

@@ -4,7 +4,6 @@ use Rattle.theory.specs.Prelude.{needs, _<_, _≤_, zero-add, le-trans, _≡_, 
 use Rattle.sheet.specs.WithoutTags.{withoutTags}
 use Rattle.space.specs.Space.Laws.{none-left, put-refused, put-done}
 use Rattle.writer.proofs.Untagged.{withoutTags-length}
-use Rattle.writer.proofs.write_untagged.Statement.{statement}
 use Rattle.writer.proofs.write_untagged.Tie as tie
 
 returns : tie.Need-returns
@@ -31,7 +30,7 @@ returns-3 c =
     rw (none p, p .put-untagged2 .ensures .next-is, zero-add) at (c .before .before .before .before .if2 .left) in
     put-done h (rw (none p) at (c .before .before .put-untagged3 .ensures))
 
-pub write-untagged-spec : {M : Type 1} → statement M
+pub write-untagged-spec : {M : Type 1} → Rattle.writer.proofs.write_untagged.Statement.statement M
 write-untagged-spec =
     tie.close
     (tie.spec (λ c κs. search needs) (λ c. search needs) returns (λ c. search needs) (λ c. search needs)
