@@ -58,6 +58,16 @@
 extern "C" {
 #endif
 
+/*
+ * A length, a count or a number as the library takes it: 64 bits on every target. It is size_t; where that has
+ * fewer bits, as in WebAssembly, it is uint64_t.
+ */
+#if SIZE_MAX < UINT64_MAX
+typedef uint64_t pattern_len;
+#else
+typedef size_t pattern_len;
+#endif
+
 #define PATTERN_MAX_ELEMENTS    64   /* points, lines and circles of a sheet, numbered from 0 */
 #define PATTERN_MAX_CONSTRAINTS 200  /* constraints of a sheet, numbered from 0 */
 #define PATTERN_MAX_SHEET       2078 /* bytes of a sheet that is read: it may carry tags */
@@ -127,7 +137,7 @@ enum pattern_rule {
  * the same bytes where it has none; the opening stays. Tries rules 1 to 10, with 18 to 20 among them, in
  * the order of the fields, then 17. Answers the count of bytes.
  */
-int32_t pattern_rewrite(const uint8_t *sheet, size_t len, uint8_t *out, size_t room);
+int32_t pattern_rewrite(const uint8_t *sheet, pattern_len len, uint8_t *out, pattern_len room);
 
 /*
  * Writes a sheet from its facts; element i stands in place i of two lists, constraint i in place i of
@@ -138,23 +148,23 @@ int32_t pattern_rewrite(const uint8_t *sheet, size_t len, uint8_t *out, size_t r
  * seconds or maps, or beyond sizes where its map has PATTERN_SIZED, is refused by 6.
  */
 int32_t pattern_write(
-    size_t opening,                             /* PATTERN_PF01 or PATTERN_PF02 */
-    size_t n,                                   /* count of elements */
-    size_t e,                                   /* count of constraints */
-    const uint8_t *kinds, size_t kinds_len,     /* PATTERN_POINT, PATTERN_LINE or PATTERN_CIRCLE */
-    const uint32_t *radii, size_t radii_len,    /* of a circle: 1 to 40,000 tenths of a millimetre */
-    const uint8_t *firsts, size_t firsts_len,   /* the first end, the lower one */
-    const uint8_t *seconds, size_t seconds_len, /* the second end */
-    const uint8_t *maps, size_t maps_len,       /* PATTERN_SIZED, or PATTERN_TANGENT and PATTERN_OTHER; PATTERN_TAGGED has no influence */
-    const int32_t *sizes, size_t sizes_len,     /* distance in tenths of a millimetre, or angle in hundredths of a degree */
-    uint8_t *out, size_t room);
+    pattern_len opening,                             /* PATTERN_PF01 or PATTERN_PF02 */
+    pattern_len n,                                   /* count of elements */
+    pattern_len e,                                   /* count of constraints */
+    const uint8_t *kinds, pattern_len kinds_len,     /* PATTERN_POINT, PATTERN_LINE or PATTERN_CIRCLE */
+    const uint32_t *radii, pattern_len radii_len,    /* of a circle: 1 to 40,000 tenths of a millimetre */
+    const uint8_t *firsts, pattern_len firsts_len,   /* the first end, the lower one */
+    const uint8_t *seconds, pattern_len seconds_len, /* the second end */
+    const uint8_t *maps, pattern_len maps_len,       /* PATTERN_SIZED, or PATTERN_TANGENT and PATTERN_OTHER; PATTERN_TAGGED has no influence */
+    const int32_t *sizes, pattern_len sizes_len,     /* distance in tenths of a millimetre, or angle in hundredths of a degree */
+    uint8_t *out, pattern_len room);
 
 /*
  * Whether a sheet is over: whether some part of it has a constraint too many. Tries rules 1 to 10,
  * then 17. Answers 2 where it is: out[0] is the number of the first constraint that makes it so,
  * out[1] the smallest part that cannot take it, bit i for element i. Answers 0 where it is not.
  */
-int32_t pattern_over(const uint8_t *sheet, size_t len, uint64_t *out, size_t room);
+int32_t pattern_over(const uint8_t *sheet, pattern_len len, uint64_t *out, pattern_len room);
 
 /* The verdicts, in the order they are tried. */
 enum pattern_verdict_name {
@@ -166,14 +176,14 @@ enum pattern_verdict_name {
 };
 
 /* The verdict of a sheet: one of the names above. Tries rules 1 to 10. */
-int32_t pattern_verdict(const uint8_t *sheet, size_t len);
+int32_t pattern_verdict(const uint8_t *sheet, pattern_len len);
 
 /*
  * The plan of a sheet: three cluster numbers a step, ascending. Constraint i is cluster i; step k,
  * from 0, merges its three clusters into cluster e + k. An over sheet has no plan and answers 0.
  * Tries rules 1 to 10, then 17. A plan has at most 62 steps, PATTERN_MAX_PLAN numbers.
  */
-int32_t pattern_plan(const uint8_t *sheet, size_t len, uint16_t *out, size_t room);
+int32_t pattern_plan(const uint8_t *sheet, pattern_len len, uint16_t *out, pattern_len room);
 
 /*
  * All that two sets of elements have in common, bit i for element i: for any two sets, those of
@@ -186,7 +196,7 @@ uint64_t pattern_shared(uint64_t a, uint64_t b);
  * for element k. Of an over sheet too. Tries rules 1 to 10, then 17. There are as many as the sheet
  * has constraints, at most PATTERN_MAX_CONSTRAINTS.
  */
-int32_t pattern_initial(const uint8_t *sheet, size_t len, uint64_t *out, size_t room);
+int32_t pattern_initial(const uint8_t *sheet, pattern_len len, uint64_t *out, pattern_len room);
 
 /*
  * The clusters that are left when no merge is open, by number: bit i for element i. An over sheet
@@ -194,7 +204,7 @@ int32_t pattern_initial(const uint8_t *sheet, size_t len, uint64_t *out, size_t 
  * stays whole: if constraints are added to the sheet and it is still not over, each of these sets lies
  * inside exactly one of the new ones. Their numbers and their order may change.
  */
-int32_t pattern_clusters(const uint8_t *sheet, size_t len, uint64_t *out, size_t room);
+int32_t pattern_clusters(const uint8_t *sheet, pattern_len len, uint64_t *out, pattern_len room);
 
 /*
  * What the clusters that are left rest on, in the order of pattern_clusters: the constraints that each
@@ -203,7 +213,7 @@ int32_t pattern_clusters(const uint8_t *sheet, size_t len, uint64_t *out, size_t
  * cluster of m elements has 2m - 3. Answers the count of words. An over sheet answers 0. Tries rules 1
  * to 10, then 17. There are at most PATTERN_MAX_RESTS.
  */
-int32_t pattern_rests(const uint8_t *sheet, size_t len, uint64_t *out, size_t room);
+int32_t pattern_rests(const uint8_t *sheet, pattern_len len, uint64_t *out, pattern_len room);
 
 /*
  * The report of a sheet in ASCII lines, each ended by a newline; of an over sheet the first two and
@@ -219,7 +229,7 @@ int32_t pattern_rests(const uint8_t *sheet, size_t len, uint64_t *out, size_t ro
  *   first 5                                         of an over sheet: the constraint too many
  *   set 0 1 2 3                                     and the part that cannot take it
  */
-int32_t pattern_report(const uint8_t *sheet, size_t len, uint8_t *out, size_t room);
+int32_t pattern_report(const uint8_t *sheet, pattern_len len, uint8_t *out, pattern_len room);
 
 /*
  * Checks a plan that another program saved: three cluster numbers a step, in any order within it.
@@ -227,7 +237,8 @@ int32_t pattern_report(const uint8_t *sheet, size_t len, uint8_t *out, size_t ro
  * plan's, its steps in the saved order. Tries rules 1 to 10, 11, 12, each step by 13 and 15, then
  * 16, then 17. Answers the count of bytes.
  */
-int32_t pattern_check_plan(const uint8_t *sheet, size_t len, const uint16_t *plan, size_t count, uint8_t *out, size_t room);
+int32_t pattern_check_plan(
+    const uint8_t *sheet, pattern_len len, const uint16_t *plan, pattern_len count, uint8_t *out, pattern_len room);
 
 /* A step of a plan: what its line in the report gives. The numbers of a step in a list of steps stand in this order. */
 struct pattern_step {
@@ -250,13 +261,14 @@ struct pattern_step {
  * and holds count / PATTERN_STEP steps.
  * Tries rules 1 to 10, 11, then 17. Answers the count of numbers.
  */
-int32_t pattern_steps(const uint8_t *sheet, size_t len, uint64_t *out, size_t room);
+int32_t pattern_steps(const uint8_t *sheet, pattern_len len, uint64_t *out, pattern_len room);
 
 /*
  * The steps of a saved plan in the same form, in the saved order, the parts of each ascending. Tries
  * the rules of pattern_check_plan. Answers the count of numbers.
  */
-int32_t pattern_saved_steps(const uint8_t *sheet, size_t len, const uint16_t *plan, size_t count, uint64_t *out, size_t room);
+int32_t pattern_saved_steps(
+    const uint8_t *sheet, pattern_len len, const uint16_t *plan, pattern_len count, uint64_t *out, pattern_len room);
 
 /*
  * A held sketch. The caller keeps it in a record, bytes of its own that it lends to each call:
@@ -274,7 +286,7 @@ int32_t pattern_saved_steps(const uint8_t *sheet, size_t len, const uint16_t *pl
  * Holds a sheet: writes the record of the same sheet without its tags. Tries rules 1 to 11, then 17.
  * Answers the count of bytes.
  */
-int32_t pattern_hold(const uint8_t *sheet, size_t len, uint8_t *record, size_t room);
+int32_t pattern_hold(const uint8_t *sheet, pattern_len len, uint8_t *record, pattern_len room);
 
 /* How many constraints a record of pattern_hold and pattern_place holds: e, which follows the kinds and, of PF02, the radii. */
 static inline size_t pattern_held_count(const uint8_t *record)
@@ -293,7 +305,7 @@ static inline size_t pattern_held_count(const uint8_t *record)
  * make the sketch over. Changes nothing.
  */
 int32_t pattern_ask(
-    const uint8_t *record, size_t room,
+    const uint8_t *record, pattern_len room,
     uint8_t first,  /* the first end, the lower one */
     uint8_t second, /* the second end */
     uint8_t map,    /* PATTERN_SIZED, or PATTERN_TANGENT and PATTERN_OTHER; PATTERN_TAGGED has no influence */
@@ -305,10 +317,10 @@ int32_t pattern_ask(
  * 11, and 17 where the record has no room for it. A refusal leaves every byte as it was.
  */
 int32_t pattern_place(
-    uint8_t *record, size_t room, uint8_t first, uint8_t second, uint8_t map, int32_t size, size_t held);
+    uint8_t *record, pattern_len room, uint8_t first, uint8_t second, uint8_t map, int32_t size, pattern_len held);
 
 /* The sheet in a record again. Tries rules 27 and 17. Answers the count of bytes. */
-int32_t pattern_held(const uint8_t *record, size_t record_room, uint8_t *out, size_t room);
+int32_t pattern_held(const uint8_t *record, pattern_len record_room, uint8_t *out, pattern_len room);
 
 /*
  * The steps of one cluster of the plan alone, as pattern_report's step lines: those from which the
@@ -317,11 +329,12 @@ int32_t pattern_held(const uint8_t *record, size_t record_room, uint8_t *out, si
  * plus the steps, else 26. Tries rules 1 to 11, 26, then 17. Answers the count of bytes, at most
  * PATTERN_MAX_PART.
  */
-int32_t pattern_part(const uint8_t *sheet, size_t len, size_t number, uint8_t *out, size_t room);
+int32_t pattern_part(
+    const uint8_t *sheet, pattern_len len, pattern_len number, uint8_t *out, pattern_len room);
 
 /* How many steps that cluster has, and how many bytes pattern_part writes of them. Rules 1 to 11 and 26. */
-int32_t pattern_part_steps(const uint8_t *sheet, size_t len, size_t number);
-int32_t pattern_part_bytes(const uint8_t *sheet, size_t len, size_t number);
+int32_t pattern_part_steps(const uint8_t *sheet, pattern_len len, pattern_len number);
+int32_t pattern_part_bytes(const uint8_t *sheet, pattern_len len, pattern_len number);
 
 /*
  * What to measure next: the pairs that bring a sheet to 2n-3 constraints without making it over, at
@@ -331,14 +344,15 @@ int32_t pattern_part_bytes(const uint8_t *sheet, size_t len, size_t number);
  * among lists of equal price the one that comes first. A sheet with 2n-3 constraints answers 0.
  * Tries rules 1 to 10, 11, 21, 22, 23, then 17. There are at most PATTERN_MAX_MISSING.
  */
-int32_t pattern_missing(const uint8_t *sheet, size_t len, const uint16_t *prices, size_t prices_len, uint16_t *out, size_t room);
+int32_t pattern_missing(
+    const uint8_t *sheet, pattern_len len, const uint16_t *prices, pattern_len prices_len, uint16_t *out, pattern_len room);
 
 /*
  * The verdict of five points with some of the ten distances between them, from a card of all 1,024
  * sets: bit 0 of number is the pair (0,1), then (0,2), (0,3), (0,4), (1,2) and so on to (3,4), bit 9.
  * Bits from 10 on stand for no pair and have no influence. Never refused.
  */
-int32_t pattern_card(size_t number);
+int32_t pattern_card(pattern_len number);
 
 /* What pattern_chain answers where no run of clusters leads from the one element to the other; no rule has this number. */
 #define PATTERN_NO_RUN (-100)
@@ -351,9 +365,9 @@ int32_t pattern_card(size_t number);
  * room. Tries rules 1 to 11, then 25, then 17.
  */
 int32_t pattern_chain(
-    const uint8_t *sheet, size_t len,
-    size_t from, size_t to,
-    uint16_t *out, size_t room
+    const uint8_t *sheet, pattern_len len,
+    pattern_len from, pattern_len to,
+    uint16_t *out, pattern_len room
 );
 
 /*
@@ -361,7 +375,7 @@ int32_t pattern_chain(
  * pairs (k-2,k) and (k-1,k), all of size 300. Its plan has n - 2 steps, and no sheet of n elements that
  * is not over has a longer one. Tries rule 3, then 17. Answers the count of bytes.
  */
-int32_t pattern_longest(size_t n, uint8_t *out, size_t room);
+int32_t pattern_longest(pattern_len n, uint8_t *out, pattern_len room);
 
 /*
  * The merges that are open after so many steps of a sheet's plan, or after all of them where the plan
@@ -371,7 +385,8 @@ int32_t pattern_longest(size_t n, uint8_t *out, size_t room);
  * open. Tries rules 1 to 11, then 17. Answers the count of numbers: at most n - 2 merges,
  * PATTERN_MAX_OPEN numbers.
  */
-int32_t pattern_open(const uint8_t *sheet, size_t len, size_t steps, uint16_t *out, size_t room);
+int32_t pattern_open(
+    const uint8_t *sheet, pattern_len len, pattern_len steps, uint16_t *out, pattern_len room);
 
 #ifdef __cplusplus
 }
