@@ -3,13 +3,13 @@
 //! It is not asked which constraints are redundant. Started from the layout in which the distances are measured it
 //! has nothing to move; started from a drawing that is right to the millimetre, no point moves far.
 
-use std::hint::black_box;
-
 use pattern_slvs::layout::Layout;
 use pattern_slvs::solver::{Drawing, clock, solve};
 use pattern_tests::graph::Graph;
 use pattern_tests::random::Random;
 use pattern_tests::reader::read;
+
+use crate::timing::black_box;
 
 /// How many sheets of a pool are solved.
 const SHEETS: usize = 8;

@@ -1,6 +1,6 @@
 //! Time a call, in nanoseconds.
 
-use std::hint::black_box;
+use std::arch::asm;
 use std::time::Instant;
 
 use crate::cases::Case;
@@ -81,6 +81,14 @@ fn median(call: &mut Call, pool: &[Vec<u8>]) -> f64 {
     let mut times: Vec<f64> = (0..SAMPLES).map(|_| sample(call, pool, passes)).collect();
     times.sort_by(f64::total_cmp);
     times[SAMPLES / 2] / (pool.len() * passes) as f64
+}
+
+/// The value itself, handed to no instruction at all, through which the compiler does not see.
+#[inline(always)]
+pub fn black_box<T>(value: T) -> T {
+    // SAFETY: nothing is executed.
+    unsafe { asm!("/* {} */", in(reg) &value, options(nostack, preserves_flags)) };
+    value
 }
 
 /// The time of some passes over the pool.

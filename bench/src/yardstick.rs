@@ -1,7 +1,7 @@
 //! The yardstick's C engine, made safe: a slice goes in as its pointer and length.
 
 mod c {
-    unsafe extern "C" {
+    extern "C" {
         pub fn yard_rewrite_facts(sheet: *const u8, len: usize, out: *mut u8, room: usize) -> i32;
         pub fn yard_over(sheet: *const u8, len: usize, set: *mut u64) -> i32;
         pub fn yard_verdict(sheet: *const u8, len: usize) -> i32;
@@ -22,7 +22,7 @@ pub fn rewrite(sheet: &[u8], out: &mut [u8]) -> i32 {
 pub fn over(sheet: &[u8], out: &mut [u64]) -> i32 {
     match unsafe { c::yard_over(sheet.as_ptr(), sheet.len(), &mut out[1]) } {
         SOUND => 0,
-        refused @ ..0 => refused,
+        refused if refused < 0 => refused,
         first => {
             out[0] = first as u64;
             2

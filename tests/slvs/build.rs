@@ -18,6 +18,6 @@ fn main() {
 
 /// Runs a command that must succeed.
 fn run(command: &mut Command) {
-    let done = command.status().is_ok_and(|status| status.success());
+    let done = command.status().map_or(false, |status| status.success());
     assert!(done, "{command:?}");
 }

@@ -40,7 +40,7 @@ pub fn noise(random: &mut Random) -> Vec<u8> {
         let opening = random.pick(&[Opening::Pf01, Opening::Pf02]);
         let mut start = opening.bytes().to_vec();
         start.push(n as u8);
-        start.extend(std::iter::repeat_n(0, (opening.kind_bits() * n).div_ceil(8)));
+        start.extend(vec![0; (opening.kind_bits() * n + 7) / 8]);
         start.push(random.below(4) as u8);
         start.truncate(random.between(4, start.len()));
         out.splice(0..0, start);

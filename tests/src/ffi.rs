@@ -7,10 +7,12 @@ use crate::facts::{Columns, Constraint};
 #[path = "../../examples/rust/src/c.rs"]
 mod c;
 
+use c::{Length, len};
+
 /// `pattern_rewrite`
 #[inline]
 pub fn rewrite(sheet: &[u8], out: &mut [u8]) -> i32 {
-    unsafe { c::pattern_rewrite(sheet.as_ptr(), sheet.len(), out.as_mut_ptr(), out.len()) }
+    unsafe { c::pattern_rewrite(sheet.as_ptr(), len(sheet), out.as_mut_ptr(), len(out)) }
 }
 
 /// `pattern_write`
@@ -18,23 +20,23 @@ pub fn rewrite(sheet: &[u8], out: &mut [u8]) -> i32 {
 pub fn write(facts: &Columns, out: &mut [u8]) -> i32 {
     unsafe {
         c::pattern_write(
-            facts.opening,
-            facts.n,
-            facts.e,
+            facts.opening as Length,
+            facts.n as Length,
+            facts.e as Length,
             facts.kinds.as_ptr(),
-            facts.kinds.len(),
+            len(&facts.kinds),
             facts.radii.as_ptr(),
-            facts.radii.len(),
+            len(&facts.radii),
             facts.firsts.as_ptr(),
-            facts.firsts.len(),
+            len(&facts.firsts),
             facts.seconds.as_ptr(),
-            facts.seconds.len(),
+            len(&facts.seconds),
             facts.maps.as_ptr(),
-            facts.maps.len(),
+            len(&facts.maps),
             facts.sizes.as_ptr(),
-            facts.sizes.len(),
+            len(&facts.sizes),
             out.as_mut_ptr(),
-            out.len(),
+            len(out),
         )
     }
 }
@@ -42,31 +44,31 @@ pub fn write(facts: &Columns, out: &mut [u8]) -> i32 {
 /// `pattern_over`
 #[inline]
 pub fn over(sheet: &[u8], out: &mut [u64]) -> i32 {
-    unsafe { c::pattern_over(sheet.as_ptr(), sheet.len(), out.as_mut_ptr(), out.len()) }
+    unsafe { c::pattern_over(sheet.as_ptr(), len(sheet), out.as_mut_ptr(), len(out)) }
 }
 
 /// `pattern_verdict`
 #[inline]
 pub fn verdict(sheet: &[u8]) -> i32 {
-    unsafe { c::pattern_verdict(sheet.as_ptr(), sheet.len()) }
+    unsafe { c::pattern_verdict(sheet.as_ptr(), len(sheet)) }
 }
 
 /// `pattern_card`
 #[inline]
 pub fn card(number: usize) -> i32 {
-    unsafe { c::pattern_card(number) }
+    unsafe { c::pattern_card(number as Length) }
 }
 
 /// `pattern_longest`
 #[inline]
 pub fn longest(n: usize, out: &mut [u8]) -> i32 {
-    unsafe { c::pattern_longest(n, out.as_mut_ptr(), out.len()) }
+    unsafe { c::pattern_longest(n as Length, out.as_mut_ptr(), len(out)) }
 }
 
 /// `pattern_plan`
 #[inline]
 pub fn plan(sheet: &[u8], out: &mut [u16]) -> i32 {
-    unsafe { c::pattern_plan(sheet.as_ptr(), sheet.len(), out.as_mut_ptr(), out.len()) }
+    unsafe { c::pattern_plan(sheet.as_ptr(), len(sheet), out.as_mut_ptr(), len(out)) }
 }
 
 /// `pattern_shared`
@@ -78,96 +80,96 @@ pub fn shared(a: u64, b: u64) -> u64 {
 /// `pattern_initial`
 #[inline]
 pub fn initial(sheet: &[u8], out: &mut [u64]) -> i32 {
-    unsafe { c::pattern_initial(sheet.as_ptr(), sheet.len(), out.as_mut_ptr(), out.len()) }
+    unsafe { c::pattern_initial(sheet.as_ptr(), len(sheet), out.as_mut_ptr(), len(out)) }
 }
 
 /// `pattern_clusters`
 #[inline]
 pub fn clusters(sheet: &[u8], out: &mut [u64]) -> i32 {
-    unsafe { c::pattern_clusters(sheet.as_ptr(), sheet.len(), out.as_mut_ptr(), out.len()) }
+    unsafe { c::pattern_clusters(sheet.as_ptr(), len(sheet), out.as_mut_ptr(), len(out)) }
 }
 
 /// `pattern_rests`
 #[inline]
 pub fn rests(sheet: &[u8], out: &mut [u64]) -> i32 {
-    unsafe { c::pattern_rests(sheet.as_ptr(), sheet.len(), out.as_mut_ptr(), out.len()) }
+    unsafe { c::pattern_rests(sheet.as_ptr(), len(sheet), out.as_mut_ptr(), len(out)) }
 }
 
 /// `pattern_report`
 #[inline]
 pub fn report(sheet: &[u8], out: &mut [u8]) -> i32 {
-    unsafe { c::pattern_report(sheet.as_ptr(), sheet.len(), out.as_mut_ptr(), out.len()) }
+    unsafe { c::pattern_report(sheet.as_ptr(), len(sheet), out.as_mut_ptr(), len(out)) }
 }
 
 /// `pattern_part_steps`
 #[inline]
 pub fn part_steps(sheet: &[u8], number: usize) -> i32 {
-    unsafe { c::pattern_part_steps(sheet.as_ptr(), sheet.len(), number) }
+    unsafe { c::pattern_part_steps(sheet.as_ptr(), len(sheet), number as Length) }
 }
 
 /// `pattern_part_bytes`
 #[inline]
 pub fn part_bytes(sheet: &[u8], number: usize) -> i32 {
-    unsafe { c::pattern_part_bytes(sheet.as_ptr(), sheet.len(), number) }
+    unsafe { c::pattern_part_bytes(sheet.as_ptr(), len(sheet), number as Length) }
 }
 
 /// `pattern_part`
 #[inline]
 pub fn part(sheet: &[u8], number: usize, out: &mut [u8]) -> i32 {
-    unsafe { c::pattern_part(sheet.as_ptr(), sheet.len(), number, out.as_mut_ptr(), out.len()) }
+    unsafe { c::pattern_part(sheet.as_ptr(), len(sheet), number as Length, out.as_mut_ptr(), len(out)) }
 }
 
 /// `pattern_missing`
 #[inline]
 pub fn missing(sheet: &[u8], prices: &[u16], out: &mut [u16]) -> i32 {
-    let (list, count) = (prices.as_ptr(), prices.len());
-    unsafe { c::pattern_missing(sheet.as_ptr(), sheet.len(), list, count, out.as_mut_ptr(), out.len()) }
+    let (list, count) = (prices.as_ptr(), len(prices));
+    unsafe { c::pattern_missing(sheet.as_ptr(), len(sheet), list, count, out.as_mut_ptr(), len(out)) }
 }
 
 /// `pattern_check_plan`
 #[inline]
 pub fn check_plan(sheet: &[u8], plan: &[u16], out: &mut [u8]) -> i32 {
-    let (list, count) = (plan.as_ptr(), plan.len());
-    unsafe { c::pattern_check_plan(sheet.as_ptr(), sheet.len(), list, count, out.as_mut_ptr(), out.len()) }
+    let (list, count) = (plan.as_ptr(), len(plan));
+    unsafe { c::pattern_check_plan(sheet.as_ptr(), len(sheet), list, count, out.as_mut_ptr(), len(out)) }
 }
 
 /// `pattern_steps`
 #[inline]
 pub fn steps(sheet: &[u8], out: &mut [u64]) -> i32 {
-    unsafe { c::pattern_steps(sheet.as_ptr(), sheet.len(), out.as_mut_ptr(), out.len()) }
+    unsafe { c::pattern_steps(sheet.as_ptr(), len(sheet), out.as_mut_ptr(), len(out)) }
 }
 
 /// `pattern_saved_steps`
 #[inline]
 pub fn saved_steps(sheet: &[u8], plan: &[u16], out: &mut [u64]) -> i32 {
-    let (list, count) = (plan.as_ptr(), plan.len());
-    unsafe { c::pattern_saved_steps(sheet.as_ptr(), sheet.len(), list, count, out.as_mut_ptr(), out.len()) }
+    let (list, count) = (plan.as_ptr(), len(plan));
+    unsafe { c::pattern_saved_steps(sheet.as_ptr(), len(sheet), list, count, out.as_mut_ptr(), len(out)) }
 }
 
 /// `pattern_hold`
 #[inline]
 pub fn hold(sheet: &[u8], record: &mut [u8]) -> i32 {
-    unsafe { c::pattern_hold(sheet.as_ptr(), sheet.len(), record.as_mut_ptr(), record.len()) }
+    unsafe { c::pattern_hold(sheet.as_ptr(), len(sheet), record.as_mut_ptr(), len(record)) }
 }
 
 /// `pattern_ask`
 #[inline]
 pub fn ask(record: &[u8], more: &Constraint) -> i32 {
     let &Constraint { first, second, map, size } = more;
-    unsafe { c::pattern_ask(record.as_ptr(), record.len(), first, second, map, size) }
+    unsafe { c::pattern_ask(record.as_ptr(), len(record), first, second, map, size) }
 }
 
 /// `pattern_place`
 #[inline]
 pub fn place(record: &mut [u8], more: &Constraint, held: usize) -> i32 {
     let &Constraint { first, second, map, size } = more;
-    unsafe { c::pattern_place(record.as_mut_ptr(), record.len(), first, second, map, size, held) }
+    unsafe { c::pattern_place(record.as_mut_ptr(), len(record), first, second, map, size, held as Length) }
 }
 
 /// `pattern_held`
 #[inline]
 pub fn held(record: &[u8], out: &mut [u8]) -> i32 {
-    unsafe { c::pattern_held(record.as_ptr(), record.len(), out.as_mut_ptr(), out.len()) }
+    unsafe { c::pattern_held(record.as_ptr(), len(record), out.as_mut_ptr(), len(out)) }
 }
 
 #[cfg(test)]
@@ -180,9 +182,9 @@ mod tests {
     /// Where a count is 0, its pointer may be null.
     #[test]
     fn null_lists() {
-        let (sheet, len) = (LINE_AND_POINT.as_ptr(), LINE_AND_POINT.len());
+        let (sheet, len) = (LINE_AND_POINT.as_ptr(), c::len(LINE_AND_POINT));
         let mut bytes = [0; 64];
-        let (out, room) = (bytes.as_mut_ptr(), bytes.len());
+        let (out, room) = (bytes.as_mut_ptr(), c::len(&bytes));
         unsafe {
             assert_eq!(c::pattern_rewrite(null(), 0, out, room), -1);
             assert_eq!(c::pattern_rewrite(sheet, len, null_mut(), 0), -17);
@@ -252,11 +254,11 @@ mod tests {
 /// `pattern_chain`
 #[inline]
 pub fn chain(sheet: &[u8], from: usize, to: usize, out: &mut [u16]) -> i32 {
-    unsafe { c::pattern_chain(sheet.as_ptr(), sheet.len(), from, to, out.as_mut_ptr(), out.len()) }
+    unsafe { c::pattern_chain(sheet.as_ptr(), len(sheet), from as Length, to as Length, out.as_mut_ptr(), len(out)) }
 }
 
 /// `pattern_open`
 #[inline]
 pub fn open(sheet: &[u8], steps: usize, out: &mut [u16]) -> i32 {
-    unsafe { c::pattern_open(sheet.as_ptr(), sheet.len(), steps, out.as_mut_ptr(), out.len()) }
+    unsafe { c::pattern_open(sheet.as_ptr(), len(sheet), steps as Length, out.as_mut_ptr(), len(out)) }
 }

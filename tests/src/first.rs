@@ -9,7 +9,7 @@ pub fn read(bytes: &[u8]) -> Result<Sheet, Rule> {
     let mut fields = Fields::new(bytes.strip_prefix(b"PF01").ok_or(1)?);
     let n = usize::from(fields.byte()?);
     refuse(!(2..=64).contains(&n), 3)?;
-    let field = fields.take(n.div_ceil(8))?;
+    let field = fields.take((n + 7) / 8)?;
     let line = |i: usize| field[i / 8] >> (i % 8) & 1 == 1;
     refuse((n..8 * field.len()).any(line), 4)?;
     let e = fields.byte()?;

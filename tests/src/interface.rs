@@ -105,8 +105,9 @@ impl Found {
     /// `pattern_part_steps` and `pattern_part`: how many steps one cluster has, and their lines.
     pub fn part(&self, number: usize) -> Result<(usize, Vec<u8>), Rule> {
         let (sheet, judged) = self.accepted()?;
-        let Judged::Merged(merges) = judged else {
-            return Err(11);
+        let merges = match judged {
+            Judged::Merged(merges) => merges,
+            _ => return Err(11),
         };
         let steps = parts::steps(sheet.e(), merges, number).ok_or(26)?;
         let lines: String = steps.iter().map(|step| format!("{}\n", report::step_line(sheet, step))).collect();
@@ -116,8 +117,9 @@ impl Found {
     /// `pattern_chain`: the numbers of the chain's clusters.
     pub fn chain(&self, from: usize, to: usize) -> Result<Vec<u16>, Rule> {
         let (sheet, judged) = self.accepted()?;
-        let Judged::Merged(merges) = judged else {
-            return Err(11);
+        let merges = match judged {
+            Judged::Merged(merges) => merges,
+            _ => return Err(11),
         };
         if from.max(to) >= sheet.n() {
             return Err(25);

@@ -4,7 +4,7 @@ use std::ops::Range;
 
 /// Where the kinds stand.
 pub fn kinds(sheet: &[u8]) -> Range<usize> {
-    5..5 + (width(sheet) * usize::from(sheet[4])).div_ceil(8)
+    5..5 + (width(sheet) * usize::from(sheet[4]) + 7) / 8
 }
 
 /// How many bits a kind has.

@@ -57,7 +57,8 @@ pub fn by_all_sets(sheet: &Sheet, prices: &[u16]) -> Result<Vec<Offer>, Rule> {
         let list: Vec<Offer> = (0..offers.len()).filter(|i| set >> i & 1 == 1).map(|i| offers[i]).collect();
         let total = list.iter().map(|o| u32::from(o.price)).sum();
         let pairs: Vec<(u8, u8)> = list.iter().map(|o| o.pair).collect();
-        if best.as_ref().is_none_or(|(least, first, _)| (total, &pairs) < (*least, first)) && by_subsets(&with(sheet, &list)).is_none() {
+        let better = best.as_ref().map_or(true, |(least, first, _)| (total, &pairs) < (*least, first));
+        if better && by_subsets(&with(sheet, &list)).is_none() {
             best = Some((total, pairs, list));
         }
     }

@@ -9,7 +9,7 @@ use crate::set::size;
 /// The merges of a saved plan, three numbers a step, or the rule that refuses it.
 pub fn check(sheet: &Sheet, plan: &[u16]) -> Result<Merges, Rule> {
     refuse(by_matching(sheet).is_some(), 11)?;
-    refuse(!plan.len().is_multiple_of(3), 12)?;
+    refuse(plan.len() % 3 != 0, 12)?;
     let mut clusters = Clusters::initial(sheet);
     let mut steps = Vec::new();
     for numbers in plan.chunks(3) {

@@ -19,8 +19,8 @@ impl<'a> Fields<'a> {
 
     /// A field of `count` bytes; rule 2 where the sheet ends inside it.
     pub fn take(&mut self, count: usize) -> Result<&'a [u8], Rule> {
-        let (field, left) = self.left.split_at_checked(count).ok_or(2)?;
-        self.left = left;
+        let field = self.left.get(..count).ok_or(2)?;
+        self.left = &self.left[count..];
         Ok(field)
     }
 
@@ -61,7 +61,7 @@ pub fn read(bytes: &[u8]) -> Result<Sheet, Rule> {
 /// The n kinds, one field: rule 4 where an unused bit is 1, then 18 where a kind is 3. Then the radius of each circle, a field of its own, by 19.
 fn kinds(fields: &mut Fields, opening: Opening, n: usize) -> Result<Vec<Kind>, Rule> {
     let width = opening.kind_bits();
-    let field = fields.take((width * n).div_ceil(8))?;
+    let field = fields.take((width * n + 7) / 8)?;
     let bit = |i: usize| field[i / 8] >> (i % 8) & 1;
     rules::refuse((width * n..8 * field.len()).any(|i| bit(i) == 1), 4)?;
     let number = |i: usize| (0..width).map(|k| bit(width * i + k) << k).sum::<u8>();

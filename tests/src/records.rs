@@ -23,7 +23,7 @@ pub fn numbers(sheet: &Sheet, merges: &Merges) -> Vec<u64> {
 
 /// The report line that a record stands for.
 pub fn line(record: &[u64]) -> String {
-    let &[made, i, j, k, joint, lines, ways] = record else { panic!("a record has seven numbers") };
+    let [made, i, j, k, joint, lines, ways]: [u64; 7] = record.try_into().expect("a record has seven numbers");
     let elements: Vec<String> = (0..64).filter(|x| joint >> x & 1 == 1).map(|x| x.to_string()).collect();
     let kind = ["ppp", "ppl", "pll", "lll"][lines as usize];
     let ways = if ways == UNKNOWN { "?".to_string() } else { ways.to_string() };

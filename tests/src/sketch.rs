@@ -18,8 +18,9 @@ pub fn next(held: &Sheet, more: &Constraint) -> Result<Sheet, Rule> {
 
 /// The sheet that a record stands for: 27 where it may not be held.
 pub fn in_record(record: &[u8]) -> Result<Sheet, Rule> {
-    let (count, rest) = record.split_first_chunk::<2>().ok_or(27)?;
-    let bytes = rest.get(..usize::from(u16::from_le_bytes(*count))).ok_or(27)?;
+    let mut fields = reader::Fields::new(record);
+    let count = u16::from_le_bytes(fields.array().map_err(|_| 27)?);
+    let bytes = fields.take(usize::from(count)).map_err(|_| 27)?;
     let sheet = reader::read(bytes).map_err(|_| 27)?;
     refuse(by_matching(&sheet).is_some(), 27)?;
     Ok(sheet)

@@ -47,8 +47,9 @@ pub fn judge(sheet: &Sheet) -> Judged {
 
 /// The verdict on what was found: the first name that is met.
 pub fn verdict(sheet: &Sheet, judged: &Judged) -> Verdict {
-    let Judged::Merged(merges) = judged else {
-        return Verdict::Over;
+    let merges = match judged {
+        Judged::Merged(merges) => merges,
+        _ => return Verdict::Over,
     };
     let full = sheet.e() == 2 * sheet.n() - 3;
     if angle_by_joint(sheet, merges) || angle_by_ring(sheet, merges) {

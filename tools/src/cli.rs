@@ -102,8 +102,9 @@ pub fn parse(command: &Command, arguments: impl IntoIterator<Item = OsString>) -
                 None => (text, None),
             };
             let flags = command.flags.iter().copied().chain([&HELP]);
-            let Some(flag) = flags.into_iter().find(|flag| flag.is(name)) else {
-                return Err(usage(format!("no option is called {name}")));
+            let flag = match flags.into_iter().find(|flag| flag.is(name)) {
+                Some(flag) => flag,
+                None => return Err(usage(format!("no option is called {name}"))),
             };
             if flag.name == HELP.name {
                 return Ok(None);
@@ -133,7 +134,7 @@ pub fn parse(command: &Command, arguments: impl IntoIterator<Item = OsString>) -
 impl Flag {
     /// Whether an argument names this option.
     fn is(&self, argument: &str) -> bool {
-        argument.strip_prefix("--") == Some(self.name) || self.short.is_some_and(|c| argument == format!("-{c}"))
+        argument.strip_prefix("--") == Some(self.name) || self.short.map_or(false, |c| argument == format!("-{c}"))
     }
 
     /// The option as it is typed.

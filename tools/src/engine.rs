@@ -62,7 +62,8 @@ pub fn chain(bytes: &[u8], from: usize, to: usize) -> Result<Option<Vec<u16>>, R
 /// The cheapest pairs to measure.
 pub fn missing(bytes: &[u8], prices: &[u16]) -> Result<Vec<(usize, usize)>, Rule> {
     let mut space = [0; MOST_MISSING];
-    Ok(pattern::missing(bytes, prices, &mut space)?.map(|(a, b)| (a.into(), b.into())).collect())
+    let pairs = pattern::missing(bytes, prices, &mut space)?;
+    Ok(pairs.map(|(a, b)| (a.into(), b.into())).collect())
 }
 
 /// A cluster that is left when no merge is open.

@@ -80,7 +80,10 @@ impl Refusal {
 
 impl fmt::Display for Refusal {
     fn fmt(&self, f: &mut fmt::Formatter) -> fmt::Result {
-        let Some(rule) = self.rule else { return f.write_str(&self.words) };
+        let rule = match self.rule {
+            Some(rule) => rule,
+            None => return f.write_str(&self.words),
+        };
         write!(f, "{rule}")?;
         match (self.spot, self.words.as_str()) {
             (Spot::Byte(byte), words) => write!(f, " (byte {byte}, {words})"),

@@ -79,7 +79,7 @@ fn walk(bytes: &[u8]) -> (Sheet, Vec<(Name, usize)>) {
     let n = walk.take(Name::Elements, 1) as usize;
     let bits = opening as usize;
     let from = walk.at;
-    walk.take(Name::Kinds, (n * bits).div_ceil(8));
+    walk.take(Name::Kinds, (n * bits + 7) / 8);
     let kind = |i: usize| {
         let byte = bytes.get(from + i * bits / 8).copied().unwrap_or(0);
         byte >> (i * bits % 8) & ((1 << bits) - 1)
@@ -125,7 +125,7 @@ pub fn read(bytes: &[u8]) -> Result<(Sheet, Vec<u8>), Refusal> {
 fn locate(bytes: &[u8], rule: Rule) -> Refusal {
     let (mut low, mut high) = (0, bytes.len());
     while low < high {
-        let middle = low.midpoint(high);
+        let middle = low + (high - low) / 2;
         if engine::refusal(&bytes[..middle]) == Some(rule) {
             high = middle;
         } else {

@@ -11,8 +11,9 @@ use pattern_tools::fault::{Fault, Status};
 /// Finds the command and runs it.
 fn answer(mut arguments: impl Iterator<Item = OsString>) -> Result<Answer, Fault> {
     let overview = cli::overview(&COMMANDS);
-    let Some(name) = arguments.next() else {
-        return Ok(Answer { notes: vec![overview], ..Answer::print("", Status::Usage) });
+    let name = match arguments.next() {
+        Some(name) => name,
+        None => return Ok(Answer { notes: vec![overview], ..Answer::print("", Status::Usage) }),
     };
     match name.to_str().unwrap_or_default() {
         "--help" | "-h" | "help" => return Ok(Answer::print(overview, Status::Well)),
@@ -22,10 +23,9 @@ fn answer(mut arguments: impl Iterator<Item = OsString>) -> Result<Answer, Fault
         }
         _ => {}
     }
-    let Some(command) = COMMANDS.iter().find(|command| name == command.name) else {
-        let found = name.to_string_lossy();
-        return Err(Fault::Usage(format!("no command is called {found}; pattern --help lists them")));
-    };
+    let unknown =
+        || Fault::Usage(format!("no command is called {}; pattern --help lists them", name.to_string_lossy()));
+    let command = COMMANDS.iter().find(|command| name == command.name).ok_or_else(unknown)?;
     match cli::parse(command, arguments)? {
         Some(call) => (command.run)(&call),
         None => Ok(Answer::print(cli::help(command), Status::Well)),

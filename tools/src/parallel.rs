@@ -1,6 +1,6 @@
 //! Work on many items, on all cores.
 
-use std::io::{IsTerminal, Write};
+use std::io::Write;
 use std::sync::atomic::{AtomicUsize, Ordering};
 use std::sync::mpsc;
 use std::thread;
@@ -54,7 +54,7 @@ impl Progress {
 
     /// Says how many are done, from time to time.
     fn tell(&mut self, done: usize) {
-        if self.all > 1 && self.last.elapsed() >= PERIOD && std::io::stderr().is_terminal() {
+        if self.all > 1 && self.last.elapsed() >= PERIOD && at_terminal() {
             let _ = write!(std::io::stderr(), "\r{done} of {} files", self.all);
             (self.shown, self.last) = (true, Instant::now());
         }
@@ -66,4 +66,22 @@ impl Progress {
             let _ = write!(std::io::stderr(), "\r\x1b[K");
         }
     }
+}
+
+/// Whether standard error is a terminal. Windows' C library has an underscore before the name.
+#[cfg(any(unix, windows))]
+fn at_terminal() -> bool {
+    extern "C" {
+        #[cfg_attr(windows, link_name = "_isatty")]
+        fn isatty(file: i32) -> i32;
+    }
+    const STANDARD_ERROR: i32 = 2;
+    // SAFETY: the call looks at the number of a file alone.
+    unsafe { isatty(STANDARD_ERROR) != 0 }
+}
+
+/// A page has no terminal.
+#[cfg(not(any(unix, windows)))]
+fn at_terminal() -> bool {
+    false
 }

@@ -134,12 +134,18 @@ fn a_refused_byte_is_where_the_reader_begins_to_refuse() {
                     bytes[place] = random.next() as u8;
                 }
             }
-            let Some(rule) = engine::refusal(&bytes) else { continue };
+            let rule = match engine::refusal(&bytes) {
+                Some(rule) => rule,
+                None => continue,
+            };
             if !bytes.starts_with(b"PF0") {
                 continue;
             }
             let found = refusal(&bytes);
-            let Spot::Byte(byte) = found.spot else { panic!("{found:?}") };
+            let byte = match found.spot {
+                Spot::Byte(byte) => byte,
+                _ => panic!("{found:?}"),
+            };
             assert_eq!(found.rule, Some(rule));
             rules[usize::from(rule.0)] += 1;
             // up to the byte the sheet is only cut off, and no field is longer than 16 bytes
@@ -160,8 +166,10 @@ fn a_refused_byte_is_where_the_reader_begins_to_refuse() {
 fn a_refused_statement_is_found() {
     let at = |text: &str| {
         let found = refusal(text.as_bytes());
-        let Spot::Text { line, column } = found.spot else { panic!("{found:?}") };
-        (found.rule.map_or(0, |rule| rule.0), line, column)
+        match found.spot {
+            Spot::Text { line, column } => (found.rule.map_or(0, |rule| rule.0), line, column),
+            _ => panic!("{found:?}"),
+        }
     };
     assert_eq!(at("point A B C\ndistance A B 5\n  distance C B 4000.1\n"), (9, 3, 3));
     assert_eq!(at("point A B C\ndistance A B 5\ndistance A C 5\ndistance B A 5\n"), (7, 4, 1));

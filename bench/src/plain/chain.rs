@@ -12,8 +12,9 @@ pub fn chain(bytes: &[u8], from: usize, to: usize, out: &mut [u16]) -> i32 {
     if let Err(rule) = read(bytes, &mut sheet) {
         return -i32::from(rule);
     }
-    let Ok(merging) = merges_of(&sheet) else {
-        return -11;
+    let merging = match merges_of(&sheet) {
+        Ok(merging) => merging,
+        Err(_) => return -11,
     };
     if from.max(to) >= sheet.n {
         return -25;
@@ -24,11 +25,13 @@ pub fn chain(bytes: &[u8], from: usize, to: usize, out: &mut [u16]) -> i32 {
     let sets = merging.sets();
     let (start, end) = (1 << from, 1 << to);
     let mut near = [0; 65];
-    let Some(count) = spread(sets, start, end, &mut near) else {
-        return NO_RUN;
+    let count = match spread(sets, start, end, &mut near) {
+        Some(count) => count,
+        None => return NO_RUN,
     };
-    let Some(space) = out.get_mut(..count) else {
-        return -17;
+    let space = match out.get_mut(..count) {
+        Some(space) => space,
+        None => return -17,
     };
     let mut set: u64 = start;
     for (number, near) in space.iter_mut().zip(near[..count].iter().rev()) {

@@ -67,7 +67,10 @@ mod tests {
     fn held_sketches_as_the_reference() {
         let mut random = Random::new(5);
         for bytes in sheets() {
-            let Ok(sheet) = reader::read(&bytes) else { continue };
+            let sheet = match reader::read(&bytes) {
+                Ok(sheet) => sheet,
+                Err(_) => continue,
+            };
             let more = damage::offered(&sheet, &mut random);
             let Constraint { first, second, map, size } = more;
             let plain = super::sheet::Constraint { first, second, map, size };

@@ -147,12 +147,14 @@ pub fn over(bytes: &[u8], out: &mut [u64]) -> i32 {
     if let Err(rule) = read(bytes, &mut sheet) {
         return -i32::from(rule);
     }
-    let Some(over) = find(&sheet) else {
-        return 0;
+    let over = match find(&sheet) {
+        Some(over) => over,
+        None => return 0,
     };
-    let Some(space) = out.first_chunk_mut() else {
-        return -17;
+    let space = match out.get_mut(..2) {
+        Some(space) => space,
+        None => return -17,
     };
-    *space = [over.first as u64, over.set];
+    space.copy_from_slice(&[over.first as u64, over.set]);
     2
 }

@@ -10,7 +10,7 @@ use super::sheet::{Rule, Sheet, read};
 /// Clusters in a block.
 const BLOCK: usize = 8;
 /// The most clusters of a sheet that is not over, 125 constraints and 62 steps, in whole blocks.
-const MOST_CLUSTERS: usize = 187_usize.next_multiple_of(BLOCK);
+const MOST_CLUSTERS: usize = (187 + BLOCK - 1) / BLOCK * BLOCK;
 /// The most steps of a plan.
 const MOST_STEPS: usize = 62;
 
@@ -191,7 +191,7 @@ pub fn saved(sheet: &Sheet, plan: &[u16]) -> Result<Merging, Rule> {
 
 /// Takes the steps of a saved plan, by rules 12, 13, 15 and 16.
 fn take_all(sheet: &Sheet, plan: &[u16]) -> Result<Merging, Rule> {
-    if !plan.len().is_multiple_of(3) {
+    if plan.len() % 3 != 0 {
         return Err(12);
     }
     let mut merging = Merging::initial(sheet);
@@ -278,11 +278,13 @@ pub fn plan(bytes: &[u8], out: &mut [u16]) -> i32 {
     if let Err(rule) = read(bytes, &mut sheet) {
         return -i32::from(rule);
     }
-    let Ok(merging) = merges_of(&sheet) else {
-        return 0;
+    let merging = match merges_of(&sheet) {
+        Ok(merging) => merging,
+        Err(_) => return 0,
     };
-    let Some(space) = out.get_mut(..3 * merging.count) else {
-        return -17;
+    let space = match out.get_mut(..3 * merging.count) {
+        Some(space) => space,
+        None => return -17,
     };
     for (numbers, step) in space.chunks_exact_mut(3).zip(merging.steps()) {
         numbers.copy_from_slice(&step.parts.map(|part| part as u16));

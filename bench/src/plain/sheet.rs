@@ -64,7 +64,7 @@ impl Sheet {
 
     /// Where the count of constraints stands in the sheet's bytes.
     fn count_at(&self) -> usize {
-        let kinds = if self.opening == b'1' { self.n.div_ceil(8) } else { self.n.div_ceil(4) };
+        let kinds = if self.opening == b'1' { (self.n + 7) / 8 } else { (self.n + 3) / 4 };
         5 + kinds + 4 * self.circles.count_ones() as usize
     }
 
@@ -177,7 +177,7 @@ impl Pairs {
 pub fn read(bytes: &[u8], sheet: &mut Sheet) -> Result<(), Rule> {
     if let Some(rest) = bytes.strip_prefix(b"PF01") {
         let (n, rest) = read_count(rest)?;
-        let (kinds, rest) = rest.split_at_checked(n.div_ceil(8)).ok_or(2)?;
+        let (kinds, rest) = split(rest, (n + 7) / 8)?;
         let lines = kinds.iter().rev().fold(0, |lines, &byte| lines << 8 | u64::from(byte));
         if n < 64 && lines >> n != 0 {
             return Err(4);
@@ -191,6 +191,11 @@ pub fn read(bytes: &[u8], sheet: &mut Sheet) -> Result<(), Rule> {
     }
 }
 
+/// The first bytes and those after them; rule 2 where there are fewer.
+fn split(bytes: &[u8], count: usize) -> Result<(&[u8], &[u8]), Rule> {
+    if count <= bytes.len() { Ok(bytes.split_at(count)) } else { Err(2) }
+}
+
 /// Reads the element count; the bytes after it.
 fn read_count(bytes: &[u8]) -> Result<(usize, &[u8]), Rule> {
     let (&count, rest) = bytes.split_first().ok_or(2)?;
@@ -200,7 +205,7 @@ fn read_count(bytes: &[u8]) -> Result<(usize, &[u8]), Rule> {
 
 /// Reads the kinds of PF02 and the radii; the bytes after them.
 fn read_round<'a>(n: usize, bytes: &'a [u8], sheet: &mut Sheet) -> Result<&'a [u8], Rule> {
-    let (field, mut rest) = bytes.split_at_checked(n.div_ceil(4)).ok_or(2)?;
+    let (field, mut rest) = split(bytes, (n + 3) / 4)?;
     let mut padded = [0; 16];
     padded[..field.len()].copy_from_slice(field);
     let kinds = u128::from_le_bytes(padded);
@@ -214,8 +219,8 @@ fn read_round<'a>(n: usize, bytes: &'a [u8], sheet: &mut Sheet) -> Result<&'a [u
     (sheet.opening, sheet.n, sheet.lines, sheet.circles) = (b'2', n, lines, circles);
     let mut left = circles;
     while left != 0 {
-        let (field, after) = rest.split_first_chunk().ok_or(2)?;
-        let radius = u32::from_le_bytes(*field);
+        let (field, after) = split(rest, 4)?;
+        let radius = u32::from_le_bytes(field.try_into().expect("four bytes"));
         if !(1..=40_000).contains(&radius) {
             return Err(19);
         }
@@ -237,7 +242,7 @@ fn read_constraints<const ROUND: bool>(bytes: &[u8], sheet: &mut Sheet) -> Resul
     let elements = Elements { n: sheet.n, lines: sheet.lines, circles: sheet.circles, radii: &sheet.radii };
     let mut pairs = Pairs([0; 64]);
     for constraint in &mut sheet.constraints[..e] {
-        rest = match rest.first_chunk::<LONGEST>() {
+        rest = match rest.get(..LONGEST).map(|bytes| bytes.try_into().expect("so many bytes")) {
             Some(bytes) => &rest[read_constraint::<ROUND>(bytes, elements, &mut pairs, constraint)?..],
             None => read_near_end::<ROUND>(rest, elements, &mut pairs, constraint)?,
         };
@@ -253,7 +258,7 @@ fn read_constraint<const ROUND: bool>(
     pairs: &mut Pairs,
     constraint: &mut Constraint,
 ) -> Result<usize, Rule> {
-    let [first, second, map] = bytes[..3].try_into().expect("three bytes");
+    let [first, second, map, ..] = *bytes;
     pairs.take(first, second, elements.n)?;
     if ROUND && map > 3 {
         let size = elements.contact(first, second, map & !2)?;
@@ -314,10 +319,10 @@ pub fn write(sheet: &Sheet, out: &mut [u8]) -> Result<usize, Rule> {
     bytes[4] = n as u8;
     let mut at = if opening == b'1' {
         bytes[5..13].copy_from_slice(&lines.to_le_bytes());
-        5 + n.div_ceil(8)
+        5 + (n + 7) / 8
     } else {
         bytes[5..21].copy_from_slice(&(spread(lines) | spread(circles) << 1).to_le_bytes());
-        5 + n.div_ceil(4)
+        5 + (n + 3) / 4
     };
     let mut left = circles;
     while left != 0 {
@@ -338,8 +343,8 @@ pub fn write(sheet: &Sheet, out: &mut [u8]) -> Result<usize, Rule> {
     let mut pairs = Pairs([0; 64]);
     for constraint in &constraints[..e] {
         check(constraint, elements, &mut pairs)?;
-        let own = bytes[at..].first_chunk_mut().expect("room for a constraint");
-        at += write_constraint(constraint, own);
+        let own = &mut bytes[at..at + LONGEST_WRITTEN];
+        at += write_constraint(constraint, own.try_into().expect("room for a constraint"));
     }
     out.get_mut(..at).ok_or(17)?.copy_from_slice(&bytes[..at]);
     Ok(at)

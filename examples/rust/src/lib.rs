@@ -27,6 +27,8 @@ mod c;
 
 use std::fmt;
 
+use c::{Length, len};
+
 /// The most elements of a sheet.
 pub const MOST_ELEMENTS: usize = 64;
 /// The most constraints of a sheet.
@@ -255,7 +257,7 @@ impl<'a> Facts<'a> {
 /// ```
 pub fn rewrite<'a>(sheet: &[u8], out: &'a mut [u8]) -> Result<&'a [u8], Rule> {
     // SAFETY: each list is a live slice of its length, and `out` is borrowed alone.
-    let answer = unsafe { c::pattern_rewrite(sheet.as_ptr(), sheet.len(), out.as_mut_ptr(), out.len()) };
+    let answer = unsafe { c::pattern_rewrite(sheet.as_ptr(), len(sheet), out.as_mut_ptr(), len(out)) };
     written(answer, out)
 }
 
@@ -301,23 +303,23 @@ pub fn write<'a>(facts: &Facts, out: &'a mut [u8]) -> Result<&'a [u8], Rule> {
     // SAFETY: each list is a live slice of its length, and `out` is borrowed alone.
     let answer = unsafe {
         c::pattern_write(
-            opening as usize,
-            kinds.len(),
-            constraints.len(),
+            opening as Length,
+            len(kinds),
+            len(constraints),
             numbers.as_ptr(),
-            numbers.len(),
+            len(numbers),
             radii.as_ptr(),
-            radii.len(),
+            len(radii),
             firsts.as_ptr(),
-            firsts.len(),
+            len(firsts),
             seconds.as_ptr(),
-            seconds.len(),
+            len(seconds),
             maps.as_ptr(),
-            maps.len(),
+            len(maps),
             sizes.as_ptr(),
-            sizes.len(),
+            len(sizes),
             out.as_mut_ptr(),
-            out.len(),
+            len(out),
         )
     };
     written(answer, out)
@@ -350,7 +352,7 @@ pub struct Over {
 pub fn over(sheet: &[u8]) -> Result<Option<Over>, Rule> {
     let mut out = [0; 2];
     // SAFETY: each list is a live slice of its length, and `out` is borrowed alone.
-    let answer = unsafe { c::pattern_over(sheet.as_ptr(), sheet.len(), out.as_mut_ptr(), out.len()) };
+    let answer = unsafe { c::pattern_over(sheet.as_ptr(), len(sheet), out.as_mut_ptr(), len(&out)) };
     Ok(match written(answer, &out)? {
         &[first, set] => Some(Over { first: first as usize, set }),
         _ => None,
@@ -383,7 +385,7 @@ pub enum Verdict {
 /// ```
 pub fn verdict(sheet: &[u8]) -> Result<Verdict, Rule> {
     // SAFETY: the list is a live slice of its length.
-    let answer = unsafe { c::pattern_verdict(sheet.as_ptr(), sheet.len()) };
+    let answer = unsafe { c::pattern_verdict(sheet.as_ptr(), len(sheet)) };
     numbered(answer).ok_or(Rule(answer.unsigned_abs() as u8))
 }
 
@@ -420,10 +422,10 @@ pub fn missing<'a>(
     sheet: &[u8],
     prices: &[u16],
     out: &'a mut [u16],
-) -> Result<impl Iterator<Item = (u8, u8)> + use<'a>, Rule> {
+) -> Result<impl Iterator<Item = (u8, u8)> + 'a, Rule> {
     // SAFETY: each list is a live slice of its length, and `out` is borrowed alone.
     let answer = unsafe {
-        c::pattern_missing(sheet.as_ptr(), sheet.len(), prices.as_ptr(), prices.len(), out.as_mut_ptr(), out.len())
+        c::pattern_missing(sheet.as_ptr(), len(sheet), prices.as_ptr(), len(prices), out.as_mut_ptr(), len(out))
     };
     written(answer, out).map(|pairs| pairs.iter().map(|pair| ((pair >> 8) as u8, *pair as u8)))
 }
@@ -440,7 +442,7 @@ pub fn missing<'a>(
 /// ```
 pub fn card(number: usize) -> Verdict {
     // SAFETY: a number goes in and a number comes out.
-    let answer = unsafe { c::pattern_card(number) };
+    let answer = unsafe { c::pattern_card(number as Length) };
     numbered(answer).expect("a verdict's number")
 }
 
@@ -458,7 +460,7 @@ pub fn card(number: usize) -> Verdict {
 /// ```
 pub fn longest(n: usize, out: &mut [u8]) -> Result<&[u8], Rule> {
     // SAFETY: the list is a live slice of its length, and `out` is borrowed alone.
-    let answer = unsafe { c::pattern_longest(n, out.as_mut_ptr(), out.len()) };
+    let answer = unsafe { c::pattern_longest(n as Length, out.as_mut_ptr(), len(out)) };
     written(answer, out)
 }
 
@@ -480,7 +482,9 @@ pub fn longest(n: usize, out: &mut [u8]) -> Result<&[u8], Rule> {
 /// ```
 pub fn chain<'a>(sheet: &[u8], from: usize, to: usize, out: &'a mut [u16]) -> Result<Option<&'a [u16]>, Rule> {
     // SAFETY: each list is a live slice of its length, and `out` is borrowed alone.
-    let answer = unsafe { c::pattern_chain(sheet.as_ptr(), sheet.len(), from, to, out.as_mut_ptr(), out.len()) };
+    let answer = unsafe {
+        c::pattern_chain(sheet.as_ptr(), len(sheet), from as Length, to as Length, out.as_mut_ptr(), len(out))
+    };
     if answer == NO_RUN { Ok(None) } else { written(answer, out).map(Some) }
 }
 
@@ -503,7 +507,7 @@ pub fn chain<'a>(sheet: &[u8], from: usize, to: usize, out: &'a mut [u16]) -> Re
 /// ```
 pub fn plan<'a>(sheet: &[u8], out: &'a mut [u16]) -> Result<&'a [u16], Rule> {
     // SAFETY: each list is a live slice of its length, and `out` is borrowed alone.
-    let answer = unsafe { c::pattern_plan(sheet.as_ptr(), sheet.len(), out.as_mut_ptr(), out.len()) };
+    let answer = unsafe { c::pattern_plan(sheet.as_ptr(), len(sheet), out.as_mut_ptr(), len(out)) };
     written(answer, out)
 }
 
@@ -526,7 +530,7 @@ pub fn plan<'a>(sheet: &[u8], out: &'a mut [u16]) -> Result<&'a [u16], Rule> {
 /// ```
 pub fn open<'a>(sheet: &[u8], steps: usize, out: &'a mut [u16]) -> Result<&'a [u16], Rule> {
     // SAFETY: each list is a live slice of its length, and `out` is borrowed alone.
-    let answer = unsafe { c::pattern_open(sheet.as_ptr(), sheet.len(), steps, out.as_mut_ptr(), out.len()) };
+    let answer = unsafe { c::pattern_open(sheet.as_ptr(), len(sheet), steps as Length, out.as_mut_ptr(), len(out)) };
     written(answer, out)
 }
 
@@ -556,7 +560,7 @@ pub fn shared(a: u64, b: u64) -> u64 {
 /// ```
 pub fn initial<'a>(sheet: &[u8], out: &'a mut [u64]) -> Result<&'a [u64], Rule> {
     // SAFETY: each list is a live slice of its length, and `out` is borrowed alone.
-    let answer = unsafe { c::pattern_initial(sheet.as_ptr(), sheet.len(), out.as_mut_ptr(), out.len()) };
+    let answer = unsafe { c::pattern_initial(sheet.as_ptr(), len(sheet), out.as_mut_ptr(), len(out)) };
     written(answer, out)
 }
 
@@ -589,7 +593,7 @@ const STEP: usize = 7;
 impl Step {
     /// The step of its numbers.
     fn of(numbers: &[u64]) -> Step {
-        let &[made, i, j, k, joint, lines, ways] = numbers else { panic!("a step has seven numbers") };
+        let [made, i, j, k, joint, lines, ways]: [u64; STEP] = numbers.try_into().expect("a step has seven numbers");
         let kind = [JointKind::Ppp, JointKind::Ppl, JointKind::Pll, JointKind::Lll][lines as usize];
         Step {
             made: made as usize,
@@ -619,7 +623,7 @@ impl Step {
 pub fn steps(sheet: &[u8]) -> Result<Vec<Step>, Rule> {
     let mut out = [0; STEP * MOST_STEPS];
     // SAFETY: each list is a live slice of its length, and `out` is borrowed alone.
-    let answer = unsafe { c::pattern_steps(sheet.as_ptr(), sheet.len(), out.as_mut_ptr(), out.len()) };
+    let answer = unsafe { c::pattern_steps(sheet.as_ptr(), len(sheet), out.as_mut_ptr(), len(&out)) };
     Ok(written(answer, &out)?.chunks(STEP).map(Step::of).collect())
 }
 
@@ -628,7 +632,7 @@ pub fn saved_steps(sheet: &[u8], plan: &[u16]) -> Result<Vec<Step>, Rule> {
     let mut out = [0; STEP * MOST_STEPS];
     // SAFETY: each list is a live slice of its length, and `out` is borrowed alone.
     let answer = unsafe {
-        c::pattern_saved_steps(sheet.as_ptr(), sheet.len(), plan.as_ptr(), plan.len(), out.as_mut_ptr(), out.len())
+        c::pattern_saved_steps(sheet.as_ptr(), len(sheet), plan.as_ptr(), len(plan), out.as_mut_ptr(), len(&out))
     };
     Ok(written(answer, &out)?.chunks(STEP).map(Step::of).collect())
 }
@@ -636,7 +640,7 @@ pub fn saved_steps(sheet: &[u8], plan: &[u16]) -> Result<Vec<Step>, Rule> {
 /// The clusters that are left when no merge is open, by number: element i as bit i.
 pub fn clusters<'a>(sheet: &[u8], out: &'a mut [u64]) -> Result<&'a [u64], Rule> {
     // SAFETY: each list is a live slice of its length, and `out` is borrowed alone.
-    let answer = unsafe { c::pattern_clusters(sheet.as_ptr(), sheet.len(), out.as_mut_ptr(), out.len()) };
+    let answer = unsafe { c::pattern_clusters(sheet.as_ptr(), len(sheet), out.as_mut_ptr(), len(out)) };
     written(answer, out)
 }
 
@@ -644,7 +648,7 @@ pub fn clusters<'a>(sheet: &[u8], out: &'a mut [u64]) -> Result<&'a [u64], Rule>
 /// bit i of the second.
 pub fn rests<'a>(sheet: &[u8], out: &'a mut [u64]) -> Result<&'a [u64], Rule> {
     // SAFETY: each list is a live slice of its length, and `out` is borrowed alone.
-    let answer = unsafe { c::pattern_rests(sheet.as_ptr(), sheet.len(), out.as_mut_ptr(), out.len()) };
+    let answer = unsafe { c::pattern_rests(sheet.as_ptr(), len(sheet), out.as_mut_ptr(), len(out)) };
     written(answer, out)
 }
 
@@ -657,7 +661,7 @@ pub fn rests<'a>(sheet: &[u8], out: &'a mut [u64]) -> Result<&'a [u64], Rule> {
 /// ```
 pub fn report<'a>(sheet: &[u8], out: &'a mut [u8]) -> Result<&'a str, Rule> {
     // SAFETY: each list is a live slice of its length, and `out` is borrowed alone.
-    let answer = unsafe { c::pattern_report(sheet.as_ptr(), sheet.len(), out.as_mut_ptr(), out.len()) };
+    let answer = unsafe { c::pattern_report(sheet.as_ptr(), len(sheet), out.as_mut_ptr(), len(out)) };
     written(answer, out).map(text)
 }
 
@@ -682,20 +686,20 @@ pub fn report<'a>(sheet: &[u8], out: &'a mut [u8]) -> Result<&'a str, Rule> {
 /// ```
 pub fn part<'a>(sheet: &[u8], number: usize, out: &'a mut [u8]) -> Result<&'a str, Rule> {
     // SAFETY: each list is a live slice of its length, and `out` is borrowed alone.
-    let answer = unsafe { c::pattern_part(sheet.as_ptr(), sheet.len(), number, out.as_mut_ptr(), out.len()) };
+    let answer = unsafe { c::pattern_part(sheet.as_ptr(), len(sheet), number as Length, out.as_mut_ptr(), len(out)) };
     written(answer, out).map(text)
 }
 
 /// How many steps one cluster of the plan has.
 pub fn part_steps(sheet: &[u8], number: usize) -> Result<usize, Rule> {
     // SAFETY: the list is a live slice of its length.
-    counted(unsafe { c::pattern_part_steps(sheet.as_ptr(), sheet.len(), number) })
+    counted(unsafe { c::pattern_part_steps(sheet.as_ptr(), len(sheet), number as Length) })
 }
 
 /// How many bytes the lines of those steps have: what [`part`] writes.
 pub fn part_bytes(sheet: &[u8], number: usize) -> Result<usize, Rule> {
     // SAFETY: the list is a live slice of its length.
-    counted(unsafe { c::pattern_part_bytes(sheet.as_ptr(), sheet.len(), number) })
+    counted(unsafe { c::pattern_part_bytes(sheet.as_ptr(), len(sheet), number as Length) })
 }
 
 /// The report for a plan that was saved: its steps in the saved order.
@@ -715,7 +719,7 @@ pub fn part_bytes(sheet: &[u8], number: usize) -> Result<usize, Rule> {
 pub fn check_plan<'a>(sheet: &[u8], plan: &[u16], out: &'a mut [u8]) -> Result<&'a str, Rule> {
     // SAFETY: each list is a live slice of its length, and `out` is borrowed alone.
     let answer = unsafe {
-        c::pattern_check_plan(sheet.as_ptr(), sheet.len(), plan.as_ptr(), plan.len(), out.as_mut_ptr(), out.len())
+        c::pattern_check_plan(sheet.as_ptr(), len(sheet), plan.as_ptr(), len(plan), out.as_mut_ptr(), len(out))
     };
     written(answer, out).map(text)
 }
@@ -754,7 +758,7 @@ impl Sketch {
     pub fn hold(sheet: &[u8]) -> Result<Sketch, Rule> {
         let mut record = [0; MOST_RECORD];
         // SAFETY: each list is a live slice of its length, and the record is borrowed alone.
-        let answer = unsafe { c::pattern_hold(sheet.as_ptr(), sheet.len(), record.as_mut_ptr(), record.len()) };
+        let answer = unsafe { c::pattern_hold(sheet.as_ptr(), len(sheet), record.as_mut_ptr(), len(&record)) };
         written(answer, &record)?;
         Ok(Sketch { record })
     }
@@ -763,18 +767,17 @@ impl Sketch {
     pub fn count(&self) -> usize {
         let (record, n) = (&self.record, usize::from(self.record[6]));
         if record[5] == b'1' {
-            return record[7 + n.div_ceil(8)].into();
+            return record[7 + (n + 7) / 8].into();
         }
         let circles = (0..n).filter(|i| record[7 + i / 4] >> (2 * (i % 4)) & 3 == 2).count();
-        record[7 + n.div_ceil(4) + 4 * circles].into()
+        record[7 + (n + 3) / 4 + 4 * circles].into()
     }
 
     /// The verdict of the sketch with one more constraint.
     pub fn ask(&self, more: &Constraint) -> Result<Verdict, Rule> {
         let (record, size) = (&self.record, more.size());
         // SAFETY: the record is a live slice of its length.
-        let answer =
-            unsafe { c::pattern_ask(record.as_ptr(), record.len(), more.first, more.second, more.map(), size) };
+        let answer = unsafe { c::pattern_ask(record.as_ptr(), len(record), more.first, more.second, more.map(), size) };
         numbered(answer).ok_or(Rule(answer.unsigned_abs() as u8))
     }
 
@@ -783,14 +786,15 @@ impl Sketch {
         let (record, size) = (&mut self.record, more.size());
         let (first, second, map) = (more.first, more.second, more.map());
         // SAFETY: the record is a live slice of its length, and is borrowed alone.
-        let answer = unsafe { c::pattern_place(record.as_mut_ptr(), record.len(), first, second, map, size, held) };
+        let answer =
+            unsafe { c::pattern_place(record.as_mut_ptr(), len(record), first, second, map, size, held as Length) };
         numbered(answer).ok_or(Rule(answer.unsigned_abs() as u8))
     }
 
     /// The sheet that it holds.
     pub fn sheet<'a>(&self, out: &'a mut [u8]) -> Result<&'a [u8], Rule> {
         // SAFETY: each list is a live slice of its length, and `out` is borrowed alone.
-        let answer = unsafe { c::pattern_held(self.record.as_ptr(), self.record.len(), out.as_mut_ptr(), out.len()) };
+        let answer = unsafe { c::pattern_held(self.record.as_ptr(), len(&self.record), out.as_mut_ptr(), len(out)) };
         written(answer, out)
     }
 }

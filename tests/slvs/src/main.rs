@@ -67,7 +67,7 @@ fn bounds(run: &mut Run) {
 /// The bytes of n elements, of the first eight kinds given as bits, with at most one constraint, on (0,1).
 fn small_sheet(n: u8, kinds: u8, size: Option<i32>) -> Vec<u8> {
     let mut bytes = [Opening::Pf01.bytes(), &[n, kinds]].concat();
-    bytes.resize(5 + usize::from(n).div_ceil(8), 0);
+    bytes.resize(5 + (usize::from(n) + 7) / 8, 0);
     bytes.push(u8::from(size.is_some()));
     bytes.extend(size.iter().flat_map(|size| [&[0, 1, 1][..], &size.to_le_bytes()].concat()));
     bytes

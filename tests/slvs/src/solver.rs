@@ -6,7 +6,7 @@ use pattern_tests::graph::Graph;
 use crate::layout::Layout;
 
 mod c {
-    unsafe extern "C" {
+    extern "C" {
         pub fn solver_solve(
             n: usize,
             at: *const [f64; 2],
@@ -15,7 +15,7 @@ mod c {
             rough: i32,
             dof: *mut i32,
         ) -> i32;
-        pub safe fn solver_clock() -> f64;
+        pub fn solver_clock() -> f64;
     }
 }
 
@@ -58,5 +58,5 @@ pub fn solve(graph: &Graph, layout: &Layout, drawing: Drawing) -> Solved {
 
 /// The processor time that this program has had, in nanoseconds: what other programs had in between does not count.
 pub fn clock() -> f64 {
-    c::solver_clock()
+    unsafe { c::solver_clock() }
 }

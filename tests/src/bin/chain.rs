@@ -47,8 +47,9 @@ fn every_pair(run: &mut Run, sheet: &Sheet) {
     for from in 0..=sheet.n() {
         for to in 0..=sheet.n() {
             let answer = asked(run, &bytes, &found, from, to);
-            let Ok((_, Judged::Merged(merges))) = found.accepted() else {
-                continue;
+            let merges = match found.accepted() {
+                Ok((_, Judged::Merged(merges))) => merges,
+                _ => continue,
             };
             if from.max(to) < sheet.n() && merges.finals.len() <= FEW {
                 let wanted = chain::by_every_run(&merges.finals, from, to).ok_or(NO_RUN);

@@ -92,12 +92,18 @@ fn complete(run: &mut Run, sheet: &Sheet, answer: &Result<Vec<pattern_tests::mis
         (false, true) => run.count("sheets", "with circles"),
         (false, false) => {}
     }
-    let Ok(list) = answer else { return };
-    run.count("pairs missing", match list.len() {
-        0 => "none",
-        1..=60 => "some",
-        _ => "more than 60",
-    });
+    let list = match answer {
+        Ok(list) => list,
+        Err(_) => return,
+    };
+    run.count(
+        "pairs missing",
+        match list.len() {
+            0 => "none",
+            1..=60 => "some",
+            _ => "more than 60",
+        },
+    );
     let whole = completed(sheet, list);
     run.same("completed", &format_args!("{sheet:?} {list:?}"), whole.e(), 2 * whole.n() - 3);
     let verdict = ffi::verdict(&writer::bytes(&whole));

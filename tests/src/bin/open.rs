@@ -115,7 +115,7 @@ fn ordered(run: &mut Run, sheet: &Sheet, numbers: &[u16], next: Option<&[u16]>) 
     let input = Hex(&writer::bytes(sheet)).to_string();
     run.same("reference", &input, first, next);
     run.same("reference", &input, numbers.len() / 3 + 2 <= sheet.n(), true);
-    if !numbers.chunks(3).is_sorted() {
+    if numbers.chunks(3).zip(numbers.chunks(3).skip(1)).any(|(merge, next)| merge > next) {
         run.count("order", "not by the numbers alone");
     }
 }

@@ -61,7 +61,7 @@ fn found(run: &mut Run, sheet: &Sheet) {
     let bytes = tags::any(sheet, &mut run.random);
     let answer = by_matching(sheet);
     let name = answer.map_or(NOT_OVER, |over| match size(over.set) {
-        ..=4 => "set of 4",
+        0..=4 => "set of 4",
         5..=16 => "set of 5 to 16",
         _ => "set of 17 to 64",
     });

@@ -22,7 +22,10 @@ fn main() -> ExitCode {
         let bytes = tags::any(&sheet, &mut run.random);
         calls::initial(&mut run, &bytes);
         let found = Found::of(&bytes);
-        run.count("sheets", found.verdict().map_or("refused", |verdict| if verdict == 0 { "over" } else { "not over" }));
+        run.count(
+            "sheets",
+            found.verdict().map_or("refused", |verdict| if verdict == 0 { "over" } else { "not over" }),
+        );
         let mut clusters = interface::initial(&bytes).unwrap_or_default();
         clusters.extend(found.clusters().unwrap_or_default());
         for _ in 0..clusters.len().min(8) {

@@ -40,8 +40,9 @@ fn main() -> ExitCode {
 
 /// Compares every cluster of a sheet, and answers how many were ever made; none of one that is refused or over.
 fn clusters(run: &mut Run, bytes: &[u8], found: &Found) -> usize {
-    let Ok((sheet, Judged::Merged(merges))) = found.accepted() else {
-        return 0;
+    let (sheet, merges) = match found.accepted() {
+        Ok((sheet, Judged::Merged(merges))) => (sheet, merges),
+        _ => return 0,
     };
     let made = sheet.e() + merges.steps.len();
     for number in 0..made {

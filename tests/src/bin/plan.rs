@@ -75,8 +75,9 @@ fn rests(run: &mut Run, sheet: &Sheet, judged: &Judged) {
 
 /// Counts what an angle comes from; on sheets of few final clusters a ring is searched for by its definition too.
 fn angles(run: &mut Run, sheet: &Sheet, judged: &Judged) {
-    let Judged::Merged(merges) = judged else {
-        return;
+    let merges = match judged {
+        Judged::Merged(merges) => merges,
+        _ => return,
     };
     let ring = angle_by_ring(sheet, merges);
     match (angle_by_joint(sheet, merges), ring) {

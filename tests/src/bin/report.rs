@@ -53,9 +53,12 @@ fn count(run: &mut Run, sheet: &Sheet, judged: &Judged) {
 /// Compares the check of saved plans: the engine's own, one in a random order, and damaged ones.
 fn plans(run: &mut Run, sheet: &Sheet, judged: &Judged) {
     let bytes = tags::any(sheet, &mut run.random);
-    let Judged::Merged(engine) = judged else {
-        calls::check_plan(run, &bytes, &[]);
-        return;
+    let engine = match judged {
+        Judged::Merged(engine) => engine,
+        Judged::Over(_) => {
+            calls::check_plan(run, &bytes, &[]);
+            return;
+        }
     };
     accepted(run, &bytes, &engine.numbers());
     let other = damage::turned(&Merges::random(sheet, &mut run.random), &mut run.random);

@@ -122,8 +122,10 @@ fn merge(sheet: &Sheet, parts: [&Part; 3], joint: u64) -> Vec<Part> {
         let holds = |part: &&&Part| part[joint[a]].is_some() && part[joint[b]].is_some();
         parts.iter().find(holds).and_then(|part| Some((*part, (a, b), [part[joint[a]]?, part[joint[b]]?])))
     });
-    let [Some(x), Some(y), Some(z)] = sides else { return Vec::new() };
-    let sides = [x, y, z];
+    let sides = match sides {
+        [Some(x), Some(y), Some(z)] => [x, y, z],
+        _ => return Vec::new(),
+    };
     let sizes = sides.map(|(_, (a, b), ends)| measure([lines[a], lines[b]], ends));
     let placed = |triangle: [Place; 3]| {
         let mut union: Part = vec![None; sheet.elements.len()];

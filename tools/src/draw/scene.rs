@@ -138,7 +138,7 @@ impl<'a> Scene<'a> {
         let part = self.part_on(constraint);
         Paint {
             colour: part.map_or(GREY, |part| self.colour(part)),
-            dashed: part.is_some_and(|part| self.free(part)),
+            dashed: part.map_or(false, |part| self.free(part)),
             heavy: false,
         }
     }

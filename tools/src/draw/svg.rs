@@ -255,7 +255,10 @@ fn contact(scene: &Scene, c: &Constraint, paint: Paint) -> Drawn {
 /// An angle: an arc where the lines meet, or its size between them.
 fn angle(scene: &Scene, k: usize, paint: Paint) -> Drawn {
     let c = &scene.document.sheet.constraints[k];
-    let Some(meeting) = scene.meeting(c) else { return measured(scene, k, paint) };
+    let meeting = match scene.meeting(c) {
+        Some(meeting) => meeting,
+        None => return measured(scene, k, paint),
+    };
     let (from, to) = (scene.place(c.first)[0], scene.place(c.second)[0]);
     let turn = wrapped(to - from);
     let radius = 30.0 / scene.long(1.0);

@@ -55,7 +55,7 @@ pub fn degrees(hundredths: i64) -> String {
 
 /// A decimal of so many parts, all its places written.
 fn scaled(parts: i64, of: i64) -> String {
-    let width = of.ilog10() as usize;
+    let width = of.to_string().len() - 1;
     let size = parts.abs();
     format!("{}{}.{:0width$}", if parts < 0 { "-" } else { "" }, size / of, size % of)
 }

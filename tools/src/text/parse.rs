@@ -41,7 +41,7 @@ impl Reader {
     fn new_name<'a>(&self, line: &mut Line<'a>) -> Result<Word<'a>, Refusal> {
         let word = line.word("a name")?;
         let mut characters = word.text.chars();
-        let letter = characters.next().is_some_and(char::is_alphabetic);
+        let letter = characters.next().map_or(false, char::is_alphabetic);
         if !letter || !characters.all(|c| c.is_alphanumeric() || "_-.'".contains(c)) {
             return Err(line.unexpected("a name: a letter, then letters, digits, or one of _ - . '", word));
         }
