@@ -36,6 +36,10 @@ $(SHARED): $(STATIC) c/exports.map
 command: $(PROVED)
 	cd tools && cargo build --release --quiet
 
+# The library for Arm, Windows and WebAssembly, in target/targets; targets/README.md says more.
+targets: $(PROVED)
+	targets/build
+
 install: all
 	install -d $(TO)/bin $(TO)/include $(TO)/lib/pkgconfig $(TO)/share/man/man1
 	install -d $(TO)/share/bash-completion/completions $(TO)/share/zsh/site-functions $(TO)/share/fish/vendor_completions.d
@@ -61,4 +65,4 @@ uninstall:
 clean:
 	rm -rf $(OUT)
 
-.PHONY: all command install uninstall clean
+.PHONY: all command targets install uninstall clean
