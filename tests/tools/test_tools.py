@@ -66,7 +66,7 @@ class Json(unittest.TestCase):
     """What is printed for programs is JSON, and says what the words say."""
 
     def check(self, *paths):
-        return json.loads(pattern("check", "--json", *paths)[1])
+        return json.loads(pattern("check", "--json", *paths)[1])["answer"]["files"]
 
     def test_every_stored_sheet(self):
         paths = [os.path.join(SHEETS, name) for name in sorted(os.listdir(SHEETS)) if name.endswith(".sheet")]
@@ -75,7 +75,8 @@ class Json(unittest.TestCase):
                 lines = [line.split() for line in file]
             self.assertEqual(found["file"], path)
             if lines[0][0] == "refused":
-                self.assertEqual((found["status"], found["rule"]), ("refused", int(lines[0][1])))
+                rules = [error["rule"] for error in found["errors"]]
+                self.assertEqual((found["status"], rules), ("refused", [int(lines[0][1])]))
                 continue
             self.assertEqual(found["status"], lines[0][1])
             self.assertEqual([found["elements"], found["constraints"]], [int(lines[1][1]), int(lines[1][3])])
@@ -139,7 +140,7 @@ class Many(unittest.TestCase):
             start = time.monotonic()
             status, out, error = pattern("check", "--json", *paths)
             took = time.monotonic() - start
-            found = json.loads(out)
+            found = json.loads(out)["answer"]["files"]
             self.assertEqual((status, error), (1, ""))
             self.assertEqual([row["file"] for row in found], paths)
             self.assertEqual([row["status"] for row in found], wanted)
@@ -155,7 +156,7 @@ class Pictures(unittest.TestCase):
     NAMES = ("gable", "frame", "braced", "lattice", "triangle", "hipped", "rails", "open", "light")
 
     def facts(self, name):
-        return json.loads(pattern("show", "--json", text(name))[1])
+        return json.loads(pattern("show", "--json", text(name))[1])["answer"]
 
     def groups(self, picture):
         """The groups of a picture by the key that they light: the shapes of each, in the order they are drawn."""

@@ -4,6 +4,8 @@ use std::ffi::{OsStr, OsString};
 use std::path::PathBuf;
 
 use crate::fault::{Fault, Status};
+use crate::json::Json;
+use crate::near::nearest;
 
 /// An option of a command.
 #[derive(Debug)]
@@ -30,8 +32,9 @@ pub struct Command {
 }
 
 /// What was asked of a command.
-#[derive(Debug, Default)]
+#[derive(Debug)]
 pub struct Call {
+    pub command: &'static str,
     pub operands: Vec<OsString>,
     flags: Vec<(&'static str, Option<OsString>)>,
 }
@@ -70,11 +73,32 @@ impl Answer {
         Answer { out: out.into(), to: None, notes: Vec::new(), status }
     }
 
+    /// An answer for a program on standard output.
+    pub fn json(call: &Call, value: Json, status: Status) -> Answer {
+        Answer::print(envelope(Some(call.command), status, Json::List(Vec::new()), value), status)
+    }
+
+    /// An answer for a program that may go to a file.
+    pub fn deliver_json(call: &Call, value: Json, status: Status) -> Answer {
+        Answer::deliver(call, envelope(Some(call.command), status, Json::List(Vec::new()), value), status)
+    }
+
     /// An answer that may go to a file.
     pub fn deliver(call: &Call, out: impl Into<Vec<u8>>, status: Status) -> Answer {
         let to = call.value(&OUTPUT).filter(|path| *path != "-").map(PathBuf::from);
         Answer { to, ..Answer::print(out, status) }
     }
+}
+
+/// What every command prints for a program (docs/pattern.schema.json): its name, the version, the exit status, complaints, and the answer, which is null
+/// where there are complaints.
+pub fn envelope(command: Option<&str>, status: Status, errors: Json, answer: Json) -> String {
+    let (command, version, exit) = (Json::maybe(command), Json::from(env!("CARGO_PKG_VERSION")), status as u8);
+    format!(
+        "{{\n  \"command\": {command},\n  \"version\": {version},\n  \"exit\": {exit},\n  \"errors\": {},\n  \"answer\": {}\n}}\n",
+        errors.laid_out(1, 2),
+        answer.laid_out(2, 2)
+    )
 }
 
 /// `-o FILE`.
@@ -88,7 +112,7 @@ pub const HELP: Flag = Flag { name: "help", short: Some('h'), value: None, says:
 /// Reads the arguments of a command; none where help was asked for.
 pub fn parse(command: &Command, arguments: impl IntoIterator<Item = OsString>) -> Result<Option<Call>, Fault> {
     let usage = |message: String| Fault::Usage(format!("{message}\nusage: {}", usage(command)));
-    let mut call = Call::default();
+    let mut call = Call { command: command.name, operands: Vec::new(), flags: Vec::new() };
     let mut arguments = arguments.into_iter();
     while let Some(argument) = arguments.next() {
         let text = argument.to_str().unwrap_or_default();
@@ -104,7 +128,12 @@ pub fn parse(command: &Command, arguments: impl IntoIterator<Item = OsString>) -
             let flags = command.flags.iter().copied().chain([&HELP]);
             let flag = match flags.into_iter().find(|flag| flag.is(name)) {
                 Some(flag) => flag,
-                None => return Err(usage(format!("no option is called {name}"))),
+                None => {
+                    let known = command.flags.iter().map(|flag| flag.name).chain([HELP.name]);
+                    let hint = nearest(name.trim_start_matches('-'), known);
+                    let hint = hint.map_or(String::new(), |meant| format!("; did you mean --{meant}?"));
+                    return Err(usage(format!("no option is called {name}{hint}")));
+                }
             };
             if flag.name == HELP.name {
                 return Ok(None);

@@ -109,6 +109,12 @@ pub fn json(document: &Document, finding: &Finding, position: Option<&Position>)
     ]
 }
 
+/// The steps of a plan for a program.
+pub fn steps_json<'a>(document: &Document, steps: impl IntoIterator<Item = &'a pattern::Step>) -> Json {
+    let steps = steps.into_iter().map(|step| step_json(document, step)).collect();
+    Json::Object(vec![("steps", Json::List(steps))])
+}
+
 /// A step for a program.
 pub fn step_json(document: &Document, step: &pattern::Step) -> Json {
     Json::Object(vec![

@@ -6,8 +6,9 @@ use std::io::{self, Read};
 
 use crate::describe::counted;
 use crate::fault::{Fault, Refusal, Spot};
-use crate::sheet::{Part, Sheet, members};
-use crate::{engine, fields, text};
+use crate::near::did_you_mean;
+use crate::sheet::{Constraint, Kind, Opening, Part, Sheet, members};
+use crate::{encoding, engine, fields, hint, text};
 
 /// The most bytes that are read of a file.
 const MOST: u64 = 1 << 20;
@@ -34,16 +35,16 @@ impl Document {
 
     /// The sheet that some content is.
     pub fn of(path: &str, content: &[u8]) -> Result<Document, Fault> {
-        let refused = |refusal| Fault::Refused { path: path.to_string(), refusal };
-        match as_text(content) {
+        match encoding::text(content) {
             Some(source) => {
-                let parsed = text::parse(source).map_err(refused)?;
-                let bytes = engine::write(&parsed.sheet).map_err(|rule| refused(refusal(&parsed, rule)))?;
+                let (parsed, complaints) = text::parse(source);
+                let bytes = judge(&parsed, complaints)
+                    .map_err(|refusals| Fault::Refused { path: path.to_string(), refusals })?;
                 let text::Text { sheet, names, .. } = parsed;
                 Ok(Document { path: path.to_string(), sheet, names, bytes, source: Some(source.to_string()) })
             }
             None => {
-                let (sheet, bytes) = fields::read(content).map_err(refused)?;
+                let (sheet, bytes) = fields::read(content).map_err(|refusal| Fault::refused(path, refusal))?;
                 let names = text::default_names(&sheet.elements);
                 Ok(Document { path: path.to_string(), sheet, names, bytes, source: None })
             }
@@ -69,7 +70,11 @@ impl Document {
     pub fn element(&self, name: &str) -> Result<usize, Fault> {
         let named = self.names.iter().position(|known| known == name);
         let number = name.parse::<usize>().ok();
-        named.or(number).ok_or_else(|| Fault::Usage(format!("{}: no element is named {name}", self.path)))
+        named.or(number).ok_or_else(|| {
+            let hint = did_you_mean(name, self.names.iter().map(String::as_str));
+            let hint = if hint.is_empty() { hint } else { format!("; {hint}") };
+            Fault::Usage(format!("{}: no element is named {name}{hint}", self.path))
+        })
     }
 
     /// A refusal of a call on this sheet.
@@ -95,26 +100,64 @@ pub fn read(path: &OsStr) -> Result<Vec<u8>, Fault> {
     Ok(content)
 }
 
-/// The content as a text form, if it is one: it does not open as a sheet, and holds characters and no control characters but white space.
-fn as_text(content: &[u8]) -> Option<&str> {
-    let text = std::str::from_utf8(content).ok()?;
-    let text = text.strip_prefix('\u{feff}').unwrap_or(text);
-    let printable = text.chars().all(|c| !c.is_control() || c.is_whitespace());
-    (!content.is_empty() && !content.starts_with(b"PF0") && printable).then_some(text)
+/// The bytes of what a text says, or every complaint about it: those of the text, and what the proved writer refuses. What it refuses is left out, and
+/// the rest tried again.
+fn judge(parsed: &text::Text, mut complaints: Vec<Refusal>) -> Result<Vec<u8>, Vec<Refusal>> {
+    let understood = complaints.is_empty();
+    let mut rest = parsed.clone();
+    let mut numbers: Vec<usize> = (0..rest.constraints.len()).collect();
+    let written = loop {
+        let rule = match engine::write(&rest.sheet) {
+            Ok(bytes) => break Some(bytes),
+            Err(rule) => rule,
+        };
+        let part = rest.sheet.fault(rule);
+        let (spot, words, constraint) = match part {
+            Part::Element(i) => (rest.elements[i], format!("element {i}, {}", rest.names[i]), None),
+            Part::Constraint(k) => {
+                let statement = text::constraint(&rest.sheet, &rest.names, &rest.sheet.constraints[k]);
+                (rest.constraints[k], format!("constraint {}, {statement}", numbers[k]), Some(numbers[k]))
+            }
+            Part::Whole => {
+                let (n, e) = (rest.sheet.elements.len(), rest.sheet.constraints.len());
+                (Spot::Whole, format!("{}, {}", counted(n, "element"), counted(e, "constraint")), None)
+            }
+        };
+        let hint = match part {
+            Part::Constraint(k) if rule.0 == 7 => earlier(&rest, k),
+            _ => hint::of(&rest.sheet, &rest.names, rule, part),
+        };
+        let refusal = Refusal { constraint, ..Refusal::rule(spot, rule, words).hint(hint) };
+        match part {
+            Part::Element(_) if rule.0 == 18 => rest.sheet.opening = Opening::Pf02,
+            Part::Element(i) => rest.sheet.elements[i] = Kind::Circle(1),
+            Part::Constraint(k) => {
+                rest.sheet.constraints.remove(k);
+                rest.constraints.remove(k);
+                numbers.remove(k);
+            }
+            // too few elements may only mean that a line that names some was not understood
+            Part::Whole if understood => {
+                complaints.push(refusal);
+                break None;
+            }
+            Part::Whole => break None,
+        }
+        complaints.push(refusal);
+    };
+    complaints.sort_by_key(|refusal| refusal.spot.order());
+    written.filter(|_| complaints.is_empty()).ok_or(complaints)
 }
 
-/// Why the writer refuses what a text says, and which statement is at fault.
-fn refusal(parsed: &text::Text, rule: pattern::Rule) -> Refusal {
-    let (spot, words, constraint) = match parsed.sheet.fault(rule) {
-        Part::Element(i) => (parsed.elements[i], format!("element {i}, {}", parsed.names[i]), None),
-        Part::Constraint(k) => {
-            let statement = text::constraint(&parsed.sheet, &parsed.names, &parsed.sheet.constraints[k]);
-            (parsed.constraints[k], format!("constraint {k}, {statement}"), Some(k))
-        }
-        Part::Whole => {
-            let (n, e) = (parsed.sheet.elements.len(), parsed.sheet.constraints.len());
-            (Spot::Whole, format!("{}, {}", counted(n, "element"), counted(e, "constraint")), None)
-        }
-    };
-    Refusal { spot, rule: Some(rule), words, constraint }
+/// Which statement above holds the two ends of a constraint already.
+fn earlier(parsed: &text::Text, k: usize) -> String {
+    let constraints = &parsed.sheet.constraints;
+    let ends = |constraint: &Constraint| (constraint.first, constraint.second);
+    let found = constraints[..k].iter().position(|other| ends(other) == ends(&constraints[k]));
+    let statement = |j: usize| text::constraint(&parsed.sheet, &parsed.names, &constraints[j]);
+    match found.map(|j| (j, parsed.constraints[j])) {
+        Some((j, Spot::Text { line, .. })) => format!("line {line} has it: {}", statement(j)),
+        Some((j, _)) => format!("constraint {j} has it: {}", statement(j)),
+        None => String::new(),
+    }
 }

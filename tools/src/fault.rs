@@ -33,7 +33,17 @@ pub enum Spot {
     Whole,
 }
 
-/// Why a file is not accepted.
+impl Spot {
+    /// Line and column, by which complaints about a text are sorted; those about the whole of it come last.
+    pub fn order(self) -> (usize, usize) {
+        match self {
+            Spot::Text { line, column } => (line, column),
+            _ => (usize::MAX, 0),
+        }
+    }
+}
+
+/// One complaint about a file.
 #[derive(Clone, PartialEq, Eq, Debug)]
 pub struct Refusal {
     pub spot: Spot,
@@ -43,53 +53,54 @@ pub struct Refusal {
     pub words: String,
     /// The constraint at fault.
     pub constraint: Option<usize>,
+    /// What would be accepted, or what was meant; empty where nothing is known.
+    pub hint: String,
 }
 
 impl Refusal {
     /// A text form that cannot be understood.
     pub fn text(line: usize, column: usize, words: String) -> Refusal {
-        Refusal { spot: Spot::Text { line, column }, rule: None, words, constraint: None }
+        Refusal { spot: Spot::Text { line, column }, rule: None, words, constraint: None, hint: String::new() }
+    }
+
+    /// A rule that refuses what some words name, at a place.
+    pub fn rule(spot: Spot, rule: Rule, words: impl Into<String>) -> Refusal {
+        Refusal { spot, rule: Some(rule), words: words.into(), constraint: None, hint: String::new() }
     }
 
     /// A rule that refuses a call as a whole.
     pub fn whole(rule: Rule) -> Refusal {
-        Refusal { spot: Spot::Whole, rule: Some(rule), words: String::new(), constraint: None }
+        Refusal::rule(Spot::Whole, rule, "")
     }
 
-    /// The fields of the refusal for a program.
-    pub fn json(&self) -> Vec<(&'static str, Json)> {
-        let mut fields = vec![("status", Json::from("refused"))];
-        if let Some(rule) = self.rule {
-            fields.push(("rule", rule.0.into()));
-            fields.push(("text", rule.reason().into()));
+    /// A file that is no sheet, plan or list, by no rule.
+    pub fn file(words: impl Into<String>) -> Refusal {
+        Refusal { spot: Spot::Whole, rule: None, words: words.into(), constraint: None, hint: String::new() }
+    }
+
+    /// The complaint with a way out.
+    pub fn hint(self, hint: impl Into<String>) -> Refusal {
+        Refusal { hint: hint.into(), ..self }
+    }
+
+    /// The complaint in words, without the way out.
+    fn message(&self) -> String {
+        let rule = match self.rule {
+            Some(rule) => rule,
+            None => return self.words.clone(),
+        };
+        match (self.spot, self.words.as_str()) {
+            (Spot::Byte(byte), words) => format!("{rule} (byte {byte}, {words})"),
+            (_, "") => rule.to_string(),
+            (_, words) => format!("{rule} ({words})"),
         }
-        match self.spot {
-            Spot::Byte(byte) => fields.push(("byte", byte.into())),
-            Spot::Text { line, column } => fields.extend([("line", line.into()), ("column", column.into())]),
-            Spot::Whole => {}
-        }
-        if let Some(constraint) = self.constraint {
-            fields.push(("constraint", constraint.into()));
-        }
-        if !self.words.is_empty() {
-            fields.push(("words", self.words.as_str().into()));
-        }
-        fields
     }
 }
 
 impl fmt::Display for Refusal {
     fn fmt(&self, f: &mut fmt::Formatter) -> fmt::Result {
-        let rule = match self.rule {
-            Some(rule) => rule,
-            None => return f.write_str(&self.words),
-        };
-        write!(f, "{rule}")?;
-        match (self.spot, self.words.as_str()) {
-            (Spot::Byte(byte), words) => write!(f, " (byte {byte}, {words})"),
-            (_, "") => Ok(()),
-            (_, words) => write!(f, " ({words})"),
-        }
+        f.write_str(&self.message())?;
+        if self.hint.is_empty() { Ok(()) } else { write!(f, "; {}", self.hint) }
     }
 }
 
@@ -98,13 +109,18 @@ impl fmt::Display for Refusal {
 pub enum Fault {
     Usage(String),
     File { path: String, error: io::Error },
-    Refused { path: String, refusal: Refusal },
+    Refused { path: String, refusals: Vec<Refusal> },
 }
 
 impl Fault {
+    /// A refusal of a file.
+    pub fn refused(path: &str, refusal: Refusal) -> Fault {
+        Fault::Refused { path: path.to_string(), refusals: vec![refusal] }
+    }
+
     /// A refusal by a rule of a call on a file as a whole.
     pub fn rule(path: &str, rule: Rule) -> Fault {
-        Fault::Refused { path: path.to_string(), refusal: Refusal::whole(rule) }
+        Fault::refused(path, Refusal::whole(rule))
     }
 
     /// The status that the command ends with.
@@ -116,27 +132,70 @@ impl Fault {
         }
     }
 
-    /// The fields of the fault for a program.
-    pub fn json(&self) -> Vec<(&'static str, Json)> {
+    /// The word for it.
+    pub fn name(&self) -> &'static str {
         match self {
-            Fault::Usage(message) => vec![("status", "usage".into()), ("text", message.as_str().into())],
-            Fault::File { error, .. } => vec![("status", "unreadable".into()), ("text", reason(error).into())],
-            Fault::Refused { refusal, .. } => refusal.json(),
+            Fault::Usage(_) => "usage",
+            Fault::File { .. } => "unreadable",
+            Fault::Refused { .. } => "refused",
         }
+    }
+
+    /// Every complaint in words, a line each.
+    pub fn lines(&self) -> Vec<String> {
+        match self {
+            Fault::Usage(message) => vec![message.clone()],
+            Fault::File { path, error } => vec![format!("{path}: {}", reason(error))],
+            Fault::Refused { path, refusals } => refusals.iter().map(|refusal| placed(path, refusal)).collect(),
+        }
+    }
+
+    /// Every complaint for a program.
+    pub fn json(&self) -> Json {
+        Json::List(match self {
+            Fault::Usage(message) => vec![error_json(None, self.name(), message, None)],
+            Fault::File { path, error } => vec![error_json(Some(path), self.name(), &reason(error), None)],
+            Fault::Refused { path, refusals } => {
+                let object = |refusal: &Refusal| error_json(Some(path), self.name(), &refusal.message(), Some(refusal));
+                refusals.iter().map(object).collect()
+            }
+        })
     }
 }
 
 impl fmt::Display for Fault {
     fn fmt(&self, f: &mut fmt::Formatter) -> fmt::Result {
-        match self {
-            Fault::Usage(message) => f.write_str(message),
-            Fault::File { path, error } => write!(f, "{path}: {}", reason(error)),
-            Fault::Refused { path, refusal } => match refusal.spot {
-                Spot::Text { line, column } => write!(f, "{path}:{line}:{column}: {refusal}"),
-                _ => write!(f, "{path}: {refusal}"),
-            },
-        }
+        f.write_str(&self.lines().join("\n"))
     }
+}
+
+/// A complaint behind the place that it is about.
+fn placed(path: &str, refusal: &Refusal) -> String {
+    match refusal.spot {
+        Spot::Text { line, column } => format!("{path}:{line}:{column}: {refusal}"),
+        _ => format!("{path}: {refusal}"),
+    }
+}
+
+/// One complaint for a program: every field stands there, null where it says nothing.
+fn error_json(path: Option<&str>, status: &'static str, message: &str, refusal: Option<&Refusal>) -> Json {
+    let (line, column, byte) = match refusal.map(|refusal| refusal.spot) {
+        Some(Spot::Text { line, column }) => (line.into(), column.into(), Json::Null),
+        Some(Spot::Byte(byte)) => (Json::Null, Json::Null, byte.into()),
+        _ => (Json::Null, Json::Null, Json::Null),
+    };
+    let hint = refusal.map(|refusal| refusal.hint.as_str()).filter(|hint| !hint.is_empty());
+    Json::Object(vec![
+        ("file", Json::maybe(path)),
+        ("status", status.into()),
+        ("rule", Json::maybe(refusal.and_then(|refusal| refusal.rule).map(|rule| rule.0))),
+        ("line", line),
+        ("column", column),
+        ("byte", byte),
+        ("constraint", Json::maybe(refusal.and_then(|refusal| refusal.constraint))),
+        ("message", message.into()),
+        ("hint", Json::maybe(hint)),
+    ])
 }
 
 /// The system's words for an error, without its number.

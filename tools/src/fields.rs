@@ -7,7 +7,8 @@ use pattern::Rule;
 
 use crate::engine;
 use crate::fault::{Refusal, Spot};
-use crate::sheet::{Constraint, Dimension, Kind, Opening, Sheet};
+use crate::sheet::{Constraint, Dimension, Kind, Opening, Part, Sheet};
+use crate::{encoding, hint, text};
 
 /// What a field says.
 #[derive(Clone, Copy, PartialEq, Eq, Debug)]
@@ -132,14 +133,19 @@ fn locate(bytes: &[u8], rule: Rule) -> Refusal {
             low = middle + 1;
         }
     }
-    let fields = walk(bytes).1;
+    let (sheet, fields) = walk(bytes);
     let (byte, field) = match rule.0 {
         1 => (common(bytes, b"PF0"), Name::Opening),
         2 => (bytes.len(), field_at(&fields, bytes.len() + 1)),
         10 => (low - 1, Name::Extra),
         _ => (start_of(&fields, low), field_at(&fields, low)),
     };
-    Refusal { spot: Spot::Byte(byte), rule: Some(rule), words: field.words(), constraint: field.constraint() }
+    let hint = match (rule.0, field.constraint()) {
+        (1, _) => encoding::named(bytes),
+        (_, Some(k)) => hint::of(&sheet, &text::default_names(&sheet.elements), rule, Part::Constraint(k)),
+        _ => String::new(),
+    };
+    Refusal { constraint: field.constraint(), ..Refusal::rule(Spot::Byte(byte), rule, field.words()).hint(hint) }
 }
 
 /// The first field that ends at a place or after it.

@@ -19,16 +19,24 @@ impl Json {
         Json::List(items.into_iter().map(Into::into).collect())
     }
 
-    /// The value laid out over lines: a line for each item of the outermost list, or for each field of the outermost object.
-    pub fn lines(&self) -> String {
+    /// A value, or null.
+    pub fn maybe<T: Into<Json>>(value: Option<T>) -> Json {
+        value.map_or(Json::Null, Into::into)
+    }
+
+    /// The value laid out over lines, so many levels deep: a line for each item of a list and for each field of an object. All lines but the first stand
+    /// behind so much space.
+    pub fn laid_out(&self, levels: usize, space: usize) -> String {
+        let inner = |value: &Json| value.laid_out(levels - 1, space + 2);
         let (open, close, rows): (_, _, Vec<String>) = match self {
-            Json::List(items) if !items.is_empty() => ('[', ']', items.iter().map(Json::to_string).collect()),
-            Json::Object(fields) if !fields.is_empty() => {
-                ('{', '}', fields.iter().map(|(name, value)| format!("\"{name}\": {value}")).collect())
+            Json::List(items) if levels > 0 && !items.is_empty() => ('[', ']', items.iter().map(inner).collect()),
+            Json::Object(fields) if levels > 0 && !fields.is_empty() => {
+                ('{', '}', fields.iter().map(|(name, value)| format!("\"{name}\": {}", inner(value))).collect())
             }
-            other => return format!("{other}\n"),
+            other => return other.to_string(),
         };
-        format!("{open}\n  {}\n{close}\n", rows.join(",\n  "))
+        let gap = format!("\n{:space$}", "");
+        format!("{open}{gap}  {}{gap}{close}", rows.join(&format!(",{gap}  ")))
     }
 }
 

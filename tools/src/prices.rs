@@ -6,11 +6,18 @@
 //! A C never
 //! ```
 
+use std::ffi::OsStr;
+
 use pattern::UNMEASURED;
 
-use crate::document::Document;
+use crate::document::{self, Document};
+use crate::encoding;
 use crate::fault::{Fault, Refusal};
+use crate::near::did_you_mean;
 use crate::text::Line;
+
+/// The most complaints that are gathered of one list.
+const MOST: usize = 100;
 
 /// The word for a pair that can't be measured.
 const NEVER: &str = "never";
@@ -25,14 +32,23 @@ pub struct Prices {
 }
 
 impl Prices {
+    /// Reads a file.
+    pub fn load(path: &OsStr) -> Result<Prices, Fault> {
+        let shown = document::shown(path);
+        let content = document::read(path)?;
+        let text = encoding::plain(&content).map_err(|what| Fault::refused(&shown, Refusal::file(what)))?;
+        Prices::parse(&shown, text)
+    }
+
     /// Reads a price list.
     pub fn parse(path: &str, text: &str) -> Result<Prices, Fault> {
         let mut prices = Prices { path: path.to_string(), ..Prices::default() };
-        let refused = |refusal| Fault::Refused { path: path.to_string(), refusal };
-        for mut line in Line::all(text) {
-            prices.row(&mut line).map_err(refused)?;
+        let complaints: Vec<_> =
+            Line::all(text).filter_map(|mut line| prices.row(&mut line).err()).take(MOST).collect();
+        match complaints.is_empty() {
+            true => Ok(prices),
+            false => Err(Fault::Refused { path: path.to_string(), refusals: complaints }),
         }
-        Ok(prices)
     }
 
     /// One line.
@@ -55,9 +71,9 @@ impl Prices {
         for (line, names, price) in &self.pairs {
             let number = |name: &String| {
                 let words = format!("expected the name of an element of {}, found \"{name}\"", document.path);
-                let refusal = || Refusal::text(*line, 1, words.clone());
+                let hint = || did_you_mean(name, document.names.iter().map(String::as_str));
                 let found = document.names.iter().position(|known| known == name);
-                found.ok_or_else(|| Fault::Refused { path: self.path.clone(), refusal: refusal() })
+                found.ok_or_else(|| Fault::refused(&self.path, Refusal::text(*line, 1, words).hint(hint())))
             };
             let (a, b) = (number(&names[0])?, number(&names[1])?);
             table[a.min(b)][a.max(b)] = *price;

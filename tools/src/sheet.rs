@@ -53,13 +53,25 @@ impl Sheet {
         };
         let n = self.elements.len();
         match rule.0 {
-            18 | 19 => (0..n).find(|&i| refused(i + 1, 0)).map_or(Part::Whole, Part::Element),
-            6..=9 | 20 => {
-                (0..self.constraints.len()).find(|&i| refused(n, i + 1)).map_or(Part::Whole, Part::Constraint)
-            }
+            18 | 19 => first(n, |i| refused(i, 0)).map_or(Part::Whole, Part::Element),
+            6..=9 | 20 => first(self.constraints.len(), |e| refused(n, e)).map_or(Part::Whole, Part::Constraint),
             _ => Part::Whole,
         }
     }
+}
+
+/// The last place of the shortest beginning that is refused: each longer one is refused too, so that halving finds it.
+fn first(count: usize, refused: impl Fn(usize) -> bool) -> Option<usize> {
+    let (mut low, mut high) = (0, count);
+    while low < high {
+        let middle = low + (high - low) / 2;
+        if refused(middle + 1) {
+            high = middle;
+        } else {
+            low = middle + 1;
+        }
+    }
+    (low < count).then(|| low)
 }
 
 /// The elements of a set, ascending: element i as bit i.

@@ -81,12 +81,26 @@ fn openings() -> Vec<Opening> {
     [Opening::Pf01, Opening::Pf02].into_iter().filter(written).collect()
 }
 
-/// The refusal of some content.
-fn refusal(content: &[u8]) -> Refusal {
+/// Every complaint about some content.
+fn complaints(content: &[u8]) -> Vec<Refusal> {
     match Document::of("it", content) {
-        Err(Fault::Refused { refusal, .. }) => refusal,
+        Err(Fault::Refused { refusals, .. }) => refusals,
         other => panic!("{other:?} of {content:02x?}"),
     }
+}
+
+/// The one complaint about some content.
+fn refusal(content: &[u8]) -> Refusal {
+    let found = complaints(content);
+    assert_eq!(found.len(), 1, "{found:?}");
+    found[0].clone()
+}
+
+/// What a text says that nothing is wrong with.
+fn understood(text: &str) -> text::Text {
+    let (parsed, complaints) = text::parse(text);
+    assert!(complaints.is_empty(), "{complaints:?}");
+    parsed
 }
 
 #[test]
@@ -100,7 +114,7 @@ fn facts_bytes_and_text_say_the_same() {
             assert_eq!((&read, &plain), (&sheet, &bytes));
             let names = text::default_names(&sheet.elements);
             let printed = text::print(&sheet, &names);
-            let parsed = text::parse(&printed).expect("what was printed is understood");
+            let parsed = understood(&printed);
             assert_eq!((&parsed.sheet, &parsed.names), (&sheet, &names));
             assert_eq!(text::print(&parsed.sheet, &parsed.names), printed);
         }
@@ -115,7 +129,7 @@ fn names_units_and_comments_do_not_matter() {
         let names: Vec<_> = (0..sheet.elements.len()).map(|i| format!("n{}-{}'", random.below(90), i)).collect();
         let spaced = text::print(&sheet, &names).replace(' ', " \t ").replace(" \t mm", "mm").replace(" \t deg", "°");
         let text = format!("# a sheet\n\n{}", spaced.replace('\n', " # a comment\r\n"));
-        assert_eq!(text::parse(&text).expect("it is understood").sheet, sheet);
+        assert_eq!(understood(&text).sheet, sheet);
     }
 }
 
@@ -180,9 +194,59 @@ fn a_refused_statement_is_found() {
 }
 
 #[test]
+fn every_complaint_about_a_text_is_told_once() {
+    let told = |text: &str| {
+        let lines = |refusal: &Refusal| refusal.spot.order().0;
+        complaints(text.as_bytes()).iter().map(lines).collect::<Vec<_>>()
+    };
+    let text = "pont A B\npoint C\ndistance A B 5\ndistance C D 5\ncircle e five\ntangent e C\non C C\nangle C C 4 5\n";
+    // A, B and e stand in refused lines, so that what holds them is not complained about again
+    assert_eq!(told(text), [1, 4, 5, 7, 8]);
+    // rules beside words, by line; and none that too few elements are named where a line was not understood
+    assert_eq!(told("point A B\ndistance A B 0\ndistance A A 5\ndistance A B 5 5\ndistance B A 9999\n"), [2, 3, 4, 5]);
+    assert_eq!(told("point A\npoint 5\n"), [2]);
+    let many: String = (0..1000).map(|i| format!("nonsense {i}\n")).collect();
+    assert_eq!(told(&many).len(), 101);
+}
+
+#[test]
+fn a_complaint_says_what_would_do() {
+    let says = |text: &str, words: &str| {
+        let found = refusal(text.as_bytes());
+        assert!(found.hint.contains(words), "{found}");
+    };
+    says(
+        "line a b\nangle a b 0\n",
+        "an angle is -179.99 deg to 179.99 deg, and not 0; parallel lines: hold both by an angle",
+    );
+    says("line a b\nangle a b 180\n", "parallel lines");
+    says("line a b\nangle a b 270\n", "-90.00 deg is the same");
+    says("line a b\nangle a b -190\n", "170.00 deg is the same");
+    says("point A\nline l\ndistance A l 0\n", "write: on A l");
+    says("line l\npoint A\ndistance A l 4000.1\n", "a distance from a line is -4000.0 mm to 4000.0 mm");
+    says("point A B\ndistance A B 4000.1\n", "a distance between points is 0.1 mm to 4000.0 mm");
+    says("point A B\ndistance A B -5\n", "without a sign");
+    says("point A B\ndistance A B 0\n", "two points in one place are one");
+    says("point A B\ndistance A A 5\n", "both ends are A");
+    says("point A B\ndistance A B 5\ndistance B A 6\n", "line 2 has it: distance A B 5.0 mm");
+    says("point A B\ndistnce A B 5\n", "did you mean distance?");
+    says("point A B\nparallel A B\n", "a third line");
+    says("point Alpha B\ndistance alpha B 5\n", "did you mean Alpha?");
+    says("point A\ndistance A B 5\npoint B\n", "line 3 names it");
+    says("point A B\ndistance A B 100,5\n", "write 100.5");
+    says("point A B\ndistance A B 100,5mm\n", "write 100.5mm");
+    says("point A\nline l\ndistance A l \u{2212}5\n", "write -5");
+    says("point A B\ndistance A B 5in\n", "an inch is 25.4 mm");
+    says("point A\ncircle c 4000.1\n", "a radius is 0.1 mm to 4000.0 mm");
+    says("opening PF01\npoint A\ncircle c 5\n", "leave the line \"opening PF01\" out");
+    says("point A\n", "name two elements or more");
+    says("", "the file is empty");
+}
+
+#[test]
 fn an_angle_turns_the_other_way_from_the_other_line() {
-    let one = text::parse("line a b\nangle a b 30\n").expect("it is understood");
-    let other = text::parse("line a b\nangle b a -30\n").expect("it is understood");
+    let one = understood("line a b\nangle a b 30\n");
+    let other = understood("line a b\nangle b a -30\n");
     assert_eq!(one.sheet, other.sheet);
 }
 

@@ -9,7 +9,8 @@ use crate::fault::{Fault, Refusal, Spot};
 use crate::finding::{Finding, verdict_name};
 use crate::json::Json;
 use crate::prices::Prices;
-use crate::text;
+use crate::sheet::Part;
+use crate::{hint, text};
 
 /// Runs the command.
 pub fn run(call: &Call) -> Result<Answer, Fault> {
@@ -19,14 +20,17 @@ pub fn run(call: &Call) -> Result<Answer, Fault> {
     for place in 1..call.operands.len() {
         let statement = call.text(place)?;
         let parsed = text::statement(statement, &document.sheet.elements, &document.names);
-        more.push(parsed.map_err(|refusal| Fault::Refused { path: format!("statement {place}"), refusal })?);
+        more.push(parsed.map_err(|refusal| Fault::refused(&format!("statement {place}"), refusal))?);
         statements.push(statement);
     }
     let bytes = engine::place(&document.bytes, &more).map_err(|(place, rule)| match place {
         Some(place) => {
-            let words = statements[place].to_string();
-            let refusal = Refusal { spot: Spot::Whole, rule: Some(rule), words, constraint: None };
-            Fault::Refused { path: format!("statement {}", place + 1), refusal }
+            let mut sheet = document.sheet.clone();
+            sheet.constraints.extend(&more[..=place]);
+            let last = Part::Constraint(sheet.constraints.len() - 1);
+            let hint = hint::of(&sheet, &document.names, rule, last);
+            let refusal = Refusal::rule(Spot::Whole, rule, statements[place]).hint(hint);
+            Fault::refused(&format!("statement {}", place + 1), refusal)
         }
         None => document.refused(rule),
     })?;
@@ -42,12 +46,11 @@ pub fn run(call: &Call) -> Result<Answer, Fault> {
         let said = format!("{}: {}", grown.path, verdict_name(finding.verdict));
         return Ok(Answer { notes: vec![said], ..Answer::deliver(call, out, status) });
     }
-    let out = if call.has(&JSON) {
-        Json::Object(describe::json(&grown, &finding, None)).lines()
-    } else {
-        let lines = describe::lines(&grown, &finding, None);
-        format!("{}: {}\n  {}\n", grown.path, verdict_name(finding.verdict), lines.join("\n  "))
-    };
+    if call.has(&JSON) {
+        return Ok(Answer::json(call, Json::Object(describe::json(&grown, &finding, None)), status));
+    }
+    let lines = describe::lines(&grown, &finding, None);
+    let out = format!("{}: {}\n  {}\n", grown.path, verdict_name(finding.verdict), lines.join("\n  "));
     Ok(Answer::print(out, status))
 }
 

@@ -20,18 +20,14 @@ pub fn run(call: &Call) -> Result<Answer, Fault> {
         let named = |number: &u16| clusters.iter().find(|cluster| cluster.number == usize::from(*number));
         run.iter().filter_map(named).collect::<Vec<_>>()
     });
-    let out = match (chosen, call.has(&JSON)) {
-        (None, true) => "null\n".to_string(),
-        (None, false) => "none\n".to_string(),
-        (Some(run), true) => {
-            Json::List(run.into_iter().map(|cluster| describe::cluster_json(&document, cluster)).collect()).lines()
-        }
-        (Some(run), false) => {
-            let row = |cluster: &&engine::Cluster| {
-                format!("cluster {} holds {}\n", cluster.number, document.named(cluster.elements).join(" "))
-            };
-            run.iter().map(row).collect()
-        }
+    if call.has(&JSON) {
+        let object = |cluster| describe::cluster_json(&document, cluster);
+        let clusters = chosen.map(|run| Json::List(run.into_iter().map(object).collect()));
+        return Ok(Answer::json(call, Json::Object(vec![("clusters", Json::maybe(clusters))]), status));
+    }
+    let row = |cluster: &&engine::Cluster| {
+        format!("cluster {} holds {}\n", cluster.number, document.named(cluster.elements).join(" "))
     };
+    let out = chosen.map_or("none\n".to_string(), |run| run.iter().map(row).collect());
     Ok(Answer::print(out, status))
 }

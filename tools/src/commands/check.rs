@@ -42,8 +42,7 @@ fn status(checked: &Checked) -> Status {
 fn word(checked: &Checked) -> &'static str {
     match checked {
         Ok((_, finding, _)) => verdict_name(finding.verdict),
-        Err(Fault::File { .. }) => "unreadable",
-        Err(_) => "refused",
+        Err(fault) => fault.name(),
     }
 }
 
@@ -63,7 +62,7 @@ fn object(path: &OsStr, checked: &Checked) -> Json {
     let mut fields = vec![("file", document::shown(path).into())];
     match checked {
         Ok((document, finding, position)) => fields.extend(describe::json(document, finding, position.as_ref())),
-        Err(fault) => fields.extend(fault.json()),
+        Err(fault) => fields.extend([("status", fault.name().into()), ("errors", fault.json())]),
     }
     Json::Object(fields)
 }
@@ -83,14 +82,15 @@ fn table(results: &[Checked]) -> String {
 /// Runs the command.
 pub fn run(call: &Call) -> Result<Answer, Fault> {
     let prices = match call.value(&PRICES) {
-        Some(path) => Prices::parse(&document::shown(path), &String::from_utf8_lossy(&document::read(path)?))?,
+        Some(path) => Prices::load(path)?,
         None => Prices::default(),
     };
     let results = parallel::map(&call.operands, |path: &OsString| check(path, &prices));
     let status = results.iter().map(status).max().unwrap_or(Status::Well);
     if call.has(&JSON) {
         let objects = call.operands.iter().zip(&results).map(|(path, checked)| object(path, checked));
-        return Ok(Answer::print(Json::List(objects.collect()).lines(), status));
+        let files = Json::List(objects.collect());
+        return Ok(Answer::json(call, Json::Object(vec![("files", files)]), status));
     }
     let blocks = if call.has(&QUIET) { String::new() } else { results.iter().map(block).collect() };
     let table = if results.len() > 1 || call.has(&QUIET) { table(&results) } else { String::new() };

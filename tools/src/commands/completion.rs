@@ -1,8 +1,9 @@
 //! `pattern completion`: scripts for shells, from the table of commands.
 
 use super::COMMANDS;
-use crate::cli::{Answer, Call, Command, Flag, HELP};
+use crate::cli::{Answer, Call, Command, Flag, HELP, JSON};
 use crate::fault::{Fault, Status};
+use crate::json::Json;
 
 /// Runs the command.
 pub fn run(call: &Call) -> Result<Answer, Fault> {
@@ -12,6 +13,10 @@ pub fn run(call: &Call) -> Result<Answer, Fault> {
         "fish" => fish(),
         other => return Err(Fault::Usage(format!("a shell is bash, zsh or fish, found {other}"))),
     };
+    if call.has(&JSON) {
+        let fields = vec![("shell", call.text(0)?.into()), ("script", script.into())];
+        return Ok(Answer::json(call, Json::Object(fields), Status::Well));
+    }
     Ok(Answer::print(script, Status::Well))
 }
 

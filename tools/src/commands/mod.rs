@@ -20,6 +20,7 @@ const PRICES: Flag = Flag {
     says: "what measuring costs: lines \"A B 5\", \"A C never\", \"default 10\"",
 };
 const QUIET: Flag = Flag { name: "quiet", short: Some('q'), value: None, says: "print the table at the end alone" };
+const WORDS: Flag = Flag { name: "words", short: None, value: None, says: "print the steps in words, by names" };
 const HTML: Flag = Flag { name: "html", short: None, value: None, says: "a page with the report, lit by the mouse" };
 
 /// The most operands of a command that takes any number.
@@ -56,7 +57,7 @@ P, L or C with their number.",
         name: "make",
         operands: "FILE",
         count: (1, 1),
-        flags: &[&OUTPUT],
+        flags: &[&OUTPUT, &JSON],
         summary: "make a sheet in bytes from its text",
         about: "
 Names and comments are left behind: the bytes hold the facts alone. Statements:
@@ -81,11 +82,12 @@ The lines are the proved report's own, by numbers; --json gives the same by name
         name: "plan",
         operands: "FILE",
         count: (1, 1),
-        flags: &[&OUTPUT, &JSON],
+        flags: &[&OUTPUT, &JSON, &WORDS],
         summary: "print the plan, or save it with -o",
         about: "
-Three cluster numbers a step, a step a line. With -o the plan is saved as the older programs
-save it: 16-bit numbers, lowest byte first. A sheet that is over has no plan.",
+Three cluster numbers a step, a step a line; with --words each step in words, by the names of
+the elements. With -o the plan is saved as the older programs save it: 16-bit numbers, lowest
+byte first; words and JSON are saved as they are. A sheet that is over has no plan.",
         run: plan::plan,
     },
     Command {
@@ -162,7 +164,7 @@ dashed.",
         name: "completion",
         operands: "SHELL",
         count: (1, 1),
-        flags: &[],
+        flags: &[&JSON],
         summary: "print a completion script for bash, zsh or fish",
         about: "
   pattern completion bash > /etc/bash_completion.d/pattern",

@@ -5,7 +5,6 @@ use crate::describe;
 use crate::document::Document;
 use crate::engine;
 use crate::fault::{Fault, Status};
-use crate::json::Json;
 
 /// Runs the command.
 pub fn run(call: &Call) -> Result<Answer, Fault> {
@@ -20,6 +19,5 @@ pub fn run(call: &Call) -> Result<Answer, Fault> {
     let made = |line: &str| line.split(' ').nth(1).and_then(|word| word.parse::<usize>().ok());
     let steps = pattern::steps(&document.bytes).map_err(refused)?;
     let chosen = lines.lines().filter_map(made).filter_map(|made| steps.iter().find(|step| step.made == made));
-    let objects = chosen.map(|step| describe::step_json(&document, step)).collect();
-    Ok(Answer::print(Json::List(objects).lines(), Status::Well))
+    Ok(Answer::json(call, describe::steps_json(&document, chosen), Status::Well))
 }

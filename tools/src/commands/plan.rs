@@ -2,23 +2,28 @@
 
 use pattern::Rule;
 
+use super::WORDS;
 use super::check::status_of;
 use crate::cli::{Answer, Call, JSON, OUTPUT};
-use crate::describe;
 use crate::document::{self, Document};
-use crate::engine;
 use crate::fault::{Fault, Refusal, Spot, Status};
-use crate::json::Json;
+use crate::text::Line;
+use crate::{describe, encoding, engine, steps};
 
 /// Prints or saves the plan.
 pub fn plan(call: &Call) -> Result<Answer, Fault> {
     let document = Document::load(&call.operands[0])?;
     let refused = |rule| document.refused(rule);
     let steps = pattern::steps(&document.bytes).map_err(refused)?;
+    if call.has(&JSON) {
+        return Ok(Answer::deliver_json(call, describe::steps_json(&document, &steps), Status::Well));
+    }
+    if call.has(&WORDS) {
+        let lines: String = steps::words(&document, &steps).iter().map(|line| format!("{line}\n")).collect();
+        return Ok(Answer::deliver(call, lines, Status::Well));
+    }
     let plan = engine::plan(&document.bytes).map_err(refused)?;
-    let out = if call.has(&JSON) {
-        Json::List(steps.iter().map(|step| describe::step_json(&document, step)).collect()).lines().into_bytes()
-    } else if call.value(&OUTPUT).is_some() {
+    let out = if call.value(&OUTPUT).is_some() {
         plan.iter().flat_map(|number| number.to_le_bytes()).collect()
     } else {
         plan.chunks(3).map(|step| format!("{} {} {}\n", step[0], step[1], step[2])).collect::<String>().into_bytes()
@@ -26,26 +31,42 @@ pub fn plan(call: &Call) -> Result<Answer, Fault> {
     Ok(Answer::deliver(call, out, Status::Well))
 }
 
-/// The numbers of a saved plan: 16 bits each, or text. No plan of a sheet is both: as 16-bit numbers, digits and spaces name clusters far above any.
-fn numbers(path: &str, content: &[u8]) -> Result<Vec<u16>, Fault> {
-    let refused = |refusal| Fault::Refused { path: path.to_string(), refusal };
-    let is_text = !content.is_empty() && content.iter().all(|byte| byte.is_ascii_digit() || byte.is_ascii_whitespace());
-    if !is_text {
-        if content.len() % 2 == 1 {
-            let words = "expected 16-bit numbers, found an odd number of bytes".to_string();
-            return Err(refused(Refusal { spot: Spot::Whole, rule: None, words, constraint: None }));
-        }
-        return Ok(content.chunks(2).map(|pair| u16::from_le_bytes([pair[0], pair[1]])).collect());
+/// The numbers of a saved plan: text, or 16 bits each. No plan of a sheet is both: 16-bit numbers without a control character are far above the numbers
+/// of any cluster.
+pub fn numbers(path: &str, content: &[u8]) -> Result<Vec<u16>, Fault> {
+    let refused = |refusals| Fault::Refused { path: path.to_string(), refusals };
+    if let Some(text) = encoding::plain(content).ok().filter(|_| !content.is_empty()) {
+        let (numbers, complaints) = listed(text);
+        return if complaints.is_empty() { Ok(numbers) } else { Err(refused(complaints)) };
     }
-    let text = std::str::from_utf8(content).unwrap_or_default();
-    let mut numbers = Vec::new();
-    for mut line in crate::text::Line::all(text) {
-        while line.more() {
-            let word = line.word("a number").map_err(refused)?;
-            numbers.push(word.text.parse().map_err(|_| refused(line.unexpected("a number up to 65535", word)))?);
+    if content.len() % 2 == 1 {
+        let words = "expected 16-bit numbers or text, found an odd number of bytes";
+        return Err(refused(vec![Refusal::file(words)]));
+    }
+    Ok(content.chunks(2).map(|pair| u16::from_le_bytes([pair[0], pair[1]])).collect())
+}
+
+/// The most complaints about one plan.
+const MOST_COMPLAINTS: usize = 20;
+
+/// The numbers of a text, and the first word of each line that is none.
+fn listed(text: &str) -> (Vec<u16>, Vec<Refusal>) {
+    if encoding::is_text_form(text) {
+        return (
+            Vec::new(),
+            vec![Refusal::file("expected a plan, numbers of clusters, three a step; found a sheet in text")],
+        );
+    }
+    let (mut numbers, mut complaints) = (Vec::new(), Vec::new());
+    for line in Line::all(text) {
+        let parsed = line.words().iter().map(|&word| word.text.parse().map_err(|_| word));
+        match parsed.collect::<Result<Vec<u16>, _>>() {
+            Ok(row) => numbers.extend(row),
+            Err(word) => complaints.push(line.unexpected("the number of a cluster", word)),
         }
     }
-    Ok(numbers)
+    complaints.truncate(MOST_COMPLAINTS);
+    (numbers, complaints)
 }
 
 /// Checks a saved plan, and prints the report for it.
@@ -53,15 +74,13 @@ pub fn verify(call: &Call) -> Result<Answer, Fault> {
     let document = Document::load(&call.operands[0])?;
     let path = document::shown(&call.operands[1]);
     let plan = numbers(&path, &document::read(&call.operands[1])?)?;
-    let verdict = pattern::verdict(&document.bytes).map_err(|rule| document.refused(rule))?;
-    let refused = |rule| Fault::Refused { path: path.clone(), refusal: plan_refusal(&document, &plan, rule) };
-    let out = if call.has(&JSON) {
+    let status = status_of(pattern::verdict(&document.bytes).map_err(|rule| document.refused(rule))?);
+    let refused = |rule| Fault::refused(&path, plan_refusal(&document, &plan, rule));
+    if call.has(&JSON) {
         let steps = pattern::saved_steps(&document.bytes, &plan).map_err(refused)?;
-        Json::List(steps.iter().map(|step| describe::step_json(&document, step)).collect()).lines()
-    } else {
-        engine::check_plan(&document.bytes, &plan).map_err(refused)?
-    };
-    Ok(Answer::print(out, status_of(verdict)))
+        return Ok(Answer::json(call, describe::steps_json(&document, &steps), status));
+    }
+    Ok(Answer::print(engine::check_plan(&document.bytes, &plan).map_err(refused)?, status))
 }
 
 /// Why a plan is refused, and at which step: the last of the shortest beginning that the rule refuses.
@@ -77,5 +96,5 @@ fn plan_refusal(document: &Document, plan: &[u16], rule: Rule) -> Refusal {
         16 => format!("after {}", describe::counted(plan.len() / 3, "step")),
         _ => String::new(),
     };
-    Refusal { spot: Spot::Whole, rule: Some(rule), words, constraint: None }
+    Refusal::rule(Spot::Whole, rule, words)
 }

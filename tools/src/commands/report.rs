@@ -15,10 +15,9 @@ pub fn report(call: &Call) -> Result<Answer, Fault> {
     let document = Document::load(&call.operands[0])?;
     let refused = |rule| document.refused(rule);
     let finding = Finding::of(&document, &Prices::default().of(&document)?).map_err(refused)?;
-    let out = if call.has(&JSON) {
-        Json::Object(describe::json(&document, &finding, None)).lines()
-    } else {
-        engine::report(&document.bytes).map_err(refused)?
-    };
-    Ok(Answer::print(out, status_of(finding.verdict)))
+    let status = status_of(finding.verdict);
+    if call.has(&JSON) {
+        return Ok(Answer::json(call, Json::Object(describe::json(&document, &finding, None)), status));
+    }
+    Ok(Answer::print(engine::report(&document.bytes).map_err(refused)?, status))
 }

@@ -10,18 +10,25 @@ use crate::text;
 /// Prints a sheet as text.
 pub fn show(call: &Call) -> Result<Answer, Fault> {
     let document = Document::load(&call.operands[0])?;
-    let out = if call.has(&JSON) { json(&document).lines() } else { text::print(&document.sheet, &document.names) };
-    Ok(Answer::deliver(call, out, Status::Well))
+    if call.has(&JSON) {
+        return Ok(Answer::deliver_json(call, json(&document), Status::Well));
+    }
+    Ok(Answer::deliver(call, text::print(&document.sheet, &document.names), Status::Well))
 }
 
 /// Makes the bytes of a sheet.
 pub fn make(call: &Call) -> Result<Answer, Fault> {
     let document = Document::load(&call.operands[0])?;
+    if call.has(&JSON) {
+        let hex: String = document.bytes.iter().map(|byte| format!("{byte:02x}")).collect();
+        let fields = vec![("bytes", document.bytes.len().into()), ("hex", hex.into())];
+        return Ok(Answer::deliver_json(call, Json::Object(fields), Status::Well));
+    }
     Ok(Answer::deliver(call, document.bytes, Status::Well))
 }
 
 /// The facts of a sheet for a program: sizes in tenths of a millimetre and hundredths of a degree.
-fn json(document: &Document) -> Json {
+pub fn json(document: &Document) -> Json {
     let sheet = &document.sheet;
     let elements = sheet.elements.iter().zip(&document.names).map(|(kind, name)| {
         let mut fields = vec![("name", name.into()), ("kind", kind.name().into())];

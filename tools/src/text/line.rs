@@ -42,6 +42,11 @@ impl<'a> Line<'a> {
         text.lines().enumerate().map(|(i, content)| Line::of(i + 1, content)).filter(Line::more)
     }
 
+    /// Every word of the line, whatever has been passed.
+    pub fn words(&self) -> &[Word<'a>] {
+        &self.words
+    }
+
     /// The column where the line's words begin.
     pub fn start(&self) -> usize {
         self.words.first().map_or(1, |word| word.column)
@@ -59,7 +64,7 @@ impl<'a> Line<'a> {
 
     /// A complaint about a word.
     pub fn unexpected(&self, expected: &str, word: Word) -> Refusal {
-        self.refuse(word.column, &format!("expected {expected}, found \"{}\"", word.text))
+        self.refuse(word.column, &format!("expected {expected}, found {}", quoted(word.text)))
     }
 
     /// The next word, if there is one.
@@ -99,14 +104,15 @@ impl<'a> Line<'a> {
         let word = self.word(what)?;
         let split = word.text.find(|c: char| !(c.is_ascii_digit() || "+-.".contains(c))).unwrap_or(word.text.len());
         let (figures, suffix) = word.text.split_at(split);
-        if figures.is_empty() {
-            return Err(self.unexpected(what, word));
+        if figures.is_empty() || suffix.starts_with(',') {
+            return Err(self.unexpected(what, word).hint(figures_meant(word.text)));
         }
-        let joined = (!suffix.is_empty()).then_some(Word { text: suffix, column: word.column + split });
+        let joined = (!suffix.is_empty()).then(|| Word { text: suffix, column: word.column + split });
         let unit = match joined.or_else(|| self.next()) {
             Some(word) => units.iter().find(|unit| unit.name == word.text).ok_or_else(|| {
                 let names: Vec<_> = units.iter().map(|unit| unit.name).collect();
-                self.unexpected(&format!("{} or the end of the line", names.join(", ")), word)
+                let expected = format!("{} or the end of the line", names.join(", "));
+                self.unexpected(&expected, word).hint(unit_meant(word.text))
             })?,
             None => &units[0],
         };
@@ -123,5 +129,33 @@ impl<'a> Line<'a> {
     /// A length.
     pub fn length(&mut self, what: &str) -> Result<i32, Refusal> {
         self.quantity(&format!("{what} in millimetres, like 600.0"), &LENGTHS)
+    }
+}
+
+/// The most characters of a word that a complaint repeats.
+const MOST_REPEATED: usize = 40;
+
+/// A word as a complaint repeats it: its beginning, and no character that a terminal would obey.
+fn quoted(word: &str) -> String {
+    let shown: String = word.chars().filter(|c| !c.is_control()).take(MOST_REPEATED).collect();
+    let rest = if word.chars().count() > MOST_REPEATED { ".." } else { "" };
+    format!("\"{shown}{rest}\"")
+}
+
+/// How a number is written that has a comma for a point, or another sign for minus; empty where that is not it.
+fn figures_meant(word: &str) -> String {
+    let meant = word.replacen(',', ".", 1).replace(['\u{2212}', '\u{2013}'], "-");
+    let number = meant.trim_end_matches(|c: char| c.is_alphabetic() || c == '°');
+    let right = meant != word && decimal(number, 4).is_ok();
+    if right { format!("write {meant}") } else { String::new() }
+}
+
+/// What to write for a unit that is not known.
+fn unit_meant(unit: &str) -> &'static str {
+    match unit {
+        "in" | "inch" | "inches" | "\"" => "an inch is 25.4 mm",
+        "ft" | "foot" | "feet" | "'" => "a foot is 304.8 mm",
+        "rad" => "a radian is 57.30 deg",
+        _ => "",
     }
 }

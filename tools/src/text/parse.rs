@@ -2,14 +2,25 @@
 
 use std::collections::HashMap;
 
+use pattern::MOST_ELEMENTS;
+
 use super::OTHER;
 use super::line::{Line, Word};
 use super::number::ANGLES;
 use crate::fault::{Refusal, Spot};
+use crate::near::did_you_mean;
 use crate::sheet::{Constraint, Dimension, Kind, Opening, Sheet};
+
+/// The words that statements begin with: those that name elements, those of constraints, and the opening.
+const NAMING: [&str; 3] = ["point", "line", "circle"];
+const HOLDING: [&str; 4] = ["distance", "angle", "on", "tangent"];
+const OPENING: &str = "opening";
 
 /// The statements of a text form.
 const STATEMENTS: &str = "point, line, circle, distance, angle, on, tangent or opening";
+
+/// The most complaints that are gathered of one text.
+const MOST_COMPLAINTS: usize = 100;
 
 /// What a text says, with the place of each statement.
 #[derive(Clone, Debug)]
@@ -21,28 +32,39 @@ pub struct Text {
 }
 
 /// What has been read so far.
-struct Reader {
+struct Reader<'t> {
     text: Text,
     numbers: HashMap<String, usize>,
     opening: Option<Opening>,
+    /// Where each name stands first in a line that names elements, or that means to: by the line.
+    named: HashMap<&'t str, usize>,
 }
 
-impl Reader {
+impl<'t> Reader<'t> {
     /// A reader that knows some elements.
-    fn knowing(elements: &[Kind], names: &[String]) -> Reader {
+    fn knowing(elements: &[Kind], names: &[String]) -> Reader<'t> {
         let sheet = Sheet { opening: Opening::Pf01, elements: elements.to_vec(), constraints: Vec::new() };
         let spots = vec![Spot::Whole; elements.len()];
         let numbers = names.iter().cloned().enumerate().map(|(i, name)| (name, i)).collect();
         let text = Text { sheet, names: names.to_vec(), elements: spots, constraints: Vec::new() };
-        Reader { text, numbers, opening: None }
+        Reader { text, numbers, opening: None, named: HashMap::new() }
+    }
+
+    /// Notes the words of a line that may name elements.
+    fn note(&mut self, line: &Line<'t>) {
+        if let [keyword, rest @ ..] = line.words() {
+            if !HOLDING.contains(&keyword.text) && keyword.text != OPENING {
+                rest.iter().filter(|word| is_name(word.text)).for_each(|word| {
+                    self.named.entry(word.text).or_insert(line.number);
+                });
+            }
+        }
     }
 
     /// A name that no element has yet.
     fn new_name<'a>(&self, line: &mut Line<'a>) -> Result<Word<'a>, Refusal> {
         let word = line.word("a name")?;
-        let mut characters = word.text.chars();
-        let letter = characters.next().map_or(false, char::is_alphabetic);
-        if !letter || !characters.all(|c| c.is_alphanumeric() || "_-.'".contains(c)) {
+        if !is_name(word.text) {
             return Err(line.unexpected("a name: a letter, then letters, digits, or one of _ - . '", word));
         }
         match self.numbers.get(word.text).map(|&earlier| self.text.elements[earlier]) {
@@ -65,8 +87,25 @@ impl Reader {
     /// An element that has been named.
     fn end<'a>(&self, line: &mut Line<'a>) -> Result<(usize, Word<'a>), Refusal> {
         let word = line.word("the name of an element")?;
-        let number = self.numbers.get(word.text).copied();
-        number.map(|number| (number, word)).ok_or_else(|| line.unexpected("the name of an element above", word))
+        match self.numbers.get(word.text) {
+            Some(&number) => Ok((number, word)),
+            None => {
+                let hint = match self.named.get(word.text) {
+                    Some(below) => format!("line {below} names it: elements are named before they are used"),
+                    None => did_you_mean(word.text, self.text.names.iter().map(String::as_str).take(MOST_ELEMENTS)),
+                };
+                Err(line.unexpected("the name of an element above", word).hint(hint))
+            }
+        }
+    }
+
+    /// Whether a complaint only follows from one about an earlier line: it is about a name that stands in that line, and that therefore is not known.
+    fn follows(&self, line: &Line, refusal: &Refusal) -> bool {
+        let at = |word: &&Word| matches!(refusal.spot, Spot::Text { column, .. } if column == word.column);
+        let holding = line.words().first().map_or(false, |word| HOLDING.contains(&word.text));
+        let word = line.words().iter().find(at).filter(|word| !self.numbers.contains_key(word.text));
+        let earlier = word.and_then(|word| self.named.get(word.text)).map_or(false, |&named| named < line.number);
+        holding && earlier
     }
 
     /// Two ends, of kinds that the statement allows in one order or the other.
@@ -91,7 +130,7 @@ impl Reader {
     fn statement(&mut self, line: &mut Line) -> Result<(), Refusal> {
         let keyword = line.word(STATEMENTS)?;
         match keyword.text {
-            "opening" => {
+            OPENING => {
                 let word = line.word("PF01 or PF02")?;
                 let opening = [Opening::Pf01, Opening::Pf02].into_iter().find(|opening| opening.name() == word.text);
                 self.opening = Some(opening.ok_or_else(|| line.unexpected("PF01 or PF02", word))?);
@@ -131,28 +170,57 @@ impl Reader {
             "tangent" => {
                 let ends = self.ends(line, "a circle and another element", |a, _| matches!(a, Kind::Circle(_)))?;
                 let column = line.column();
-                let other = line.pass(|word| (word == OTHER).then_some(Dimension::OtherTangent));
+                let other = line.pass(|word| (word == OTHER).then(|| Dimension::OtherTangent));
                 if other.is_some() && ends.iter().any(|&end| self.text.sheet.elements[end] == Kind::Point) {
                     let words = "expected the end of the line: a point and a circle have one contact";
                     return Err(line.refuse(column, words));
                 }
                 self.constraint(line, ends, other.unwrap_or(Dimension::Tangent));
             }
-            _ => return Err(line.unexpected(STATEMENTS, keyword)),
+            unknown => return Err(line.unexpected(STATEMENTS, keyword).hint(statement_meant(unknown))),
         }
         line.finish()
     }
 }
 
-/// Reads a text. A sheet with circles opens PF02 where the text does not say.
-pub fn parse(text: &str) -> Result<Text, Refusal> {
+/// Whether a word may be a name: a letter, then letters, digits and some signs.
+fn is_name(word: &str) -> bool {
+    let mut characters = word.chars();
+    let letter = characters.next().map_or(false, char::is_alphabetic);
+    letter && characters.all(|c| c.is_alphanumeric() || "_-.'".contains(c))
+}
+
+/// What to write for a word that begins no statement.
+fn statement_meant(word: &str) -> String {
+    let known = match word.to_lowercase().as_str() {
+        "parallel" => "parallel lines: hold both by an angle to a third line",
+        "perpendicular" | "square" => "write: angle a b 90",
+        "length" | "dist" | "dimension" => "did you mean distance?",
+        "touch" | "touches" => "did you mean tangent?",
+        "coincident" => "write: on, of a point and a line",
+        "radius" => "a radius stands behind the name: circle lamp 45.0 mm",
+        _ => return did_you_mean(word, NAMING.into_iter().chain(HOLDING).chain([OPENING])),
+    };
+    known.to_string()
+}
+
+/// Reads a text: what it says as far as it is understood, and every complaint, by line. A sheet with circles opens PF02 where the text does not say.
+pub fn parse(text: &str) -> (Text, Vec<Refusal>) {
     let mut reader = Reader::knowing(&[], &[]);
+    Line::all(text).for_each(|line| reader.note(&line));
+    let mut complaints = Vec::new();
     for mut line in Line::all(text) {
-        reader.statement(&mut line)?;
+        if complaints.len() == MOST_COMPLAINTS {
+            let words = format!("{MOST_COMPLAINTS} complaints so far: the rest is not read");
+            complaints.push(line.refuse(line.start(), &words));
+            break;
+        }
+        let complaint = reader.statement(&mut line).err();
+        complaints.extend(complaint.filter(|refusal| !reader.follows(&line, refusal)));
     }
     let circles = reader.text.sheet.elements.iter().any(|kind| matches!(kind, Kind::Circle(_)));
     reader.text.sheet.opening = reader.opening.unwrap_or(if circles { Opening::Pf02 } else { Opening::Pf01 });
-    Ok(reader.text)
+    (reader.text, complaints)
 }
 
 /// Reads one statement of a constraint between elements that are known.
