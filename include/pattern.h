@@ -1,19 +1,21 @@
 /*
  * pattern.h - a geometric constraint engine for flat patterns.
  *
- * Link with libpattern_c.a; it needs nothing but the C library. Every function is proved: for every
- * input its answer and the lent space are what its definition says.
+ * Link with libpattern_c.a; it needs nothing but the C library. Every function declared here is proved:
+ * for every input its answer and the lent space are what its definition says. (pattern_text.h has the
+ * plain C beside it.)
  *
  * Lists    A list is a pointer and a count of items. Where the count is 0 the pointer may be anything,
  *          NULL too; else it is aligned for its type. `out` overlaps no other list. Nothing outside
  *          the lists is read or written.
  * Answers  0 or more: the count of items written to the front of `out`; the rest is unchanged.
- *          Below 0: minus the number of the rule that refuses the call (enum pattern_rule);
- *          all of `out`, or of a record, is unchanged. Test the sign before you use an answer as a count.
+ *          Below 0: minus the number of the rule that refuses the call (enum pattern_rule), or
+ *          PATTERN_NO_RUN, -100, which is no rule: there is no chain (pattern_chain alone). All of `out`,
+ *          or of a record, is then unchanged. Test the sign before you use an answer as a count.
  * State    There is none. Nothing is allocated or kept between calls; any threads may call at once,
  *          each with an `out` of its own. A held sketch is bytes of the caller's (pattern_hold).
  * Stack    A call takes at most PATTERN_MAX_STACK bytes of its thread's stack, as measured by
- *          tests/stack/run on x86-64; pattern_part takes the most.
+ *          tests/stack/run on x86-64; pattern_steps takes the most.
  *
  * A sheet in bytes; docs/FORMAT.md says the same at length, with the report's lines:
  *
@@ -108,6 +110,9 @@ enum pattern_rule {
     PATTERN_KIND        = 18, /* an element's kind is 3, after 4; for the writer also a circle under PF01, after 3 */
     PATTERN_RADIUS      = 19, /* a radius is outside 1 to 40,000, where it is read; for the writer after 18 */
     PATTERN_RADII       = 20, /* the other contact of two circles with equal radii, after 8 */
+    PATTERN_PRICES      = 21, /* the list of prices is not n(n-1)/2 long, after 11 */
+    PATTERN_PRICE       = 22, /* a price is 1,001 to 65,534, after 21 */
+    PATTERN_NO_SET      = 23, /* no permitted set of pairs will do, after 22 and before 17 */
     PATTERN_ANOTHER     = 24, /* another number of constraints is held than was told */
     PATTERN_NO_ELEMENT  = 25, /* the start or the end of a chain is no element of the sheet */
     PATTERN_NO_NUMBER   = 26, /* no cluster of the plan has the number; tried before 17 */
