@@ -39,6 +39,18 @@ pub fn initial(run: &mut Run, bytes: &[u8]) {
     run.lent("pattern_initial", &Hex(bytes), &answer, |out| ffi::initial(given.held(), out));
 }
 
+/// Compares `pattern_longest` on a number.
+#[inline]
+pub fn longest(run: &mut Run, n: usize) {
+    run.lent("pattern_longest", &n, &interface::longest(n), |out| ffi::longest(n, out));
+}
+
+/// Compares `pattern_card` on a number.
+#[inline]
+pub fn card(run: &mut Run, number: usize) {
+    run.same("pattern_card", &number, ffi::card(number), interface::card(number).into());
+}
+
 /// Compares `pattern_shared` on two sets.
 #[inline]
 pub fn shared(run: &mut Run, a: Set, b: Set) {

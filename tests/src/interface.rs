@@ -1,7 +1,7 @@
 //! What each function of the C interface must answer: items for the lent space, or the rule that refuses.
 //! Rule 17 is `space`'s.
 
-use crate::facts::{Rule, Sheet};
+use crate::facts::{Constraint, FEWEST_ELEMENTS, Kind, MOST_ELEMENTS, Rule, Sheet};
 use crate::matching::by_matching;
 use crate::missing::{by_greed, number};
 use crate::reader::read;
@@ -45,6 +45,24 @@ pub fn saved_steps(bytes: &[u8], plan: &[u16]) -> Result<Vec<u64>, Rule> {
     let sheet = read(bytes)?;
     let merges = plans::check(&sheet, plan)?;
     Ok(records::numbers(&sheet, &merges))
+}
+
+/// `pattern_longest`: pair (0,1), then for each k from 2 on the pairs (k-2,k) and (k-1,k), all of size 300.
+pub fn longest(n: usize) -> Result<Vec<u8>, Rule> {
+    refuse(!(FEWEST_ELEMENTS..=MOST_ELEMENTS).contains(&n), 3)?;
+    let distance = |first: usize, second: usize| Constraint::sized(first as u8, second as u8, 300);
+    let pairs = (1..n).flat_map(|k| [2, 1].into_iter().filter(move |&back| back <= k).map(move |back| (k - back, k)));
+    let constraints = pairs.map(|(first, second)| distance(first, second)).collect();
+    Ok(writer::bytes(&Sheet::first(vec![Kind::Point; n], constraints)))
+}
+
+/// `pattern_card`: the verdict of five points with those of the ten pairs, in dictionary order, whose bit stands.
+pub fn card(number: usize) -> u8 {
+    let pairs = (0..5).flat_map(|first| (first + 1..5).map(move |second| (first, second)));
+    let standing = pairs.enumerate().filter(|(bit, _)| number >> bit & 1 == 1);
+    let constraints = standing.map(|(_, (first, second))| Constraint::sized(first, second, 300)).collect();
+    let sheet = Sheet::first(vec![Kind::Point; 5], constraints);
+    verdict::verdict(&sheet, &judge(&sheet)) as u8
 }
 
 /// How "none" is told where a chain is asked for: as by a rule of this number, which there is not.

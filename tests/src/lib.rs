@@ -24,6 +24,7 @@ pub mod matching;
 pub mod merging;
 pub mod missing;
 pub mod opens;
+pub mod orders;
 pub mod over;
 pub mod parts;
 pub mod placements;

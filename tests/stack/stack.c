@@ -104,6 +104,14 @@ static void *open_(void *u)
         pattern_open(sheet, len, steps, plan, PATTERN_MAX_OPEN);
     return u;
 }
+static void *shared(void *u) { items[0] = pattern_shared(items[1], items[2]); return u; }
+static void *longest(void *u) { pattern_longest(PATTERN_MAX_ELEMENTS, bytes, sizeof bytes); return u; }
+static void *card(void *u)
+{
+    for (size_t number = 0; number < 1024; number++)
+        pattern_card(number);
+    return u;
+}
 /* The number of the last cluster: the highest that is not refused by 26. */
 static size_t last_made(void)
 {
@@ -140,6 +148,7 @@ int main(int argc, char **argv)
         {"pattern_steps", steps}, {"pattern_saved_steps", saved_steps},
         {"pattern_part", part}, {"pattern_part_steps", part_steps}, {"pattern_part_bytes", part_bytes},
         {"pattern_chain", chain}, {"pattern_open", open_},
+        {"pattern_shared", shared}, {"pattern_longest", longest}, {"pattern_card", card},
     };
     size_t most[sizeof calls / sizeof *calls] = {0};
     facts();

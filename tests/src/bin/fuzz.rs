@@ -41,6 +41,11 @@ fn main() -> ExitCode {
         calls::held(&mut run, &record);
         let facts = facts(&bytes, &mut run.random);
         calls::write(&mut run, &facts);
+        let (a, b) = (run.random.bits(), run.random.bits());
+        calls::shared(&mut run, a, b);
+        let number = run.random.bits() as usize >> run.random.below(64);
+        calls::longest(&mut run, number);
+        calls::card(&mut run, number);
     }
     run.finish()
 }

@@ -1,4 +1,5 @@
-//! The engine beside the reference: `pattern_verdict`, `pattern_plan`, `pattern_clusters` and `pattern_rests`.
+//! The engine beside the reference: `pattern_verdict`, `pattern_plan`, `pattern_clusters` and `pattern_rests`; and demand 3 through
+//! the library: maximal lists of merges in random orders.
 
 use std::process::ExitCode;
 
@@ -9,7 +10,7 @@ use pattern_tests::rings;
 use pattern_tests::run::{Hex, Run, rules};
 use pattern_tests::set::Set;
 use pattern_tests::verdict::{Judged, angle_by_joint, angle_by_ring, final_sets, verdict};
-use pattern_tests::{calls, damage, dress, tags, writer};
+use pattern_tests::{calls, damage, dress, orders, tags, writer};
 
 const ROUNDS: usize = 20_000;
 
@@ -23,7 +24,10 @@ fn main() -> ExitCode {
         calls::plan(&mut run, &bytes, &found);
         if let Ok((sheet, judged)) = found.accepted() {
             run.count("sheets", verdict(sheet, judged).name());
-            orders(&mut run, sheet, judged);
+            in_the_reference(&mut run, sheet, judged);
+            if let Judged::Merged(_) = judged {
+                orders::compare(&mut run, sheet);
+            }
             angles(&mut run, sheet, judged);
             rests(&mut run, sheet, judged);
         }
@@ -43,13 +47,15 @@ fn main() -> ExitCode {
     for function in ["pattern_plan", "pattern_rests"] {
         rules([17]).for_each(|rule| run.must(function, &rule, 100));
     }
+    run.must("orders", "with merges", 1000);
+    run.must("orders", "without a merge", 1000);
     run.must("rests", "exactly what lies in it", 1000);
     run.finish()
 }
 
 /// Compares, in the reference, the engine's plan with merging in a random order: every order of merging gives
 /// the same final clusters, joints, steps and verdict.
-fn orders(run: &mut Run, sheet: &Sheet, judged: &Judged) {
+fn in_the_reference(run: &mut Run, sheet: &Sheet, judged: &Judged) {
     if let Judged::Merged(engine) = judged {
         let other = Merges::random(sheet, &mut run.random);
         let input = Hex(&writer::bytes(sheet)).to_string();
