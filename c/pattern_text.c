@@ -59,7 +59,7 @@ static uint32_t number(const uint8_t **at)
     return (uint32_t)b[0] | (uint32_t)b[1] << 8 | (uint32_t)b[2] << 16 | (uint32_t)b[3] << 24;
 }
 
-int32_t pattern_read(const uint8_t *sheet, size_t len, struct pattern_columns *out)
+int32_t pattern_read(const uint8_t *sheet, pattern_len len, struct pattern_columns *out)
 {
     uint8_t plain[PATTERN_MAX_WRITTEN];
     int32_t count = pattern_rewrite(sheet, len, plain, sizeof plain);

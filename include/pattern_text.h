@@ -30,15 +30,15 @@ const char *pattern_verdict_text(int32_t verdict);
 
 /* The facts of a sheet as columns, as pattern_write takes them; places from n and from e on are 0. */
 struct pattern_columns {
-    size_t   opening;                         /* 1: PF01, 2: PF02 */
-    size_t   n;                               /* count of elements */
-    size_t   e;                               /* count of constraints */
-    uint8_t  kinds[PATTERN_MAX_ELEMENTS];     /* 0 point, 1 line, 2 circle */
-    uint32_t radii[PATTERN_MAX_ELEMENTS];     /* of circles, in tenths of a millimetre; 0 of the others */
-    uint8_t  firsts[PATTERN_MAX_CONSTRAINTS]; /* the first end, the lower one */
-    uint8_t  seconds[PATTERN_MAX_CONSTRAINTS];
-    uint8_t  maps[PATTERN_MAX_CONSTRAINTS];   /* the bits of the map; never PATTERN_TAGGED */
-    int32_t  sizes[PATTERN_MAX_CONSTRAINTS];  /* where the map has PATTERN_SIZED; else 0 */
+    pattern_len opening;                       /* 1: PF01, 2: PF02 */
+    pattern_len n;                             /* count of elements */
+    pattern_len e;                             /* count of constraints */
+    uint8_t kinds[PATTERN_MAX_ELEMENTS];       /* 0 point, 1 line, 2 circle */
+    uint32_t radii[PATTERN_MAX_ELEMENTS];      /* of circles, in tenths of a millimetre; 0 of the others */
+    uint8_t firsts[PATTERN_MAX_CONSTRAINTS];   /* the first end, the lower one */
+    uint8_t seconds[PATTERN_MAX_CONSTRAINTS];
+    uint8_t maps[PATTERN_MAX_CONSTRAINTS];     /* the bits of the map; never PATTERN_TAGGED */
+    int32_t sizes[PATTERN_MAX_CONSTRAINTS];    /* where the map has PATTERN_SIZED; else 0 */
 };
 
 /*
@@ -46,7 +46,7 @@ struct pattern_columns {
  * sheet, 1 to 10 and 18 to 20; then *out is unchanged. Takes a written sheet's bytes of stack beside those
  * of pattern_rewrite.
  */
-int32_t pattern_read(const uint8_t *sheet, size_t len, struct pattern_columns *out);
+int32_t pattern_read(const uint8_t *sheet, pattern_len len, struct pattern_columns *out);
 
 #ifdef __cplusplus
 }
