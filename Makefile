@@ -14,11 +14,27 @@ COMMAND = target/cargo/release/pattern
 HEADERS = include/pattern.h include/pattern_text.h
 TO = $(DESTDIR)$(PREFIX)
 
+HOST := $(shell uname -m)-linux
+KIT := $(shell command -v rt)
+
 all: $(STATIC) $(SHARED) command
 
-# The proved library. It is not made again where it is there: rt knows what it is made from.
-$(PROVED):
+# What is needed is looked for before minutes of proving.
+need:
+	@tools/cargo --version >/dev/null
+	@[ -n "$(KIT)" ] || [ -f objects/$(HOST)/libpattern_c.a ] || { echo "make: the Rattle kit is missing (no command rt), and no proved objects\
+		for $(HOST) are here; the source archive pattern-$(VERSION)-source.tar.gz has some" >&2; exit 1; }
+
+# The proved library: proved and compiled by the kit where a crate changed; without the kit the proved objects of the source archive.
+ifneq ($(KIT),)
+$(PROVED): crates.txt $(shell find crates -name must-fail -prune -o -type f -print) | need
 	rt staticlib pattern_c
+else
+$(PROVED): $(wildcard objects/*) | need
+	@cd objects && sha256sum --check --quiet SHA256SUMS
+	@install -D -m 644 objects/$(HOST)/libpattern_c.a $@
+	@echo "The Rattle kit is not here: the library is the proved one of the archive, for $(HOST), which was made from" && cat objects/ORIGIN
+endif
 
 $(OUT)/pattern_text.o: c/pattern_text.c $(HEADERS)
 	@mkdir -p $(OUT)
@@ -34,7 +50,11 @@ $(SHARED): $(STATIC) c/exports.map
 		-Wl,--whole-archive $(STATIC) -Wl,--no-whole-archive -o $@
 
 command: $(PROVED)
-	cd tools && cargo build --release --quiet
+	cd tools && ./cargo build --release --quiet
+
+# The first verdict.
+try: all
+	$(COMMAND) check examples/text/gable.txt
 
 # The library for Arm, Windows and WebAssembly, in target/targets; targets/README.md says more.
 targets: $(PROVED)
@@ -50,7 +70,7 @@ install: all
 	ln -sf libpattern.so.$(VERSION) $(TO)/lib/libpattern.so.$(MAJOR)
 	ln -sf libpattern.so.$(MAJOR) $(TO)/lib/libpattern.so
 	sed 's|@PREFIX@|$(PREFIX)|; s|@VERSION@|$(VERSION)|' c/pattern.pc.in >$(TO)/lib/pkgconfig/pattern.pc
-	install -m 644 man/pattern.1 $(TO)/share/man/man1
+	sed 's|@VERSION@|$(VERSION)|' man/pattern.1 >$(TO)/share/man/man1/pattern.1
 	$(COMMAND) completion bash >$(TO)/share/bash-completion/completions/pattern
 	$(COMMAND) completion zsh >$(TO)/share/zsh/site-functions/_pattern
 	$(COMMAND) completion fish >$(TO)/share/fish/vendor_completions.d/pattern.fish
@@ -65,4 +85,4 @@ uninstall:
 clean:
 	rm -rf $(OUT)
 
-.PHONY: all command targets install uninstall clean
+.PHONY: all need command try targets install uninstall clean

@@ -14,8 +14,8 @@ A sheet is bytes, as it stands in a file. Every function that takes one raises `
     Traceback (most recent call last):
     pattern.Refused: refused by rule 2: the sheet ends inside a field, or before one that must follow
 
-The library is the file that the environment variable PATTERN_LIBRARY names; else libpattern.so.1 in the folder lib of the prefix that this file is
-installed in; else the one that the system's loader finds. `version`, `rule_text` and `read` are plain C, tested and not proved; the rest is proved.
+The library is the file that the environment variable PATTERN_LIBRARY names; else libpattern.so.1, on Windows pattern.dll, beside this file or in the
+folder lib of the prefix that it is installed in; else the one that the system's loader finds. `version`, `rule_text` and `read` are plain C, tested and not proved; the rest is proved.
 """
 
 from __future__ import annotations
@@ -57,9 +57,10 @@ _SIZED, _TANGENT, _OTHER = 1, 4, 8
 
 def _load() -> ctypes.CDLL:
     """The shared library."""
-    named = os.environ.get("PATTERN_LIBRARY")
-    beside = os.path.join(os.path.dirname(os.path.abspath(__file__)), "..", "..", "lib", "libpattern.so.1")
-    library = ctypes.CDLL(named or (beside if os.path.exists(beside) else "libpattern.so.1"))
+    name = "pattern.dll" if os.name == "nt" else "libpattern.so.1"
+    here = os.path.dirname(os.path.abspath(__file__))
+    places = [os.path.join(here, name), os.path.join(here, "..", "..", "lib", name)]
+    library = ctypes.CDLL(os.environ.get("PATTERN_LIBRARY") or next(filter(os.path.exists, places), name))
     for name in ("pattern_version", "pattern_rule_text"):
         getattr(library, name).restype = ctypes.c_char_p
     library.pattern_shared.restype = ctypes.c_uint64

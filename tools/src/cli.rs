@@ -93,7 +93,7 @@ impl Answer {
 /// What every command prints for a program (docs/pattern.schema.json): its name, the version, the exit status, complaints, and the answer, which is null
 /// where there are complaints.
 pub fn envelope(command: Option<&str>, status: Status, errors: Json, answer: Json) -> String {
-    let (command, version, exit) = (Json::maybe(command), Json::from(env!("CARGO_PKG_VERSION")), status as u8);
+    let (command, version, exit) = (Json::maybe(command), Json::from(env!("PATTERN_VERSION")), status as u8);
     format!(
         "{{\n  \"command\": {command},\n  \"version\": {version},\n  \"exit\": {exit},\n  \"errors\": {},\n  \"answer\": {}\n}}\n",
         errors.laid_out(1, 2),

@@ -21,3 +21,4 @@ pub mod prices;
 pub mod sheet;
 pub mod steps;
 pub mod text;
+pub mod wildcard;

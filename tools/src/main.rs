@@ -9,6 +9,7 @@ use pattern_tools::commands::COMMANDS;
 use pattern_tools::fault::{Fault, Status};
 use pattern_tools::json::Json;
 use pattern_tools::near::nearest;
+use pattern_tools::wildcard;
 
 /// Finds a command.
 fn find(name: &OsString) -> Result<&'static Command, Fault> {
@@ -29,7 +30,7 @@ fn answer(arguments: &[OsString]) -> Result<Answer, Fault> {
     match name.to_str().unwrap_or_default() {
         "--help" | "-h" | "help" => return Ok(Answer::print(overview, Status::Well)),
         "--version" | "-V" => {
-            let line = concat!("pattern ", env!("CARGO_PKG_VERSION"), "\n");
+            let line = concat!("pattern ", env!("PATTERN_VERSION"), "\n");
             return Ok(Answer::print(line, Status::Well));
         }
         _ => {}
@@ -76,8 +77,14 @@ fn complain(fault: &Fault, arguments: &[OsString]) {
     }
 }
 
+/// The words of the command line: a shell of Windows leaves wildcards to the program.
+fn arguments() -> Vec<OsString> {
+    let words = std::env::args_os().skip(1);
+    if cfg!(windows) { words.flat_map(wildcard::expand).collect() } else { words.collect() }
+}
+
 fn main() -> ExitCode {
-    let arguments: Vec<_> = std::env::args_os().skip(1).collect();
+    let arguments = arguments();
     let done = answer(&arguments).and_then(|answer| {
         answer.notes.iter().for_each(|note| tell(note));
         write(&answer).map(|()| answer.status)
