@@ -104,6 +104,13 @@ pub fn envelope(command: Option<&str>, status: Status, errors: Json, answer: Jso
 /// `-o FILE`.
 pub const OUTPUT: Flag =
     Flag { name: "output", short: Some('o'), value: Some("FILE"), says: "write to FILE, not to standard output" };
+/// `--list FILE`.
+pub const LIST: Flag = Flag {
+    name: "list",
+    short: None,
+    value: Some("FILE"),
+    says: "take names of files from FILE, a line each; - is standard input",
+};
 /// `--json`.
 pub const JSON: Flag = Flag { name: "json", short: None, value: None, says: "print the answer as JSON" };
 /// `--help`, which every command takes.
@@ -150,7 +157,7 @@ pub fn parse(command: &Command, arguments: impl IntoIterator<Item = OsString>) -
         }
     }
     let (fewest, most) = command.count;
-    if call.operands.len() < fewest {
+    if call.operands.len() < fewest && !call.has(&LIST) {
         return Err(usage(format!("{} needs {}", command.name, command.operands)));
     }
     if call.operands.len() > most {

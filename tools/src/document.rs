@@ -88,13 +88,23 @@ pub fn shown(path: &OsStr) -> String {
     if path == "-" { "standard input".to_string() } else { path.to_string_lossy().into_owned() }
 }
 
-/// The bytes of a file, or of standard input by the name "-".
+/// The bytes of a sheet, a plan or a price list, or of standard input by the name "-": no more than any of these has.
 pub fn read(path: &OsStr) -> Result<Vec<u8>, Fault> {
+    read_up_to(path, MOST)
+}
+
+/// All bytes of a file, or of standard input by the name "-".
+pub fn read_all(path: &OsStr) -> Result<Vec<u8>, Fault> {
+    read_up_to(path, u64::MAX)
+}
+
+/// The first bytes of a file, or of standard input.
+fn read_up_to(path: &OsStr, most: u64) -> Result<Vec<u8>, Fault> {
     let mut content = Vec::new();
     let done = if path == "-" {
-        io::stdin().lock().take(MOST).read_to_end(&mut content)
+        io::stdin().lock().take(most).read_to_end(&mut content)
     } else {
-        File::open(path).and_then(|file| file.take(MOST).read_to_end(&mut content))
+        File::open(path).and_then(|file| file.take(most).read_to_end(&mut content))
     };
     done.map_err(|error| Fault::File { path: shown(path), error })?;
     Ok(content)

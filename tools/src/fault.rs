@@ -150,6 +150,20 @@ impl Fault {
         }
     }
 
+    /// What counts as the reason of a refusal where reasons are counted, the rule, or none where a text was not understood; and the first complaint in
+    /// short.
+    pub fn reason(&self) -> Option<(Option<u8>, String)> {
+        match self {
+            Fault::Refused { path, refusals } => refusals.first().map(|first| {
+                let place =
+                    placed(path, &Refusal { words: String::new(), rule: None, hint: String::new(), ..first.clone() });
+                let words = first.rule.map_or(first.words.as_str(), |rule| rule.reason());
+                (first.rule.map(|rule| rule.0), place + words)
+            }),
+            _ => None,
+        }
+    }
+
     /// Every complaint for a program.
     pub fn json(&self) -> Json {
         Json::List(match self {

@@ -5,6 +5,7 @@
 
 pub mod cli;
 pub mod commands;
+pub mod csv;
 pub mod describe;
 pub mod document;
 pub mod draw;
@@ -12,6 +13,7 @@ pub mod encoding;
 pub mod engine;
 pub mod fault;
 pub mod fields;
+pub mod files;
 pub mod finding;
 pub mod hint;
 pub mod json;

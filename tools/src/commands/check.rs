@@ -1,18 +1,19 @@
 //! `pattern check`: verdicts of any number of files, on all cores.
 
-use std::ffi::{OsStr, OsString};
+use std::collections::BTreeMap;
+use std::ffi::OsStr;
 
 use pattern::Verdict;
 
-use super::{PRICES, QUIET};
+use super::{CSV, FAILED, PRICES, QUIET, SHORT};
 use crate::cli::{Answer, Call, JSON};
 use crate::document::{self, Document};
 use crate::draw::{self, Position};
-use crate::fault::{Fault, Status};
+use crate::fault::{Fault, Spot, Status};
 use crate::finding::{Finding, verdict_name};
 use crate::json::Json;
 use crate::prices::Prices;
-use crate::{describe, parallel};
+use crate::{csv, describe, files, parallel};
 
 /// What is found of one file.
 type Checked = Result<(Document, Finding, Option<Position>), Fault>;
@@ -67,16 +68,86 @@ fn object(path: &OsStr, checked: &Checked) -> Json {
     Json::Object(fields)
 }
 
-/// How many files got which word.
+/// How many warnings one file has.
+fn warnings(checked: &Checked) -> Vec<String> {
+    checked.as_ref().map_or(Vec::new(), |(d, f, p)| describe::warnings(d, f, p.as_ref()))
+}
+
+/// One file in a line.
+fn line(checked: &Checked) -> String {
+    match checked {
+        Ok((document, finding, position)) => {
+            let lines = describe::lines(document, finding, position.as_ref());
+            let warnings = match warnings(checked).len() {
+                0 => String::new(),
+                count => format!(" ({})", describe::counted(count, "warning")),
+            };
+            format!("{}: {}: {}{warnings}\n", document.path, verdict_name(finding.verdict), lines[0])
+        }
+        Err(fault) => {
+            let lines = fault.lines();
+            let more = if lines.len() > 1 { format!(" (and {} more)", lines.len() - 1) } else { String::new() };
+            format!("{}{more}\n", lines[0])
+        }
+    }
+}
+
+/// The titles of the table of files.
+const TITLES: [&str; 10] =
+    ["file", "status", "elements", "constraints", "missing", "warnings", "rule", "line", "column", "message"];
+
+/// One file as a row of the table of files.
+fn row(path: &OsStr, checked: &Checked) -> String {
+    let mut cells = vec![document::shown(path), word(checked).to_string()];
+    match checked {
+        Ok((document, finding, _)) => {
+            let (n, e) = (document.sheet.elements.len(), document.sheet.constraints.len());
+            let warnings = warnings(checked);
+            cells.extend([n, e, finding.freedoms, warnings.len()].map(|count| count.to_string()));
+            cells.extend(["", "", ""].map(str::to_string));
+            cells.push(warnings.join("; "));
+        }
+        Err(Fault::Refused { refusals, .. }) if !refusals.is_empty() => {
+            let (line, column) = match refusals[0].spot {
+                Spot::Text { line, column } => (line.to_string(), column.to_string()),
+                _ => (String::new(), String::new()),
+            };
+            let rule = refusals[0].rule.map_or(String::new(), |rule| rule.0.to_string());
+            cells.extend(["", "", "", ""].map(str::to_string));
+            cells.extend([rule, line, column, refusals[0].to_string()]);
+        }
+        Err(fault) => {
+            cells.extend(["", "", "", "", "", "", ""].map(str::to_string));
+            cells.push(fault.to_string());
+        }
+    }
+    csv::row(&cells)
+}
+
+/// How many files got which word; of those refused, how many by which rule, each with an example.
 fn table(results: &[Checked]) -> String {
     let words = ["well", "under", "stuck", "angle", "over", "refused", "unreadable"];
     let count = |wanted: &str| results.iter().filter(|checked| word(checked) == wanted).count();
-    let rows = words.map(|word| (word, count(word))).into_iter().filter(|(_, count)| *count > 0);
-    let warned = results
-        .iter()
-        .filter(|checked| matches!(checked, Ok((d, f, p)) if !describe::warnings(d, f, p.as_ref()).is_empty()));
-    let rows = rows.chain([("files", results.len()), ("warnings", warned.count())]);
-    rows.map(|(word, count)| format!("{word:10} {count:6}\n")).collect()
+    let mut table = String::new();
+    for (word, count) in words.map(|word| (word, count(word))).into_iter().filter(|(_, count)| *count > 0) {
+        table += &format!("{word:10} {count:6}\n");
+        if word == "refused" {
+            table += &reasons(results);
+        }
+    }
+    let warned = results.iter().filter(|checked| !warnings(checked).is_empty()).count();
+    table + &format!("{:10} {:6}\n{:10} {warned:6}\n", "files", results.len(), "warnings")
+}
+
+/// Why files were refused: each reason with how many it refused and the first of them. Rules by number, then texts that were not understood.
+fn reasons(results: &[Checked]) -> String {
+    let mut reasons: BTreeMap<u8, (usize, String)> = BTreeMap::new();
+    for (rule, example) in results.iter().filter_map(|checked| checked.as_ref().err()?.reason()) {
+        reasons.entry(rule.unwrap_or(u8::MAX)).or_insert((0, example)).0 += 1;
+    }
+    let name = |rule: &u8| if *rule == u8::MAX { "text".to_string() } else { format!("rule {rule}") };
+    let row = |(rule, (count, example)): (&u8, &(usize, String))| format!("  {:8} {count:6}  {example}\n", name(rule));
+    reasons.iter().map(row).collect()
 }
 
 /// Runs the command.
@@ -85,14 +156,24 @@ pub fn run(call: &Call) -> Result<Answer, Fault> {
         Some(path) => Prices::load(path)?,
         None => Prices::default(),
     };
-    let results = parallel::map(&call.operands, |path: &OsString| check(path, &prices));
+    let files = files::of(call)?;
+    let results = parallel::map(&files, |found| check(&found.path, &prices));
     let status = results.iter().map(status).max().unwrap_or(Status::Well);
+    let failed = |checked: &Checked| self::status(checked) != Status::Well || !warnings(checked).is_empty();
+    let told: Vec<_> =
+        files.iter().zip(&results).filter(|(_, checked)| !call.has(&FAILED) || failed(checked)).collect();
     if call.has(&JSON) {
-        let objects = call.operands.iter().zip(&results).map(|(path, checked)| object(path, checked));
+        let objects = told.iter().map(|(found, checked)| object(&found.path, checked));
         let files = Json::List(objects.collect());
         return Ok(Answer::json(call, Json::Object(vec![("files", files)]), status));
     }
-    let blocks = if call.has(&QUIET) { String::new() } else { results.iter().map(block).collect() };
+    if call.has(&CSV) {
+        let rows: String = told.iter().map(|(found, checked)| row(&found.path, checked)).collect();
+        return Ok(Answer::print(csv::row(&TITLES) + &rows, status));
+    }
+    let words = if call.has(&SHORT) { line } else { block };
+    let blocks =
+        if call.has(&QUIET) { String::new() } else { told.iter().map(|(_, checked)| words(checked)).collect() };
     let table = if results.len() > 1 || call.has(&QUIET) { table(&results) } else { String::new() };
     let gap = if blocks.is_empty() || table.is_empty() { "" } else { "\n" };
     Ok(Answer::print(blocks + gap + &table, status))

@@ -11,7 +11,7 @@ mod plan;
 mod report;
 mod show;
 
-use crate::cli::{Command, Flag, JSON, OUTPUT};
+use crate::cli::{Command, Flag, JSON, LIST, OUTPUT};
 
 const PRICES: Flag = Flag {
     name: "prices",
@@ -20,6 +20,10 @@ const PRICES: Flag = Flag {
     says: "what measuring costs: lines \"A B 5\", \"A C never\", \"default 10\"",
 };
 const QUIET: Flag = Flag { name: "quiet", short: Some('q'), value: None, says: "print the table at the end alone" };
+const CSV: Flag = Flag { name: "csv", short: None, value: None, says: "print a table, commas between" };
+const SHORT: Flag = Flag { name: "short", short: Some('s'), value: None, says: "print a line a file" };
+const FAILED: Flag =
+    Flag { name: "failed", short: None, value: None, says: "leave out files that are well and have no warning" };
 const WORDS: Flag = Flag { name: "words", short: None, value: None, says: "print the steps in words, by names" };
 const HTML: Flag = Flag { name: "html", short: None, value: None, says: "a page with the report, lit by the mouse" };
 
@@ -32,12 +36,14 @@ pub const COMMANDS: [Command; 12] = [
         name: "check",
         operands: "FILE..",
         count: (1, ANY),
-        flags: &[&JSON, &PRICES, &QUIET],
+        flags: &[&JSON, &CSV, &SHORT, &FAILED, &LIST, &PRICES, &QUIET],
         summary: "say whether sheets are fully dimensioned, and what is wrong",
         about: "
 Each file gets its verdict (well, under, stuck, angle, over) with what is missing, what is
 too many, and a warning where sizes do not close. Several files are checked on all cores,
-and a table of verdicts stands at the end. The status is that of the worst file.
+and a table stands at the end: how many got which verdict, and how many were refused by which
+rule, with an example each. The status is that of the worst file. A folder stands for the
+sheets in it and below, whose names end in .txt or .sheet.
 Warnings marked numeric come from one layout in floating point and are not proved.",
         run: check::run,
     },
