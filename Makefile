@@ -82,7 +82,11 @@ uninstall:
 	rm -f $(TO)/lib/pkgconfig/pattern.pc $(TO)/share/man/man1/pattern.1 $(TO)/share/bash-completion/completions/pattern
 	rm -f $(TO)/share/zsh/site-functions/_pattern $(TO)/share/fish/vendor_completions.d/pattern.fish $(TO)/share/pattern/pattern.py
 
+# The book: a site of static pages, from each promise to its proof; target/book/index.html.
+book:
+	python3 -B book/book.py
+
 clean:
 	rm -rf $(OUT)
 
-.PHONY: all need command try targets install uninstall clean
+.PHONY: all need command try targets book install uninstall clean
