@@ -364,7 +364,7 @@ pub fn over(sheet: &[u8]) -> Result<Option<Over>, Rule> {
 pub enum Verdict {
     /// Some part has a constraint too many.
     Over,
-    /// Some three lines are held by their angles alone.
+    /// Some three lines are held by their angles alone, or angles run round through four or more parts that share lines.
     Angle,
     /// Fully dimensioned, and built from parts three at a time.
     Well,
