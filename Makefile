@@ -74,13 +74,17 @@ install: all
 	$(COMMAND) completion bash >$(TO)/share/bash-completion/completions/pattern
 	$(COMMAND) completion zsh >$(TO)/share/zsh/site-functions/_pattern
 	$(COMMAND) completion fish >$(TO)/share/fish/vendor_completions.d/pattern.fish
-	install -d $(TO)/share/pattern
-	install -m 644 python/pattern.py $(TO)/share/pattern
+	install -d $(TO)/share/pattern/rust/src
+	install -m 644 python/pattern.py docs/pattern.schema.json $(TO)/share/pattern
+	install -m 644 examples/rust/build.rs $(TO)/share/pattern/rust
+	install -m 644 examples/rust/src/*.rs $(TO)/share/pattern/rust/src
+	sed '/^# the version/d; s|^version = .*|version = "$(VERSION)"|' examples/rust/Cargo.toml >$(TO)/share/pattern/rust/Cargo.toml
 
 uninstall:
 	rm -f $(TO)/bin/pattern $(HEADERS:include/%=$(TO)/include/%) $(TO)/lib/libpattern.a $(TO)/lib/libpattern.so*
 	rm -f $(TO)/lib/pkgconfig/pattern.pc $(TO)/share/man/man1/pattern.1 $(TO)/share/bash-completion/completions/pattern
-	rm -f $(TO)/share/zsh/site-functions/_pattern $(TO)/share/fish/vendor_completions.d/pattern.fish $(TO)/share/pattern/pattern.py
+	rm -f $(TO)/share/zsh/site-functions/_pattern $(TO)/share/fish/vendor_completions.d/pattern.fish
+	rm -rf $(TO)/share/pattern
 
 # The book: a site of static pages, from each promise to its proof; target/book/index.html.
 book:

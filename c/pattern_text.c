@@ -86,3 +86,31 @@ int32_t pattern_read(const uint8_t *sheet, pattern_len len, struct pattern_colum
     }
     return 0;
 }
+
+int32_t pattern_write_columns(const struct pattern_columns *facts, uint8_t *out, pattern_len room)
+{
+    return pattern_write(facts->opening, facts->n, facts->e,
+                         facts->kinds, PATTERN_MAX_ELEMENTS, facts->radii, PATTERN_MAX_ELEMENTS,
+                         facts->firsts, PATTERN_MAX_CONSTRAINTS, facts->seconds, PATTERN_MAX_CONSTRAINTS,
+                         facts->maps, PATTERN_MAX_CONSTRAINTS, facts->sizes, PATTERN_MAX_CONSTRAINTS,
+                         out, room);
+}
+
+/* Whether an end is a line. */
+static int is_line(const uint8_t *kinds, pattern_len kinds_len, uint8_t end)
+{
+    return end < kinds_len && kinds[end] == PATTERN_LINE;
+}
+
+int32_t pattern_order_ends(const uint8_t *kinds, pattern_len kinds_len, uint8_t *first, uint8_t *second, int32_t *size)
+{
+    uint8_t low = *second, high = *first;
+    if (high <= low)
+        return 0;
+    *first = low;
+    *second = high;
+    /* the least number has no opposite; it is no angle either, and stays for rule 9 */
+    if (is_line(kinds, kinds_len, low) && is_line(kinds, kinds_len, high) && *size != INT32_MIN)
+        *size = -*size;
+    return 1;
+}

@@ -48,6 +48,19 @@ struct pattern_columns {
  */
 int32_t pattern_read(const uint8_t *sheet, pattern_len len, struct pattern_columns *out);
 
+/*
+ * Writes a sheet from its columns: pattern_write, with its rules and its answer, in three arguments. What
+ * pattern_read gave is written as the sheet that it was read from, without tags.
+ */
+int32_t pattern_write_columns(const struct pattern_columns *facts, uint8_t *out, pattern_len room);
+
+/*
+ * Puts the two ends of a constraint in order, the lower one first, as pattern_write, pattern_ask and pattern_place
+ * want them. Between two lines an angle then turns the other way: its size changes its sign. kinds are those of the
+ * elements; an end beyond them is no line. Answers 1 where the ends were exchanged, else 0.
+ */
+int32_t pattern_order_ends(const uint8_t *kinds, pattern_len kinds_len, uint8_t *first, uint8_t *second, int32_t *size);
+
 #ifdef __cplusplus
 }
 #endif

@@ -1,13 +1,14 @@
 """The geometric constraint engine for flat patterns, over its shared library.
 
 A sheet is bytes, as it stands in a file. Every function that takes one raises `Refused`, with the number of the rule, where the engine refuses it.
+A number that does not fit its field raises ValueError before the engine is called: nothing is cut.
 
     >>> import pattern
     >>> from pattern import Constraint, Facts, POINT
     >>> sides = [Constraint(0, 1, 300), Constraint(0, 2, 300), Constraint(1, 2, 300)]
     >>> sheet = pattern.write(Facts([POINT] * 3, sides))
-    >>> pattern.verdict(sheet).name
-    'WELL'
+    >>> print(pattern.verdict(sheet))
+    well
     >>> pattern.plan(sheet)
     [(0, 1, 2)]
     >>> pattern.verdict(sheet[:-1])
@@ -22,6 +23,7 @@ from __future__ import annotations
 
 import ctypes
 import enum
+import operator
 import os
 from collections.abc import Iterable, Sequence
 from dataclasses import dataclass, field
@@ -70,7 +72,17 @@ def _load() -> ctypes.CDLL:
 _library = _load()
 
 
-class Kind(enum.IntEnum):
+class _Name(enum.IntEnum):
+    """A number that prints as its name, in small letters."""
+
+    def __str__(self) -> str:
+        return self.name.lower()
+
+    def __format__(self, spec: str) -> str:
+        return format(str(self), spec)
+
+
+class Kind(_Name):
     """The kind of an element."""
 
     POINT = 0
@@ -109,22 +121,40 @@ class Constraint:
     tangent: bool = False
     other: bool = False
 
+    def ordered(self, elements: Sequence[Element]) -> Constraint:
+        """The same constraint with its lower end first. Between two lines an angle then turns the other way: its sign changes.
+
+        >>> from pattern import Constraint, LINE
+        >>> Constraint(1, 0, 9000).ordered([LINE, LINE])
+        Constraint(first=0, second=1, size=-9000, tangent=False, other=False)
+        """
+        if self.first <= self.second:
+            return self
+        lines = all(elements[end].kind == Kind.LINE for end in (self.first, self.second))
+        size = -self.size if lines and self.size is not None else self.size
+        return Constraint(self.second, self.first, size, self.tangent, self.other)
+
     def _map(self) -> int:
         """The bits of the map."""
-        return (_SIZED if self.size is not None else 0) | _TANGENT * self.tangent | _OTHER * self.other
+        return (_SIZED if self.size is not None else 0) | (_TANGENT if self.tangent else 0) | (_OTHER if self.other else 0)
 
 
 @dataclass(frozen=True)
 class Facts:
-    """The facts of a sheet. The opening is 1 for PF01; circles need 2, PF02."""
+    """The facts of a sheet. The opening, 1 for PF01 and 2 for PF02, follows from the kinds where it is not given: circles need PF02."""
 
     elements: Sequence[Element]
     constraints: Sequence[Constraint] = field(default_factory=tuple)
-    opening: int = 1
+    opening: int = 0
+
+    def __post_init__(self) -> None:
+        if self.opening == 0:
+            circles = any(element.kind == Kind.CIRCLE for element in self.elements)
+            object.__setattr__(self, "opening", 2 if circles else 1)
 
 
-class Verdict(enum.IntEnum):
-    """What is said of a sheet, in the order it is tried."""
+class Verdict(_Name):
+    """What is said of a sheet, in the order it is tried. It prints as the report has it: over, angle, well, stuck or under."""
 
     OVER = 0
     ANGLE = 1
@@ -175,7 +205,7 @@ def version() -> str:
 
 def rule_text(rule: int) -> str:
     """A rule in words."""
-    return _text("pattern_rule_text", rule)
+    return _text("pattern_rule_text", ctypes.c_int32(_fits(rule, ctypes.c_int32, "a rule")))
 
 
 def verdict(sheet: bytes) -> Verdict:
@@ -202,7 +232,7 @@ def plan(sheet: bytes) -> list[tuple[int, int, int]]:
 
 def open_merges(sheet: bytes, steps: int) -> list[tuple[int, int, int]]:
     """The merges that are open after so many steps of the plan, or after all: by the lowest element of the joint, then by number."""
-    numbers = _list("pattern_open", ctypes.c_uint16, MOST_OPEN, *_bytes(sheet), ctypes.c_size_t(steps))
+    numbers = _list("pattern_open", ctypes.c_uint16, MOST_OPEN, *_bytes(sheet), _number(steps, "a count of steps"))
     return [(a, b, c) for a, b, c in _threes(numbers)]
 
 
@@ -236,14 +266,14 @@ def clusters(sheet: bytes) -> list[Cluster]:
 
 def shared(a: Iterable[int], b: Iterable[int]) -> frozenset[int]:
     """All that two sets of elements have in common."""
-    words = [ctypes.c_uint64(sum(1 << element for element in set(elements))) for elements in (a, b)]
-    return _set(_library.pattern_shared(*words))
+    return _set(_library.pattern_shared(_word(a), _word(b)))
 
 
 def chain(sheet: bytes, start: int, end: int) -> list[int] | None:
     """The numbers of the fewest final clusters from one element to another, or None where the two are not connected."""
     space = (ctypes.c_uint16 * MOST_CHAIN)()
-    count = _library.pattern_chain(*_bytes(sheet), ctypes.c_size_t(start), ctypes.c_size_t(end), space, ctypes.c_size_t(MOST_CHAIN))
+    ends = (_number(start, "the start of a chain"), _number(end, "the end of a chain"))
+    count = _library.pattern_chain(*_bytes(sheet), *ends, space, ctypes.c_size_t(MOST_CHAIN))
     return None if count == _NO_RUN else space[: _accepted(count)]
 
 
@@ -252,34 +282,33 @@ def missing(sheet: bytes, prices: Sequence[int] | None = None) -> list[tuple[int
     if prices is None:
         n = len(read(sheet).elements)
         prices = [0] * (n * (n - 1) // 2)
-    table = (ctypes.c_uint16 * len(prices))(*prices)
-    pairs = _list("pattern_missing", ctypes.c_uint16, MOST_MISSING, *_bytes(sheet), table, ctypes.c_size_t(len(prices)))
+    pairs = _list("pattern_missing", ctypes.c_uint16, MOST_MISSING, *_bytes(sheet), *_column(ctypes.c_uint16, prices, "a price"))
     return [(pair >> 8, pair & 255) for pair in pairs]
 
 
 def part(sheet: bytes, number: int) -> str:
     """The step lines of one cluster of the plan, each part's before the step that uses it."""
-    return _out("pattern_part", part_bytes(sheet, number), *_bytes(sheet), ctypes.c_size_t(number)).decode("ascii")
+    return _out("pattern_part", part_bytes(sheet, number), *_bytes(sheet), _number(number, "a cluster")).decode("ascii")
 
 
 def part_steps(sheet: bytes, number: int) -> int:
     """How many steps one cluster of the plan has."""
-    return _call("pattern_part_steps", *_bytes(sheet), ctypes.c_size_t(number))
+    return _call("pattern_part_steps", *_bytes(sheet), _number(number, "a cluster"))
 
 
 def part_bytes(sheet: bytes, number: int) -> int:
     """How many bytes `part` gives."""
-    return _call("pattern_part_bytes", *_bytes(sheet), ctypes.c_size_t(number))
+    return _call("pattern_part_bytes", *_bytes(sheet), _number(number, "a cluster"))
 
 
 def card(number: int) -> Verdict:
     """The verdict of five points with some of the ten distances between them: bit 0 is the pair (0,1), then in dictionary order."""
-    return Verdict(_call("pattern_card", ctypes.c_size_t(number)))
+    return Verdict(_call("pattern_card", _number(number, "an entry of the card")))
 
 
 def longest(n: int) -> bytes:
     """The sheet of n points with the longest plan."""
-    return _out("pattern_longest", MOST_WRITTEN, ctypes.c_size_t(n))
+    return _out("pattern_longest", MOST_WRITTEN, _number(n, "a count of points"))
 
 
 def rewrite(sheet: bytes) -> bytes:
@@ -292,15 +321,15 @@ def write(facts: Facts) -> bytes:
     constraints = facts.constraints[: MOST_CONSTRAINTS + 1]
     elements = facts.elements[: MOST_ELEMENTS + 1]
     columns = [
-        *_column(ctypes.c_uint8, [element.kind for element in elements]),
-        *_column(ctypes.c_uint32, [element.radius for element in elements]),
-        *_column(ctypes.c_uint8, [c.first for c in constraints]),
-        *_column(ctypes.c_uint8, [c.second for c in constraints]),
-        *_column(ctypes.c_uint8, [c._map() for c in constraints]),
-        *_column(ctypes.c_int32, [c.size or 0 for c in constraints]),
+        *_column(ctypes.c_uint8, [element.kind for element in elements], "a kind"),
+        *_column(ctypes.c_uint32, [element.radius for element in elements], "a radius"),
+        *_column(ctypes.c_uint8, [c.first for c in constraints], "a first end"),
+        *_column(ctypes.c_uint8, [c.second for c in constraints], "a second end"),
+        *_column(ctypes.c_uint8, [c._map() for c in constraints], "a map"),
+        *_column(ctypes.c_int32, [0 if c.size is None else c.size for c in constraints], "a size"),
     ]
-    counts = map(ctypes.c_size_t, (facts.opening, len(elements), len(constraints)))
-    return _out("pattern_write", MOST_WRITTEN, *counts, *columns)
+    counts = (ctypes.c_size_t(len(elements)), ctypes.c_size_t(len(constraints)))
+    return _out("pattern_write", MOST_WRITTEN, _number(facts.opening, "an opening"), *counts, *columns)
 
 
 class _Columns(ctypes.Structure):
@@ -351,7 +380,7 @@ class Sketch:
 
     def place(self, more: Constraint, held: int) -> Verdict:
         """Places a constraint that was asked when so many were held."""
-        return Verdict(_call("pattern_place", self._record, ctypes.c_size_t(MOST_RECORD), *self._fields(more), ctypes.c_size_t(held)))
+        return Verdict(_call("pattern_place", self._record, ctypes.c_size_t(MOST_RECORD), *self._fields(more), _number(held, "a count of constraints")))
 
     def sheet(self) -> bytes:
         """The sheet that is held."""
@@ -364,7 +393,32 @@ class Sketch:
     @staticmethod
     def _fields(more: Constraint) -> tuple[Any, ...]:
         """A constraint as the library takes it."""
-        return (*map(ctypes.c_uint8, (more.first, more.second, more._map())), ctypes.c_int32(more.size or 0))
+        ends = [ctypes.c_uint8(_fits(end, ctypes.c_uint8, "an end")) for end in (more.first, more.second)]
+        size = 0 if more.size is None else _fits(more.size, ctypes.c_int32, "a size")
+        return (*ends, ctypes.c_uint8(more._map()), ctypes.c_int32(size))
+
+
+def _fits(value: int, kind: type, what: str) -> int:
+    """A number that fits its field: ctypes would cut what does not."""
+    bits = 8 * ctypes.sizeof(kind)
+    low, high = (-(1 << (bits - 1)), (1 << (bits - 1)) - 1) if kind is ctypes.c_int32 else (0, (1 << bits) - 1)
+    number = operator.index(value)
+    if not low <= number <= high:
+        raise ValueError(f"{what} is {low} to {high}, not {number}")
+    return number
+
+
+def _number(value: int, what: str) -> ctypes.c_size_t:
+    """A count or a number as the library takes it."""
+    return ctypes.c_size_t(_fits(value, ctypes.c_size_t, what))
+
+
+def _word(elements: Iterable[int]) -> ctypes.c_uint64:
+    """A set of elements as the bits of a number."""
+    numbers = {operator.index(element) for element in elements}
+    if not all(0 <= number < MOST_ELEMENTS for number in numbers):
+        raise ValueError(f"an element is 0 to {MOST_ELEMENTS - 1}, not {max(numbers, key=abs)}")
+    return ctypes.c_uint64(sum(1 << number for number in numbers))
 
 
 def _accepted(answer: int) -> int:
@@ -387,17 +441,25 @@ def _text(name: str, *arguments: Any) -> str:
 
 def _bytes(sheet: bytes) -> tuple[Any, ...]:
     """A sheet as the library takes it."""
-    return (ctypes.c_char_p(bytes(sheet)), ctypes.c_size_t(len(sheet)))
+    if not isinstance(sheet, (bytes, bytearray, memoryview)):
+        raise TypeError(f"a sheet is bytes, not {type(sheet).__name__}")
+    content = bytes(sheet)
+    return (ctypes.c_char_p(content), ctypes.c_size_t(len(content)))
 
 
 def _numbers(plan: Iterable[Sequence[int]]) -> tuple[Any, ...]:
-    """A plan as the library takes it."""
-    return _column(ctypes.c_uint16, [number for step in plan for number in step])
+    """A plan as the library takes it. Steps of other than three numbers are left to rule 12, unless it would not see them."""
+    steps = [list(step) for step in plan]
+    numbers = [number for step in steps for number in step]
+    if len(numbers) % 3 == 0 and any(len(step) != 3 for step in steps):
+        raise ValueError("a step of a plan has three numbers")
+    return _column(ctypes.c_uint16, numbers, "a number of a plan")
 
 
-def _column(kind: type, items: Sequence[int]) -> tuple[Any, ...]:
+def _column(kind: type, items: Iterable[int], what: str) -> tuple[Any, ...]:
     """A list as the library takes it."""
-    return ((kind * len(items))(*items), ctypes.c_size_t(len(items)))  # type: ignore[operator]
+    numbers = [_fits(item, kind, what) for item in items]
+    return ((kind * len(numbers))(*numbers), ctypes.c_size_t(len(numbers)))  # type: ignore[operator]
 
 
 def _list(name: str, kind: type, room: int, *arguments: Any) -> list[int]:

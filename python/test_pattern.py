@@ -165,6 +165,68 @@ class Calls(unittest.TestCase):
         self.assertEqual(pattern.verdict(sketch.sheet()), Verdict.WELL)
         self.refused(11, pattern.Sketch, stored("report/over.sheet"))
 
+    def test_nothing_is_cut(self):
+        """What does not fit its field is refused before the call; a call would answer for another number."""
+        sheet, big = self.sheet, 2**64
+        facts = lambda *fields, **more: Facts([POINT] * 4, [Constraint(*fields, **more)])
+        cut = [
+            lambda: pattern.write(facts(0, 258, 300)),
+            lambda: pattern.write(facts(-1, 2, 300)),
+            lambda: pattern.write(facts(256, 257, 300)),
+            lambda: pattern.write(facts(0, 1, 2**32 + 300)),
+            lambda: pattern.write(facts(0, 1, -(2**31) - 1)),
+            lambda: pattern.write(Facts([POINT, CIRCLE(2**32 + 5)])),
+            lambda: pattern.write(Facts([POINT, CIRCLE(-1)])),
+            lambda: pattern.write(Facts([pattern.Element(256), POINT])),  # type: ignore[arg-type]
+            lambda: pattern.write(Facts([POINT] * 2, opening=big + 1)),
+            lambda: pattern.check_plan(sheet, [(0, 1, 65_538)]),
+            lambda: pattern.check_plan(sheet, [(0, 1, 2), (3, 4, 65_541)]),
+            lambda: pattern.check_plan(sheet, [(0, 1), (2, 3, 4, 5)]),
+            lambda: pattern.saved_steps(sheet, [(0, -1, 2)]),
+            lambda: pattern.missing(sheet, [65_536] * 6),
+            lambda: pattern.missing(sheet, [-1] * 6),
+            lambda: pattern.chain(sheet, big, 2),
+            lambda: pattern.chain(sheet, 0, -1),
+            lambda: pattern.open_merges(sheet, big),
+            lambda: pattern.part(sheet, big + 5),
+            lambda: pattern.part_steps(sheet, -1),
+            lambda: pattern.part_bytes(sheet, big),
+            lambda: pattern.card(big),
+            lambda: pattern.longest(big + 5),
+            lambda: pattern.rule_text(2**32 + 9),
+            lambda: pattern.shared({64}, {0}),
+            lambda: pattern.shared({0}, {-1}),
+            lambda: pattern.Sketch(sheet).ask(Constraint(0, 259, 300)),
+            lambda: pattern.Sketch(sheet).place(Constraint(0, 3, 2**32 + 300), 5),
+            lambda: pattern.Sketch(sheet).place(Constraint(0, 3, 300), big + 5),
+        ]
+        for place, call in enumerate(cut):
+            with self.assertRaises(ValueError, msg=place):
+                call()
+        for call in (lambda: pattern.verdict(12), lambda: pattern.verdict("PF01"), lambda: pattern.write(facts(0, 1, 3.5)), lambda: pattern.longest("9")):
+            with self.assertRaises(TypeError):
+                call()
+        self.assertEqual(pattern.verdict(memoryview(sheet)), pattern.verdict(bytearray(sheet)))
+        self.assertEqual(facts(0, 1, tangent=2).constraints[0]._map(), 4)  # type: ignore[arg-type]
+
+    def test_names(self):
+        verdict = pattern.verdict(self.sheet)
+        self.assertEqual((str(verdict), f"{verdict}", f"{verdict:6}|", f"{LINE.kind}"), ("well", "well", "well  |", "line"))
+        self.assertEqual((verdict, int(verdict), verdict.name), (2, 2, "WELL"))
+
+    def test_the_opening_follows_from_the_kinds(self):
+        self.assertEqual(Facts([POINT, CIRCLE(5)]).opening, 2)
+        self.assertEqual(Facts([POINT, LINE]).opening, 1)
+        self.assertEqual(pattern.write(Facts([POINT, CIRCLE(5)], [Constraint(0, 1, tangent=True)]))[:4], b"PF02")
+        self.refused(18, pattern.write, Facts([POINT, CIRCLE(5)], opening=1))
+
+    def test_ends_in_order(self):
+        elements = [LINE, LINE, POINT]
+        self.assertEqual(Constraint(1, 0, 9000).ordered(elements), Constraint(0, 1, -9000))
+        self.assertEqual(Constraint(2, 0, -300).ordered(elements), Constraint(0, 2, -300))
+        self.assertEqual(Constraint(2, 0).ordered(elements), Constraint(0, 2))
+        self.assertEqual(Constraint(0, 1, 9000).ordered(elements), Constraint(0, 1, 9000))
+
     def test_card(self):
         self.assertEqual(pattern.card(0), Verdict.UNDER)
         self.assertEqual(pattern.card(0b00_1011_0111), Verdict.OVER)

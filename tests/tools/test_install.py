@@ -12,7 +12,8 @@ ROOT = os.path.abspath(os.path.join(os.path.dirname(__file__), "..", ".."))
 FILES = """
 bin/pattern include/pattern.h include/pattern_text.h lib/libpattern.a lib/libpattern.so lib/libpattern.so.1 lib/libpattern.so.1.0.0
 lib/pkgconfig/pattern.pc share/bash-completion/completions/pattern share/fish/vendor_completions.d/pattern.fish share/man/man1/pattern.1
-share/pattern/pattern.py share/zsh/site-functions/_pattern
+share/pattern/pattern.py share/pattern/pattern.schema.json share/pattern/rust/Cargo.toml share/pattern/rust/build.rs
+share/pattern/rust/src/c.rs share/pattern/rust/src/lib.rs share/zsh/site-functions/_pattern
 """.split()
 EXAMPLE = os.path.join(ROOT, "tests", "programs", "report", "example.sheet")
 
@@ -107,6 +108,28 @@ class Install(unittest.TestCase):
             program = os.path.join(folder, "read")
             run("cc", *flags, "-I" + self.path("include"), *sources, proved, "-o", program)
             run(program)
+
+    def test_rust(self):
+        """The wrapper links the installed library: from where it is installed itself, and from a copy by pkg-config and by PATTERN_LIB_DIR."""
+        program = "fn main() { println!(\"{:?}\", pattern::verdict(&std::fs::read(std::env::args().nth(1).unwrap()).unwrap())) }\n"
+        plain = {name: value for name, value in os.environ.items() if name not in ("PATTERN_LIB_DIR", "PKG_CONFIG_PATH")}
+        with tempfile.TemporaryDirectory() as folder:
+            copy = os.path.join(folder, "copy")
+            shutil.copytree(self.path("share/pattern/rust"), copy)
+            found = [
+                (self.path("share/pattern/rust"), {}),
+                (copy, {"PKG_CONFIG_PATH": self.path("lib/pkgconfig")}),
+                (copy, {"PATTERN_LIB_DIR": self.path("lib")}),
+            ]
+            for place, (wrapper, more) in enumerate(found):
+                project = os.path.join(folder, str(place))
+                os.makedirs(os.path.join(project, "src"))
+                with open(os.path.join(project, "Cargo.toml"), "w") as file:
+                    file.write(f'[package]\nname = "it"\nversion = "0.1.0"\nedition = "2021"\n[dependencies]\npattern = {{ path = "{wrapper}" }}\n')
+                with open(os.path.join(project, "src", "main.rs"), "w") as file:
+                    file.write(program)
+                environment = {**plain, **more, "CARGO_TARGET_DIR": os.path.join(folder, "target", str(place))}
+                self.assertEqual(run("cargo", "run", "--offline", "--quiet", "--", EXAMPLE, cwd=project, env=environment), "Ok(Well)\n")
 
     def test_python(self):
         code = "import pattern; print(pattern.version(), pattern.verdict(open(%r, 'rb').read()).name)" % EXAMPLE

@@ -15,6 +15,8 @@ import time
 import unittest
 import xml.etree.ElementTree
 
+import jsonschema
+
 ROOT = os.path.abspath(os.path.join(os.path.dirname(__file__), "..", ".."))
 TEXTS = os.path.join(ROOT, "examples", "text")
 SHEETS = os.path.join(ROOT, "tests", "programs", "report")
@@ -100,11 +102,47 @@ class Json(unittest.TestCase):
             os.symlink(text("gable"), path)
             self.assertEqual(self.check(path)[0]["file"], path)
 
-    def test_commands(self):
-        calls = [["show", text("gable")], ["plan", text("gable")], ["part", text("gable"), "12"], ["chain", text("frame"), "A", "C"]]
-        calls += [["report", text("frame")], ["diff", text("frame"), text("braced")], ["add", text("frame"), "distance A C 7"]]
+    def answer(self, *arguments, text=None):
+        """What a command prints for programs: it is as the schema says, standard error is empty, and the status is the one it names."""
+        status, out, error = pattern(*arguments, "--json", text=text)
+        self.assertEqual(error, "", arguments)
+        found = json.loads(out)
+        jsonschema.validate(found, self.schema)
+        self.assertEqual((found["exit"], found["command"]), (status, arguments[0] if found["command"] else None))
+        return found
+
+    @classmethod
+    def setUpClass(cls):
+        cls.schema = json.loads(open_text(os.path.join(ROOT, "docs", "pattern.schema.json")))
+        jsonschema.Draft7Validator.check_schema(cls.schema)
+
+    def test_the_schema(self):
+        """Every command, where it answers and where it complains, is as the schema says; and what is not, is not."""
+        example, refused = os.path.join(SHEETS, "example.sheet"), os.path.join(SHEETS, "refused_9_zero.sheet")
+        plan = os.path.join(ROOT, "tests", "programs", "takeover", "own.plan")
+        one = {"add": ["distance A C 7"], "chain": ["A", "C"], "part": ["0"], "diff": [text("gable")], "verify": [plan]}
+        sheets = [text(name) for name in ("gable", "frame", "braced", "lattice", "hipped", "triangle", "open", "light")]
+        for command in ("check", "show", "make", "report", "plan", "add", "chain", "diff", "part"):
+            for sheet in sheets:
+                self.answer(command, sheet, *one.get(command, []))
+        calls = [["verify", example, plan], ["part", text("gable"), "12"], ["longest", "9"], ["card"], ["card", "0-1"], ["completion", "zsh"]]
+        calls += [["check", *sheets, refused, "no such file"], ["chain", os.path.join(SHEETS, "two_points.sheet"), "0", "1"]]
         for call in calls:
-            self.assertTrue(json.loads(pattern(*call, "--json")[1]), call)
+            self.assertEqual(self.answer(*call)["errors"], [], call)
+        files = self.answer("check", refused, "no such file")["answer"]["files"]
+        self.assertEqual([[error["status"] for error in found["errors"]] for found in files], [["refused"], ["unreadable"]])
+        for command in ("show", "make", "report", "plan", "verify", "add", "chain", "part", "diff"):
+            operands = one.get(command, [])
+            for wrong, status in ((["no such file", *operands], "unreadable"), ([refused, *operands], "refused"), ([], "usage")):
+                errors = self.answer(command, *wrong)["errors"]
+                self.assertEqual([error["status"] for error in errors], [status], command)
+        self.assertEqual(self.answer("nonsense")["errors"][0]["status"], "usage")
+        self.assertEqual(len(self.answer("show", "-", text=b"pont A\npoint B B\ncircle c\n")["errors"]), 3)
+        self.assertEqual(self.answer("verify", text("braced"), plan)["errors"][0]["rule"], 11)
+        found = self.answer("report", text("gable"))
+        for change in ({"exit": 7}, {"answer": None}, {"errors": [{}]}, {"more": 1}, {"answer": {**found["answer"], "status": "fine"}}):
+            with self.assertRaises(jsonschema.ValidationError):
+                jsonschema.validate({**found, **change}, self.schema)
 
 
 class Many(unittest.TestCase):

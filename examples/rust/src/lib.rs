@@ -201,6 +201,27 @@ impl Constraint {
         Constraint::new(first, second, Dimension::Size(size))
     }
 
+    /// The same constraint with its lower end first. Between two lines an angle then turns the other way: its sign changes.
+    ///
+    /// ```
+    /// use pattern::{Constraint, Kind};
+    ///
+    /// let kinds = [Kind::Line, Kind::Line, Kind::Point];
+    /// assert_eq!(Constraint::sized(1, 0, 9_000).ordered(&kinds), Constraint::sized(0, 1, -9_000));
+    /// assert_eq!(Constraint::sized(2, 0, -300).ordered(&kinds), Constraint::sized(0, 2, -300));
+    /// ```
+    pub fn ordered(self, kinds: &[Kind]) -> Constraint {
+        if self.first <= self.second {
+            return self;
+        }
+        let line = |end: u8| kinds.get(usize::from(end)) == Some(&Kind::Line);
+        let dimension = match self.dimension {
+            Dimension::Size(size) if line(self.first) && line(self.second) => Dimension::Size(size.saturating_neg()),
+            other => other,
+        };
+        Constraint::new(self.second, self.first, dimension)
+    }
+
     /// The bit map: bit 0 where the size is given, bit 2 of a contact, bit 3 of the other.
     fn map(&self) -> u8 {
         match self.dimension {

@@ -1,11 +1,13 @@
 //! The commands, each with its words for the help.
 
 mod add;
+mod card;
 mod chain;
 mod check;
 mod completion;
 mod diff;
 mod draw;
+mod longest;
 mod part;
 mod plan;
 mod report;
@@ -31,7 +33,7 @@ const HTML: Flag = Flag { name: "html", short: None, value: None, says: "a page 
 const ANY: usize = usize::MAX;
 
 /// Every command, in the order of the help.
-pub const COMMANDS: [Command; 12] = [
+pub const COMMANDS: [Command; 14] = [
     Command {
         name: "check",
         operands: "FILE..",
@@ -165,6 +167,29 @@ placement of each step; else by a numeric search, else on a circle. The layout i
 proved. Parts have colours of their own, what is over is red, parts that can still move are
 dashed.",
         run: draw::run,
+    },
+    Command {
+        name: "longest",
+        operands: "N",
+        count: (1, 1),
+        flags: &[&OUTPUT, &JSON],
+        summary: "print the sheet of N points with the longest plan; -o saves it",
+        about: "
+To try a machine with: N is 2 to 64, the plan has N-2 steps, and no sheet of so many elements
+that is not over has a longer one. It is printed as text; with -o it is saved in bytes.",
+        run: longest::run,
+    },
+    Command {
+        name: "card",
+        operands: "[ENTRY | PAIR..]",
+        count: (0, 10),
+        flags: &[&JSON],
+        summary: "print how many sets of distances among five points are over, well, ..",
+        about: "
+A line each for two to five points. ENTRY is a number of the card, 0 to 1023: pair 0-1 is its
+lowest bit, then in dictionary order. Or name the PAIRs, like 0-1 0-2 1-2: the verdict of five
+points with these distances is printed. --json gives the whole card.",
+        run: card::run,
     },
     Command {
         name: "completion",
