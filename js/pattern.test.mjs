@@ -136,7 +136,8 @@ test('what is no sheet, or no number, is an error', () => {
 test('every function of the headers is called', () => {
     const declared = [...header.matchAll(/^(?:int32_t|uint64_t|const char) \*?(pattern_\w+)\(/gm)].map(found => found[1]);
     assert.ok(declared.length >= 28);
-    const spared = ['pattern_verdict_text']; // VERDICTS has the names
+    // VERDICTS has the names, and write takes the facts as read gives them
+    const spared = ['pattern_verdict_text', 'pattern_write_columns', 'pattern_order_ends'];
     for (const name of declared) assert.ok(spared.includes(name) || new RegExp(`\\b${name}\\b`).test(source), name);
 });
 

@@ -237,6 +237,14 @@ static void apart(void)
     add_bytes(OF_pattern_read, f.seconds, sizeof f.seconds);
     add_bytes(OF_pattern_read, f.maps, sizeof f.maps);
     add_bytes(OF_pattern_read, f.sizes, sizeof f.sizes);
+    LENT(pattern_write_columns, uint8_t, PATTERN_MAX_WRITTEN, &f);
+
+    uint8_t first = (uint8_t)below(70), second = (uint8_t)below(70);
+    int32_t size = (int32_t)next();
+    CALL(pattern_order_ends, f.kinds, once_in(4) ? below(PATTERN_MAX_ELEMENTS) : PATTERN_MAX_ELEMENTS, &first, &second, &size);
+    add(OF_pattern_order_ends, first);
+    add(OF_pattern_order_ends, second);
+    add(OF_pattern_order_ends, (uint64_t)size);
 
     int32_t number = (int32_t)(once_in(4) ? next() : below(80)) - 40;
     rows[OF_pattern_rule_text].calls++;
