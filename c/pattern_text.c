@@ -109,8 +109,8 @@ int32_t pattern_order_ends(const uint8_t *kinds, pattern_len kinds_len, uint8_t 
         return 0;
     *first = low;
     *second = high;
-    /* the least number has no opposite; it is no angle either, and stays for rule 9 */
-    if (is_line(kinds, kinds_len, low) && is_line(kinds, kinds_len, high) && *size != INT32_MIN)
-        *size = -*size;
+    /* unsigned, since the least number has no opposite: it is no angle either, and stays for rule 9 */
+    if (is_line(kinds, kinds_len, low) && is_line(kinds, kinds_len, high))
+        *size = (int32_t)(0u - (uint32_t)*size);
     return 1;
 }
