@@ -88,8 +88,8 @@ for (const [on, off] of [['mouseover', 'mouseout'], ['focusin', 'focusout']]) {
 
 // ---- a contract, unfolded a step at a time: each name that is clicked in it opens its definition below
 
-document.addEventListener('click', async e => {
-    const link = e.target.closest && e.target.closest('.unfold a.B');
+document.addEventListener('click', async e => { // a constructor opens its type, unless it stands there already
+    const link = e.target.closest && e.target.closest('.unfold pre a.B');
     if (!link || e.ctrlKey || e.metaKey || e.shiftKey) return;
     const [, anchor] = link.href.split('#');
     if (!anchor) return;
@@ -98,13 +98,13 @@ document.addEventListener('click', async e => {
     const n = declared(link), code = n && CODE[BOOK.pages[n[2]] + '#' + n[3]];
     if (!code) { location.href = link.href; return; }
     const around = link.closest('.unfold');
-    const known = [...around.children].find(d => d.dataset && d.dataset.of === link.href);
+    if (around.of === code) return;
+    const known = [...around.children].find(d => d.tagName === 'DETAILS' && d.querySelector('summary a').href === link.href);
     if (known) { known.open = !known.open; return; }
     const inner = make('details', {className: 'unfold', open: true});
-    inner.dataset.of = link.href;
     inner.innerHTML = '<summary></summary><pre></pre>';
     inner.firstChild.append(make('a', {href: link.href, textContent: n[0]}), n[4] ? ': ' + n[4] : '');
-    inner.lastChild.innerHTML = code;
+    inner.lastChild.innerHTML = inner.of = code;
     for (const a of inner.lastChild.querySelectorAll('a')) a.setAttribute('href', root + a.getAttribute('href'));
     around.append(inner);
 });

@@ -1,6 +1,7 @@
 #!/usr/bin/env python3
 """Makes the book, a site of static pages from the sources as they are: book.py [FOLDER], by default target/book."""
 
+import base64
 import gc
 import html
 import json
@@ -25,6 +26,17 @@ TITLE = "The book of Pattern"
 #: The chapters, where they stand; what is not there is left out.
 CHAPTERS = ["README.md", "docs/GUIDE.md", "docs/FORMAT.md", "docs/PROMISES.md", "docs/TRUST.md", "docs/ARCHITECTURE.md", "docs/DECISIONS.md", "CONTRIBUTING.md", "CHANGELOG.md"]
 
+#: Where the library stands when it was made for WebAssembly.
+WASM = [os.path.join(ROOT, "target/targets", p) for p in ("js/pattern.wasm", "wasm32/pattern.wasm")]
+#: What stands in the fields of a call to try, by the name of the parameter.
+EXAMPLES = {
+    "sheet": "pppp 0-1 0-2 1-2 1-3 2-3", "record": "pppp 0-1 0-2 1-2 1-3", "plan": "0 1 2 3 4 5", "a": "7", "b": "14", "n": "5", "number": "6", "from": "0", "to": "3", "steps": "0",
+    "first": "2", "second": "3", "map": "1", "size": "300", "held": "4", "opening": "1", "e": "3", "kinds": "0 0 0 0 0", "firsts": "0 0 1", "seconds": "1 2 2",
+    "maps": "1 1 1", "sizes": "300 300 300", "prices": "1 1 1 1 1 1",
+}
+#: The entry points whose numbers are sets of elements.
+SETS = ("initial", "clusters")
+
 
 class Book:
     """Everything that the pages are made from, and the pages."""
@@ -36,6 +48,7 @@ class Book:
         self.entries, self.rules = entry_points.read(self.house, self.names, self.sections, self.edits)
         self.site = Site(folder, TITLE)
         self.rows = [row for section in self.sections for row in section.rows]
+        self.wasm = next((p for p in WASM if os.path.exists(p)), None)
         self.about = {}  # declaration -> the rows that name it
         self.place()
 
@@ -86,7 +99,8 @@ class Book:
         return "".join(out).replace("</code><code>", "")
 
     def sentence(self, row):
-        text = re.sub(r"`([^`]*)`", r"\1", row.texts[0])
+        """The words of a row: its sentence, or the field that it is about and what it says."""
+        text = re.sub(r"`([^`]*)`", r"\1", row.texts[0] if row.head[0] == "sentence" else row.texts[0] + ": " + row.texts[1])
         return text[:1].upper() + text[1:]
 
     # ---- sources
@@ -133,10 +147,11 @@ class Book:
         files, seen = {}, set()
         for (path, name), lines in self.house.believed.items():
             files.setdefault(path, []).append((name, lines))
+        files = {path: files[path] for path in self.reading_order(files)}
         out.append(
             f"<h1>What you must believe</h1><p>The contracts of the entry points cite definitions, and these cite others. They are all that a reader has to take for the paper's meaning: "
             f"<b>{self.house.count} lines</b> in {len(files)} files, as <code>tests/definitions</code> counts them. Everything else is checked by the prover. "
-            "They stand here in the order of the layers: what is used comes before what uses it.</p>"
+            "They stand here in the order in which they build on each other: what is used comes before what uses it.</p>"
         )
         out.append("<ol>")
         for path, names in files.items():
@@ -155,6 +170,27 @@ class Book:
                 out.append(f'<section class="decl believed"><pre>{comment}{self.site.decl_code(page, decl)}</pre></section>')
         self.site.write(page, "What you must believe", "\n".join(out))
         self.read = seen
+
+    def reading_order(self, files):
+        """The files of believed definitions, each behind those that its definitions cite."""
+        cites = {path: set() for path in files}
+        for path in files:
+            for decl in self.house.files[path].tops:
+                for by in decl.cited if decl.believed else ():
+                    if by.believed and by.file.path != path and by.file.path in cites:
+                        cites[by.file.path].add(path)
+        order, seen = [], set()
+
+        def visit(path):
+            if path not in seen:
+                seen.add(path)
+                for below in sorted(cites[path], key=list(files).index):
+                    visit(below)
+                order.append(path)
+
+        for path in files:
+            visit(path)
+        return order
 
     # ---- promises
 
@@ -290,7 +326,7 @@ class Book:
             code = self.site.code(page, decl.file, decl.file.starts[decl.first - 1], decl.open).rstrip()
             out.append(f'<div class="unfold"><p class="note">{told}: {self.to(page, decl, decl.file.crate.name + "::" + decl.name)}</p><pre>{code}</pre>')
             for cited in entry_points.contract_names(decl):
-                out.append(f'<details class="unfold" data-of=""><summary>{self.to(page, cited)} {escape(cited.comment)}</summary><pre>{self.site.decl_code(page, cited)}</pre></details>')
+                out.append(f'<details class="unfold"><summary>{self.to(page, cited)} {escape(cited.comment)}</summary><pre>{self.site.decl_code(page, cited)}</pre></details>')
             out.append("</div>")
         if e.rules:
             out.append("<h2>The rules that refuse it, in the order in which they are tried</h2><ol class=\"rules\">")
@@ -313,12 +349,29 @@ class Book:
         return "\n".join(out)
 
     def call(self, e):
-        """A call to try: the input of a wrong program, and what the proved library answers."""
-        tried = next((x for x in e.edits if x.call and x.answers and (x.call == e.short or e.short.startswith(x.call))), None) or next((x for x in e.edits if x.answers), None)
-        if tried is None:
-            return ""
-        return (f'<h2>A call to try</h2><div class="try"><label>input <code>{escape(tried.inputs[0])}</code></label>'
-                f"<output>{escape(tried.answers[0][0])}</output></div>")
+        """A call to try: by the proved library in the page where it was made for WebAssembly, else with the answer that is kept."""
+        mine = [x for x in e.edits if x.call == e.short] or [x for x in e.edits if x.call and e.short.startswith(x.call)]
+        out = ["<h2>A call to try</h2>"]
+        if self.wasm:
+            given = dict(EXAMPLES)
+            asked = e.parameters()
+            told = [x.inputs[0].split(None, 2)[2:] for x in mine if x.call == e.short and x.answers and not x.answers[0][0].startswith("refused")]
+            sheets = [t[0] for t in told if t and re.match(r"=?([plk]|c\d+)+( [\d:a-z-]+)+$", t[0]) and len(t[0]) < 90]
+            if sheets and [p["name"] for p in asked if not p.get("out")] == ["sheet"]:
+                given["sheet"] = sheets[0]
+            call = {"name": e.name, "parameters": asked, "rules": {k: says for k, (_, says) in self.rules.items()}, "sets": e.short in SETS}
+            out.append(f'<form class="try" data-call="{html.escape(json.dumps(call))}"><p class="note">The proved library runs in this page, as WebAssembly.</p>')
+            for p in asked:
+                if p.get("out") and not p.get("record"):
+                    continue
+                value = given.get(p["name"], "")
+                words = "a sheet: p, l or c300 for each element, then its constraints" if p.get("sheet") else "a sheet, held first" if p.get("record") else p["type"] + (" list" if p.get("list") else "")
+                out.append(f'<label>{escape(p["name"])} <small>{words}</small><input name="{p["name"]}" value="{html.escape(value)}"></label>')
+            out.append(f'<button>call {e.name}</button><output></output></form><script defer src="../try.js"></script>')
+        kept = next((x for x in mine if x.answers), None)
+        if kept is not None:
+            out.append(f'<p class="note">Kept from the tests: <code>{escape(kept.inputs[0])}</code> answers <code>{escape(kept.answers[0][0][:300])}</code></p>')
+        return "\n".join(out) if len(out) > 1 else ""
 
     # ---- documents
 
@@ -389,6 +442,8 @@ class Book:
             text = "\n".join(x for x in section.lines if isinstance(x, str)).strip()
             if text:
                 at = len(out) - (1 if section.rows else 0)
+                self.names.about = self.names.records = section.about
+                self.names.fields_meant = bool(section.rows) and section.rows[0].head[0] == "field"
                 paragraphs = [f"<p>{self.words(page, self.names.pieces(p))}</p>" for p in re.split(r"\n\s*\n", text)]
                 out[at:at] = paragraphs
         return "\n".join(out)
@@ -575,10 +630,18 @@ class Book:
         book = {"pages": list(pages), "names": names, "words": self.site.sections}
         with open(os.path.join(folder, "names.js"), "w", encoding="utf-8") as file:
             file.write("window.BOOK=" + json.dumps(book, ensure_ascii=False, separators=(",", ":")) + ";\n")
-        code = {f"{page_of(d)}#{d.anchor}": self.site.decl_code("index.html", d) for f in self.house.files.values() for d in f.tops if d.believed}
+        code = {}
+        for file in self.house.files.values():
+            for decl in file.tops:
+                if decl.believed:
+                    text = self.site.decl_code("index.html", decl)
+                    code.update({f"{page_of(d)}#{d.anchor}": text for d in (decl, *decl.fields)})
         with open(os.path.join(folder, "code.js"), "w", encoding="utf-8") as file:
             file.write("window.CODE=" + json.dumps(code, ensure_ascii=False, separators=(",", ":")) + ";\n")
-        for name in ("book.css", "book.js"):
+        if self.wasm:
+            with open(self.wasm, "rb") as module, open(os.path.join(folder, "wasm.js"), "w", encoding="ascii") as file:
+                file.write(f'window.WASM="{base64.b64encode(module.read()).decode()}";\n')
+        for name in ("book.css", "book.js", "try.js"):
             shutil.copyfile(os.path.join(HERE, name), os.path.join(self.site.folder, name))
 
     def make(self):

@@ -1,5 +1,6 @@
 """Writes pages: the frame around each, and sources with their colours and links."""
 
+import functools
 import html
 import os
 import posixpath
@@ -30,6 +31,17 @@ def slug(text):
     return re.sub(r"-+", "-", re.sub(r"[^a-z0-9]+", "-", text.lower())).strip("-")[:60].strip("-") or "x"
 
 
+@functools.lru_cache(None)
+def quoted(anchor):
+    return quote(anchor, safe="/+")
+
+
+@functools.lru_cache(None)
+def between(page, path):
+    """The way from one page to another, nothing where they are the same."""
+    return "" if path == page else quote(posixpath.relpath(path, posixpath.dirname(page) or "."), safe="/+")
+
+
 class Site:
     """The book as a folder of pages."""
 
@@ -43,8 +55,7 @@ class Site:
         path = page_of(target)
         if anchor is None and isinstance(target, Decl):
             anchor = target.anchor
-        link = "" if path == page else quote(posixpath.relpath(path, posixpath.dirname(page) or "."), safe="/+")
-        return (link + ("#" + quote(anchor, safe="/+") if anchor else "")) or "#"
+        return (between(page, path) + ("#" + quoted(anchor) if anchor else "")) or "#"
 
     def write(self, page, title, body, kind="", up=()):
         """One page in its frame. `up` are the pages above it, as (title, page)."""
@@ -79,7 +90,7 @@ class Site:
         while i < len(marks) and marks[i][0] < end:
             s, e, cls, meaning = marks[i]
             i += 1
-            if s < at or e > end:
+            if s < at or e > end or cls == "local":
                 continue
             out.append(escape(text[at:s]))
             word = escape(text[s:e])

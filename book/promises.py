@@ -56,6 +56,7 @@ class Names:
     def __init__(self, house, edits):
         self.house, self.edits = house, edits
         self.modules, self.anywhere = {}, {}
+        self.about = []  # the records that the section is about
         for file in house.files.values():
             if file.language == "antt" and file.folder != "proofs":
                 self.modules.setdefault(file.module, []).append(file)
@@ -78,13 +79,20 @@ class Names:
                     return file
         return found[0] if len(found) == 1 else None
 
-    def within(self, file, name):
+    @staticmethod
+    def within(file, name, fields=True):
         found = file.names.get(name, []) or file.names.get(f"_{name}_", [])
+        found = [d for d in found if d.kind != "field"] or found * fields
         return found[0] if found else None
 
-    def code(self, text, before):
-        """What a span of code names; `before` is the text right before it. None where it names nothing."""
+    def code(self, text, before, after=""):
+        """What a span of code names, by the text right before and behind it. None where it names nothing."""
         house = self.house
+        if self.fields_meant and not re.match(r" [A-Z]", after) and not re.search(r"[A-Za-z]\.$", before):
+            for record in self.records:
+                for d in record.fields:
+                    if d.name == text:
+                        return d
         if text in house.crates and not re.search(r"(field|fields|stage|and) $", before) or text in house.crates and self.file is None and "field" not in before:
             self.crate = house.crates[text]
             self.file = None
@@ -124,20 +132,15 @@ class Names:
                 for d in owner.fields:
                     if d.name == text:
                         return d
-        if self.fields_meant:
-            for record in self.records:
-                for d in record.fields:
-                    if d.name == text:
-                        return d
-        if self.file is not None and (found := self.within(self.file, text)):
+        if self.file is not None and (found := self.within(self.file, text, False)):
             return found
-        for crate in [self.crate] + [d.file.crate for d in reversed(self.told) if isinstance(d, Decl)]:
-            if crate is None:
-                continue
-            near = [d for d in self.anywhere.get(text, []) if d.file.crate is crate]
-            near.sort(key=lambda d: (d.kind == "field", not d.believed, d.file.folder == "proofs", d.file.path.count("/")))
-            if near:
-                return near[0]
+        crates = [self.crate] + [d.file.crate for d in reversed(self.told) if isinstance(d, Decl)] + [r.file.crate for r in self.about]
+        for fields in (False, True):
+            for crate in crates:
+                near = [d for d in self.anywhere.get(text, []) if d.file.crate is crate and (d.kind == "field") is fields]
+                near.sort(key=lambda d: (not d.believed, d.file.folder == "proofs", d.file.path.count("/")))
+                if near:
+                    return near[0]
         found = self.anywhere.get(text, []) or self.anywhere.get(f"_{text}_", [])
         believed = [d for d in found if d.believed] or found
         return believed[0] if believed else None
@@ -153,7 +156,7 @@ class Names:
                     out.append((word, None if word.strip(" ()") == "" or len(word) < 2 else self.code(word, ""), True))
                 at = m.end()
                 continue
-            meaning = self.code(m[1], before)
+            meaning = self.code(m[1], before, text[m.end() : m.end() + 3])
             if meaning is None and strict is not None and is_name(m[1]):
                 strict.append(m[1])
             if isinstance(meaning, Decl):
@@ -190,7 +193,7 @@ class Section:
     """A section of the document: its title, its words and its tables' rows."""
 
     def __init__(self, title):
-        self.title, self.lines, self.rows = title, [], []
+        self.title, self.lines, self.rows, self.about = title, [], [], []
         self.page = ""
 
 
@@ -223,9 +226,11 @@ def read(house, edits):
     for section in sections:
         previous = None
         names.reset()
+        names.about = []
         words = " ".join(line for line in section.lines if isinstance(line, str))
         names.pieces(words)
-        about = [d for d in names.told if isinstance(d, Decl) and d.kind == "record"]
+        about = names.about = [d for d in names.told if isinstance(d, Decl) and d.kind == "record"]
+        section.about = about
         for row in section.rows:
             names.reset()
             names.pieces(" ; ".join(row.texts[1:]))

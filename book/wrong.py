@@ -81,7 +81,7 @@ def body(site, house, page, edit):
     out.append(f'<p class="note">{escape(edit.source)}{place}. The prover refuses it: the contract does not hold of it.</p>')
     out.append(f'<pre class="diff">{changed(house, edit)}</pre>')
     for i, words in enumerate(edit.inputs):
-        rows = [("input", f"<code>{escape(words)}</code>")]
+        rows = [("call, places lent, input", f"<code>{escape(words)}</code>")]
         if i < len(edit.answers) and len(edit.answers[i]) == 2:
             right, wrong = parting(*edit.answers[i])
             rows += [("proved answer", f"<code>{right}</code>"), ("wrong answer", f"<code>{wrong}</code>")]
