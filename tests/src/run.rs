@@ -92,7 +92,7 @@ impl Run {
     /// Prints the counts; fails where something did not come up as it must.
     pub fn finish(&self) -> ExitCode {
         for (what, counts) in &self.counts {
-            println!("{what}: {}", listed(counts));
+            println!("{}", listed(what, counts));
         }
         for lack in &self.lacks {
             println!("{}: {lack}", self.name);
@@ -106,9 +106,21 @@ impl Run {
     }
 }
 
-/// Counts in one line.
-fn listed(counts: &BTreeMap<String, u64>) -> String {
-    counts.iter().map(|(which, count)| format!("{which} {count}")).collect::<Vec<String>>().join(", ")
+/// The most columns of a line of counts.
+const COLUMNS: usize = 100;
+
+/// Counts behind what they count, over as many lines as they need.
+fn listed(what: &str, counts: &BTreeMap<String, u64>) -> String {
+    let mut lines = vec![format!("{what}:")];
+    for (place, (which, count)) in counts.iter().enumerate() {
+        let comma = if place + 1 < counts.len() { "," } else { "" };
+        let item = format!(" {which} {count}{comma}");
+        match lines.last_mut() {
+            Some(line) if line.len() + item.len() <= COLUMNS => line.push_str(&item),
+            _ => lines.push(format!("   {item}")),
+        }
+    }
+    lines.join("\n")
 }
 
 /// A rule as it is counted.

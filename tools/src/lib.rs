@@ -19,6 +19,7 @@ pub mod hint;
 pub mod json;
 pub mod near;
 pub mod parallel;
+pub mod plans;
 pub mod prices;
 pub mod sheet;
 pub mod steps;

@@ -14,7 +14,7 @@ use crate::document::{self, Document};
 use crate::encoding;
 use crate::fault::{Fault, Refusal};
 use crate::near::did_you_mean;
-use crate::text::Line;
+use crate::text::{Line, quoted};
 
 /// The most complaints that are gathered of one list.
 const MOST: usize = 100;
@@ -34,14 +34,12 @@ pub struct Prices {
 impl Prices {
     /// Reads a file.
     pub fn load(path: &OsStr) -> Result<Prices, Fault> {
-        let shown = document::shown(path);
-        let content = document::read(path)?;
-        let text = encoding::plain(&content).map_err(|what| Fault::refused(&shown, Refusal::file(what)))?;
-        Prices::parse(&shown, text)
+        Prices::parse(&document::shown(path), &document::read(path)?)
     }
 
-    /// Reads a price list.
-    pub fn parse(path: &str, text: &str) -> Result<Prices, Fault> {
+    /// Reads a price list, which is text.
+    pub fn parse(path: &str, content: &[u8]) -> Result<Prices, Fault> {
+        let text = encoding::plain(content).map_err(|what| Fault::refused(path, Refusal::file(what)))?;
         let mut prices = Prices { path: path.to_string(), ..Prices::default() };
         let complaints: Vec<_> =
             Line::all(text).filter_map(|mut line| prices.row(&mut line).err()).take(MOST).collect();
@@ -70,7 +68,7 @@ impl Prices {
         let mut table = vec![vec![self.default; n]; n];
         for (line, names, price) in &self.pairs {
             let number = |name: &String| {
-                let words = format!("expected the name of an element of {}, found \"{name}\"", document.path);
+                let words = format!("expected the name of an element of {}, found {}", document.path, quoted(name));
                 let hint = || did_you_mean(name, document.names.iter().map(String::as_str));
                 let found = document.names.iter().position(|known| known == name);
                 found.ok_or_else(|| Fault::refused(&self.path, Refusal::text(*line, 1, words).hint(hint())))

@@ -136,7 +136,7 @@ impl<'a> Line<'a> {
 const MOST_REPEATED: usize = 40;
 
 /// A word as a complaint repeats it: its beginning, and no character that a terminal would obey.
-fn quoted(word: &str) -> String {
+pub fn quoted(word: &str) -> String {
     let shown: String = word.chars().filter(|c| !c.is_control()).take(MOST_REPEATED).collect();
     let rest = if word.chars().count() > MOST_REPEATED { ".." } else { "" };
     format!("\"{shown}{rest}\"")

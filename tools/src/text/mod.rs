@@ -17,7 +17,7 @@ mod number;
 mod parse;
 mod print;
 
-pub use line::Line;
+pub use line::{Line, quoted};
 pub use number::{degrees, millimetres};
 pub use parse::{Text, parse, statement};
 pub use print::{constraint, default_names, print};
