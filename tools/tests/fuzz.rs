@@ -1,6 +1,6 @@
 //! Mutated inputs: text forms, sheets in bytes, plans and price lists. None makes the command panic or hang; each is accepted or gets a clear complaint.
 //!
-//! As many as the environment variable PATTERN_FUZZ says, else 300,000.
+//! As many as the environment variable PATTERN_FUZZ says, else 200,000.
 
 use std::path::Path;
 use std::time::{Duration, Instant};
@@ -197,7 +197,7 @@ fn prices(document: &Document, content: &[u8]) -> bool {
 
 #[test]
 fn mutated_inputs_are_accepted_or_refused_in_clear_words() {
-    let count = std::env::var("PATTERN_FUZZ").map_or(300_000, |count| count.parse().expect("a number"));
+    let count = std::env::var("PATTERN_FUZZ").map_or(200_000, |count| count.parse().expect("a number"));
     let root = Path::new(env!("CARGO_MANIFEST_DIR")).join("..");
     let mut texts = files(&root.join("examples/text"), "txt");
     texts.extend(files(&root.join("tests/tools/texts"), "txt"));
