@@ -354,7 +354,9 @@ class Documents(unittest.TestCase):
         rows = re.findall(r"^\| `(.*?)` \|", section, re.MULTILINE)
         self.assertEqual(rows, pattern("report", text("gable"))[1].splitlines())
         frame = pattern("check", text("frame"))[1].replace(text("frame"), "frame.txt")
-        self.assertIn("\n".join("    " + line for line in frame.splitlines()), guide)
+        wrong = pattern("check", "-", text=b"pont A B\npoint C\nline l\ndistance C l 0\ndistance C l 100,5\n")[1]
+        for printed in (frame, pattern("plan", "--words", text("gable"))[1], wrong):
+            self.assertIn("\n".join("    " + line for line in printed.splitlines()), guide)
 
 
 class Completion(unittest.TestCase):
