@@ -122,16 +122,17 @@ class Json(unittest.TestCase):
         plan = os.path.join(ROOT, "tests", "programs", "takeover", "own.plan")
         one = {"add": ["distance A C 7"], "chain": ["A", "C"], "part": ["0"], "diff": [text("gable")], "verify": [plan]}
         sheets = [text(name) for name in ("gable", "frame", "braced", "lattice", "hipped", "triangle", "open", "light")]
-        for command in ("check", "show", "make", "report", "plan", "add", "chain", "diff", "part"):
+        for command in ("check", "show", "make", "report", "plan", "add", "chain", "diff", "part", "place"):
             for sheet in sheets:
                 self.answer(command, sheet, *one.get(command, []))
         calls = [["verify", example, plan], ["part", text("gable"), "12"], ["longest", "9"], ["card"], ["card", "0-1"], ["completion", "zsh"]]
+        calls += [["place", text("signs")], ["show", text("signs")]]
         calls += [["check", *sheets, refused, "no such file"], ["chain", os.path.join(SHEETS, "two_points.sheet"), "0", "1"]]
         for call in calls:
             self.assertEqual(self.answer(*call)["errors"], [], call)
         files = self.answer("check", refused, "no such file")["answer"]["files"]
         self.assertEqual([[error["status"] for error in found["errors"]] for found in files], [["refused"], ["unreadable"]])
-        for command in ("show", "make", "report", "plan", "verify", "add", "chain", "part", "diff"):
+        for command in ("show", "make", "report", "plan", "verify", "add", "chain", "part", "diff", "place"):
             operands = one.get(command, [])
             for wrong, status in ((["no such file", *operands], "unreadable"), ([refused, *operands], "refused"), ([], "usage")):
                 errors = self.answer(command, *wrong)["errors"]

@@ -76,7 +76,7 @@ pub fn warnings(document: &Document, finding: &Finding, position: Option<&Positi
         let statements = finding.step_statements(document, step).join(", ");
         format!("WARNING: NO PLACEMENT: these sizes do not close (step {}): {statements}", step.made)
     });
-    open.chain(position.map(|position| position.warning(document))).collect()
+    open.chain(position.map(|position| position.warning(document, finding))).collect()
 }
 
 /// The fields of a finding for a program.

@@ -19,6 +19,8 @@ pub struct Document {
     pub path: String,
     pub sheet: Sheet,
     pub names: Vec<String>,
+    /// Where the elements roughly are, as the text says.
+    pub places: Vec<Option<text::Rough>>,
     /// The sheet in bytes, without tags.
     pub bytes: Vec<u8>,
     /// The text that it was read from.
@@ -40,13 +42,15 @@ impl Document {
                 let (parsed, complaints) = text::parse(source);
                 let bytes = judge(&parsed, complaints)
                     .map_err(|refusals| Fault::Refused { path: path.to_string(), refusals })?;
-                let text::Text { sheet, names, .. } = parsed;
-                Ok(Document { path: path.to_string(), sheet, names, bytes, source: Some(source.to_string()) })
+                let text::Text { sheet, names, places, .. } = parsed;
+                let (path, source) = (path.to_string(), Some(source.to_string()));
+                Ok(Document { path, sheet, names, places, bytes, source })
             }
             None => {
                 let (sheet, bytes) = fields::read(content).map_err(|refusal| Fault::refused(path, refusal))?;
                 let names = text::default_names(&sheet.elements);
-                Ok(Document { path: path.to_string(), sheet, names, bytes, source: None })
+                let places = vec![None; names.len()];
+                Ok(Document { path: path.to_string(), sheet, names, places, bytes, source: None })
             }
         }
     }

@@ -8,6 +8,8 @@ pub enum Json {
     Null,
     Bool(bool),
     Number(i64),
+    /// A decimal with at most six places.
+    Decimal(f64),
     Text(String),
     List(Vec<Json>),
     Object(Vec<(&'static str, Json)>),
@@ -46,6 +48,7 @@ impl fmt::Display for Json {
             Json::Null => f.write_str("null"),
             Json::Bool(value) => write!(f, "{value}"),
             Json::Number(value) => write!(f, "{value}"),
+            Json::Decimal(value) => write!(f, "{}", (value * 1e6).round() / 1e6 + 0.0),
             Json::Text(text) => quoted(f, text),
             Json::List(items) => {
                 f.write_str("[")?;
@@ -93,6 +96,12 @@ impl From<u8> for Json {
 impl From<i32> for Json {
     fn from(value: i32) -> Json {
         Json::Number(value.into())
+    }
+}
+
+impl From<f64> for Json {
+    fn from(value: f64) -> Json {
+        Json::Decimal(value)
     }
 }
 

@@ -36,6 +36,7 @@ pub fn run(call: &Call) -> Result<Answer, Fault> {
     })?;
     let mut grown = Document::of(&document.path, &bytes)?;
     grown.names = document.names;
+    grown.places = document.places;
     let finding = Finding::of(&grown, &Prices::default().of(&grown)?).map_err(|rule| grown.refused(rule))?;
     let status = status_of(finding.verdict);
     if call.value(&OUTPUT).is_some() {

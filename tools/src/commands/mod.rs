@@ -9,6 +9,7 @@ mod diff;
 mod draw;
 mod longest;
 mod part;
+mod place;
 mod plan;
 mod report;
 mod show;
@@ -27,13 +28,22 @@ const SHORT: Flag = Flag { name: "short", short: Some('s'), value: None, says: "
 const FAILED: Flag =
     Flag { name: "failed", short: None, value: None, says: "leave out files that are well and have no warning" };
 const WORDS: Flag = Flag { name: "words", short: None, value: None, says: "print the steps in words, by names" };
-const HTML: Flag = Flag { name: "html", short: None, value: None, says: "a page with the report, lit by the mouse" };
+const HTML: Flag =
+    Flag { name: "html", short: None, value: None, says: "a page: report, parts and steps, lit by the mouse" };
+const STEP: Flag =
+    Flag { name: "step", short: None, value: Some("K"), says: "the picture of step K of the plan, from 1" };
+const STEPS: Flag =
+    Flag { name: "steps", short: None, value: Some("DIR"), says: "a picture of each step, into the folder DIR" };
+const SIZE: Flag =
+    Flag { name: "size", short: None, value: Some("WxH"), says: "the most that the picture takes, in pixels" };
+const LABELS: Flag = Flag { name: "labels", short: None, value: Some("WHICH"), says: "all, names, sizes or none" };
+const DXF: Flag = Flag { name: "dxf", short: None, value: None, says: "print a drawing for CAD programs (release 12)" };
 
 /// The most operands of a command that takes any number.
 const ANY: usize = usize::MAX;
 
 /// Every command, in the order of the help.
-pub const COMMANDS: [Command; 14] = [
+pub const COMMANDS: [Command; 15] = [
     Command {
         name: "check",
         operands: "FILE..",
@@ -72,6 +82,7 @@ Names and comments are left behind: the bytes hold the facts alone. Statements:
   point A B                    line bottom             circle lamp 45.0 mm
   distance A B 600.0 mm        distance A bottom 30    angle bottom left 90 deg
   on A bottom                  tangent lamp bottom     tangent lamp ring other
+  point A at 0 0               line bottom from 0 0 to 600 0    (rough places, in mm)
 Lengths are in mm, cm or m, angles in degrees; # begins a comment. \"opening PF02\" makes a
 sheet for circles where none stands. An angle turns from the first named line to the second.",
         run: show::make,
@@ -159,14 +170,32 @@ where the sheets differ.",
         name: "draw",
         operands: "FILE",
         count: (1, 1),
-        flags: &[&OUTPUT, &HTML],
+        flags: &[&OUTPUT, &HTML, &STEP, &STEPS, &SIZE, &LABELS],
         summary: "draw a sheet as SVG, or as a page with --html",
         about: "
-The elements are laid out from their dimensions where the plan gives a construction, the first
-placement of each step; else by a numeric search, else on a circle. The layout is tested, not
-proved. Parts have colours of their own, what is over is red, parts that can still move are
-dashed.",
+The elements are laid out near the rough places of the text (point A at 0 0, line sill from
+0 0 to 600 0), where it has some; else from the dimensions by the steps of the plan, of two
+placements the clearer one; else by a numeric search. Where none meets every size, the
+picture is what came nearest, and the sizes that it does not meet are marked. The layout is
+tested, not proved. Parts have colours of their own, what is over is red, parts that can
+still move are dashed. Lines have an arrow: distances to its left are positive, and angles
+turn against the clock from the first line to the second.",
         run: draw::run,
+    },
+    Command {
+        name: "place",
+        operands: "FILE",
+        count: (1, 1),
+        flags: &[&OUTPUT, &JSON, &CSV, &DXF],
+        summary: "print where a layout has the elements: text, JSON, CSV or DXF",
+        about: "
+The text is the sheet with the places that were found behind its elements, in millimetres:
+  point A at 0 0      line sill from 0 0 to 600 0      circle lamp 45.0 mm at 300 200
+A layout begins at such places and stays near them: change one by hand, and draw again.
+They are in no byte of a sheet and no verdict looks at them. Where the text has none, the
+first line lies level and the first point is at 0 0. Lines reach between the outermost
+points on them. Ends with status 1 where no layout meets every size.",
+        run: place::run,
     },
     Command {
         name: "longest",

@@ -5,7 +5,7 @@ use crate::document::Document;
 use crate::fault::{Fault, Status};
 use crate::json::Json;
 use crate::sheet::{Dimension, Kind};
-use crate::text;
+use crate::text::{self, Rough};
 
 /// Prints a sheet as text.
 pub fn show(call: &Call) -> Result<Answer, Fault> {
@@ -13,7 +13,7 @@ pub fn show(call: &Call) -> Result<Answer, Fault> {
     if call.has(&JSON) {
         return Ok(Answer::deliver_json(call, json(&document), Status::Well));
     }
-    Ok(Answer::deliver(call, text::print(&document.sheet, &document.names), Status::Well))
+    Ok(Answer::deliver(call, text::print_placed(&document.sheet, &document.names, &document.places), Status::Well))
 }
 
 /// Makes the bytes of a sheet.
@@ -30,11 +30,12 @@ pub fn make(call: &Call) -> Result<Answer, Fault> {
 /// The facts of a sheet for a program: sizes in tenths of a millimetre and hundredths of a degree.
 pub fn json(document: &Document) -> Json {
     let sheet = &document.sheet;
-    let elements = sheet.elements.iter().zip(&document.names).map(|(kind, name)| {
+    let elements = sheet.elements.iter().zip(&document.names).zip(&document.places).map(|((kind, name), place)| {
         let mut fields = vec![("name", name.into()), ("kind", kind.name().into())];
         if let Kind::Circle(radius) = kind {
             fields.push(("radius", (*radius as usize).into()));
         }
+        fields.extend(place.iter().flat_map(place_json));
         Json::Object(fields)
     });
     let constraints = sheet.constraints.iter().enumerate().map(|(k, constraint)| {
@@ -54,4 +55,12 @@ pub fn json(document: &Document) -> Json {
         ("elements", Json::List(elements.collect())),
         ("constraints", Json::List(constraints.collect())),
     ])
+}
+
+/// A rough place for a program, in millimetres.
+pub fn place_json(place: &Rough) -> Vec<(&'static str, Json)> {
+    match *place {
+        Rough::At(at) => vec![("at", Json::list(at))],
+        Rough::Along([from, to]) => vec![("from", Json::list(from)), ("to", Json::list(to))],
+    }
 }

@@ -1,16 +1,60 @@
 //! Places of the elements from a plan: each step puts three parts together by the triangle of their joint.
+//!
+//! A step may have two placements, and what comes after it may close with the one or the other. The search for placements in which all steps close goes
+//! back from a step that does not close to the last one on which its triangle rests (conflict-directed backjumping).
 
 use pattern::Step;
 
+use super::clear;
+use super::fit::fit;
 use super::place::{Motion, Place, between, distance, length, wrapped};
 use super::system::wanted;
 use crate::sheet::{Constraint, Sheet, members};
 
 /// How near two lengths are where they count as one, for a drawing of size 1.
 const NEAR: f64 = 1e-7;
+/// How much three sides may lack and still count as a flat triangle: sizes are written to a tenth of a millimetre.
+const SLACK: f64 = 0.16;
+/// Where a triangle lacks less than this, or than this part of its largest side, rounding in what it rests on may be the cause.
+const DOUBT: f64 = 1.0;
+const DOUBT_PART: f64 = 0.05;
+/// The most merges that are tried before the search gives up.
+const MOST_MERGES: usize = 20_000;
+/// The most merges for which pictures are compared; later ones go by the spread of their points alone.
+const MOST_LOOKS: usize = 400;
+/// The most steps that are turned to make the whole clearer.
+const MOST_TURNS: usize = 400;
 
 /// A rigid part: the places of its elements in a plane of its own.
 pub type Part = Vec<Option<Place>>;
+
+/// Which of two placements is tried first.
+#[derive(Clone, Copy)]
+pub enum Taste<'a> {
+    /// The one that makes the clearer picture.
+    Clear,
+    /// The same, but that the whole is not looked at again.
+    Soon,
+    /// The one that is nearer to rough places.
+    Near(&'a [Option<Place>], f64),
+}
+
+/// How a search for placements ended.
+#[derive(Clone, Copy, PartialEq, Eq, Debug)]
+pub enum Outcome {
+    /// All steps close.
+    Closed,
+    /// In no placement of the steps before it does a step close, by its place in the plan.
+    Open(usize),
+    /// The search gave up at a step.
+    GaveUp(usize),
+}
+
+/// The parts of a plan by cluster number, as far as the steps close, and how the search ended.
+pub struct Built {
+    pub parts: Vec<Option<Part>>,
+    pub outcome: Outcome,
+}
 
 /// The part of one constraint.
 fn start(sheet: &Sheet, constraint: &Constraint) -> Part {
@@ -28,92 +72,174 @@ fn start(sheet: &Sheet, constraint: &Constraint) -> Part {
     part
 }
 
-/// The most merges that are tried before a plan counts as one that does not close.
-const MOST_MERGES: usize = 4000;
-
-/// A plan that is being built. A step may have two placements, and what comes after it may close with the one or the other: so each keeps those that are
-/// left to try.
+/// A plan that is being built.
 struct Build<'a> {
     sheet: &'a Sheet,
     steps: &'a [Step],
-    /// The placements of each cluster, the one that stands last.
-    placements: Vec<Vec<Part>>,
+    taste: Taste<'a>,
+    lines: Vec<bool>,
+    /// The elements of each cluster.
+    sets: Vec<u64>,
+    parts: Vec<Option<Part>>,
+    /// Which of its placements each step has taken.
+    taken: Vec<usize>,
     merges: usize,
+    /// Whether a step has more placements than are tried, or lacked so little that rounding before it may be the cause.
+    doubtful: bool,
 }
 
 impl Build<'_> {
-    /// The place of a cluster's step in the plan, if it was made by one.
-    fn step(&self, cluster: usize) -> Option<usize> {
-        cluster.checked_sub(self.sheet.constraints.len())
-    }
-
-    /// Puts the parts of a step together as they stand: whether they close.
-    fn merge(&mut self, step: usize) -> bool {
-        self.merges += 1;
-        let Step { made, parts, joint, .. } = self.steps[step];
-        let merged = match parts.map(|part| self.placements[part].last()) {
-            [Some(a), Some(b), Some(c)] if self.merges <= MOST_MERGES => merge(self.sheet, [a, b, c], joint),
-            _ => Vec::new(),
+    /// The steps on which the places of some elements of a cluster beside each other rest: step i as bit i.
+    fn rests(&self, cluster: usize, set: u64) -> u128 {
+        let step = match cluster.checked_sub(self.sheet.constraints.len()) {
+            Some(step) if set.count_ones() > 1 => step,
+            _ => return 0,
         };
-        self.placements[made] = merged;
-        !self.placements[made].is_empty()
+        let Step { parts, joint, .. } = self.steps[step];
+        if let Some(&whole) = parts.iter().find(|&&part| set & !self.sets[part] == 0) {
+            return self.rests(whole, set);
+        }
+        let below = parts.map(|part| self.rests(part, (set | joint) & self.sets[part]));
+        below.iter().fold(1 << step, |all, rests| all | rests)
     }
 
-    /// Puts the parts of a step together, in other placements of these where the first do not close.
-    fn close(&mut self, step: usize) -> bool {
-        self.merge(step) || self.next_of_parts(step)
+    /// The steps on which it rests whether a step closes.
+    fn blame(&self, step: usize) -> u128 {
+        let Step { parts, joint, .. } = self.steps[step];
+        parts.iter().fold(0, |all, &part| all | self.rests(part, joint & self.sets[part]))
     }
 
-    /// The next placement of a step's parts in which they close, the last part changing first.
-    fn next_of_parts(&mut self, step: usize) -> bool {
-        let steps: Vec<usize> = self.steps[step].parts.iter().filter_map(|&part| self.step(part)).collect();
-        'next: while self.merges <= MOST_MERGES {
-            for (i, &part) in steps.iter().enumerate().rev() {
-                if self.next(part) {
-                    steps[i + 1..].iter().for_each(|&later| self.first(later));
-                    if self.merge(step) {
-                        return true;
-                    }
-                    continue 'next;
+    /// The placements of a step, each with its number, the one to be tried first last.
+    fn merge(&mut self, step: usize) -> Vec<(usize, Part)> {
+        self.merges += 1;
+        let Step { parts, joint, .. } = self.steps[step];
+        let Merged { mut found, doubtful } = match parts.map(|part| self.parts[part].as_ref()) {
+            [Some(a), Some(b), Some(c)] => merge(self.sheet, [a, b, c], joint),
+            _ => return Vec::new(),
+        };
+        self.doubtful |= doubtful;
+        if found.len() > 1 {
+            match self.taste {
+                Taste::Near(rough, scale) => {
+                    let far = |(_, part): &(usize, Part)| fit(&self.lines, part, rough, scale).1;
+                    found.sort_by(|a, b| far(b).total_cmp(&far(a)));
+                }
+                Taste::Clear | Taste::Soon => {
+                    let sets = parts.map(|part| self.sets[part]);
+                    clear::sort(self.sheet, &mut found, sets, self.merges <= MOST_LOOKS);
                 }
             }
-            return false;
         }
-        false
+        found
     }
 
-    /// The next placement of a cluster: of its own, or of its parts.
-    fn next(&mut self, step: usize) -> bool {
-        let placements = &mut self.placements[self.steps[step].made];
-        if placements.len() > 1 {
-            placements.pop();
-            return true;
-        }
-        self.next_of_parts(step)
-    }
-
-    /// The first placement of a cluster again.
-    fn first(&mut self, step: usize) {
-        for part in self.steps[step].parts {
-            if let Some(part) = self.step(part) {
-                self.first(part);
+    /// Searches for placements in which all steps close.
+    fn search(&mut self) -> Outcome {
+        let mut left: Vec<Vec<(usize, Part)>> = vec![Vec::new(); self.steps.len()];
+        let mut blames = vec![0u128; self.steps.len()];
+        let (mut step, mut furthest, mut fresh) = (0, 0, true);
+        while step < self.steps.len() {
+            furthest = furthest.max(step);
+            if fresh {
+                if self.merges >= MOST_MERGES {
+                    return Outcome::GaveUp(furthest);
+                }
+                left[step] = self.merge(step);
+                blames[step] = self.blame(step);
             }
+            if let Some((number, part)) = left[step].pop() {
+                self.parts[self.steps[step].made] = Some(part);
+                self.taken[step] = number;
+                step += 1;
+                fresh = true;
+                continue;
+            }
+            let blame = blames[step];
+            if blame == 0 {
+                return if self.doubtful { Outcome::GaveUp(furthest) } else { Outcome::Open(furthest) };
+            }
+            let back = 127 - blame.leading_zeros() as usize;
+            blames[back] |= blame & !(1 << back);
+            step = back;
+            fresh = false;
         }
-        self.close(step);
+        Outcome::Closed
+    }
+
+    /// Turns single steps to their other placement as long as that makes the picture of the whole clearer.
+    fn tidy(&mut self) {
+        let (first, last) = (self.sheet.constraints.len(), self.parts.len() - 1);
+        let look = |part: &Option<Part>| part.as_ref().map(|part| clear::tangle(self.sheet, part));
+        let mut best = look(&self.parts[last]);
+        let (mut step, mut idle, mut turns) = (0, 0, 0);
+        while idle < self.steps.len() && turns < MOST_TURNS && best != Some((0, 0, 0)) {
+            let (kept, taken) = (self.parts[first + step..].to_vec(), self.taken[step]);
+            self.taken[step] = 1 - taken.min(1);
+            let turned = if self.again(step) { look(&self.parts[last]) } else { None };
+            if turned.is_some() && turned < best {
+                best = turned;
+                idle = 0;
+            } else {
+                self.taken[step] = taken;
+                self.parts.splice(first + step.., kept);
+                idle += 1;
+            }
+            turns += 1;
+            step = (step + 1) % self.steps.len();
+        }
+    }
+
+    /// Makes the parts of the steps from one on again, in the placements that they have taken: whether all close.
+    fn again(&mut self, from: usize) -> bool {
+        (from..self.steps.len()).all(|step| {
+            let Step { made, parts, joint, .. } = self.steps[step];
+            let found = match parts.map(|part| self.parts[part].as_ref()) {
+                [Some(a), Some(b), Some(c)] => merge(self.sheet, [a, b, c], joint).found,
+                _ => Vec::new(),
+            };
+            let part = found.into_iter().find(|(number, _)| *number == self.taken[step]).map(|(_, part)| part);
+            let closes = part.is_some();
+            self.parts[made] = part;
+            closes
+        })
     }
 }
 
-/// The parts of a plan, by cluster number, as far as the steps close; and the first step for which no placement was found that does.
-pub fn parts(sheet: &Sheet, steps: &[Step]) -> (Vec<Option<Part>>, Option<usize>) {
-    let starts = sheet.constraints.iter().map(|constraint| vec![start(sheet, constraint)]);
-    let placements = starts.chain(steps.iter().map(|_| Vec::new())).collect();
-    let mut build = Build { sheet, steps, placements, merges: 0 };
-    let open = (0..steps.len()).find(|&step| !build.close(step)).map(|step| steps[step].made);
-    (build.placements.into_iter().map(|mut placements| placements.pop()).collect(), open)
+/// Builds a plan.
+pub fn build(sheet: &Sheet, steps: &[Step], taste: Taste) -> Built {
+    let lines: Vec<bool> = sheet.elements.iter().map(|kind| kind.is_line()).collect();
+    let mut sets: Vec<u64> = sheet.constraints.iter().map(|c| 1 << c.first | 1 << c.second).collect();
+    for step in steps {
+        sets.push(step.parts.iter().fold(0, |set, &part| set | sets[part]));
+    }
+    let starts = sheet.constraints.iter().map(|constraint| Some(start(sheet, constraint)));
+    let parts = starts.chain(steps.iter().map(|_| None)).collect();
+    let taken = vec![0; steps.len()];
+    let mut build = Build { sheet, steps, taste, lines, sets, parts, taken, merges: 0, doubtful: false };
+    let outcome = build.search();
+    let whole = steps.last().map_or(false, |step| build.sets[step.made].count_ones() as usize == sheet.elements.len());
+    if outcome == Outcome::Closed && whole && matches!(taste, Taste::Clear) {
+        build.tidy();
+    }
+    if outcome != Outcome::Closed {
+        // what closes with the first placements all the same
+        for (i, step) in steps.iter().enumerate() {
+            build.parts[step.made] = build.merge(i).pop().map(|(_, part)| part);
+        }
+    }
+    Built { parts: build.parts, outcome }
 }
 
-/// Three parts in one plane: the placements in which they close, the one that spreads the points widest last.
-fn merge(sheet: &Sheet, parts: [&Part; 3], joint: u64) -> Vec<Part> {
+/// The placements in which three parts close.
+struct Merged {
+    /// Each with its number.
+    found: Vec<(usize, Part)>,
+    /// Whether there are more than these, or may be but for rounding.
+    doubtful: bool,
+}
+
+/// Three parts in one plane.
+fn merge(sheet: &Sheet, parts: [&Part; 3], joint: u64) -> Merged {
     let mut joint: Vec<usize> = members(joint).collect();
     joint.sort_by_key(|&i| sheet.elements[i].is_line());
     let lines = [0, 1, 2].map(|i| sheet.elements[joint[i]].is_line());
@@ -124,10 +250,10 @@ fn merge(sheet: &Sheet, parts: [&Part; 3], joint: u64) -> Vec<Part> {
     });
     let sides = match sides {
         [Some(x), Some(y), Some(z)] => [x, y, z],
-        _ => return Vec::new(),
+        _ => return Merged { found: Vec::new(), doubtful: false },
     };
     let sizes = sides.map(|(_, (a, b), ends)| measure([lines[a], lines[b]], ends));
-    let placed = |triangle: [Place; 3]| {
+    let placed = |(number, triangle): (usize, [Place; 3])| {
         let mut union: Part = vec![None; sheet.elements.len()];
         for (part, (a, b), from) in sides {
             let motion = Motion::onto([lines[a], lines[b]], from, [triangle[a], triangle[b]]);
@@ -142,13 +268,14 @@ fn merge(sheet: &Sheet, parts: [&Part; 3], joint: u64) -> Vec<Part> {
                 union[i] = union[i].or(place.map(|place| motion.apply(place, sheet.elements[i].is_line())));
             }
         }
-        Some(union)
+        Some((number, union))
     };
-    // of two that spread the points as wide, but for rounding, the first stands last
-    let mut found: Vec<Part> = triangles(lines, sizes).into_iter().rev().filter_map(placed).collect();
-    let rounded = |part: &Part| (spread(sheet, part).max(1e-9).ln() * 1e6).round();
-    found.sort_by(|a, b| rounded(a).total_cmp(&rounded(b)));
-    found
+    let scale = sizes.iter().fold(0.0, |most, size| f64::max(most, size.abs()));
+    let triangles = triangles(lines, sizes);
+    // the height of a triangle that is nearly flat is not known from rounded sides
+    let near = triangles.lacking > -2.0 * SLACK && triangles.lacking < DOUBT.max(DOUBT_PART * scale);
+    let found: Vec<(usize, Part)> = triangles.found.into_iter().enumerate().rev().filter_map(placed).collect();
+    Merged { doubtful: near || triangles.sampled && !found.is_empty(), found }
 }
 
 /// The distance or angle between two elements of one plane.
@@ -161,31 +288,50 @@ fn measure(lines: [bool; 2], ends: [Place; 2]) -> f64 {
     }
 }
 
+/// The placements of a joint.
+struct Triangles {
+    found: Vec<[Place; 3]>,
+    /// How much the sides lack to close, if they do not.
+    lacking: f64,
+    /// Whether there are more placements than these.
+    sampled: bool,
+}
+
 /// The placements of a joint, points before lines, from the sizes of its pairs (0,1), (0,2) and (1,2).
-fn triangles(lines: [bool; 3], [a, b, c]: [f64; 3]) -> Vec<[Place; 3]> {
-    // a side from its square, which is a little below 0 where rounding makes it so
-    let side = |square: f64, scale: f64| (square > -NEAR * scale * scale).then(|| square.max(0.0).sqrt());
+fn triangles(lines: [bool; 3], [a, b, c]: [f64; 3]) -> Triangles {
     let scale = a.abs().max(b.abs()).max(c.abs());
+    // both signs of a side from its square, one where it is 0 but for rounding
+    let sides = |square: f64, lacking: f64| {
+        if square > NEAR * scale * scale {
+            vec![square.sqrt(), -square.sqrt()]
+        } else if square > -NEAR * scale * scale || lacking < SLACK {
+            vec![0.0]
+        } else {
+            Vec::new()
+        }
+    };
     match lines {
         [false, false, false] => {
+            let lacking = (a - b - c).max(b - a - c).max(c - a - b);
             let x = if a > 0.0 { (a * a + b * b - c * c) / (2.0 * a) } else { b };
-            let heights = side(b * b - x * x, scale).map_or(Vec::new(), |y| vec![y, -y]);
-            heights.into_iter().map(|y| [[0.0, 0.0], [a, 0.0], [x, y]]).collect()
+            let flat = if lacking > 0.0 { x.max(-b).min(b) } else { x };
+            let heights = sides(b * b - x * x, lacking).into_iter();
+            let found = heights.map(|y| [[0.0, 0.0], [a, 0.0], [flat, y]]).collect();
+            Triangles { found, lacking, sampled: false }
         }
         [false, false, true] => {
-            let widths = side(a * a - (b - c) * (b - c), scale).map_or(Vec::new(), |x| vec![x, -x]);
-            widths.into_iter().map(|x| [[0.0, b], [x, c], [0.0, 0.0]]).collect()
+            let (up, lacking) = (b - c, (b - c).abs() - a);
+            let widths = sides(a * a - up * up, lacking).into_iter();
+            Triangles { found: widths.map(|x| [[0.0, b], [x, c], [0.0, 0.0]]).collect(), lacking, sampled: false }
         }
         [false, true, true] => {
             // between parallel lines the point may stand anywhere: here, or to one side
-            let side = if c.sin().abs() < NEAR { a.abs() + b.abs() } else { 0.0 };
-            [0.0, side]
-                .map(|x| [[x, a], [0.0, 0.0], [c, c.cos() * a - b]])
-                .into_iter()
-                .take(if side > 0.0 { 2 } else { 1 })
-                .collect()
+            let parallel = c.sin().abs() < NEAR;
+            let asides = if parallel { vec![0.0, a.abs() + b.abs()] } else { vec![0.0] };
+            let found = asides.into_iter().map(|x| [[x, a], [0.0, 0.0], [c, c.cos() * a - b]]).collect();
+            Triangles { found, lacking: f64::NEG_INFINITY, sampled: parallel }
         }
-        _ => Vec::new(),
+        _ => Triangles { found: Vec::new(), lacking: f64::INFINITY, sampled: false },
     }
 }
 
@@ -193,17 +339,5 @@ fn triangles(lines: [bool; 3], [a, b, c]: [f64; 3]) -> Vec<[Place; 3]> {
 fn same(a: Place, b: Place, is_line: bool) -> bool {
     let scale = 1.0 + a[1].abs() + if is_line { 0.0 } else { a[0].abs() };
     let first = if is_line { wrapped(a[0] - b[0]) * scale } else { a[0] - b[0] };
-    first.abs().max((a[1] - b[1]).abs()) < 1e-5 * scale
-}
-
-/// How far the points of a part lie from their middle, in squares.
-fn spread(sheet: &Sheet, part: &Part) -> f64 {
-    let points: Vec<Place> = part
-        .iter()
-        .enumerate()
-        .filter(|(i, _)| !sheet.elements[*i].is_line())
-        .filter_map(|(_, place)| *place)
-        .collect();
-    let middle = [0, 1].map(|axis| points.iter().map(|point| point[axis]).sum::<f64>() / points.len().max(1) as f64);
-    points.iter().map(|point| length(between(middle, *point)).powi(2)).sum()
+    first.abs().max((a[1] - b[1]).abs()) < 1e-5 * scale + SLACK
 }

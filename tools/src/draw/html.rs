@@ -1,29 +1,29 @@
-//! The picture as a page of its own: with the report, and parts and dimensions that the mouse lights. It loads nothing.
+//! The picture as a page of its own: with the report, parts and dimensions that the mouse lights, and the steps of the plan. It loads nothing.
 
-use super::layout::layout;
-use super::scene::Scene;
+use super::layout::Layout;
+use super::scene::{Options, Scene};
+use super::steps::{View, views};
 use super::svg::{bare, constraint_keys, escaped};
 use crate::describe;
 use crate::document::Document;
 use crate::draw::Position;
 use crate::engine;
 use crate::finding::{Finding, verdict_name};
+use crate::json::Json;
 use crate::sheet::members;
 
-const STYLE: &str = "body{font:15px sans-serif;margin:1.5em;color:#222}p{margin:.2em 0}main{margin-top:1em;display:flex;align-items:flex-start;flex-wrap:wrap;gap:2em}\
-svg{max-width:100%;height:auto;border:1px solid #ccc}table{border-collapse:collapse}td,th{padding:.15em .6em;text-align:left}\
-tr[data-key]:hover{background:#eee}.swatch{display:inline-block;width:1.6em;height:.7em}pre{background:#f4f4f4;padding:.8em;overflow:auto}\
-[data-lit]{transition:opacity .15s}.lighting [data-lit]{opacity:.2}.lighting .lit{opacity:1}.loud{color:#d00000;font-weight:bold}";
-
-const SCRIPT: &str = "for(const type of ['mouseover','focusin'])document.addEventListener(type,event=>{\
-const from=event.target.closest('[data-key]');\
-document.querySelectorAll('.lit').forEach(node=>node.classList.remove('lit'));\
-document.body.classList.toggle('lighting',!!from);\
-if(from)document.querySelectorAll('[data-lit~=\"'+from.dataset.key+'\"]').forEach(node=>node.classList.add('lit'))})";
+const STYLE: &str = include_str!("page.css");
+const SCRIPT: &str = include_str!("page.js");
 
 /// The page of a sheet.
-pub fn page(document: &Document, finding: &Finding, position: Option<&Position>) -> String {
-    let scene = Scene::of(document, finding, layout(document));
+pub fn page(
+    document: &Document,
+    finding: &Finding,
+    layout: &Layout,
+    position: Option<&Position>,
+    options: Options,
+) -> String {
+    let scene = Scene::of(document, finding, layout, options);
     let (name, verdict) = (escaped(document.title()), verdict_name(finding.verdict));
     let line = |line: &String| {
         let class = if line.to_lowercase().starts_with("warning") { " class=\"loud\"" } else { "" };
@@ -33,12 +33,43 @@ pub fn page(document: &Document, finding: &Finding, position: Option<&Position>)
     let parts: String = (0..finding.clusters.len()).map(|p| part(&scene, p)).collect();
     let constraints: String = (0..document.sheet.constraints.len()).map(|k| constraint(&scene, k)).collect();
     let report = escaped(&engine::report(&document.bytes).unwrap_or_default());
+    let views = views(document, finding);
+    let steps =
+        Json::List(views.iter().map(|view| step(document, view)).collect()).laid_out(1, 0).replace('<', "\\u003c");
+    let slider = match views.len() {
+        0 => String::new(),
+        most => format!(
+            "<div id=\"steps\"><label for=\"step\">steps</label><input id=\"step\" type=\"range\" min=\"0\" max=\"{most}\" value=\"0\"/>\
+             <output for=\"step\"></output></div>\n"
+        ),
+    };
     format!(
-        "<!DOCTYPE html>\n<html lang=\"en\">\n<head><meta charset=\"utf-8\"><title>{name}: {verdict}</title>\n<style>{STYLE}</style></head>\n<body>\n\
-         <h1>{name}: {verdict}</h1>\n{lines}<main>\n<div>{}</div>\n<div>\n<h2>Parts</h2>\n<table>\n{parts}</table>\n<h2>Dimensions</h2>\n<table>\n{constraints}</table>\n\
-         </div>\n</main>\n<h2>Report</h2>\n<pre>{report}</pre>\n<script>{SCRIPT}</script>\n</body>\n</html>\n",
+        "<!DOCTYPE html>\n<html lang=\"en\">\n<head><meta charset=\"utf-8\"><title>{name}: {verdict}</title>\n<style>\n{STYLE}</style></head>\n<body>\n\
+         <header><h1>{name}: {verdict}</h1></header>\n<main>\n<div id=\"picture\">{}{slider}</div>\n<div id=\"tables\">\n{lines}\
+         <h2>Parts</h2>\n<table>\n{parts}</table>\n<h2>Dimensions</h2>\n<table>\n{constraints}</table>\n\
+         <h2>Report</h2>\n<pre>{report}</pre>\n</div>\n</main>\n<script>\nconst STEPS = {steps};\n{SCRIPT}</script>\n</body>\n</html>\n",
         bare(&scene)
     )
+}
+
+/// What the page knows of a step: its words, and the keys of what it shows.
+fn step(document: &Document, view: &View) -> Json {
+    let (n, e) = (document.sheet.elements.len(), document.sheet.constraints.len());
+    let keys = |elements: u64, constraints: u128| {
+        let elements = members(elements).filter(|&i| i < n).map(|i| format!("e{i}"));
+        let constraints = (0..e.min(128)).filter(move |k| constraints >> k & 1 == 1).map(|k| format!("k{k}"));
+        Json::list(elements.chain(constraints))
+    };
+    let [one, two, three] = view.parts.map(|part| keys(part.elements, part.constraints));
+    let words = format!("{}; {}", view.words, view.next_words(document));
+    Json::Object(vec![
+        ("words", words.into()),
+        ("built", keys(view.built.elements, view.built.constraints)),
+        ("part0", one),
+        ("part1", two),
+        ("part2", three),
+        ("joint", keys(view.step.joint, 0)),
+    ])
 }
 
 /// The row of a part.

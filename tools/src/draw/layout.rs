@@ -1,23 +1,43 @@
-//! Places of all elements of a sheet: from its plan where that gives a construction, else by a search, else on a circle.
+//! Places of all elements of a sheet: near the rough places of its text, or from its plan where that gives a construction, else by a search. Where no
+//! places meet the sizes, those that come nearest.
 
 use std::f64::consts::{PI, TAU};
 
-use super::construct::{self, Part};
+use pattern::Step;
+
+use super::clear;
+use super::construct::{self, Outcome, Part, Taste};
+use super::fit::{fit, line_through};
 use super::place::{Motion, Place, along, between, direction, dot, length, meeting, normal};
 use super::system::System;
 use crate::document::Document;
 use crate::engine::{self, Cluster};
 use crate::sheet::{Kind, Sheet};
+use crate::text::Rough;
+
+/// How many times a search begins again a little aside of rough places.
+const MOST_ASIDE: u32 = 40;
 
 /// How places were found.
 #[derive(Clone, Copy, PartialEq, Eq, Debug)]
 pub enum How {
+    /// By a search from rough places.
+    Near,
     /// By the steps of the plan.
     Plan,
     /// By a search for places that meet the constraints.
     Search,
-    /// On a circle: the sizes are not met.
-    Circle,
+    /// Not at all: these are the nearest that were seen, and do not meet every size.
+    GaveUp,
+}
+
+/// Why no places were found, with the step of the plan at which it was seen: the number of the cluster that it makes.
+#[derive(Clone, Copy, PartialEq, Eq, Debug)]
+pub enum Stop {
+    /// Every placement of the steps before it was tried, and its parts do not close in any.
+    Open(usize),
+    /// The search gave up there.
+    GaveUp(usize),
 }
 
 /// Where the elements are drawn.
@@ -25,45 +45,182 @@ pub enum How {
 pub struct Layout {
     pub places: Vec<Place>,
     pub how: How,
+    /// Why the plan gives no places, where it gives none.
+    pub stop: Option<Stop>,
+    /// The constraints that the places do not meet.
+    pub unmet: Vec<usize>,
 }
 
-/// The sheet without the constraints that are too many, in bytes too.
-fn solid(document: &Document) -> (Sheet, Vec<u8>) {
-    let (mut sheet, mut bytes) = (document.sheet.clone(), document.bytes.clone());
-    while let Ok(Some(over)) = pattern::over(&bytes) {
-        sheet.constraints.remove(over.first);
-        bytes = engine::write(&sheet).unwrap_or_default();
+/// A sheet that is to be laid out, without the constraints that are too many.
+struct Plan {
+    sheet: Sheet,
+    steps: Vec<Step>,
+    clusters: Vec<Cluster>,
+}
+
+impl Plan {
+    /// The plan of a document.
+    fn of(document: &Document) -> Plan {
+        let (mut sheet, mut bytes) = (document.sheet.clone(), document.bytes.clone());
+        while let Ok(Some(over)) = pattern::over(&bytes) {
+            sheet.constraints.remove(over.first);
+            bytes = engine::write(&sheet).unwrap_or_default();
+        }
+        let steps = pattern::steps(&bytes).unwrap_or_default();
+        let clusters = engine::clusters(&bytes, sheet.constraints.len(), &steps).unwrap_or_default();
+        Plan { sheet, steps, clusters }
     }
-    (sheet, bytes)
+
+    /// The parts that are left when it is built, whether they are one that holds all elements, and why not.
+    fn built(&self, taste: Taste) -> (Vec<Part>, bool, Option<Stop>) {
+        let built = construct::build(&self.sheet, &self.steps, taste);
+        let stop = match built.outcome {
+            Outcome::Closed => None,
+            Outcome::Open(step) => Some(Stop::Open(self.steps[step].made)),
+            Outcome::GaveUp(step) => Some(Stop::GaveUp(self.steps[step].made)),
+        };
+        let mut parts = built.parts;
+        let finished = match stop {
+            None => self.clusters.iter().filter_map(|cluster| parts[cluster.number].take()).collect(),
+            Some(_) => largest(parts),
+        };
+        let whole = matches!(&finished[..], [whole] if whole.iter().all(Option::is_some));
+        (finished, whole, stop)
+    }
 }
 
-/// Lays a sheet out.
+/// The parts that no other one holds, of those that were built.
+fn largest(mut parts: Vec<Option<Part>>) -> Vec<Part> {
+    let holds = |a: &Part, b: &Part| a.iter().zip(b).all(|(a, b)| a.is_some() || b.is_none());
+    let mut found: Vec<Part> = Vec::new();
+    while let Some(part) = parts.pop() {
+        if let Some(part) = part.filter(|part| !found.iter().any(|larger| holds(larger, part))) {
+            found.push(part);
+        }
+    }
+    found.reverse();
+    found
+}
+
+/// Lays a sheet out for a picture.
 pub fn layout(document: &Document) -> Layout {
-    let (sheet, bytes) = solid(document);
-    let system = System::of(&sheet);
-    let steps = pattern::steps(&bytes).unwrap_or_default();
-    let clusters = engine::clusters(&bytes, sheet.constraints.len(), &steps).unwrap_or_default();
-    let (parts, _) = construct::parts(&sheet, &steps);
-    let finished: Vec<&Part> = clusters.iter().filter_map(|cluster: &Cluster| parts[cluster.number].as_ref()).collect();
-    let whole = match finished[..] {
-        [whole] if whole.iter().all(Option::is_some) => system.solve(whole.iter().flatten().copied().collect()),
-        _ => None,
+    lay_out(document, Taste::Clear)
+}
+
+/// Lays a sheet out to look whether it closes.
+pub fn any_layout(document: &Document) -> Layout {
+    lay_out(document, Taste::Soon)
+}
+
+/// Lays a sheet out; what it says of placements is followed where its text has no places.
+fn lay_out(document: &Document, taste: Taste) -> Layout {
+    let plan = Plan::of(document);
+    let place = |rough: &Option<Rough>| {
+        rough.map(|rough| match rough {
+            Rough::At(place) => place,
+            Rough::Along(ends) => line_through(ends),
+        })
     };
-    if let Some(places) = whole {
-        return Layout { places: upright(&sheet, places), how: How::Plan };
+    let rough: Vec<Option<Place>> = document.places.iter().map(place).collect();
+    let (mut places, how, stop) =
+        if rough.iter().any(Option::is_some) { near(&plan, &rough) } else { free(&plan, taste) };
+    let system = System::of(&document.sheet);
+    let mut unmet = system.unmet(&places);
+    if plan.sheet.constraints.len() < document.sheet.constraints.len() && !unmet.is_empty() {
+        // what is too many may agree with the rest
+        let settled = system.settle(places.clone());
+        if system.met(&settled) {
+            places = settled;
+            unmet = Vec::new();
+        }
+    }
+    Layout { places, how, stop, unmet }
+}
+
+/// A layout of a sheet without rough places.
+fn free(plan: &Plan, taste: Taste) -> (Vec<Place>, How, Option<Stop>) {
+    let sheet = &plan.sheet;
+    let system = System::of(sheet);
+    let (parts, whole, stop) = plan.built(taste);
+    if whole {
+        if let Some(places) = system.solve(parts[0].iter().flatten().copied().collect()) {
+            return (upright(sheet, places), How::Plan, None);
+        }
     }
     let turns = if sheet.elements.len() > 24 { 3 } else { 9 };
-    let circles = (0..turns).map(|turn| circle(&sheet, system.scale(), f64::from(turn)));
-    let starts = [joined(&sheet, &finished, system.scale())].into_iter().chain(circles);
+    let circles = (0..turns).map(|turn| circle(sheet, system.scale(), f64::from(turn)));
+    let starts = [joined(sheet, &parts, system.scale())].into_iter().chain(circles);
+    let settled: Vec<Vec<Place>> = starts.map(|start| system.settle(start)).collect();
     // a later one must be clearer by more than rounding
-    let scored = starts.filter_map(|start| system.solve(start)).map(|places| (clearness(&sheet, &places), places));
+    let scored = settled.iter().filter(|places| system.met(places)).map(|places| (clearness(sheet, places), places));
     match scored.reduce(|a, b| if b.0 > a.0 + 1e-6 { b } else { a }) {
-        Some((_, places)) => Layout { places: upright(&sheet, places), how: How::Search },
-        None => Layout { places: circle(&sheet, 100.0, 0.0), how: How::Circle },
+        Some((_, places)) => (upright(sheet, places.clone()), How::Search, None),
+        None => {
+            let nearest = settled.into_iter().min_by(|a, b| system.squares(a).total_cmp(&system.squares(b)));
+            (upright(sheet, nearest.unwrap_or_default()), How::GaveUp, stop)
+        }
     }
 }
 
-/// How clear a picture is: its points, and the places where lines meet at a given angle, far apart, and few distances that cross.
+/// A layout of a sheet from rough places of some of its elements.
+fn near(plan: &Plan, rough: &[Option<Place>]) -> (Vec<Place>, How, Option<Stop>) {
+    let sheet = &plan.sheet;
+    let system = System::of(sheet);
+    let lines: Vec<bool> = sheet.elements.iter().map(|kind| kind.is_line()).collect();
+    let home = |places: Vec<Place>| {
+        let known: Vec<Option<Place>> = places.iter().copied().map(Some).collect();
+        moved(sheet, places, fit(&lines, &known, rough, system.scale()).0)
+    };
+    if rough.iter().all(Option::is_some) {
+        if let Some(places) = system.solve(rough.iter().flatten().copied().collect()) {
+            return (home(places), How::Near, None);
+        }
+    }
+    let (parts, whole, stop) = plan.built(Taste::Near(rough, system.scale()));
+    let base = home(joined(sheet, &parts, system.scale()));
+    let start = begun(sheet, rough, &base);
+    let first = if whole { vec![start.clone(), base] } else { vec![start.clone()] };
+    let mut nearest: Option<(f64, Vec<Place>)> = None;
+    for start in first.into_iter().chain((1..=MOST_ASIDE).map(|turn| aside(&system, &start, turn))) {
+        let places = system.settle(start);
+        if system.met(&places) {
+            return (home(places), How::Near, None);
+        }
+        let squares = system.squares(&places);
+        if nearest.as_ref().map_or(true, |(least, _)| squares < *least) {
+            nearest = Some((squares, places));
+        }
+    }
+    (home(nearest.map_or(start, |(_, places)| places)), How::GaveUp, stop)
+}
+
+/// Rough places of all elements: those that are given; a line through the outermost given points on it, in the direction that it has in a base; else
+/// the base's own.
+fn begun(sheet: &Sheet, rough: &[Option<Place>], base: &[Place]) -> Vec<Place> {
+    let place = |i: usize| {
+        rough[i].unwrap_or_else(|| match clear::stretch(sheet, &based(rough, base, i), i) {
+            Some([a, b]) if length(between(a, b)) > 1e-6 => line_through([a, b]),
+            _ => base[i],
+        })
+    };
+    (0..base.len()).map(place).collect()
+}
+
+/// The rough places, and for one element the base's.
+fn based(rough: &[Option<Place>], base: &[Place], element: usize) -> Part {
+    let mut part = rough.to_vec();
+    part[element] = Some(base[element]);
+    part
+}
+
+/// Places moved a little aside, farther with each turn, the same in every run.
+fn aside(system: &System, places: &[Place], turn: u32) -> Vec<Place> {
+    let far = system.scale() * 0.01 * f64::from(1 + turn % 10);
+    let by = |k: usize| far * ((k * k) as f64 * 0.7 + f64::from(turn) * (1.3 + k as f64)).sin();
+    system.moved(places, &(0..2 * places.len()).map(by).collect::<Vec<f64>>())
+}
+
+/// How clear a picture is: its points, and the places where lines meet at a given angle, far apart, and few strokes that cross.
 fn clearness(sheet: &Sheet, places: &[Place]) -> f64 {
     let is_line = |i: usize| sheet.elements[i].is_line();
     let angles = sheet.constraints.iter().filter(|c| is_line(c.first) && is_line(c.second));
@@ -73,22 +230,8 @@ fn clearness(sheet: &Sheet, places: &[Place]) -> f64 {
     let (apart, widest) =
         pairs.fold((0.0, 1e-9), |(sum, widest): (f64, f64), far| (sum + far.max(1e-9).ln(), widest.max(far)));
     let count = (spots.len() * spots.len().saturating_sub(1) / 2).max(1) as f64;
-    apart / count - widest.ln() - 0.5 * crossings(sheet, places) as f64
-}
-
-/// How many distances between points cross each other.
-fn crossings(sheet: &Sheet, places: &[Place]) -> usize {
-    let points =
-        sheet.constraints.iter().filter(|c| !sheet.elements[c.first].is_line() && !sheet.elements[c.second].is_line());
-    let spans: Vec<[Place; 2]> = points.map(|c| [places[c.first], places[c.second]]).collect();
-    let side = |[a, b]: [Place; 2], p: Place| {
-        let (along, to) = (between(a, b), between(a, p));
-        (along[0] * to[1] - along[1] * to[0]).signum()
-    };
-    let parted = |span: [Place; 2], [a, b]: [Place; 2]| side(span, a) * side(span, b) < 0.0;
-    let shared = |a: [Place; 2], b: [Place; 2]| a.iter().any(|end| b.contains(end));
-    let cross = |a: [Place; 2], b: [Place; 2]| !shared(a, b) && parted(a, b) && parted(b, a);
-    spans.iter().enumerate().map(|(i, a)| spans[..i].iter().filter(|b| cross(*a, **b)).count()).sum()
+    let part: Part = places.iter().copied().map(Some).collect();
+    apart / count - widest.ln() - 0.5 * clear::crossings(&clear::spans(sheet, &part, 0)) as f64
 }
 
 /// Places on a circle: points on it, lines across it there. A turn other than 0 moves them about.
@@ -104,7 +247,7 @@ fn circle(sheet: &Sheet, radius: f64, turn: f64) -> Vec<Place> {
 }
 
 /// Parts put side by side, each on the elements that those before it have placed.
-fn joined(sheet: &Sheet, parts: &[&Part], scale: f64) -> Vec<Place> {
+fn joined(sheet: &Sheet, parts: &[Part], scale: f64) -> Vec<Place> {
     let mut placed: Part = vec![None; sheet.elements.len()];
     let single = |i: usize| {
         let mut part: Part = vec![None; sheet.elements.len()];
@@ -113,7 +256,7 @@ fn joined(sheet: &Sheet, parts: &[&Part], scale: f64) -> Vec<Place> {
     };
     let lonely: Vec<Part> =
         (0..placed.len()).filter(|&i| parts.iter().all(|part| part[i].is_none())).map(single).collect();
-    let mut rest: Vec<&Part> = parts.iter().copied().chain(&lonely).collect();
+    let mut rest: Vec<&Part> = parts.iter().chain(&lonely).collect();
     rest.sort_by_key(|part| usize::MAX - part.iter().flatten().count());
     let (mut first, mut right) = (true, 0.0);
     while !rest.is_empty() {
@@ -181,7 +324,13 @@ fn upright(sheet: &Sheet, places: Vec<Place>) -> Vec<Place> {
         Some(apart[1].atan2(apart[0]))
     });
     let turned = Motion { turn: -level.unwrap_or(0.0), shift: [0.0; 2] };
-    centred(sheet, moved(sheet, places, turned))
+    let mut places = centred(sheet, moved(sheet, places, turned));
+    // without lines there are no signs, and the picture may be turned over to stand on its first dimension
+    let below = sheet.constraints.first().map_or(false, |pair| places[pair.first][1] > 1e-6);
+    if line.is_none() && below {
+        places.iter_mut().for_each(|place| place[1] = -place[1]);
+    }
+    places
 }
 
 /// The places shifted so that the middle of the points is the origin.

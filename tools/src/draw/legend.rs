@@ -2,8 +2,9 @@
 
 use super::note;
 use super::scene::Scene;
+use super::steps::{View, piece_words};
 use super::svg::escaped;
-use crate::describe;
+use crate::describe::{self, counted};
 use crate::draw::Position;
 use crate::engine::Cluster;
 use crate::finding::verdict_name;
@@ -43,9 +44,31 @@ pub fn parts(scene: &Scene) -> Vec<String> {
     rows
 }
 
-/// How it was laid out.
-pub fn noted(scene: &Scene) -> Vec<String> {
-    wrapped_words(note(scene.how)).iter().map(|words| line("size", words)).collect()
+/// How it was laid out, and how many sizes had no room.
+pub fn noted(scene: &Scene, left_out: usize) -> Vec<String> {
+    let mut words = wrapped_words(note(scene.how));
+    if left_out > 0 {
+        let sizes = counted(left_out, "size");
+        words.push(format!("{sizes} left out for want of room: a larger --size has more, and the page of --html all."));
+    }
+    words.iter().map(|words| line("size", words)).collect()
+}
+
+/// A step: what it joins, where, and what is open next.
+pub fn step(scene: &Scene, view: &View) -> Vec<String> {
+    let document = scene.document;
+    let mut rows: Vec<String> = wrapped_words(&view.words).iter().map(|words| line("head", words)).collect();
+    for (i, part) in view.parts.iter().enumerate() {
+        let swatch = format!("<path d=\"M0 -4h26\" stroke=\"{}\" stroke-width=\"4\"/>", scene.colour(i));
+        let words = escaped(&shortened(&piece_words(document, part)));
+        rows.push(format!("{swatch}<text x=\"34\">{words}</text>"));
+    }
+    let ring = "<path d=\"M0 -4h26\" stroke=\"#ffc94d\" stroke-width=\"9\"/>";
+    let joint = escaped(&document.named(view.step.joint).join(" "));
+    rows.push(format!("{ring}<text x=\"34\">the joint: {joint}</text>"));
+    rows.extend(wrapped_words(&view.next_words(document)).iter().map(|words| line("plain", words)));
+    rows.push(line("size", "Dark grey is built before, pale and dashed is not built yet."));
+    rows
 }
 
 /// A text that is cut where it is too long for a line.

@@ -1,11 +1,17 @@
 //! A picture of a sheet, and a look at its position. Everything here is in floating point: tested, not proved.
 
+mod clear;
 mod construct;
+pub mod dxf;
+mod fit;
 mod html;
+mod labels;
 mod layout;
 mod legend;
 mod place;
 mod scene;
+mod solve;
+mod steps;
 mod svg;
 mod system;
 
@@ -13,53 +19,69 @@ use pattern::Verdict;
 
 use crate::document::Document;
 use crate::finding::Finding;
+use crate::text::Rough;
 use system::System;
 
 pub use html::page;
-pub use layout::{How, Layout, layout};
-pub use svg::picture;
+pub use layout::{How, Layout, Stop, layout};
+pub use scene::{Labels, Options, SIZES};
+pub use steps::{View, views};
+pub use svg::{picture, step_picture};
 
 /// What a layout shows of a sheet that is "well" by its count.
 #[derive(Clone, Copy, PartialEq, Eq, Debug)]
 pub enum Position {
     /// The parts of a step do not close.
     Open(usize),
+    /// The search for a layout gave up at a step.
+    GaveUp(usize),
     /// Elements that can still move, to first order: element i as bit i.
     Loose(u64),
 }
 
 impl Position {
     /// The warning in words.
-    pub fn warning(&self, document: &Document) -> String {
-        match self {
-            Position::Open(step) => {
-                format!(
-                    "warning (numeric, not proved): no placement was found in which these sizes close at step {step}"
-                )
+    pub fn warning(&self, document: &Document, finding: &Finding) -> String {
+        let meeting = |made: usize| {
+            let joint = finding.steps.iter().find(|step| step.made == made).map_or(0, |step| step.joint);
+            format!("step {made}, where {} meet", document.named(joint).join(" "))
+        };
+        let words = match *self {
+            Position::Open(made) => format!("these sizes do not close at {}: every placement was tried", meeting(made)),
+            Position::GaveUp(made) => {
+                let hint = "whether the sizes close is not known; rough places in the text (point A at 0 0) help";
+                format!("the search for a layout gave up at {}; {hint}", meeting(made))
             }
-            Position::Loose(set) => format!(
-                "warning (numeric, not proved): special position: nothing holds {} firmly, and it may slide",
-                document.named(*set).join(" ")
-            ),
-        }
+            Position::Loose(set) => {
+                let names = document.named(set).join(" ");
+                format!("special position: nothing holds {names} firmly, and it may slide")
+            }
+        };
+        format!("warning (numeric, not proved): {words}")
     }
 }
 
-/// Lays a "well" sheet out by its plan and looks whether it closes, and whether it can still move. Nothing where the report tells already that it does
-/// not close.
+/// Lays a "well" sheet out and looks whether it closes, and whether it can still move. Nothing where the report tells already that it does not close.
 pub fn examine(document: &Document, finding: &Finding) -> Option<Position> {
     if finding.verdict != Verdict::Well || finding.open_steps().next().is_some() {
         return None;
     }
-    let sheet = &document.sheet;
-    let (parts, open) = construct::parts(sheet, &finding.steps);
-    if let Some(step) = open {
-        return Some(Position::Open(step));
+    examine_layout(document, finding, &layout::any_layout(document))
+}
+
+/// Looks at a layout of a sheet in the same way.
+pub fn examine_layout(document: &Document, finding: &Finding, found: &Layout) -> Option<Position> {
+    if finding.verdict != Verdict::Well || finding.open_steps().next().is_some() {
+        return None;
     }
-    let last = finding.clusters.first().and_then(|cluster| parts[cluster.number].as_ref())?;
-    let places: Vec<_> = last.iter().flatten().copied().collect();
-    let loose = System::of(sheet).loose(&layout::centred(sheet, places));
-    (loose != 0).then_some(Position::Loose(loose))
+    match found.stop {
+        Some(Stop::Open(made)) => return Some(Position::Open(made)),
+        Some(Stop::GaveUp(made)) => return Some(Position::GaveUp(made)),
+        None if found.how == How::GaveUp => return finding.steps.last().map(|step| Position::GaveUp(step.made)),
+        None => {}
+    }
+    let loose = System::of(&document.sheet).loose(&layout::centred(&document.sheet, found.places.clone()));
+    (loose != 0).then(|| Position::Loose(loose))
 }
 
 /// How far a layout is from meeting its sheet's dimensions, beside the largest of them.
@@ -67,13 +89,31 @@ pub fn error(document: &Document, layout: &Layout) -> f64 {
     System::of(&document.sheet).error(&layout.places)
 }
 
+/// The places of a layout as the text form has them: a line between the outermost points on it. Where the text says nothing of places the first point
+/// is at 0 0.
+pub fn rough(document: &Document, layout: &Layout) -> Vec<Rough> {
+    let is_line = |i: usize| document.sheet.elements[i].is_line();
+    let given = document.places.iter().any(Option::is_some);
+    let first = (0..layout.places.len()).find(|&i| !given && !is_line(i)).map_or([0.0; 2], |i| layout.places[i]);
+    let shifted = |place: place::Place| place::between(first, place);
+    let ends = scene::line_ends(document, &layout.places);
+    let place = |i: usize| match ends[i] {
+        Some(ends) => Rough::Along(ends.map(shifted)),
+        None => Rough::At(shifted(layout.places[i])),
+    };
+    (0..layout.places.len()).map(place).collect()
+}
+
 /// A sentence on how a layout was found.
 fn note(how: How) -> &'static str {
     match how {
+        How::Near => "Laid out from the rough places of the text, by a numeric search. Tested, not proved.",
         How::Plan => {
-            "Laid out from the dimensions, step by step by the plan; of two placements the wider one. Tested, not proved."
+            "Laid out from the dimensions, step by step by the plan; of two placements the clearer one. Tested, not proved."
         }
         How::Search => "Laid out from the dimensions by a numeric search. Tested, not proved.",
-        How::Circle => "On a circle, not to scale: no layout from the dimensions was found.",
+        How::GaveUp => {
+            "No layout that meets every size was found: this one comes near. What it does not meet stands as asked \u{2260} drawn."
+        }
     }
 }

@@ -1,22 +1,51 @@
 //! What a picture shows: places on the canvas, lines cut to a length, colours.
 
+use std::ops::Range;
+
 use pattern::Verdict;
 
+use super::clear;
 use super::layout::{How, Layout};
-use super::place::{Place, along, between, direction, dot, foot, length, meeting, normal};
+use super::place::{Place, along, between, direction, distance, dot, foot, length, meeting, normal, wrapped};
+use super::steps::{Role, View};
 use crate::document::Document;
 use crate::finding::Finding;
 use crate::sheet::{Constraint, Kind};
 
-/// The size of the drawing, and the room around it, in pixels.
-const DRAWING: [f64; 2] = [640.0, 440.0];
+/// The room around a drawing, in pixels.
 pub const MARGIN: f64 = 80.0;
+/// The sizes that may be asked for, in pixels.
+pub const SIZES: Range<f64> = 300.0..20_001.0;
+
+/// Which labels a picture has.
+#[derive(Clone, Copy, PartialEq, Eq, Debug)]
+pub enum Labels {
+    All,
+    Names,
+    Sizes,
+    None,
+}
+
+/// What is asked of a picture.
+#[derive(Clone, Copy, PartialEq, Debug)]
+pub struct Options {
+    /// The width and height of the picture without its legend, in pixels: the most that it takes.
+    pub size: [f64; 2],
+    pub labels: Labels,
+}
+
+impl Default for Options {
+    fn default() -> Options {
+        Options { size: [800.0, 600.0], labels: Labels::All }
+    }
+}
 
 /// Colours that are told apart by most eyes (Okabe and Ito), red left to what is over.
 const COLOURS: [&str; 7] = ["#0072b2", "#009e73", "#cc79a7", "#b87700", "#56b4e9", "#7a5195", "#6b6b00"];
 const RED: &str = "#d00000";
 const GREY: &str = "#808080";
 const DARK: &str = "#333333";
+const PALE: &str = "#a8a8a8";
 
 /// How something is drawn.
 #[derive(Clone, Copy, PartialEq, Eq, Debug)]
@@ -24,6 +53,15 @@ pub struct Paint {
     pub colour: &'static str,
     pub dashed: bool,
     pub heavy: bool,
+    /// Whether it stands back.
+    pub faint: bool,
+}
+
+impl Paint {
+    /// A paint of a colour.
+    fn of(colour: &'static str, dashed: bool) -> Paint {
+        Paint { colour, dashed, heavy: false, faint: false }
+    }
 }
 
 /// A sheet with places on a canvas: x to the right, y down.
@@ -31,6 +69,10 @@ pub struct Scene<'a> {
     pub document: &'a Document,
     pub finding: &'a Finding,
     pub how: How,
+    pub unmet: Vec<usize>,
+    pub options: Options,
+    /// The step that is shown, if one is.
+    pub step: Option<View>,
     pub size: [f64; 2],
     places: Vec<Place>,
     /// Lines cut to a length, by element.
@@ -41,20 +83,21 @@ pub struct Scene<'a> {
 
 impl<'a> Scene<'a> {
     /// The scene of a layout.
-    pub fn of(document: &'a Document, finding: &'a Finding, layout: Layout) -> Scene<'a> {
-        let Layout { places, how } = layout;
-        let seen = seen(document, &places, how);
-        let segments = segments(document, &places, how, &seen);
+    pub fn of(document: &'a Document, finding: &'a Finding, layout: &Layout, options: Options) -> Scene<'a> {
+        let Layout { places, how, unmet, .. } = layout.clone();
+        let seen = seen(document, &places);
+        let segments = segments(document, &places, &seen);
         let ends = segments.iter().flatten().flatten().copied();
         let all: Vec<Place> = seen.iter().copied().chain(ends).collect();
         let low = [0, 1].map(|axis| all.iter().map(|p| p[axis]).fold(f64::INFINITY, f64::min));
         let high = [0, 1].map(|axis| all.iter().map(|p| p[axis]).fold(f64::NEG_INFINITY, f64::max));
         let extent = [0, 1].map(|axis| (high[axis] - low[axis]).max(0.0));
-        let scale = (DRAWING[0] / extent[0].max(1e-6)).min(DRAWING[1] / extent[1].max(1e-6));
+        let room = options.size.map(|size| size - 2.0 * MARGIN);
+        let scale = (room[0] / extent[0].max(1e-6)).min(room[1] / extent[1].max(1e-6));
         let size = [0, 1].map(|axis| (extent[axis] * scale).max(120.0));
         let slack = [0, 1].map(|axis| (size[axis] - extent[axis] * scale) / 2.0 / scale);
         let corner = [low[0] - slack[0], high[1] + slack[1]];
-        Scene { document, finding, how, size, places, segments, scale, corner }
+        Scene { document, finding, how, unmet, options, step: None, size, places, segments, scale, corner }
     }
 
     /// A place on the canvas.
@@ -82,12 +125,23 @@ impl<'a> Scene<'a> {
         self.segments[element]
     }
 
-    /// The radius of a circle on the canvas; a picture that is not to scale has small ones.
+    /// The radius of a circle on the canvas.
     pub fn radius(&self, element: usize) -> Option<f64> {
         match self.document.sheet.elements[element] {
-            Kind::Circle(_) if self.how == How::Circle => Some(14.0),
             Kind::Circle(radius) => Some(self.long(f64::from(radius) / 10.0)),
             _ => None,
+        }
+    }
+
+    /// What a constraint measures as it is drawn: millimetres, or degrees.
+    pub fn drawn(&self, c: &Constraint) -> String {
+        let lines = [c.first, c.second].map(|end| self.document.sheet.elements[end].is_line());
+        let (a, b) = (self.places[c.first], self.places[c.second]);
+        match lines {
+            [false, false] => format!("{:.1}", length(between(a, b))),
+            [false, true] => format!("{:.1}", distance(a, b)),
+            [true, false] => format!("{:.1}", distance(b, a)),
+            [true, true] => format!("{:.2}°", wrapped(b[0] - a[0]).to_degrees()),
         }
     }
 
@@ -117,30 +171,32 @@ impl<'a> Scene<'a> {
 
     /// How an element is drawn.
     pub fn element_paint(&self, element: usize) -> Paint {
+        if let Some(view) = &self.step {
+            return step_paint(view.element(element));
+        }
         if let Some(over) = &self.finding.over {
             let inside = over.part >> element & 1 == 1;
-            return Paint { colour: if inside { RED } else { GREY }, dashed: false, heavy: false };
+            return Paint::of(if inside { RED } else { GREY }, false);
         }
         match self.parts_of(element)[..] {
-            [] => Paint { colour: GREY, dashed: true, heavy: false },
-            [part] => Paint { colour: self.colour(part), dashed: self.free(part), heavy: false },
-            _ => Paint { colour: DARK, dashed: false, heavy: false },
+            [] => Paint::of(GREY, true),
+            [part] => Paint::of(self.colour(part), self.free(part)),
+            _ => Paint::of(DARK, false),
         }
     }
 
     /// How a constraint is drawn.
     pub fn constraint_paint(&self, constraint: usize) -> Paint {
+        if let Some(view) = &self.step {
+            return step_paint(view.constraint(constraint));
+        }
         if let Some(over) = &self.finding.over {
             let extra = over.constraint == constraint;
             let colour = if extra || over.earlier.contains(&constraint) { RED } else { GREY };
-            return Paint { colour, dashed: extra, heavy: extra };
+            return Paint { heavy: extra, ..Paint::of(colour, extra) };
         }
         let part = self.part_on(constraint);
-        Paint {
-            colour: part.map_or(GREY, |part| self.colour(part)),
-            dashed: part.map_or(false, |part| self.free(part)),
-            heavy: false,
-        }
+        Paint::of(part.map_or(GREY, |part| self.colour(part)), part.map_or(false, |part| self.free(part)))
     }
 
     /// From where to where a constraint measures: between points, from a point to its foot on a line, or between the middles of what is drawn.
@@ -149,7 +205,6 @@ impl<'a> Scene<'a> {
         let lines = [first, second].map(|end| self.document.sheet.elements[end].is_line());
         let (a, b) = (self.places[first], self.places[second]);
         match lines {
-            _ if self.how == How::Circle => [self.anchor(first), self.anchor(second)],
             [false, false] => [a, b],
             [false, true] => [a, foot(a, b)],
             [true, false] => [b, foot(b, a)],
@@ -157,27 +212,9 @@ impl<'a> Scene<'a> {
         }
     }
 
-    /// Whether a text of so many characters has room along what a constraint measures.
-    pub fn roomy(&self, constraint: &Constraint, characters: usize) -> bool {
-        let [a, b] = self.span(constraint);
-        self.long(length(between(a, b))) > 7.0 * characters as f64
-    }
-
     /// Whether there are so many elements that names are small.
     pub fn dense(&self) -> bool {
         self.places.len() > 20
-    }
-
-    /// Where the size of a constraint stands on the canvas: in the middle of what it measures, or before it where another has the middle.
-    pub fn size_at(&self, constraint: usize) -> Place {
-        let all = &self.document.sheet.constraints;
-        let part = |k: usize, part: f64| {
-            let [a, b] = self.span(&all[k]);
-            self.at(along(a, part, between(a, b)))
-        };
-        let middle = part(constraint, 0.5);
-        let taken = (0..constraint).any(|k| length(between(part(k, 0.5), middle)) < 16.0);
-        if taken { part(constraint, 0.36) } else { middle }
     }
 
     /// Where two lines meet, if that is on the canvas.
@@ -185,7 +222,7 @@ impl<'a> Scene<'a> {
         let at = meeting(self.places[constraint.first], self.places[constraint.second])?;
         let [x, y] = self.at(at);
         let inside = |v: f64, size: f64| (MARGIN / 2.0..size + 1.5 * MARGIN).contains(&v);
-        (self.how != How::Circle && inside(x, self.size[0]) && inside(y, self.size[1])).then_some(at)
+        (inside(x, self.size[0]) && inside(y, self.size[1])).then(|| at)
     }
 
     /// The direction in which the label of an element leaves the middle.
@@ -197,16 +234,21 @@ impl<'a> Scene<'a> {
     }
 }
 
+/// The paint of something in a picture of a step.
+fn step_paint(role: Role) -> Paint {
+    match role {
+        Role::Joined(part) => Paint::of(COLOURS[part], false),
+        Role::Shared => Paint { heavy: true, ..Paint::of(DARK, false) },
+        Role::Built => Paint::of(GREY, false),
+        Role::Open => Paint { faint: true, ..Paint::of(PALE, true) },
+    }
+}
+
 /// The places that must be seen: points, edges of circles, feet of points on lines, meetings of lines that are not far off.
-fn seen(document: &Document, places: &[Place], how: How) -> Vec<Place> {
+fn seen(document: &Document, places: &[Place]) -> Vec<Place> {
     let sheet = &document.sheet;
     let is_line = |i: usize| sheet.elements[i].is_line();
     let mut seen: Vec<Place> = (0..places.len()).filter(|&i| !is_line(i)).map(|i| places[i]).collect();
-    if how == How::Circle {
-        let lines = (0..places.len()).filter(|&i| is_line(i));
-        seen.extend(lines.map(|i| along([0.0; 2], places[i][1], normal(places[i][0]))));
-        return seen;
-    }
     for (i, kind) in sheet.elements.iter().enumerate() {
         let radius = f64::from(kind.radius()) / 10.0;
         if radius > 0.0 {
@@ -230,8 +272,19 @@ fn seen(document: &Document, places: &[Place], how: How) -> Vec<Place> {
     seen
 }
 
+/// The ends of each line: the outermost points on it, or else what is drawn of it.
+pub fn line_ends(document: &Document, places: &[Place]) -> Vec<Option<[Place; 2]>> {
+    let part: Vec<Option<Place>> = places.iter().copied().map(Some).collect();
+    let drawn = segments(document, places, &seen(document, places));
+    let apart = |ends: &[Place; 2]| length(between(ends[0], ends[1])) > 1e-3;
+    let ends = |(i, drawn): (usize, Option<[Place; 2]>)| {
+        drawn.map(|drawn| clear::stretch(&document.sheet, &part, i).filter(apart).unwrap_or(drawn))
+    };
+    drawn.into_iter().enumerate().map(ends).collect()
+}
+
 /// What is drawn of each line: from the first to the last place that matters on it, and a little more.
-fn segments(document: &Document, places: &[Place], how: How, seen: &[Place]) -> Vec<Option<[Place; 2]>> {
+fn segments(document: &Document, places: &[Place], seen: &[Place]) -> Vec<Option<[Place; 2]>> {
     let sheet = &document.sheet;
     let is_line = |i: usize| sheet.elements[i].is_line();
     let spans = [0, 1].map(|axis| {
@@ -242,9 +295,6 @@ fn segments(document: &Document, places: &[Place], how: How, seen: &[Place]) -> 
     let segment = |i: usize| {
         let (way, line) = (direction(places[i][0]), places[i]);
         let nearest = along([0.0; 2], line[1], normal(line[0]));
-        if how == How::Circle {
-            return [along(nearest, -span * 0.14, way), along(nearest, span * 0.14, way)];
-        }
         let ends = sheet.constraints.iter().filter(|c| c.first == i || c.second == i);
         let on = ends.filter_map(|c| {
             let other = if c.first == i { c.second } else { c.first };

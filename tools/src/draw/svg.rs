@@ -2,58 +2,117 @@
 
 use std::fmt::Write;
 
-use super::layout::{How, layout};
+use super::labels::{self, Shelf};
+use super::layout::Layout;
 use super::legend;
 use super::place::{Place, along, between, direction, foot, length, wrapped};
-use super::scene::{MARGIN, Paint, Scene};
+use super::scene::{Labels, MARGIN, Options, Paint, Scene};
+use super::steps::View;
 use crate::document::Document;
 use crate::draw::Position;
 use crate::finding::{Finding, verdict_name};
-use crate::sheet::{Constraint, Dimension};
+use crate::sheet::{Constraint, Dimension, members};
 use crate::text::{degrees, millimetres};
 
 /// The height of a line of the legend.
 const LINE: f64 = 18.0;
 /// The least width of a picture, so that the legend fits.
 const LEAST: f64 = 720.0;
+/// The red of what does not fit.
+const RED: &str = "#d00000";
 
-const STYLE: &str = "text{font:13px sans-serif;fill:#222}.label{paint-order:stroke;stroke:#fff;stroke-width:4px;stroke-linejoin:round}\
-.name{font-weight:bold}.dense .name{font-size:9px;font-weight:normal}.size{font-size:11px}\
+const STYLE: &str = "text{font:13px sans-serif;fill:#222}\
+.label{paint-order:stroke;stroke:#fff;stroke-width:4px;stroke-linejoin:round}\
+.name{font-weight:bold}.size{font-size:11px}.dense .name{font-size:10px}.dense .size{font-size:9px}\
+.dense .label{stroke-width:3px}.catch{stroke:#000;stroke-opacity:0;stroke-width:14;fill:none;pointer-events:stroke}\
 .head{font-weight:bold;font-size:15px}.loud{fill:#d00000;font-weight:bold}";
 
 /// The picture of a sheet, with its legend.
-pub fn picture(document: &Document, finding: &Finding, position: Option<&Position>) -> String {
-    let scene = Scene::of(document, finding, layout(document));
-    let legend = [legend::words(&scene, position), legend::parts(&scene), legend::noted(&scene)].concat();
-    drawing(&scene, &legend)
+pub fn picture(
+    document: &Document,
+    finding: &Finding,
+    layout: &Layout,
+    position: Option<&Position>,
+    options: Options,
+) -> String {
+    let scene = Scene::of(document, finding, layout, options);
+    let drawing = Drawing::of(&scene);
+    let legend = [legend::words(&scene, position), legend::parts(&scene), legend::noted(&scene, drawing.left_out)];
+    drawing.framed(&scene, &legend.concat())
 }
 
-/// The drawing of a scene, with some lines below it.
-fn drawing(scene: &Scene, legend: &[String]) -> String {
-    let document = scene.document;
-    let width = (scene.size[0] + 2.0 * MARGIN).max(LEAST);
-    let top = scene.size[1] + 2.0 * MARGIN;
-    let height = top + LINE * (legend.len() as f64 + 1.0);
-    let verdict = verdict_name(scene.finding.verdict);
-    let mut out = format!(
-        "<svg xmlns=\"http://www.w3.org/2000/svg\" viewBox=\"0 0 {width:.0} {height:.0}\" width=\"{width:.0}\" height=\"{height:.0}\" role=\"img\">\n\
-         <title>{}: {verdict}</title>\n<style>{STYLE}</style>\n<rect width=\"100%\" height=\"100%\" fill=\"#fff\"/>\n",
-        escaped(document.title())
-    );
-    let shift = (width - scene.size[0] - 2.0 * MARGIN) / 2.0;
-    let class = if scene.dense() { "dense" } else { "clear" };
-    let _ = writeln!(out, "<g class=\"{class}\" transform=\"translate({shift:.1} 0)\">");
-    let constraints = (0..document.sheet.constraints.len()).map(|k| constraint(scene, k));
-    let elements = (0..document.sheet.elements.len()).map(|i| element(scene, i));
-    let (shapes, labels): (Vec<_>, Vec<_>) =
-        constraints.chain(elements).map(|drawn| (drawn.shape, drawn.label)).unzip();
-    out.extend(shapes.into_iter().chain(labels));
-    out += "</g>\n";
-    for (row, line) in legend.iter().enumerate() {
-        let y = top + LINE * row as f64;
-        let _ = writeln!(out, "<g transform=\"translate(24 {y:.0})\">{line}</g>");
+/// The picture of a step of the plan.
+pub fn step_picture(document: &Document, finding: &Finding, layout: &Layout, view: &View, options: Options) -> String {
+    let mut scene = Scene::of(document, finding, layout, options);
+    let legend = legend::step(&scene, view);
+    scene.step = Some(view.clone());
+    Drawing::of(&scene).framed(&scene, &legend)
+}
+
+/// The drawing of a scene for a page that has the words and the parts beside it.
+pub fn bare(scene: &Scene) -> String {
+    let drawing = Drawing::of(scene);
+    let legend = legend::noted(scene, drawing.left_out);
+    drawing.framed(scene, &legend)
+}
+
+/// What is drawn of a scene.
+struct Drawing {
+    content: String,
+    /// How many sizes had no room.
+    left_out: usize,
+}
+
+impl Drawing {
+    /// Draws a scene: lines below, then dimensions, points and circles, then labels.
+    fn of(scene: &Scene) -> Drawing {
+        let sheet = &scene.document.sheet;
+        let (n, e) = (sheet.elements.len(), sheet.constraints.len());
+        let (lines, points): (Vec<usize>, Vec<usize>) = (0..n).partition(|&i| sheet.elements[i].is_line());
+        let joint = scene.step.as_ref().map_or(0, |view| view.step.joint);
+        let mut content: String = members(joint).map(|i| halo(scene, i)).collect();
+        content.extend(lines.iter().map(|&i| grouped_element(scene, i, element(scene, i))));
+        content.extend((0..e).map(|k| grouped_constraint(scene, k, constraint(scene, k))));
+        content.extend(points.iter().map(|&i| grouped_element(scene, i, element(scene, i))));
+        let mut shelf = shelf(scene);
+        for i in points.into_iter().chain(lines) {
+            content += &grouped_element(scene, i, name(scene, &mut shelf, i));
+        }
+        // the shortest first: they have the least choice
+        let mut order: Vec<usize> = (0..e).collect();
+        let long =
+            |k: usize| length(between(scene.span(&sheet.constraints[k])[0], scene.span(&sheet.constraints[k])[1]));
+        order.sort_by(|&a, &b| long(a).total_cmp(&long(b)));
+        let mut left_out = 0;
+        for k in order {
+            match size_label(scene, &mut shelf, k) {
+                Some(label) => content += &grouped_constraint(scene, k, label),
+                None => left_out += 1,
+            }
+        }
+        Drawing { content, left_out }
     }
-    out + "</svg>\n"
+
+    /// The drawing with some lines below it.
+    fn framed(&self, scene: &Scene, legend: &[String]) -> String {
+        let width = (scene.size[0] + 2.0 * MARGIN).max(LEAST);
+        let top = scene.size[1] + 2.0 * MARGIN;
+        let height = top + LINE * (legend.len() as f64 + 1.0);
+        let verdict = verdict_name(scene.finding.verdict);
+        let mut out = format!(
+            "<svg xmlns=\"http://www.w3.org/2000/svg\" viewBox=\"0 0 {width:.0} {height:.0}\" width=\"{width:.0}\" height=\"{height:.0}\" role=\"img\">\n\
+             <title>{}: {verdict}</title>\n<style>{STYLE}</style>\n<rect width=\"100%\" height=\"100%\" fill=\"#fff\"/>\n",
+            escaped(scene.document.title())
+        );
+        let shift = (width - scene.size[0] - 2.0 * MARGIN) / 2.0;
+        let class = if scene.dense() { "dense" } else { "clear" };
+        let _ = writeln!(out, "<g class=\"{class}\" transform=\"translate({shift:.1} 0)\">\n{}</g>", self.content);
+        for (row, line) in legend.iter().enumerate() {
+            let y = top + LINE * row as f64;
+            let _ = writeln!(out, "<g transform=\"translate(24 {y:.0})\">{line}</g>");
+        }
+        out + "</svg>\n"
+    }
 }
 
 /// A text as XML has it.
@@ -85,86 +144,201 @@ fn stroke(paint: Paint, width: f64) -> String {
     format!("stroke=\"{}\" stroke-width=\"{width}\" fill=\"none\"{dash}", paint.colour)
 }
 
-/// What is drawn of something: its shape, and its label, which stands above all shapes.
-struct Drawn {
-    shape: String,
-    label: String,
+/// A group that tells what it is, and lights with others.
+fn group(class: &str, title: &str, key: &str, lit: &str, content: String) -> String {
+    if content.is_empty() {
+        return content;
+    }
+    let title = escaped(title);
+    format!("<g class=\"{class}\" data-key=\"{key}\" data-lit=\"{lit}\"><title>{title}</title>{content}</g>\n")
 }
 
-impl Drawn {
-    /// Both as groups that tell what they are and light together.
-    fn grouped(self, class: &str, title: &str, key: &str, lit: &str) -> Drawn {
-        let group = |content: String| {
-            if content.is_empty() {
-                return content;
-            }
-            format!(
-                "<g class=\"{class}\" data-key=\"{key}\" data-lit=\"{lit}\"><title>{}</title>{content}</g>\n",
-                escaped(title)
-            )
-        };
-        Drawn { shape: group(self.shape), label: group(self.label) }
+/// What is drawn of an element, as a group.
+fn grouped_element(scene: &Scene, i: usize, content: String) -> String {
+    let document = scene.document;
+    let lit = [vec![format!("e{i}")], keyed('p', scene.parts_of(i)), keyed('k', constraints_of(document, i))];
+    let title = format!("{} {}, element {i}", document.sheet.elements[i].name(), document.names[i]);
+    group(class("element", scene.element_paint(i)), &title, &format!("e{i}"), &lit.concat().join(" "), content)
+}
+
+/// What is drawn of a constraint, as a group.
+fn grouped_constraint(scene: &Scene, k: usize, content: String) -> String {
+    let title = format!("{}, constraint {k}", scene.document.statement(k));
+    let class = class("constraint", scene.constraint_paint(k));
+    group(class, &title, &format!("k{k}"), &constraint_keys(scene, k), content)
+}
+
+/// The class of a group: what stands back has an opacity of its own.
+fn class(name: &'static str, paint: Paint) -> &'static str {
+    match (name, paint.faint) {
+        ("element", true) => "element\" opacity=\".4",
+        (_, true) => "constraint\" opacity=\".4",
+        (name, false) => name,
     }
 }
 
-/// A straight line on the canvas.
+/// A straight line on the canvas, with a wide stroke about it that catches the mouse.
 fn straight(scene: &Scene, a: Place, b: Place, stroke: &str) -> String {
     let ([x, y], [z, w]) = (scene.at(a), scene.at(b));
-    format!("<path d=\"M{x:.1} {y:.1}L{z:.1} {w:.1}\" {stroke}/>")
+    let path = format!("d=\"M{x:.1} {y:.1}L{z:.1} {w:.1}\"");
+    format!("<path {path} {stroke}/><path class=\"catch\" {path}/>")
 }
 
-/// A size on a white ground, its middle at a place of the canvas.
-fn size_label([x, y]: Place, colour: &str, text: &str) -> String {
-    let half = 3.4 * text.chars().count() as f64 + 2.0;
-    format!(
-        "<rect x=\"{:.1}\" y=\"{:.1}\" width=\"{:.1}\" height=\"14\" fill=\"#fff\"/>\
-         <text class=\"size\" x=\"{x:.1}\" y=\"{:.1}\" text-anchor=\"middle\" style=\"fill:{colour}\">{}</text>",
-        x - half,
-        y - 7.0,
-        2.0 * half,
-        y + 4.0,
-        escaped(text)
-    )
-}
-
-/// A name beside a place of the canvas, on the side of a direction.
-fn name_label([x, y]: Place, [right, up]: Place, far: f64, colour: &str, text: &str) -> String {
-    let anchor = match right {
-        right if right > 0.4 => "start",
-        right if right < -0.4 => "end",
-        _ => "middle",
+/// The head of an arrow at a place, in a direction of the plane.
+fn arrow([x, y]: Place, way: Place, colour: &str) -> String {
+    let tip = |back: f64, aside: f64| {
+        format!("{:.1} {:.1}", x - back * way[0] - aside * way[1], y + back * way[1] - aside * way[0])
     };
-    let (x, y) = (x + far * right, y - far * up + 4.5);
+    format!("<path d=\"M{x:.1} {y:.1}L{}L{}z\" fill=\"{colour}\"/>", tip(11.0, 4.0), tip(11.0, -4.0))
+}
+
+/// The font size of names, and that of sizes.
+fn fonts(scene: &Scene) -> [f64; 2] {
+    if scene.dense() { [10.0, 9.0] } else { [13.0, 11.0] }
+}
+
+/// The canvas with its points and strokes, before labels are put on it.
+fn shelf(scene: &Scene) -> Shelf {
+    let sheet = &scene.document.sheet;
+    let mut shelf = Shelf::of([scene.size[0] + 2.0 * MARGIN, scene.size[1] + 2.0 * MARGIN]);
+    for i in 0..sheet.elements.len() {
+        match scene.segment(i) {
+            Some([a, b]) => {
+                shelf.stroke([scene.at(a), scene.at(b)]);
+                shelf.take(scene.at(b), 5.0);
+            }
+            None => shelf.take(scene.at(scene.place(i)), if scene.dense() { 3.5 } else { 5.0 }),
+        }
+    }
+    for c in &sheet.constraints {
+        let lines = [c.first, c.second].map(|end| sheet.elements[end].is_line());
+        if lines != [true, true] && matches!(c.dimension, Dimension::Size(_)) {
+            let [a, b] = scene.span(c);
+            shelf.stroke([scene.at(a), scene.at(b)]);
+        }
+    }
+    shelf
+}
+
+/// A text of the canvas, its middle at a place.
+fn label([x, y]: Place, class: &str, font: f64, colour: &str, text: &str) -> String {
+    let y = y + 0.35 * font;
     format!(
-        "<text class=\"label name\" x=\"{x:.1}\" y=\"{y:.1}\" text-anchor=\"{anchor}\" style=\"fill:{colour}\">{}</text>",
+        "<text class=\"label {class}\" x=\"{x:.1}\" y=\"{y:.1}\" text-anchor=\"middle\" style=\"fill:{colour}\">{}</text>",
         escaped(text)
     )
 }
 
-/// An element: its shape and its name.
-fn element(scene: &Scene, i: usize) -> Drawn {
-    let (document, paint) = (scene.document, scene.element_paint(i));
-    let name = &document.names[i];
-    let drawn = match (scene.segment(i), scene.radius(i)) {
-        (Some([a, b]), _) => Drawn {
-            shape: straight(scene, a, b, &stroke(paint, 2.0)),
-            label: name_label(scene.at(b), direction(scene.place(i)[0]), 8.0, paint.colour, name),
-        },
+/// The name of an element.
+fn name(scene: &Scene, shelf: &mut Shelf, i: usize) -> String {
+    if !matches!(scene.options.labels, Labels::All | Labels::Names) {
+        return String::new();
+    }
+    let (text, [font, _]) = (&scene.document.names[i], fonts(scene));
+    let half = labels::half(text, font);
+    let places = match scene.segment(i) {
+        Some([a, b]) => {
+            let [x, y] = direction(scene.place(i)[0]);
+            let (a, b) = (scene.at(a), scene.at(b));
+            let ends = [labels::around(b, [x, -y], 4.0, half), labels::around(a, [-x, y], 4.0, half)].concat();
+            ends.into_iter().chain(labels::beside([a, b], half).into_iter().skip(9)).collect()
+        }
+        None => {
+            let [x, y] = scene.outward(scene.place(i));
+            let ringed = constraints_of(scene.document, i);
+            let ringed = ringed.iter().any(|&k| scene.document.sheet.constraints[k].dimension == Dimension::On);
+            let near = if scene.dense() { 4.0 } else { 6.0 } + if ringed { 3.0 } else { 0.0 };
+            labels::around(scene.at(scene.place(i)), [x, -y], near, half)
+        }
+    };
+    match shelf.find(&places, half) {
+        Some((middle, _)) => {
+            shelf.put(middle, half);
+            label(middle, "name", font, scene.element_paint(i).colour, text)
+        }
+        None => String::new(),
+    }
+}
+
+/// The size of a constraint, where there is room for it; nothing to say where it has none.
+fn size_label(scene: &Scene, shelf: &mut Shelf, k: usize) -> Option<String> {
+    let sheet = &scene.document.sheet;
+    let c = &sheet.constraints[k];
+    let unmet = scene.unmet.contains(&k);
+    let sized = matches!(c.dimension, Dimension::Size(_)) || unmet;
+    if !sized || !matches!(scene.options.labels, Labels::All | Labels::Sizes) {
+        return Some(String::new());
+    }
+    let lines = [c.first, c.second].map(|end| sheet.elements[end].is_line());
+    let [_, font] = fonts(scene);
+    let (mut text, mut colour) = (size(scene, c), scene.constraint_paint(k).colour);
+    if unmet {
+        text = format!("{text} \u{2260} {}", scene.drawn(c));
+        colour = RED;
+    }
+    let half = labels::half(&text, font);
+    let places = match (lines, scene.meeting(c)) {
+        ([true, true], Some(meeting)) => {
+            let (from, turn) = angle_of(scene, c);
+            let at =
+                |far: f64, part: f64| scene.at(along(meeting, far / scene.long(1.0), direction(from + turn * part)));
+            let parts = [0.5, 0.3, 0.7];
+            let near = [40.0, 50.0, 62.0, 78.0].iter().flat_map(|&far| parts.iter().map(move |&part| at(far, part)));
+            near.collect()
+        }
+        _ => {
+            let [a, b] = scene.span(c).map(|end| scene.at(end));
+            labels::beside([a, b], half)
+        }
+    };
+    let (middle, free) = shelf.find(&places, half)?;
+    if !free && !unmet {
+        return None;
+    }
+    shelf.put(middle, half);
+    let ([x, y], [w, h]) = (middle, half);
+    let ground = format!(
+        "<rect x=\"{:.1}\" y=\"{:.1}\" width=\"{:.1}\" height=\"{:.1}\" fill=\"#fff\" fill-opacity=\".85\"/>",
+        x - w,
+        y - h,
+        2.0 * w,
+        2.0 * h
+    );
+    Some(ground + &label(middle, "size", font, colour, &text))
+}
+
+/// A ring about an element of a joint, or a band along it.
+fn halo(scene: &Scene, i: usize) -> String {
+    let paint = "stroke=\"#ffc94d\" stroke-opacity=\".8\" fill=\"none\"";
+    match scene.segment(i) {
+        Some([a, b]) => {
+            let ([x, y], [z, w]) = (scene.at(a), scene.at(b));
+            format!("<path class=\"joint\" d=\"M{x:.1} {y:.1}L{z:.1} {w:.1}\" stroke-width=\"9\" {paint}/>\n")
+        }
+        None => {
+            let [x, y] = scene.at(scene.place(i));
+            format!("<circle class=\"joint\" cx=\"{x:.1}\" cy=\"{y:.1}\" r=\"12\" stroke-width=\"6\" {paint}/>\n")
+        }
+    }
+}
+
+/// The shape of an element.
+fn element(scene: &Scene, i: usize) -> String {
+    let paint = scene.element_paint(i);
+    match (scene.segment(i), scene.radius(i)) {
+        (Some([a, b]), _) => {
+            let width = if scene.dense() { 1.5 } else { 2.0 };
+            let head = arrow(scene.at(b), direction(scene.place(i)[0]), paint.colour);
+            straight(scene, a, b, &stroke(Paint { heavy: false, ..paint }, width)) + &head
+        }
         (None, radius) => {
             let at = scene.at(scene.place(i));
             let ring = radius.map_or(String::new(), |radius| circle(at, radius, &stroke(paint, 2.0)));
             let fill = if paint.dashed { "#ffffff" } else { paint.colour };
-            let (small, far) = if scene.dense() { (2.5, 9.0) } else { (4.0, 14.0) };
-            let dot = circle(at, small, &format!("fill=\"{fill}\" stroke=\"{}\" stroke-width=\"1.5\"", paint.colour));
-            let label = name_label(at, scene.outward(scene.place(i)), far, paint.colour, name);
-            Drawn { shape: ring + &dot, label }
+            let small = if scene.dense() { 2.5 } else { 4.0 };
+            ring + &circle(at, small, &format!("fill=\"{fill}\" stroke=\"{}\" stroke-width=\"1.5\"", paint.colour))
         }
-    };
-    let lit = [vec![format!("e{i}")], keyed('p', scene.parts_of(i)), keyed('k', constraints_of(document, i))]
-        .concat()
-        .join(" ");
-    let title = format!("{} {name}, element {i}", document.sheet.elements[i].name());
-    drawn.grouped("element", &title, &format!("e{i}"), &lit)
+    }
 }
 
 /// A circle on the canvas.
@@ -184,21 +358,21 @@ pub fn constraint_keys(scene: &Scene, k: usize) -> String {
     [vec![format!("k{k}")], keyed('p', part), keyed('e', vec![c.first, c.second])].concat().join(" ")
 }
 
-/// A constraint: what it measures, and its size.
-fn constraint(scene: &Scene, k: usize) -> Drawn {
-    let document = scene.document;
-    let c = &document.sheet.constraints[k];
+/// The shape of a constraint: what it measures.
+fn constraint(scene: &Scene, k: usize) -> String {
+    let sheet = &scene.document.sheet;
+    let c = &sheet.constraints[k];
     let paint = scene.constraint_paint(k);
-    let lines = [c.first, c.second].map(|end| document.sheet.elements[end].is_line());
-    let drawn = match (lines, c.dimension) {
-        _ if scene.how == How::Circle => measured(scene, k, paint),
+    let lines = [c.first, c.second].map(|end| sheet.elements[end].is_line());
+    match (lines, c.dimension) {
         ([true, true], _) => angle(scene, k, paint),
         (_, Dimension::On) => marked(scene, if lines[0] { c.second } else { c.first }, paint),
         (_, Dimension::Tangent | Dimension::OtherTangent) => contact(scene, c, paint),
-        _ => measured(scene, k, paint),
-    };
-    let title = format!("{}, constraint {k}", document.statement(k));
-    drawn.grouped("constraint", &title, &format!("k{k}"), &constraint_keys(scene, k))
+        _ => {
+            let [a, b] = scene.span(c);
+            straight(scene, a, b, &stroke(paint, 1.2))
+        }
+    }
 }
 
 /// The size of a constraint in a word.
@@ -215,22 +389,14 @@ fn size(scene: &Scene, c: &Constraint) -> String {
     }
 }
 
-/// A line along what a constraint measures, and its size where it has room.
-fn measured(scene: &Scene, k: usize, paint: Paint) -> Drawn {
-    let c = &scene.document.sheet.constraints[k];
-    let ([a, b], size) = (scene.span(c), size(scene, c));
-    let roomy = scene.roomy(c, size.chars().count());
-    let label = if roomy { size_label(scene.size_at(k), paint.colour, &size) } else { String::new() };
-    Drawn { shape: straight(scene, a, b, &stroke(paint, 1.2)), label }
-}
-
 /// A point on a line: a ring about it.
-fn marked(scene: &Scene, point: usize, paint: Paint) -> Drawn {
-    Drawn { shape: circle(scene.at(scene.place(point)), 8.0, &stroke(paint, 1.2)), label: String::new() }
+fn marked(scene: &Scene, point: usize, paint: Paint) -> String {
+    let radius = if scene.dense() { 5.0 } else { 8.0 };
+    circle(scene.at(scene.place(point)), radius, &stroke(paint, 1.2))
 }
 
 /// A contact: a square where the two touch.
-fn contact(scene: &Scene, c: &Constraint, paint: Paint) -> Drawn {
+fn contact(scene: &Scene, c: &Constraint, paint: Paint) -> String {
     let kinds = [c.first, c.second].map(|end| scene.document.sheet.elements[end]);
     let (a, b) = (scene.place(c.first), scene.place(c.second));
     let touching = if kinds[0].is_line() {
@@ -246,33 +412,40 @@ fn contact(scene: &Scene, c: &Constraint, paint: Paint) -> Drawn {
     };
     let [x, y] = scene.at(touching);
     let turned = format!("transform=\"rotate(45 {x:.1} {y:.1})\"");
-    Drawn {
-        shape: format!("<path d=\"M{:.1} {:.1}h9v9h-9z\" fill=\"{}\" {turned}/>", x - 4.5, y - 4.5, paint.colour),
-        label: String::new(),
-    }
+    format!("<path d=\"M{:.1} {:.1}h9v9h-9z\" fill=\"{}\" {turned}/>", x - 4.5, y - 4.5, paint.colour)
 }
 
-/// An angle: an arc where the lines meet, or its size between them.
-fn angle(scene: &Scene, k: usize, paint: Paint) -> Drawn {
+/// The direction from which an angle turns, and by how much.
+fn angle_of(scene: &Scene, c: &Constraint) -> (f64, f64) {
+    let from = scene.place(c.first)[0];
+    (from, wrapped(scene.place(c.second)[0] - from))
+}
+
+/// An angle: an arc with an arrow where the lines meet. Lines that meet nowhere near have their size alone.
+fn angle(scene: &Scene, k: usize, paint: Paint) -> String {
     let c = &scene.document.sheet.constraints[k];
     let meeting = match scene.meeting(c) {
         Some(meeting) => meeting,
-        None => return measured(scene, k, paint),
+        None => return marks(scene, c, paint),
     };
-    let (from, to) = (scene.place(c.first)[0], scene.place(c.second)[0]);
-    let turn = wrapped(to - from);
+    let (from, turn) = angle_of(scene, c);
     let radius = 30.0 / scene.long(1.0);
     let arc = (0..=16).map(|i| scene.at(along(meeting, radius, direction(from + turn * f64::from(i) / 16.0))));
     let path: String =
         arc.enumerate().map(|(i, [x, y])| format!("{}{x:.1} {y:.1}", if i == 0 { 'M' } else { 'L' })).collect();
-    let middle = scene.at(along(meeting, 1.6 * radius, direction(from + turn / 2.0)));
-    Drawn {
-        shape: format!("<path d=\"{path}\" {}/>", stroke(paint, 1.2)),
-        label: size_label(middle, paint.colour, &size(scene, c)),
-    }
+    let end = scene.at(along(meeting, radius, direction(from + turn)));
+    // the head lies along the last part of the arc
+    let way = direction(from + turn + turn.signum() * (std::f64::consts::FRAC_PI_2 - 0.18));
+    let head = if turn.abs() * 30.0 > 14.0 { arrow(end, way, paint.colour) } else { String::new() };
+    format!("<path d=\"{path}\" {}/><path class=\"catch\" d=\"{path}\"/>{head}", stroke(paint, 1.2))
 }
 
-/// The drawing of a scene for a page that has the words and the parts beside it.
-pub fn bare(scene: &Scene) -> String {
-    drawing(scene, &legend::noted(scene))
+/// Two small strokes across lines that are held by an angle and meet nowhere near.
+fn marks(scene: &Scene, c: &Constraint, paint: Paint) -> String {
+    let mark = |line: usize| {
+        let across = 7.0 / scene.long(1.0);
+        let (at, way) = (scene.anchor(line), direction(scene.place(line)[0] + 1.2));
+        straight(scene, along(at, -across, way), along(at, across, way), &stroke(paint, 1.2))
+    };
+    mark(c.first) + &mark(c.second)
 }

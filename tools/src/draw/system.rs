@@ -7,8 +7,10 @@ use crate::sheet::{Constraint, Sheet};
 const PIVOT: f64 = 1e-8;
 /// A motion below this is none, beside one of length 1.
 const STILL: f64 = 1e-6;
-/// The most steps of the search for a solution.
-const MOST_TRIES: usize = 300;
+/// How far a length may be off and still be met: half of the last place that is written, in millimetres.
+const HALF_A_TENTH: f64 = 0.0501;
+/// How far an angle may be off, in radians: no more than its computing, since lines nearly parallel make much of little.
+const TURNED: f64 = 1e-7;
 
 /// The size that a constraint asks for: millimetres, or radians.
 pub fn wanted(sheet: &Sheet, constraint: &Constraint) -> f64 {
@@ -43,7 +45,7 @@ impl System<'_> {
     }
 
     /// How far a constraint is from being met, and how that changes with the places of its ends.
-    fn equation(&self, constraint: &Constraint, places: &[Place]) -> (f64, Row) {
+    pub fn equation(&self, constraint: &Constraint, places: &[Place]) -> (f64, Row) {
         let &Constraint { first, second, .. } = constraint;
         let (a, b) = (places[first], places[second]);
         let size = wanted(self.sheet, constraint);
@@ -70,55 +72,35 @@ impl System<'_> {
         errors.fold(0.0, f64::max)
     }
 
+    /// The constraints that the places do not meet within rounding.
+    pub fn unmet(&self, places: &[Place]) -> Vec<usize> {
+        let is_line = |i: usize| self.sheet.elements[i].is_line();
+        let met = |c: &Constraint| {
+            let angle = is_line(c.first) && is_line(c.second);
+            let most = if angle { TURNED * self.scale } else { HALF_A_TENTH };
+            self.equation(c, places).0.abs() <= most
+        };
+        let all = self.sheet.constraints.iter().enumerate();
+        all.filter(|(_, c)| !met(c)).map(|(k, _)| k).collect()
+    }
+
+    /// Whether the places meet every size within rounding.
+    pub fn met(&self, places: &[Place]) -> bool {
+        self.unmet(places).is_empty()
+    }
+
+    /// The constraints.
+    pub fn constraints(&self) -> &[Constraint] {
+        &self.sheet.constraints
+    }
+
     /// The sum of the squares of how far the constraints are from being met.
-    fn squares(&self, places: &[Place]) -> f64 {
+    pub fn squares(&self, places: &[Place]) -> f64 {
         self.sheet.constraints.iter().map(|c| self.equation(c, places).0.powi(2)).sum()
     }
 
-    /// Places near the given ones that meet the constraints, if a damped search finds them (Levenberg and Marquardt).
-    pub fn solve(&self, mut places: Vec<Place>) -> Option<Vec<Place>> {
-        let mut damping = 1e-3;
-        for _ in 0..MOST_TRIES {
-            if self.error(&places) < 1e-10 {
-                break;
-            }
-            let next = self.moved(&places, &self.step(&places, damping)?);
-            if self.squares(&next) < self.squares(&places) {
-                places = next;
-                damping = f64::max(damping / 3.0, 1e-12);
-            } else {
-                damping *= 4.0;
-                if damping > 1e12 {
-                    break;
-                }
-            }
-        }
-        (self.error(&places) < 1e-7).then_some(places)
-    }
-
-    /// The step of the search: the least squares of the linear equations, damped.
-    fn step(&self, places: &[Place], damping: f64) -> Option<Vec<f64>> {
-        let width = 2 * places.len();
-        let mut square = vec![vec![0.0; width]; width];
-        let mut right = vec![0.0; width];
-        for constraint in &self.sheet.constraints {
-            let (error, row) = self.equation(constraint, places);
-            let entries = row.iter().flat_map(|(end, by)| [(2 * end, by[0]), (2 * end + 1, by[1])]);
-            for (i, x) in entries.clone() {
-                right[i] -= x * error;
-                for (j, y) in entries.clone() {
-                    square[i][j] += x * y;
-                }
-            }
-        }
-        for (i, row) in square.iter_mut().enumerate() {
-            row[i] += damping;
-        }
-        cholesky(square, right)
-    }
-
     /// Places after a step.
-    fn moved(&self, places: &[Place], step: &[f64]) -> Vec<Place> {
+    pub fn moved(&self, places: &[Place], step: &[f64]) -> Vec<Place> {
         let moved = |i: usize, place: &Place| {
             let by = [step[2 * i], step[2 * i + 1]];
             if self.sheet.elements[i].is_line() {
@@ -164,27 +146,6 @@ impl System<'_> {
         });
         free(rows.collect(), columns.len()).into_iter().fold(0, |set, place| set | 1 << (columns[place] / 2))
     }
-}
-
-/// Solves equations of a positive matrix.
-fn cholesky(mut square: Vec<Vec<f64>>, mut right: Vec<f64>) -> Option<Vec<f64>> {
-    let width = right.len();
-    for i in 0..width {
-        for j in 0..=i {
-            let sum: f64 = (0..j).map(|k| square[i][k] * square[j][k]).sum();
-            let rest = square[i][j] - sum;
-            square[i][j] = if i == j { (rest > 0.0).then(|| rest.sqrt())? } else { rest / square[j][j] };
-        }
-    }
-    for i in 0..width {
-        let sum: f64 = (0..i).map(|k| square[i][k] * right[k]).sum();
-        right[i] = (right[i] - sum) / square[i][i];
-    }
-    for i in (0..width).rev() {
-        let sum: f64 = (i + 1..width).map(|k| square[k][i] * right[k]).sum();
-        right[i] = (right[i] - sum) / square[i][i];
-    }
-    Some(right)
 }
 
 /// The columns that the solutions of homogeneous equations use: elimination with the largest pivot.

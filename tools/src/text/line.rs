@@ -1,6 +1,7 @@
 //! A line that is read word by word, each complaint at its column.
 
 use super::number::{LENGTHS, NoSize, Unit, decimal};
+use super::places;
 use crate::describe::counted;
 use crate::fault::Refusal;
 
@@ -84,6 +85,20 @@ impl<'a> Line<'a> {
         self.at < self.words.len()
     }
 
+    /// Passes the word that begins a rough place, if one stands here.
+    pub fn place(&mut self) -> Option<Word<'a>> {
+        self.at_place().then(|| self.words[self.at]).map(|word| {
+            self.at += 1;
+            word
+        })
+    }
+
+    /// Whether a rough place begins here.
+    fn at_place(&self) -> bool {
+        let word = |i: usize| self.words.get(i).map(|word| word.text);
+        word(self.at).map_or(false, |first| places::begins(first, word(self.at + 1)))
+    }
+
     /// Passes the next word if it is one of some.
     pub fn pass<T>(&mut self, choose: impl Fn(&str) -> Option<T>) -> Option<T> {
         let chosen = self.words.get(self.at).and_then(|word| choose(word.text));
@@ -108,7 +123,7 @@ impl<'a> Line<'a> {
             return Err(self.unexpected(what, word).hint(figures_meant(word.text)));
         }
         let joined = (!suffix.is_empty()).then(|| Word { text: suffix, column: word.column + split });
-        let unit = match joined.or_else(|| self.next()) {
+        let unit = match joined.or_else(|| if self.at_place() { None } else { self.next() }) {
             Some(word) => units.iter().find(|unit| unit.name == word.text).ok_or_else(|| {
                 let names: Vec<_> = units.iter().map(|unit| unit.name).collect();
                 let expected = format!("{} or the end of the line", names.join(", "));

@@ -10,17 +10,21 @@
 //! on A bottom
 //! tangent lamp bottom
 //! tangent lamp ring other
+//! point C at 300 200   # rough places for the layout, in millimetres
+//! line ridge from 0 400 to 600 400
 //! ```
 
 mod line;
 mod number;
 mod parse;
+pub mod places;
 mod print;
 
 pub use line::{Line, quoted};
 pub use number::{degrees, millimetres};
 pub use parse::{Text, parse, statement};
-pub use print::{constraint, default_names, print};
+pub use places::Rough;
+pub use print::{constraint, default_names, print, print_placed};
 
 /// The word of the other contact.
 const OTHER: &str = "other";

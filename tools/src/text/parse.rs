@@ -7,6 +7,7 @@ use pattern::MOST_ELEMENTS;
 use super::OTHER;
 use super::line::{Line, Word};
 use super::number::ANGLES;
+use super::places::{self, Rough};
 use crate::fault::{Refusal, Spot};
 use crate::near::did_you_mean;
 use crate::sheet::{Constraint, Dimension, Kind, Opening, Sheet};
@@ -29,6 +30,8 @@ pub struct Text {
     pub names: Vec<String>,
     pub elements: Vec<Spot>,
     pub constraints: Vec<Spot>,
+    /// Where the elements roughly are.
+    pub places: Vec<Option<Rough>>,
 }
 
 /// What has been read so far.
@@ -46,7 +49,8 @@ impl<'t> Reader<'t> {
         let sheet = Sheet { opening: Opening::Pf01, elements: elements.to_vec(), constraints: Vec::new() };
         let spots = vec![Spot::Whole; elements.len()];
         let numbers = names.iter().cloned().enumerate().map(|(i, name)| (name, i)).collect();
-        let text = Text { sheet, names: names.to_vec(), elements: spots, constraints: Vec::new() };
+        let places = vec![None; elements.len()];
+        let text = Text { sheet, names: names.to_vec(), elements: spots, constraints: Vec::new(), places };
         Reader { text, numbers, opening: None, named: HashMap::new() }
     }
 
@@ -76,12 +80,15 @@ impl<'t> Reader<'t> {
         }
     }
 
-    /// Takes an element in.
-    fn element(&mut self, line: &Line, name: Word, kind: Kind) {
+    /// Takes an element in, and the place behind it.
+    fn element(&mut self, line: &mut Line, name: Word, kind: Kind) -> Result<(), Refusal> {
         self.numbers.insert(name.text.to_string(), self.text.names.len());
         self.text.names.push(name.text.to_string());
         self.text.sheet.elements.push(kind);
         self.text.elements.push(Spot::Text { line: line.number, column: name.column });
+        let place = places::read(line, kind);
+        self.text.places.push(place.as_ref().map_or(None, |place| *place));
+        place.map(|_| ())
     }
 
     /// An element that has been named.
@@ -138,10 +145,10 @@ impl<'t> Reader<'t> {
             "point" | "line" => {
                 let kind = if keyword.text == "line" { Kind::Line } else { Kind::Point };
                 let name = self.new_name(line)?;
-                self.element(line, name, kind);
+                self.element(line, name, kind)?;
                 while line.more() {
                     let name = self.new_name(line)?;
-                    self.element(line, name, kind);
+                    self.element(line, name, kind)?;
                 }
             }
             "circle" => {
@@ -149,7 +156,7 @@ impl<'t> Reader<'t> {
                 let column = line.column();
                 let radius = line.length("a radius")?;
                 let radius = u32::try_from(radius).map_err(|_| line.refuse(column, "expected a radius above 0"))?;
-                self.element(line, name, Kind::Circle(radius));
+                self.element(line, name, Kind::Circle(radius))?;
             }
             "distance" => {
                 let what = "two points, or a point and a line (two lines take an angle)";

@@ -2,7 +2,7 @@
 
 use std::fmt::Write;
 
-use super::{OTHER, degrees, millimetres};
+use super::{OTHER, Rough, degrees, millimetres};
 use crate::sheet::{Constraint, Dimension, Kind, Opening, Sheet};
 
 /// Names for elements that have none: a letter for the kind, and the number.
@@ -32,14 +32,22 @@ pub fn constraint(sheet: &Sheet, names: &[String], constraint: &Constraint) -> S
 
 /// The whole sheet, a statement a line: the opening where circles may stand, the elements, the constraints.
 pub fn print(sheet: &Sheet, names: &[String]) -> String {
+    print_placed(sheet, names, &vec![None; names.len()])
+}
+
+/// The whole sheet with rough places behind the elements that have one.
+pub fn print_placed(sheet: &Sheet, names: &[String], places: &[Option<Rough>]) -> String {
     let mut text = String::new();
     if sheet.opening == Opening::Pf02 {
         text.push_str("opening PF02\n");
     }
-    for (kind, name) in sheet.elements.iter().zip(names) {
+    for ((kind, name), place) in sheet.elements.iter().zip(names).zip(places) {
         let _ = write!(text, "{} {name}", kind.name());
         if let Kind::Circle(radius) = kind {
             let _ = write!(text, " {}", millimetres((*radius).into()));
+        }
+        if let Some(place) = place {
+            let _ = write!(text, " {}", place.words());
         }
         text.push('\n');
     }

@@ -1,0 +1,125 @@
+//! The steps of a plan, as pictures show them: what is built, what is joined, the joint, and what is open next.
+
+use pattern::Step;
+
+use crate::document::Document;
+use crate::finding::Finding;
+use crate::sheet::members;
+use crate::steps;
+
+/// A part of a plan: its elements and its constraints, each as a set of bits.
+#[derive(Clone, Copy, PartialEq, Eq, Debug)]
+pub struct Piece {
+    pub number: usize,
+    pub elements: u64,
+    pub constraints: u128,
+}
+
+/// What something is to a step.
+#[derive(Clone, Copy, PartialEq, Eq, Debug)]
+pub enum Role {
+    /// In one of the three parts that it joins.
+    Joined(usize),
+    /// In two of them.
+    Shared,
+    /// In a part that an earlier step made.
+    Built,
+    /// Not yet in one.
+    Open,
+}
+
+/// A step as it is shown.
+#[derive(Clone, Debug)]
+pub struct View {
+    pub step: Step,
+    /// The step in words, behind its place in the plan.
+    pub words: String,
+    pub parts: [Piece; 3],
+    /// What earlier steps have built.
+    pub built: Piece,
+    /// The merges that are open after it.
+    pub next: Vec<[Piece; 3]>,
+}
+
+impl View {
+    /// What an element is to the step.
+    pub fn element(&self, element: usize) -> Role {
+        let within = |piece: &Piece| piece.elements >> element & 1 == 1;
+        match self.parts.iter().filter(|part| within(part)).count() {
+            0 if within(&self.built) => Role::Built,
+            0 => Role::Open,
+            1 => Role::Joined(self.parts.iter().position(within).unwrap_or(0)),
+            _ => Role::Shared,
+        }
+    }
+
+    /// What a constraint is to the step.
+    pub fn constraint(&self, constraint: usize) -> Role {
+        let within = |piece: &Piece| piece.constraints >> constraint & 1 == 1;
+        match self.parts.iter().position(within) {
+            Some(part) => Role::Joined(part),
+            None if within(&self.built) => Role::Built,
+            None => Role::Open,
+        }
+    }
+
+    /// What is open after the step, in words.
+    pub fn next_words(&self, document: &Document) -> String {
+        let names = |merge: &[Piece; 3]| document.named(joint(merge)).join(" ");
+        match self.next.len() {
+            0 => "nothing is open next: the plan ends here".to_string(),
+            _ => format!("open next: {}", self.next.iter().map(names).collect::<Vec<_>>().join("; ")),
+        }
+    }
+}
+
+/// The elements that two of three parts share.
+pub fn joint(merge: &[Piece; 3]) -> u64 {
+    let [a, b, c] = merge.map(|piece| piece.elements);
+    a & b | a & c | b & c
+}
+
+/// A part in words: the constraint that it is, or its elements.
+pub fn piece_words(document: &Document, piece: &Piece) -> String {
+    if piece.number < document.sheet.constraints.len() {
+        return document.statement(piece.number);
+    }
+    let names: Vec<&str> = members(piece.elements).map(|i| document.names[i].as_str()).collect();
+    format!("part {}: {}", piece.number, names.join(" "))
+}
+
+/// The steps of a plan.
+pub fn views(document: &Document, finding: &Finding) -> Vec<View> {
+    let ends = |k: usize| {
+        let c = &document.sheet.constraints[k];
+        1 << c.first | 1 << c.second
+    };
+    let bit = |k: usize| 1u128.checked_shl(k as u32).unwrap_or(0);
+    let count = document.sheet.constraints.len();
+    let mut pieces: Vec<Piece> =
+        (0..count).map(|k| Piece { number: k, elements: ends(k), constraints: bit(k) }).collect();
+    let mut views: Vec<View> = Vec::new();
+    let joined = |pieces: [Piece; 3], number: usize| {
+        let none = Piece { number, elements: 0, constraints: 0 };
+        pieces.iter().fold(none, |all, piece| Piece {
+            number,
+            elements: all.elements | piece.elements,
+            constraints: all.constraints | piece.constraints,
+        })
+    };
+    let mut built = Piece { number: 0, elements: 0, constraints: 0 };
+    let words = steps::words(document, &finding.steps);
+    for (i, (&step, words)) in finding.steps.iter().zip(words).enumerate() {
+        let parts = step.parts.map(|part| pieces[part]);
+        let made = joined(parts, step.made);
+        pieces.push(made);
+        let mut space = [0; pattern::MOST_OPEN];
+        let open = pattern::open(&document.bytes, i + 1, &mut space).unwrap_or(&[]);
+        let next = open.chunks_exact(3).map(|merge| [0, 1, 2].map(|k| pieces[usize::from(merge[k])])).collect();
+        let count = format!(" of {}:", finding.steps.len());
+        let words = format!("step {}", words.replacen('.', &count, 1));
+        views.push(View { step, words, parts, built, next });
+        built = joined([built, made, made], 0);
+    }
+    views
+}
