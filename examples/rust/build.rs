@@ -24,14 +24,14 @@ fn held(folder: &Path) -> Option<&'static str> {
     ["pattern_c", "pattern"].into_iter().find(|name| file(folder, name).exists())
 }
 
-/// The folder that pkg-config knows, where the program is for this machine.
-fn installed(target: &str) -> Option<PathBuf> {
-    if env::var("HOST").ok()? != target {
-        return None;
+/// Where the library may be installed, where the program is for this machine: in the prefix of this package, or where pkg-config says.
+fn installed(root: &Path, target: &str) -> Vec<PathBuf> {
+    if env::var("HOST").ok().as_deref() != Some(target) {
+        return Vec::new();
     }
-    let asked = Command::new("pkg-config").args(["--variable=libdir", "pattern"]).output().ok()?;
-    let folder = String::from_utf8(asked.stdout).ok()?;
-    Some(PathBuf::from(folder.trim())).filter(|folder| !folder.as_os_str().is_empty())
+    let asked = Command::new("pkg-config").args(["--variable=libdir", "pattern"]).output();
+    let said = asked.map_or(String::new(), |asked| String::from_utf8_lossy(&asked.stdout).trim().to_string());
+    vec![root.join("../../../lib"), PathBuf::from(said)]
 }
 
 /// The folder to link from.
@@ -42,14 +42,19 @@ fn folder() -> PathBuf {
     let target = env::var("TARGET").expect("cargo names the target");
     let root = Path::new(env!("CARGO_MANIFEST_DIR"));
     let known = FOLDERS.iter().find(|(name, _, _)| *name == target);
-    let own = known.map(|(_, packed, built)| [root.join(packed), root.join("../..").join(built), root.join("../../../lib")]);
-    let found = own.into_iter().flatten().chain(installed(&target)).find(|folder| held(folder).is_some());
-    found.unwrap_or_else(|| panic!("no libpattern.a for {target} was found: install it, or set PATTERN_LIB_DIR to its folder"))
+    let (_, packed, built) = known.unwrap_or_else(|| panic!("there is no library for {target}: set PATTERN_LIB_DIR"));
+    let (packed, built) = (root.join(packed), root.join("../..").join(built));
+    let places = [packed, built.clone()].into_iter().chain(installed(root, &target));
+    // what only looks at the code needs no library
+    places.into_iter().find(|folder| held(folder).is_some()).unwrap_or(built)
 }
 
 fn main() {
     let folder = folder();
-    let name = held(&folder).unwrap_or("pattern_c");
+    let name = held(&folder).unwrap_or_else(|| {
+        println!("cargo:warning=no libpattern.a in {}: install it, or set PATTERN_LIB_DIR", folder.display());
+        "pattern_c"
+    });
     println!("cargo:rerun-if-env-changed=PATTERN_LIB_DIR");
     println!("cargo:rerun-if-env-changed=PKG_CONFIG_PATH");
     println!("cargo:rerun-if-changed={}", file(&folder, name).display());
