@@ -126,7 +126,7 @@ class Json(unittest.TestCase):
             for sheet in sheets:
                 self.answer(command, sheet, *one.get(command, []))
         calls = [["verify", example, plan], ["part", text("gable"), "12"], ["longest", "9"], ["card"], ["card", "0-1"], ["completion", "zsh"]]
-        calls += [["place", text("signs")], ["show", text("signs")]]
+        calls += [["place", text("signs")], ["show", text("signs")], ["draw", text("gable")], ["draw", text("gable"), "--step", "2"]]
         calls += [["check", *sheets, refused, "no such file"], ["chain", os.path.join(SHEETS, "two_points.sheet"), "0", "1"]]
         for call in calls:
             self.assertEqual(self.answer(*call)["errors"], [], call)
@@ -178,6 +178,23 @@ class Many(unittest.TestCase):
         self.assertIn("  rule 9        1  " + found[3] + ": the size is outside its range\n", pattern("check", "-q", folder)[1])
         with tempfile.TemporaryDirectory() as empty:
             self.assertEqual(pattern("check", empty)[0], 3)
+
+    def test_pictures_of_many(self):
+        folder = self.folder()
+        with tempfile.TemporaryDirectory() as out:
+            status, said, error = pattern("draw", folder, text("gable"), "-o", out)
+            names = [os.path.relpath(os.path.join(place, name), out) for place, _, found in os.walk(out) for name in found]
+            self.assertEqual((status, sorted(names)), (2, ["a.svg", "b.svg", "below/c.svg", "gable.svg"]))
+            self.assertEqual(sorted(said.split()), sorted(os.path.join(out, name) for name in names))
+            self.assertEqual(error.count("\n"), 1)
+            self.assertIn("below/e.sheet: refused by rule 9", error)
+            self.assertEqual(open_text(os.path.join(out, "gable.svg")), pattern("draw", text("gable"))[1])
+            found = json.loads(pattern("draw", "--html", "--json", folder, "-o", os.path.join(out, "pages"))[1])
+            jsonschema.validate(found, json.loads(open_text(os.path.join(ROOT, "docs", "pattern.schema.json"))))
+            self.assertEqual([bool(row["errors"]) for row in found["answer"]["pictures"]], [False, False, False, True])
+            self.assertTrue(open_text(found["answer"]["pictures"][0]["picture"]).startswith("<!DOCTYPE html>"))
+        for wrong in ([folder], [folder, "-o", "-"], [folder, "--step", "1"], [text("gable"), text("frame")]):
+            self.assertEqual(pattern("draw", *wrong)[0], 64, wrong)
 
     def test_lists(self):
         names = [text("gable"), text("frame")]

@@ -168,9 +168,9 @@ where the sheets differ.",
     },
     Command {
         name: "draw",
-        operands: "FILE",
-        count: (1, 1),
-        flags: &[&OUTPUT, &HTML, &STEP, &STEPS, &SIZE, &LABELS],
+        operands: "FILE..",
+        count: (1, ANY),
+        flags: &[&OUTPUT, &HTML, &STEP, &STEPS, &SIZE, &LABELS, &LIST, &JSON],
         summary: "draw a sheet as SVG, or as a page with --html",
         about: "
 The elements are laid out near the rough places of the text (point A at 0 0, line sill from
@@ -179,7 +179,8 @@ placements the clearer one; else by a numeric search. Where none meets every siz
 picture is what came nearest, and the sizes that it does not meet are marked. The layout is
 tested, not proved. Parts have colours of their own, what is over is red, parts that can
 still move are dashed. Lines have an arrow: distances to its left are positive, and angles
-turn against the clock from the first line to the second.",
+turn against the clock from the first line to the second. Several files, or those of a folder,
+are drawn into the folder that -o names, on all cores.",
         run: draw::run,
     },
     Command {
