@@ -1,24 +1,21 @@
 -- The page a buyer reads: what is promised of every list of bytes that `readSheet` accepts, with its facts f. Document 01, "Verdict names", "Every
 -- order of merging", "Clusters and merges" and "The report"; document 02, 2026-04 and 2026-13. Shown by `promises` of Promises/Proof.antt; the
 -- contracts of the entry points cite the same fields (Entries).
-use Rattle.theory.specs.Prelude.{ℕ, _+_, _*_, _%_, _≤_, _<_, _≡_, _≢_, _↔_, true, List, [], _∷_, map, ones, length}
+use Rattle.theory.specs.Prelude.{ℕ, _+_, _*_, _%_, _≤_, _<_, _≡_, _≢_, _↔_, true, List, [], _∷_, map, length}
 use Rattle.theory.specs.Set.{_⊑_}
-use Rattle.theory.specs.Constraints.{Among, Perm}
+use Rattle.theory.specs.Constraints.{Among}
 use Rattle.theory.specs.Over.{IsOver, FirstOver}
 use Rattle.theory.specs.Merge.{Merge, Valid, Maximal, final, joints, live, left}
 use Rattle.theory.specs.Plan.{planOf}
 use Rattle.theory.specs.Verdict.{Meets}
 use Rattle.theory.specs.Graph.{Graph, listVerdict, verdictOf, stepsOf}
-use Rattle.theory.specs.Demand.{Agree, Demand3}
 use Rattle.theory.specs.declared.Step.{Step}
 use Rattle.theory.specs.declared.Verdict.the-variants.{Over, Stuck, Under}
-use Rattle.sheet.specs.declared.Constraint.{Constraint}
 use Rattle.sheet.specs.Facts.{Facts, sheetOf, factsOf}
 use Rattle.sheet.specs.Field.{Bytes, value, refused}
 use Rattle.sheet.specs.Decode.{readSheet}
-use Rattle.sheet.specs.Accepted.{Accepted}
 use Rattle.sheet.specs.Answer.{afterTo}
-use Rattle.sheet.specs.Graph.{graphOf, reordered}
+use Rattle.sheet.specs.Graph.{graphOf}
 use Rattle.judge.specs.Judged.{planNumbers, finalClusters}
 use Rattle.plans.specs.Check.{savedSteps}
 use Rattle.rests.specs.Rests.{restsOn, Rests}
@@ -32,6 +29,7 @@ use Rattle.account.specs.Resting.{wordsOf, restNumbers}
 use Rattle.greedy.specs.Choice.{pricesAllowed}
 use Rattle.missing.specs.Missing.{pairsOf, Told}
 use Rattle.pattern.specs.Entries.{itemsField, verdictField, overNumbers, heldSheet, checkField, holdField, missingField}
+use Rattle.pattern.specs.Orders.{InOrders}
 pub mod Growth
 pub mod Proof
 
@@ -50,21 +48,6 @@ pub record OverTold (bytes : List ℕ) (g : Graph) : Type 0 where
   -- the two items are the first constraint that makes the listed ones up to it over and the smallest set, and the report names them
   pub first : (c x : ℕ) → itemsField overNumbers bytes ≡ value (c ∷ x ∷ []) []
       → FirstOver (g .clusters) c x × (itemsField reportOf bytes ≡ value (overReport (g .n) (length (g .clusters)) c x) [])
-
--- ---- every order of merging (demand 3): any two orders of the constraints
-
-pub record SameInOrders (f : Facts) (ds es : List Constraint) : Type 0 where
-  pub accepted : Accepted (reordered f ds)
-  pub not-over : verdictOf (graphOf (reordered f ds)) ≢ Over
-  pub verdict : verdictOf (graphOf (reordered f ds)) ≡ verdictOf (graphOf (reordered f es))
-  -- every two maximal lists of merges: the same final clusters as sets, set of joints, verdict, number of steps
-  pub lists : (p q : List Merge) → Maximal (graphOf (reordered f ds) .clusters) p → Maximal (graphOf (reordered f es) .clusters) q
-      → Agree (graphOf (reordered f ds)) (graphOf (reordered f es)) p q
-  -- each joint is three elements
-  pub three : (p : List Merge) → Valid (graphOf (reordered f ds) .clusters) p
-      → (j : ℕ) → Among j (joints (graphOf (reordered f ds) .clusters) p) → ones j ≡ 3
-  -- either way round, e = left + 2 · steps and the other counts, for every list of merges
-  pub whole : Demand3 (graphOf (reordered f ds))
 
 -- ---- the answers are a list's own
 
@@ -119,7 +102,8 @@ pub record PlacedTold (bytes : List ℕ) (f : Facts) (events : List Event) : Typ
 
 pub record Promises (bytes : List ℕ) (f : Facts) : Type 0 where
   pub over : OverTold bytes (graphOf f)
-  pub orders : verdictOf (graphOf f) ≢ Over → (ds es : List Constraint) → Perm (f .constraints) ds → Perm (f .constraints) es → SameInOrders f ds es
+  -- every order of merging (demand 3): the bytes with their constraints in any order, and any lists of merges
+  pub orders : InOrders bytes f
   -- the engine's plan
   pub engine : verdictOf (graphOf f) ≢ Over → (p : List Merge) × (plan told : List ℕ) × (itemsField planNumbers bytes ≡ value plan [])
       × (itemsField reportOf bytes ≡ value told []) × OwnList bytes (graphOf f) p plan told

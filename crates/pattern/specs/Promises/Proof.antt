@@ -2,25 +2,22 @@
 -- answers' lists are those of `account` Own. Assumes nothing.
 use Rattle.theory.specs.Prelude.{ℕ, zero, suc, _+_, _*_, _%_, _≤_, _<_, _≡_, refl, sym, ap, _∙_, subst, _≢_, _↔_, Iff·trans, List, [], _∷_, _++_}
 use Rattle.theory.specs.Prelude.{arith, length, getD}
-use Rattle.theory.specs.Constraints.{Among, Pairs, Below, Perm, NotOver}
-use Rattle.theory.specs.Constraints.Perm.{same, skip, swap, then}
+use Rattle.theory.specs.Constraints.{Among, Pairs, Below, NotOver}
+use Rattle.theory.specs.Constraints.Perm.{same}
 use Rattle.theory.specs.Over.{IsOver}
 use Rattle.theory.specs.Over.Laws.{overOf-first}
 use Rattle.theory.specs.Merge.{Merge, Maximal, final, joints, live, left}
 use Rattle.theory.specs.Plan.{planOf}
-use Rattle.theory.specs.Plan.Laws.{plan-of-maximal}
 use Rattle.theory.specs.Ring.Laws.{ringed-is}
 use Rattle.theory.specs.Verdict.{Meets, meets-angle, meets-well, meets-stuck, meets-under}
 use Rattle.theory.specs.Verdict.Laws.{judged-meets, under-below, stuck-several}
 use Rattle.theory.specs.Graph.{Graph, findingOf, listVerdict, verdictOf}
-use Rattle.theory.specs.Graph.Laws.{first-verdict, fine-verdict, fine-not-over, not-over-fine, over-verdict, verdict-over, verdict-fine}
+use Rattle.theory.specs.Graph.Laws.{first-verdict, fine-not-over, not-over-fine, over-verdict, verdict-over, verdict-fine}
 use Rattle.theory.specs.Graph.Laws.{verdict-every, list-not-over}
-use Rattle.theory.specs.Graph.Short.{joint-three}
 use Rattle.theory.specs.declared.Finding.{Finding}
 use Rattle.theory.specs.declared.Finding.the-variants.{Fine, First}
 use Rattle.theory.specs.declared.Verdict.{Verdict}
 use Rattle.theory.specs.declared.Verdict.the-variants.{Over, Angle, Well, Stuck, Under}
-use Rattle.sheet.specs.declared.Constraint.{Constraint}
 use Rattle.sheet.specs.Answer.{byRule}
 use Rattle.space.specs.Space.{after}
 use Rattle.sheet.specs.Facts.{Facts, sheetOf}
@@ -29,7 +26,7 @@ use Rattle.sheet.specs.Decode.{readSheet}
 use Rattle.sheet.specs.Accepted.{Accepted}
 use Rattle.sheet.specs.Rules.{or-else}
 use Rattle.sheet.specs.RoundTrip.{written-read}
-use Rattle.sheet.specs.Graph.{graphOf, reordered, overFault}
+use Rattle.sheet.specs.Graph.{graphOf, overFault}
 use Rattle.sheet.specs.Accepted.Laws.{accepted-two, factsOf-sheetOf}
 use Rattle.sheet.specs.Graph.Laws.{clusters-pairs, clusters-below, sheet-demand3, first-fault, fine-fault}
 use Rattle.engine.specs.Lists.{livingOf}
@@ -53,8 +50,9 @@ use Rattle.missing.specs.Missing.{cheapestField, Told}
 use Rattle.missing.specs.Missing.Laws.{told}
 use Rattle.pattern.specs.Entries.{itemsField, verdictField, overItems, overNumbers, heldSheet, checkField}
 use Rattle.pattern.specs.Entries.Sketches.{check-saved}
+use Rattle.pattern.specs.Orders.Proof.{in-orders}
 use Rattle.pattern.specs.Promises.Growth.{grown-told, placed-told}
-use Rattle.pattern.specs.Promises.{OverTold, SameInOrders, NameSays, OwnList, HeldRuns, Promises}
+use Rattle.pattern.specs.Promises.{OverTold, NameSays, OwnList, HeldRuns, Promises}
 
 -- a report that is not the over report: the ninth byte is the first of the verdict's name
 unlike : (v : Verdict) (r q : List ℕ) → v ≢ Over → verdictLine v ++ r ≡ verdictLine Over ++ q → ⊥
@@ -63,12 +61,6 @@ unlike Angle r q ne e = let z : _≡_ {A = ℕ} 97 111 = ap (λ (l : List ℕ). 
 unlike Well r q ne e = let z : _≡_ {A = ℕ} 119 111 = ap (λ (l : List ℕ). getD l 8 0) e in omega arith
 unlike Stuck r q ne e = let z : _≡_ {A = ℕ} 115 111 = ap (λ (l : List ℕ). getD l 8 0) e in omega arith
 unlike Under r q ne e = let z : _≡_ {A = ℕ} 117 111 = ap (λ (l : List ℕ). getD l 8 0) e in omega arith
-
-perm-sym : {A : Type 0} {l k : List A} → Perm l k → Perm k l
-perm-sym same = same
-perm-sym (skip x p) = skip x (perm-sym p)
-perm-sym (swap x y) = swap y x
-perm-sym (then p q) = then (perm-sym q) (perm-sym p)
 
 module _ (bytes : List ℕ) (f : Facts) (rest : List ℕ) (all : Bytes bytes) (reads : readSheet bytes ≡ value f rest) where
   abbrev g : Graph
@@ -186,32 +178,9 @@ module _ (bytes : List ℕ) (f : Facts) (rest : List ℕ) (all : Bytes bytes) (r
               apart : _≡_ {A = Field Facts} (value f rest) (refused 11) → ⊥
               apart e = let x : _≡_ {A = ℕ} 0 1 = cc in omega arith
 
-  -- ---- every two orders of the constraints
+  -- ---- what is not over
 
   module _ (not-over : verdictOf g ≢ Over) where
-    in-orders : (ds es : List Constraint) → Perm (f .constraints) ds → Perm (f .constraints) es → SameInOrders f ds es
-    in-orders ds es r t =
-        let o = sheet-demand3 f accepted not-over .orders ds r in
-        let d = sheet-demand3 (reordered f ds) (o .0) (o .1) in
-        let u = then (perm-sym r) t in
-        let h = graphOf (reordered f ds) in
-        let k = graphOf (reordered f es) in
-        let oe = sheet-demand3 f accepted not-over .orders es t in
-        let ph = clusters-pairs (reordered f ds) (o .0 .no-fault) in
-        let pk = clusters-pairs (reordered f es) (oe .0 .no-fault) in
-        record {
-          accepted = o .0;
-          not-over = o .1;
-          verdict =
-              fine-verdict h (not-over-fine h (o .1))
-              ∙ d .every es u (planOf (h .clusters)) (planOf (k .clusters)) (plan-of-maximal (h .clusters) ph)
-              (plan-of-maximal (k .clusters) pk) .verdicts
-              ∙ sym (fine-verdict k (not-over-fine k (oe .1)));
-          lists = λ p q v w. d .every es u p q v w;
-          three = λ p v j i. joint-three p (h .clusters) v j i;
-          whole = d .whole;
-        }
-
     fine : NotOver (g .clusters)
     fine = verdict-fine g pairs below not-over
 
@@ -328,7 +297,7 @@ module _ (bytes : List ℕ) (f : Facts) (rest : List ℕ) (all : Bytes bytes) (r
   pub promises : Promises bytes f
   promises = record {
     over = over-told;
-    orders = in-orders;
+    orders = in-orders bytes f rest all reads;
     engine = λ v.
         let l = engine-list v in (
           l .p,
