@@ -1,5 +1,6 @@
 -- What the entry points answer, by the bytes of a sheet.
 pub mod Entries
+pub mod Over
 pub mod Orders
 pub mod Refusals
 pub mod Promises

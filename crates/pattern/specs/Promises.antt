@@ -1,25 +1,24 @@
 -- The page a buyer reads: what is promised of every list of bytes that `readSheet` accepts, with its facts f. Document 01, "Verdict names", "Every
 -- order of merging", "Clusters and merges" and "The report"; document 02, 2026-04 and 2026-13. Shown by `promises` of Promises/Proof.antt; the
 -- contracts of the entry points cite the same fields (Entries).
-use Rattle.theory.specs.Prelude.{ℕ, _+_, _*_, _%_, _≤_, _<_, _≡_, _≢_, _↔_, true, List, [], _∷_, map, length}
+use Rattle.theory.specs.Prelude.{ℕ, _+_, _*_, _%_, _≤_, _<_, _≡_, _≢_, _↔_, true, List, [], map, length}
 use Rattle.theory.specs.Set.{_⊑_}
 use Rattle.theory.specs.Constraints.{Among}
-use Rattle.theory.specs.Over.{IsOver, FirstOver}
 use Rattle.theory.specs.Merge.{Merge, Valid, Maximal, final, joints, live, left}
 use Rattle.theory.specs.Plan.{planOf}
 use Rattle.theory.specs.Verdict.{Meets}
 use Rattle.theory.specs.Graph.{Graph, listVerdict, verdictOf, stepsOf}
 use Rattle.theory.specs.declared.Step.{Step}
 use Rattle.theory.specs.declared.Verdict.the-variants.{Over, Stuck, Under}
+use Rattle.sheet.specs.declared.Constraint.{Constraint}
 use Rattle.sheet.specs.Facts.{Facts, sheetOf, factsOf}
-use Rattle.sheet.specs.Field.{Bytes, value, refused}
+use Rattle.sheet.specs.Field.{Bytes, value}
 use Rattle.sheet.specs.Decode.{readSheet}
 use Rattle.sheet.specs.Answer.{afterTo}
 use Rattle.sheet.specs.Graph.{graphOf}
 use Rattle.judge.specs.Judged.{planNumbers, finalClusters}
 use Rattle.plans.specs.Check.{savedSteps}
 use Rattle.rests.specs.Rests.{restsOn, Rests}
-use Rattle.report.specs.Report.{overReport}
 use Rattle.sketch.specs.Runs.{Event, answersTo, afterAll, Run}
 use Rattle.records.specs.Record.{recordSheet}
 use Rattle.records.specs.Runs.{answersIn, allIn, SameFacts}
@@ -28,26 +27,11 @@ use Rattle.account.specs.Account.{listReport, reportOf}
 use Rattle.account.specs.Resting.{wordsOf, restNumbers}
 use Rattle.greedy.specs.Choice.{pricesAllowed}
 use Rattle.missing.specs.Missing.{pairsOf, Told}
-use Rattle.pattern.specs.Entries.{itemsField, verdictField, overNumbers, heldSheet, checkField, holdField, missingField}
+use Rattle.pattern.specs.Entries.{itemsField, verdictField, heldSheet, checkField, holdField, missingField}
+use Rattle.pattern.specs.Over.{OverTold, OverNext}
 use Rattle.pattern.specs.Orders.{InOrders}
 pub mod Growth
 pub mod Proof
-
--- ---- over (demand 2): some set of m ≥ 2 elements carries more than 2m-3 constraints if and only if
-
-pub record OverTold (bytes : List ℕ) (g : Graph) : Type 0 where
-  -- the verdict is over
-  pub verdict : IsOver (g .clusters) ↔ (verdictField bytes ≡ value Over [])
-  -- the report is the over report
-  pub report : IsOver (g .clusters) ↔ ((c x : ℕ) × (itemsField reportOf bytes ≡ value (overReport (g .n) (length (g .clusters)) c x) []))
-  -- over answers two items
-  pub items : IsOver (g .clusters) ↔ ((c x : ℕ) × (itemsField overNumbers bytes ≡ value (c ∷ x ∷ []) []))
-  -- a plan check, and holding, are refused by 11
-  pub check : (plan : List ℕ) → IsOver (g .clusters) ↔ (checkField bytes plan ≡ refused 11)
-  pub hold : IsOver (g .clusters) ↔ (heldSheet bytes ≡ refused 11)
-  -- the two items are the first constraint that makes the listed ones up to it over and the smallest set, and the report names them
-  pub first : (c x : ℕ) → itemsField overNumbers bytes ≡ value (c ∷ x ∷ []) []
-      → FirstOver (g .clusters) c x × (itemsField reportOf bytes ≡ value (overReport (g .n) (length (g .clusters)) c x) [])
 
 -- ---- the answers are a list's own
 
@@ -102,6 +86,8 @@ pub record PlacedTold (bytes : List ℕ) (f : Facts) (events : List Event) : Typ
 
 pub record Promises (bytes : List ℕ) (f : Facts) : Type 0 where
   pub over : OverTold bytes (graphOf f)
+  -- and the sketch held from it, after any run of asks and placings, with one constraint more
+  pub over-next : verdictOf (graphOf f) ≢ Over → (events : List Event) (c : Constraint) → OverNext (afterAll (sheetOf f) events) c
   -- every order of merging (demand 3): the bytes with their constraints in any order, and any lists of merges
   pub orders : InOrders bytes f
   -- the engine's plan

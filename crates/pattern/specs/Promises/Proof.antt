@@ -1,46 +1,43 @@
 -- The promises hold: over is one finding that every answer goes by, demand 3 is brought to every two orders of the sheet's constraints, and the
 -- answers' lists are those of `account` Own. Assumes nothing.
-use Rattle.theory.specs.Prelude.{ℕ, zero, suc, _+_, _*_, _%_, _≤_, _<_, _≡_, refl, sym, ap, _∙_, subst, _≢_, _↔_, Iff·trans, List, [], _∷_, _++_}
-use Rattle.theory.specs.Prelude.{arith, length, getD}
+use Rattle.theory.specs.Prelude.{ℕ, zero, suc, _+_, _*_, _%_, _≤_, _<_, _≡_, refl, sym, ap, _∙_, subst, _≢_, _↔_, Iff·trans, List, []}
+use Rattle.theory.specs.Prelude.{arith, length}
 use Rattle.theory.specs.Constraints.{Among, Pairs, Below, NotOver}
 use Rattle.theory.specs.Constraints.Perm.{same}
-use Rattle.theory.specs.Over.{IsOver}
-use Rattle.theory.specs.Over.Laws.{overOf-first}
 use Rattle.theory.specs.Merge.{Merge, Maximal, final, joints, live, left}
 use Rattle.theory.specs.Plan.{planOf}
 use Rattle.theory.specs.Ring.Laws.{ringed-is}
 use Rattle.theory.specs.Verdict.{Meets, meets-angle, meets-well, meets-stuck, meets-under}
 use Rattle.theory.specs.Verdict.Laws.{judged-meets, under-below, stuck-several}
-use Rattle.theory.specs.Graph.{Graph, findingOf, listVerdict, verdictOf}
-use Rattle.theory.specs.Graph.Laws.{first-verdict, fine-not-over, not-over-fine, over-verdict, verdict-over, verdict-fine}
-use Rattle.theory.specs.Graph.Laws.{verdict-every, list-not-over}
+use Rattle.theory.specs.Graph.{Graph, listVerdict, verdictOf}
+use Rattle.theory.specs.Graph.Laws.{not-over-fine, verdict-fine}
+use Rattle.theory.specs.Graph.Laws.{verdict-every}
 use Rattle.theory.specs.declared.Finding.{Finding}
-use Rattle.theory.specs.declared.Finding.the-variants.{Fine, First}
 use Rattle.theory.specs.declared.Verdict.{Verdict}
-use Rattle.theory.specs.declared.Verdict.the-variants.{Over, Angle, Well, Stuck, Under}
+use Rattle.theory.specs.declared.Verdict.the-variants.{Over, Stuck, Under}
 use Rattle.sheet.specs.Answer.{byRule}
 use Rattle.space.specs.Space.{after}
 use Rattle.sheet.specs.Facts.{Facts, sheetOf}
-use Rattle.sheet.specs.Field.{Field, value, refused, Bytes, next}
+use Rattle.sheet.specs.Field.{Field, value, Bytes, next}
 use Rattle.sheet.specs.Decode.{readSheet}
 use Rattle.sheet.specs.Accepted.{Accepted}
-use Rattle.sheet.specs.Rules.{or-else}
 use Rattle.sheet.specs.RoundTrip.{written-read}
 use Rattle.sheet.specs.Graph.{graphOf, overFault}
 use Rattle.sheet.specs.Accepted.Laws.{accepted-two, factsOf-sheetOf}
-use Rattle.sheet.specs.Graph.Laws.{clusters-pairs, clusters-below, sheet-demand3, first-fault, fine-fault}
+use Rattle.sheet.specs.Graph.Laws.{clusters-pairs, clusters-below, sheet-demand3, fine-fault}
 use Rattle.engine.specs.Lists.{livingOf}
 use Rattle.engine.specs.Lists.Laws.{living-live, living-count}
 use Rattle.merges.specs.Run.{flat}
 use Rattle.judge.specs.Judged.{planNumbers, finalClusters}
-use Rattle.plans.specs.Check.{savedSteps, planFault}
-use Rattle.plans.specs.Check.Laws.{whole-saved, fault-range}
-use Rattle.report.specs.Report.{report, overReport, verdictLine}
+use Rattle.plans.specs.Check.{savedSteps}
+use Rattle.plans.specs.Check.Laws.{whole-saved}
+use Rattle.report.specs.Report.{report}
+use Rattle.sketch.specs.Runs.{afterAll}
 use Rattle.sketch.specs.Runs.Proof.{sheet-held, runs}
 use Rattle.records.specs.Record.{recordBytes}
 use Rattle.records.specs.Record.Room.{record-room}
 use Rattle.records.specs.Runs.Proof.{after-stands, after-long, record-runs}
-use Rattle.account.specs.Account.{listReport, reportBy, reportOf, savedFault}
+use Rattle.account.specs.Account.{listReport, reportOf, savedFault}
 use Rattle.rests.specs.Rests.{restsOn}
 use Rattle.rests.specs.Rests.Laws.{rests as rests-hold}
 use Rattle.account.specs.Resting.{wordsOf, restsBy, restNumbers}
@@ -48,19 +45,12 @@ use Rattle.account.specs.Own.{ReportsOwn, EngineList}
 use Rattle.account.specs.Own.Proof.{own-lists}
 use Rattle.missing.specs.Missing.{cheapestField, Told}
 use Rattle.missing.specs.Missing.Laws.{told}
-use Rattle.pattern.specs.Entries.{itemsField, verdictField, overItems, overNumbers, heldSheet, checkField}
+use Rattle.pattern.specs.Entries.{itemsField, verdictField, heldSheet, checkField}
 use Rattle.pattern.specs.Entries.Sketches.{check-saved}
+use Rattle.pattern.specs.Over.Proof.{over-told, over-next}
 use Rattle.pattern.specs.Orders.Proof.{in-orders}
 use Rattle.pattern.specs.Promises.Growth.{grown-told, placed-told}
-use Rattle.pattern.specs.Promises.{OverTold, NameSays, OwnList, HeldRuns, Promises}
-
--- a report that is not the over report: the ninth byte is the first of the verdict's name
-unlike : (v : Verdict) (r q : List ℕ) → v ≢ Over → verdictLine v ++ r ≡ verdictLine Over ++ q → ⊥
-unlike Over r q ne e = ne refl
-unlike Angle r q ne e = let z : _≡_ {A = ℕ} 97 111 = ap (λ (l : List ℕ). getD l 8 0) e in omega arith
-unlike Well r q ne e = let z : _≡_ {A = ℕ} 119 111 = ap (λ (l : List ℕ). getD l 8 0) e in omega arith
-unlike Stuck r q ne e = let z : _≡_ {A = ℕ} 115 111 = ap (λ (l : List ℕ). getD l 8 0) e in omega arith
-unlike Under r q ne e = let z : _≡_ {A = ℕ} 117 111 = ap (λ (l : List ℕ). getD l 8 0) e in omega arith
+use Rattle.pattern.specs.Promises.{NameSays, OwnList, HeldRuns, Promises}
 
 module _ (bytes : List ℕ) (f : Facts) (rest : List ℕ) (all : Bytes bytes) (reads : readSheet bytes ≡ value f rest) where
   abbrev g : Graph
@@ -86,97 +76,6 @@ module _ (bytes : List ℕ) (f : Facts) (rest : List ℕ) (all : Bytes bytes) (r
   held-is : heldSheet bytes ≡ byRule (overFault g) (value f rest)
   unfolding heldSheet
   held-is = rw reads refl
-
-  -- ---- over
-
-  -- what is found decides
-  data Found : Type 0 where
-    is-over : (c x : ℕ) → findingOf g ≡ First c x → IsOver (g .clusters) → Found
-    is-fine : findingOf g ≡ Fine → (IsOver (g .clusters) → ⊥) → Found
-
-  found : Found
-  found = by (findingOf g) refl
-    where
-      by : (o : Finding) → findingOf g ≡ o → Found
-      by Fine q = is-fine q (λ o. fine-not-over g q (over-verdict g pairs below o))
-      by (First c x) q = is-over c x q (verdict-over g pairs below (first-verdict g q))
-
-  -- the plan check of a sheet that is not over is refused by another rule
-  not-11 : (plan : List ℕ) → findingOf g ≡ Fine → checkField bytes plan ≡ refused 11 → ⊥
-  unfolding savedFault
-  not-11 plan q e =
-      by (savedFault g plan) (ap (λ (k : ℕ). or-else k (planFault (g .clusters) plan)) (fine-fault g q))
-      (sym (check-saved bytes plan f rest reads) ∙ e)
-    where
-      by : (k : ℕ) → k ≡ planFault (g .clusters) plan → byRule k (value (listReport g (savedSteps plan)) []) ≡ refused 11 → ⊥
-      by zero z e = let x : _≡_ {A = ℕ} 0 1 = cc in omega arith
-      by (suc k) z e = let x : suc k ≡ 11 = cc in omega (arith, fault-range (g .clusters) plan k (sym z))
-
-  over-told : OverTold bytes g
-  unfolding reportOf savedFault listReport report overReport
-  over-told = by found
-    where
-      by : Found → OverTold bytes g
-      by (is-over c x q o) = record {
-        verdict = (λ h. verdict-is ∙ ap (λ (v : Verdict). value v []) (over-verdict g pairs below o), λ h. o);
-        report = (λ h. (c, x, named), λ h. o);
-        items = (λ h. (c, x, listed), λ h. o);
-        check = λ plan. (
-          λ h.
-              check-saved bytes plan f rest reads
-              ∙ ap (λ (k : ℕ). byRule (or-else k (planFault (g .clusters) plan)) (value (listReport g (savedSteps plan)) [])) (first-fault g q),
-          λ h. o,
-        );
-        hold = (λ h. held-is ∙ ap (λ (k : ℕ). byRule k (value f rest)) (first-fault g q), λ h. o);
-        first = λ d y e.
-            let a : c ≡ d = cc-first c x d y (sym listed ∙ e) in
-            let b : x ≡ y = cc-second c x d y (sym listed ∙ e) in
-            rw (← a, ← b) (overOf-first (g .n) (g .clusters) pairs below c x q, named);
-      }
-        where
-          named : itemsField reportOf bytes ≡ value (overReport (g .n) (length (g .clusters)) c x) []
-          named = items-are reportOf ∙ ap (λ (r : Finding). value (reportBy g r) []) q
-
-          listed : itemsField overNumbers bytes ≡ value (c ∷ x ∷ []) []
-          listed = items-are overNumbers ∙ ap (λ (r : Finding). value (overItems r) []) q
-
-          cc-first : (c x d y : ℕ) → _≡_ {A = Field (List ℕ)} (value (c ∷ x ∷ []) []) (value (d ∷ y ∷ []) []) → c ≡ d
-          cc-first c x d y e = cc
-
-          cc-second : (c x d y : ℕ) → _≡_ {A = Field (List ℕ)} (value (c ∷ x ∷ []) []) (value (d ∷ y ∷ []) []) → x ≡ y
-          cc-second c x d y e = cc
-      by (is-fine q none) = record {
-        verdict = (λ h. absurd (none h), λ e. absurd (fine-not-over g q (same-verdict (sym verdict-is ∙ e))));
-        report = (
-          λ h. absurd (none h),
-          λ (c, x, e).
-              absurd (unlike (listVerdict g (planOf (g .clusters))) _ _ (list-not-over g (planOf (g .clusters))) (same-bytes (sym listed ∙ e))),
-        );
-        items = (λ h. absurd (none h), λ (c, x, e). absurd (no-items c x e));
-        check = λ plan. (λ h. absurd (none h), λ e. absurd (not-11 plan q e));
-        hold = (λ h. absurd (none h), λ e. absurd (not-held (sym held-is ∙ e)));
-        first = λ c x e. absurd (no-items c x e);
-      }
-        where
-          same-verdict : {v w : Verdict} → _≡_ {A = Field Verdict} (value v []) (value w []) → v ≡ w
-          same-verdict e = cc
-
-          same-bytes : {a b : List ℕ} → _≡_ {A = Field (List ℕ)} (value a []) (value b []) → a ≡ b
-          same-bytes e = cc
-
-          listed : itemsField reportOf bytes ≡ value (listReport g (planOf (g .clusters))) []
-          listed = items-are reportOf ∙ ap (λ (r : Finding). value (reportBy g r) []) q
-
-          no-items : (c x : ℕ) → itemsField overNumbers bytes ≡ value (c ∷ x ∷ []) [] → ⊥
-          no-items c x e =
-              let z : [] ≡ c ∷ x ∷ [] = same-bytes (sym (items-are overNumbers ∙ ap (λ (r : Finding). value (overItems r) []) q) ∙ e) in
-              omega (arith, ap length z)
-
-          not-held : byRule (overFault g) (value f rest) ≡ refused 11 → ⊥
-          not-held e = apart (sym (ap (λ (k : ℕ). byRule k (value f rest)) (fine-fault g q)) ∙ e)
-            where
-              apart : _≡_ {A = Field Facts} (value f rest) (refused 11) → ⊥
-              apart e = let x : _≡_ {A = ℕ} 0 1 = cc in omega arith
 
   -- ---- what is not over
 
@@ -296,7 +195,8 @@ module _ (bytes : List ℕ) (f : Facts) (rest : List ℕ) (all : Bytes bytes) (r
 
   pub promises : Promises bytes f
   promises = record {
-    over = over-told;
+    over = over-told bytes f rest accepted reads;
+    over-next = λ v events c. over-next (afterAll (sheetOf f) events) (held-runs v .value-runs events .held) c;
     orders = in-orders bytes f rest all reads;
     engine = λ v.
         let l = engine-list v in (
