@@ -3,6 +3,8 @@ pub mod Entries
 pub mod Over
 pub mod Orders
 pub mod Refusals
+pub mod Rule14
+pub mod ReadWrite
 pub mod Promises
 pub mod Counts
 pub mod Parts

@@ -5,7 +5,7 @@ use Rattle.theory.specs.Prelude.{ℕ, _+_, _*_, _%_, _≤_, _<_, _≡_, _≢_, 
 use Rattle.theory.specs.Set.{_⊑_}
 use Rattle.theory.specs.Constraints.{Among}
 use Rattle.theory.specs.Merge.{Merge, Valid, Maximal, final, joints, live, left}
-use Rattle.theory.specs.Plan.{planOf}
+use Rattle.theory.specs.Plan.{planOf, IsPlan}
 use Rattle.theory.specs.Verdict.{Meets}
 use Rattle.theory.specs.Graph.{Graph, listVerdict, verdictOf, stepsOf}
 use Rattle.theory.specs.declared.Step.{Step}
@@ -90,9 +90,9 @@ pub record Promises (bytes : List ℕ) (f : Facts) : Type 0 where
   pub over-next : verdictOf (graphOf f) ≢ Over → (events : List Event) (c : Constraint) → OverNext (afterAll (sheetOf f) events) c
   -- every order of merging (demand 3): the bytes with their constraints in any order, and any lists of merges
   pub orders : InOrders bytes f
-  -- the engine's plan
+  -- the engine's plan: at every step the open merge that comes first, compared place by place, until none is open
   pub engine : verdictOf (graphOf f) ≢ Over → (p : List Merge) × (plan told : List ℕ) × (itemsField planNumbers bytes ≡ value plan [])
-      × (itemsField reportOf bytes ≡ value told []) × OwnList bytes (graphOf f) p plan told
+      × (itemsField reportOf bytes ≡ value told []) × IsPlan (graphOf f .clusters) p × OwnList bytes (graphOf f) p plan told
   -- a saved plan is accepted if and only if it is a maximal list of merges
   pub saved : (plan told : List ℕ) → checkField bytes plan ≡ value told [] → OwnList bytes (graphOf f) (savedSteps plan) plan told
   pub accepts : verdictOf (graphOf f) ≢ Over → (plan : List ℕ)

@@ -1,4 +1,4 @@
--- Tags are read and dropped (document 02, 2026-11): verdict, plan, report and saved plans are those of the sheet without its tags.
+-- Tags are read and dropped (document 02, 2026-11): every entry point answers as on the sheet without its tags.
 use Rattle.theory.specs.Prelude.{ℕ, _≡_, List}
 use Rattle.theory.specs.Graph.{Graph}
 use Rattle.sheet.specs.Facts.{Facts}
@@ -6,7 +6,7 @@ use Rattle.sheet.specs.Field.{value, Bytes}
 use Rattle.sheet.specs.Decode.{readSheet}
 use Rattle.sheet.specs.WithoutTags.{withoutTags}
 use Rattle.pattern.specs.Entries.{itemsField, rewriteField, verdictField, heldSheet, checkField, stepsField, savedStepsField, holdField, missingField}
-use Rattle.pattern.specs.Entries.{openMergesField}
+use Rattle.pattern.specs.Entries.{openMergesField, chainField, partOf, partField}
 pub mod Proof
 
 -- two sheets that no entry point tells apart, whatever else it is given: a call's answer, and what it leaves in lent space, go by its field alone
@@ -23,6 +23,10 @@ pub record SameAnswers (a b : List ℕ) : Type 0 where
   pub missing : (prices : List ℕ) → missingField a prices ≡ missingField b prices
   pub hold-in : holdField a ≡ holdField b
   pub open-merges : (steps : ℕ) → openMergesField a steps ≡ openMergesField b steps
+  pub chain : (start end : ℕ) → chainField a start end ≡ chainField b start end
+  -- the steps of one cluster, counted beforehand or written
+  pub part : (c : ℕ) → partField a c ≡ partField b c
+  pub part-steps : (c : ℕ) → partOf a c ≡ partOf b c
 
 pub record Untagged : Type 0 where
   -- an accepted sheet is answered as the sheet without its tags

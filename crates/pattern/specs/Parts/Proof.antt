@@ -1,14 +1,16 @@
 -- The promises of one cluster's steps hold. Assumes nothing.
-use Rattle.theory.specs.Prelude.{ℕ, _≤_, _<_, arith, lt-ltb, le-ltb, _≡_, ap, _∙_, Bool, true, false, cond, List, [], ltb, length}
+use Rattle.theory.specs.Prelude.{ℕ, _≤_, _<_, arith, lt-ltb, le-ltb, _≡_, refl, ap, _∙_, Bool, true, false, cond, List, [], ltb, length}
+use Rattle.theory.specs.declared.Step.{Step}
 use Rattle.space.specs.declared.Written.the-variants.{Done, Refused}
-use Rattle.space.specs.Space.{answer}
+use Rattle.space.specs.Space.{answer, after}
 use Rattle.space.specs.Space.Laws.{long-answer}
 use Rattle.sheet.specs.Facts.{Facts}
 use Rattle.sheet.specs.Field.{Field, value, refused, next, Bytes}
 use Rattle.sheet.specs.Graph.{graphOf}
-use Rattle.sheet.specs.Answer.{byRule, answerTo}
+use Rattle.sheet.specs.Answer.{byRule, answerTo, afterTo}
+use Rattle.report.specs.Report.{stepLines}
 use Rattle.graph.specs.Lent.Sheets.{accepted-sound}
-use Rattle.part.specs.Part.{clusterSteps, clusterField}
+use Rattle.part.specs.Part.{clusterSteps, clusterField, linesField}
 use Rattle.part.specs.Shown.{Shown}
 use Rattle.part.specs.Shown.Proof as shown
 use Rattle.pattern.specs.Entries.{heldSheet, partOf, partField, countOf}
@@ -34,6 +36,23 @@ refused-then : (x : Field (List ℕ)) (space : List ℕ) (k : ℕ) → countOf x
 refused-then (value items rest) space k e = absurd (let z : _≡_ {A = ℕ} 0 1 = cc in omega arith)
 refused-then (refused j) space k e = e
 
+-- steps counted, then their lines written
+
+steps-written : (x : Field (List Step)) (space : List ℕ) (n : ℕ) → answerTo (linesField x) space ≡ Done n
+    → (steps : List Step) × (countOf x ≡ Done (length steps)) × (afterTo (linesField x) space ≡ after (stepLines steps) space)
+steps-written (value steps rest) space n e = (steps, refl, refl)
+steps-written (refused k) space n e = absurd (let z : _≡_ {A = ℕ} 0 1 = cc in omega arith)
+
+steps-enough : (x : Field (List Step)) (space : List ℕ) (m : ℕ) → countOf x ≡ Done m
+    → (steps : List Step) × (length steps ≡ m) × (afterTo (linesField x) space ≡ after (stepLines steps) space)
+steps-enough (value steps rest) space m e = (steps, cc, refl)
+steps-enough (refused k) space m e = absurd (let z : _≡_ {A = ℕ} 0 1 = cc in omega arith)
+
+steps-refused : (x : Field (List Step)) (space : List ℕ) (k : ℕ) → countOf x ≡ Refused k
+    → (countOf (linesField x) ≡ Refused k) × (answerTo (linesField x) space ≡ Refused k)
+steps-refused (value steps rest) space k e = absurd (let z : _≡_ {A = ℕ} 0 1 = cc in omega arith)
+steps-refused (refused j) space k e = (e, e)
+
 -- ---- a sheet that is held
 
 module _ (bytes rest : List ℕ) (f : Facts) (c : ℕ) (e : heldSheet bytes ≡ value f rest) where
@@ -54,6 +73,9 @@ parts = record {
   enough = λ bytes space c n. enough (partField bytes c) space n;
   written = λ bytes space c n. written (partField bytes c) space n;
   refused-then = λ bytes space c k. refused-then (partField bytes c) space k;
+  steps-written = λ bytes space c n. steps-written (partOf bytes c) space n;
+  steps-enough = λ bytes space c m n e h room. steps-enough (partOf bytes c) space m e;
+  steps-refused = λ bytes space c k. steps-refused (partOf bytes c) space k;
   taken = taken;
   beyond = beyond;
   shown = λ bytes rest f c all e. known bytes rest f c e all;

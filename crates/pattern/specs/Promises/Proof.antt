@@ -1,11 +1,12 @@
 -- The promises hold: over is one finding that every answer goes by, demand 3 is brought to every two orders of the sheet's constraints, and the
 -- answers' lists are those of `account` Own. Assumes nothing.
-use Rattle.theory.specs.Prelude.{ℕ, zero, suc, _+_, _*_, _%_, _≤_, _<_, _≡_, refl, sym, ap, _∙_, subst, _≢_, _↔_, Iff·trans, List, []}
+use Rattle.theory.specs.Prelude.{ℕ, zero, suc, _+_, _*_, _%_, _≤_, _<_, _≡_, refl, sym, ap, ap₂, _∙_, subst, _≢_, _↔_, Iff·trans, List, [], _∷_, map}
 use Rattle.theory.specs.Prelude.{arith, length}
 use Rattle.theory.specs.Constraints.{Among, Pairs, Below, NotOver}
 use Rattle.theory.specs.Constraints.Perm.{same}
-use Rattle.theory.specs.Merge.{Merge, Maximal, final, joints, live, left}
-use Rattle.theory.specs.Plan.{planOf}
+use Rattle.theory.specs.Merge.{Merge, put, Maximal, final, joints, live, left}
+use Rattle.theory.specs.Plan.{planOf, ascending, IsPlan}
+use Rattle.theory.specs.Plan.Laws.{ascending-same, plan-of-is}
 use Rattle.theory.specs.Ring.Laws.{ringed-is}
 use Rattle.theory.specs.Verdict.{Meets, meets-angle, meets-well, meets-stuck, meets-under}
 use Rattle.theory.specs.Verdict.Laws.{judged-meets, under-below, stuck-several}
@@ -28,7 +29,7 @@ use Rattle.sheet.specs.Graph.Laws.{clusters-pairs, clusters-below, sheet-demand
 use Rattle.engine.specs.Lists.{livingOf}
 use Rattle.engine.specs.Lists.Laws.{living-live, living-count}
 use Rattle.merges.specs.Run.{flat}
-use Rattle.judge.specs.Judged.{planNumbers, finalClusters}
+use Rattle.judge.specs.Judged.{planBy, planNumbers, finalClusters}
 use Rattle.plans.specs.Check.{savedSteps}
 use Rattle.plans.specs.Check.Laws.{whole-saved}
 use Rattle.report.specs.Report.{report}
@@ -51,6 +52,12 @@ use Rattle.pattern.specs.Over.Proof.{over-told, over-next}
 use Rattle.pattern.specs.Orders.Proof.{in-orders}
 use Rattle.pattern.specs.Promises.Growth.{grown-told, placed-told}
 use Rattle.pattern.specs.Promises.{NameSays, OwnList, HeldRuns, Promises}
+
+-- the engine's plan lists its numbers ascending
+plan-ascends : (p : List Merge) (s : List ℕ) → IsPlan s p → map ascending p ≡ p
+plan-ascends [] s h = refl
+plan-ascends (m ∷ p) s h =
+    ap₂ (λ (x : Merge) (l : List Merge). x ∷ l) (ascending-same m (h .0 .i<j) (h .0 .j<k)) (plan-ascends p (put s m) (h .1))
 
 module _ (bytes : List ℕ) (f : Facts) (rest : List ℕ) (all : Bytes bytes) (reads : readSheet bytes ≡ value f rest) where
   abbrev g : Graph
@@ -116,6 +123,16 @@ module _ (bytes : List ℕ) (f : Facts) (rest : List ℕ) (all : Bytes bytes) (r
 
     engine-list : EngineList g
     engine-list = own-lists f accepted .engine not-over
+
+    -- the list behind the plan's numbers is the engine's, which ascend at every step
+    first-at-every-step : IsPlan (g .clusters) (engine-list .p)
+    unfolding planNumbers
+    first-at-every-step =
+        let own = plan-of-is (g .clusters) pairs in
+        let numbers : flat (planOf (g .clusters)) ≡ flat (engine-list .p) =
+        ap flat (sym (plan-ascends (planOf (g .clusters)) (g .clusters) own))
+        ∙ sym (ap (λ (o : Finding). flat (map ascending (planBy g o))) (not-over-fine g not-over)) ∙ engine-list .plan in
+        subst (IsPlan (g .clusters)) (sym (whole-saved (planOf (g .clusters))) ∙ ap savedSteps numbers ∙ whole-saved (engine-list .p)) own
 
     -- every maximal list has the sets that `clusters` answers
     finals-of : (p : List Merge) → Maximal (g .clusters) p → (finals : List ℕ) × (itemsField finalClusters bytes ≡ value finals [])
@@ -205,6 +222,7 @@ module _ (bytes : List ℕ) (f : Facts) (rest : List ℕ) (all : Bytes bytes) (r
           listReport g (l .p),
           items-are planNumbers ∙ ap (λ (x : List ℕ). value x []) (l .plan),
           items-are reportOf ∙ ap (λ (x : List ℕ). value x []) (l .report),
+          first-at-every-step v,
           own v (l .p) (flat (l .p)) (l .maximal) (whole-saved (l .p)) (l .own),
         );
     saved = saved-own;

@@ -21,6 +21,9 @@ same-answers a b reads same = record {
   missing = λ prices. rw reads;
   hold-in = rw reads;
   open-merges = λ steps. rw reads;
+  chain = λ start end. rw reads;
+  part = λ c. rw reads;
+  part-steps = λ c. rw reads;
 }
 
 pub untagged : Untagged
