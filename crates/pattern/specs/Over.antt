@@ -21,6 +21,7 @@ use Rattle.account.specs.Account.{reportOf}
 use Rattle.account.specs.Resting.{restNumbers}
 use Rattle.pattern.specs.Entries.{itemsField, verdictField, overNumbers, heldSheet, checkField, holdField, missingField}
 use Rattle.pattern.specs.Entries.{stepsField, savedStepsField, partOf, partField, countOf, chainField, openMergesField}
+pub mod Held
 pub mod Proof
 
 -- ---- an accepted sheet

@@ -1,6 +1,6 @@
 -- Over is one finding that every answer goes by. Assumes nothing.
 use Rattle.theory.specs.Prelude.{ℕ, zero, suc, _+_, arith, _≡_, refl, sym, ap, _∙_, subst, _≢_, _↔_, Iff·trans, Bool, true, false, cond, _&&_, ltb}
-use Rattle.theory.specs.Prelude.{List, [], _∷_, _++_, length, getD, length-take, inl, inr, map}
+use Rattle.theory.specs.Prelude.{List, [], _∷_, _++_, length, getD, inl, inr, map}
 use Rattle.theory.specs.Constraints.{Pairs, Below}
 use Rattle.theory.specs.Over.{IsOver, FirstOver}
 use Rattle.theory.specs.Over.Laws.{overOf-first}
@@ -18,8 +18,7 @@ use Rattle.sheet.specs.declared.Constraint.{Constraint}
 use Rattle.sheet.specs.declared.Sheet.{Sheet}
 use Rattle.sheet.specs.Facts.{Facts, factsOf}
 use Rattle.sheet.specs.Field.{Field, value, refused, next}
-use Rattle.sheet.specs.Rules.{or-else, constraintFault, sheetFault}
-use Rattle.sheet.specs.Rules.Laws.{none-else}
+use Rattle.sheet.specs.Rules.{or-else, constraintFault}
 use Rattle.sheet.specs.Decode.{readSheet}
 use Rattle.sheet.specs.Accepted.{Accepted}
 use Rattle.sheet.specs.Answer.{byRule}
@@ -42,12 +41,13 @@ use Rattle.missing.specs.Missing.Laws.{by-rules}
 use Rattle.opens.specs.Opens.{openField}
 use Rattle.sketch.specs.declared.Judgement.{Judgement}
 use Rattle.sketch.specs.declared.Judgement.the-variants.{Is, Refused as Not}
-use Rattle.sketch.specs.Sketch.{extended, nextFault, askFault, placeFault, asJudged}
-use Rattle.sketch.specs.Sketch.Laws.{extended-none, ask-sound, ask-place, answer-sound, judged-not}
-use Rattle.sketch.specs.Runs.{holdFault, Held}
-use Rattle.sketch.specs.Runs.Proof.{writes, held-accepted, room}
+use Rattle.sketch.specs.Sketch.{extended, nextFault, asJudged}
+use Rattle.sketch.specs.Sketch.Laws.{extended-none, judged-not}
+use Rattle.sketch.specs.Runs.{Held}
+use Rattle.sketch.specs.Runs.Proof.{held-accepted}
 use Rattle.records.specs.Record.{recordBytes, placeJudged, placedIn, writtenField}
 use Rattle.pattern.specs.Entries.{itemsField, verdictField, overItems, overNumbers, heldSheet, countOf}
+use Rattle.pattern.specs.Over.Held.{ask-rule, place-rule, asked-next, placed-next}
 use Rattle.pattern.specs.Over.{OverTold, OverWith, OverNext}
 
 -- a report that is not the over report: the ninth byte is the first of the verdict's name
@@ -288,20 +288,6 @@ module _ (s : Sheet) (h : Held s) (c : Constraint) where
   abbrev verdict-with : Verdict
   verdict-with = verdictOf (graphOf (extended f c))
 
-  fine : overFault (graphOf f) ≡ 0
-  unfolding holdFault
-  fine = none-else (sheetFault s) (overFault (graphOf f)) (h .no-fault) .1
-
-  held-is-e : s .e ≡ length (f .constraints)
-  held-is-e = omega (arith, length-take (s .e) (s .constraints), h .constraints-long, room s h)
-
-  ask-rule : askFault f c ≡ nextFault f c
-  unfolding askFault
-  ask-rule = rw fine
-
-  place-rule : placeFault f c (s .e) ≡ nextFault f c
-  place-rule = ap (placeFault f c) held-is-e ∙ ask-place f c ∙ ask-rule
-
   over-next-is : OverWith f c ↔ (nextFault f c ≡ 11)
   over-next-is = next-11 f (held-accepted s h) c
 
@@ -309,16 +295,14 @@ module _ (s : Sheet) (h : Held s) (c : Constraint) where
   over-next = record {
     ask =
         Iff·trans over-next-is
-        (subst (λ (j : Judgement). (nextFault f c ≡ 11) ↔ (j ≡ Not 11))
-        (sym (ask-sound s c (writes s h) ∙ ap (λ (k : ℕ). asJudged k verdict-with) ask-rule)) (judged-11 (nextFault f c) verdict-with));
+        (subst (λ (j : Judgement). (nextFault f c ≡ 11) ↔ (j ≡ Not 11)) (sym (asked-next s h c)) (judged-11 (nextFault f c) verdict-with));
     place =
         Iff·trans over-next-is
-        (subst (λ (j : Judgement). (nextFault f c ≡ 11) ↔ (j ≡ Not 11))
-        (sym (answer-sound s c (s .e) (writes s h) ∙ ap (λ (k : ℕ). asJudged k verdict-with) place-rule)) (judged-11 (nextFault f c) verdict-with));
+        (subst (λ (j : Judgement). (nextFault f c ≡ 11) ↔ (j ≡ Not 11)) (sym (placed-next s h c)) (judged-11 (nextFault f c) verdict-with));
     ask-in = λ lent e.
         Iff·trans over-next-is
-        (rw (e, ask-rule) (rule-11 (nextFault f c) verdict-with));
+        (rw (e, ask-rule s h c) (rule-11 (nextFault f c) verdict-with));
     place-in = λ lent e.
         Iff·trans over-next-is
-        (rw (e, place-rule) (placed-11 (nextFault f c) (extended f c) lent));
+        (rw (e, place-rule s h c) (placed-11 (nextFault f c) (extended f c) lent));
   }
