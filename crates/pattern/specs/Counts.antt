@@ -8,6 +8,7 @@ use Rattle.judge.specs.Judged.{planNumbers, finalClusters}
 use Rattle.writer.specs.Write.{writeField}
 use Rattle.account.specs.Account.{reportOf}
 use Rattle.account.specs.Resting.{restNumbers}
+use Rattle.longest.specs.Longest.{longestField}
 use Rattle.steps.specs.Records.{numbersField}
 use Rattle.records.specs.Record.{placeField, writtenField, sheetField}
 use Rattle.pattern.specs.Entries.{itemsField, rewriteField, overNumbers, initialClusters, checkField, stepsField, savedStepsField, holdField}
@@ -38,3 +39,4 @@ pub record Counts : Type 0 where
   pub part : (bytes : List ℕ) (c : ℕ) → Bytes bytes → AtMost 3534 (partField bytes c)
   pub part-steps : (bytes : List ℕ) (c : ℕ) → Bytes bytes → AtMost 62 (partOf bytes c)
   pub open-merges : (bytes : List ℕ) (steps : ℕ) → Bytes bytes → AtMost 186 (openMergesField bytes steps)
+  pub longest : (n : ℕ) → AtMost 889 (longestField n)

@@ -17,7 +17,8 @@ use Rattle.records.specs.Record.{askField, placeField, sheetField}
 use Rattle.account.specs.Account.{reportOf}
 use Rattle.longest.specs.Longest.{longestField}
 use Rattle.chain.specs.declared.Answer.the-variants.{Refused as No}
-use Rattle.chain.specs.Answer.{ChainAnswers}
+use Rattle.chain.specs.Chain.{Shortest}
+use Rattle.chain.specs.Answer.{finalsOf, ChainAnswers}
 use Rattle.theory.specs.declared.Step.{Step}
 use Rattle.steps.specs.Records.{filledTo}
 use Rattle.pattern.specs.Entries.{itemsField, rewriteField, verdictField, heldSheet, checkField, stepsField, savedStepsField, holdField}
@@ -38,6 +39,14 @@ pub record ShortList (x : Field (List Step)) (list : List Step) : Type 0 where
   pub rest : List ℕ
   pub gives : x ≡ value steps rest
   pub longer : length list < length steps
+
+pub record ShortRun (x : Field Graph) (start end : ℕ) (space : List ℕ) : Type 0 where
+  pub graph : Graph
+  pub rest : List ℕ
+  pub run : List ℕ
+  pub gives : x ≡ value graph rest
+  pub shortest : Shortest (finalsOf graph) start end run
+  pub longer : length space < length run
 
 -- the rules that refuse an ask
 abbrev pub Asking : List ℕ
@@ -86,9 +95,10 @@ pub record Refusals : Type 0 where
   pub part-steps : (bytes : List ℕ) (c : ℕ) → By Numbered (partOf bytes c)
   -- the sheet with the longest plan
   pub longest : (n : ℕ) → By (Rule 3 3) (longestField n)
-  -- the chain from one element to another; over lent space it is refused by that rule too, or by 17
+  -- the chain from one element to another; over lent space it is refused by that rule too, or by 17 where the space is shorter
   pub chain : (bytes : List ℕ) (start end : ℕ) → By (λ k. Holding k ⊎ (k ≡ 25)) (chainField bytes start end)
-  pub run : (x : Field Graph) (start end : ℕ) (space left : List ℕ) (k : ℕ) → ChainAnswers x start end space (No k) left → (x ≡ refused k) ⊎ (k ≡ 17)
+  pub run : (x : Field Graph) (start end : ℕ) (space left : List ℕ) (k : ℕ) → ChainAnswers x start end space (No k) left
+      → (x ≡ refused k) ⊎ ((k ≡ 17) × ShortRun x start end space)
   -- the merges that are open
   pub open-merges : (bytes : List ℕ) (steps : ℕ) → By Holding (openMergesField bytes steps)
   -- the report program lends 4,667 bytes, so it never prints "refused 17"

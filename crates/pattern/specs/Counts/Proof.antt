@@ -1,5 +1,5 @@
 -- What a call answers is short: the bounds of reports and sheets, and of the merges of constraints that are not over. Assumes nothing.
-use Rattle.theory.specs.Prelude.{ℕ, zero, suc, _+_, _*_, _≤_, arith, _≡_, refl, sym, ap, _∙_, List, [], map, length, length-map}
+use Rattle.theory.specs.Prelude.{ℕ, zero, suc, _+_, _*_, _-_, _≤_, arith, _≡_, refl, sym, ap, _∙_, List, [], map, length, length-map, length-append, length-replicate, replicate}
 use Rattle.theory.specs.Constraints.{NotOver}
 use Rattle.theory.specs.Over.Laws.{overOf-fine, fine-most}
 use Rattle.theory.specs.Merge.{Merge, Valid, final, left}
@@ -11,13 +11,15 @@ use Rattle.theory.specs.Graph.Laws.{length-steps}
 use Rattle.theory.specs.declared.Step.{Step}
 use Rattle.theory.specs.declared.Finding.{Finding}
 use Rattle.theory.specs.declared.Finding.the-variants.{Fine, First}
-use Rattle.sheet.specs.Facts.{Facts, factsOf}
-use Rattle.sheet.specs.Field.{Field, value, next, Bytes}
-use Rattle.sheet.specs.Field.Laws.{next-value, refused-value}
-use Rattle.sheet.specs.Rules.{sheetFault}
-use Rattle.sheet.specs.Rules.Laws.{constraints-most}
+use Rattle.sheet.specs.declared.Opening.the-variants.{Pf01}
+use Rattle.sheet.specs.Facts.{Facts, factsOf, blankElement}
+use Rattle.sheet.specs.Field.{Field, value, next, kindBytes, Bytes}
+use Rattle.sheet.specs.Field.Laws.{next-value, demand-value, refused-value, length-digits, opening-length}
+use Rattle.sheet.specs.Rules.{elementsInRange, sheetFault}
+use Rattle.sheet.specs.Rules.Laws.{elements-range, constraints-most}
 use Rattle.sheet.specs.Decode.{readSheet}
-use Rattle.sheet.specs.Encode.{sheetBytes}
+use Rattle.sheet.specs.Encode.{radiiBytes, sheetBytes}
+use Rattle.sheet.specs.Encode.Laws.{constraints-length}
 use Rattle.sheet.specs.Accepted.{Accepted}
 use Rattle.sheet.specs.Accepted.Laws.{accepted-two, accepted-most}
 use Rattle.sheet.specs.Graph.{clusterOf, graphOf, overFault}
@@ -30,6 +32,8 @@ use Rattle.engine.specs.Lists.Laws.{living-count}
 use Rattle.judge.specs.Judged.{planBy, planNumbers, finalsBy, finalClusters}
 use Rattle.plans.specs.Check.{savedSteps, planFault}
 use Rattle.plans.specs.Check.Laws.{accepted-maximal}
+use Rattle.longest.specs.Longest.{longestSheet, longestField}
+use Rattle.longest.specs.Longest.Rules.{strip-length}
 use Rattle.steps.specs.Records.{planSteps, stepNumbers, numbersField}
 use Rattle.steps.specs.Records.Laws.{length-numbers as length-records}
 use Rattle.sketch.specs.Sketch.{by27}
@@ -172,6 +176,38 @@ module _ (bytes : List ℕ) (all : Bytes bytes) where
   hold-short : AtMost 1155 (holdField bytes)
   hold-short = after-value (heldSheet bytes) recordBytes (λ f t e. let (h, o) = held-accepted bytes f t all e in record-room f h o)
 
+-- ---- the sheet with the longest plan: 2n-3 constraints of seven bytes between points
+
+no-radii : (n : ℕ) → radiiBytes (replicate n blankElement) ≡ []
+unfolding radiiBytes
+no-radii zero = refl
+no-radii (suc n) = no-radii n
+
+sheet-length : (f : Facts)
+    → length (sheetBytes f)
+    ≤ 6 + kindBytes (f .opening) (length (f .elements)) + length (radiiBytes (f .elements)) + 7 * length (f .constraints)
+unfolding sheetBytes
+sheet-length f =
+    simp (length-append, length-digits, opening-length (f .opening)) (omega (arith, constraints-length (f .constraints)))
+
+longest-short : (n : ℕ) → AtMost 889 (longestField n)
+unfolding longestField
+longest-short n items rest e =
+    demand-value (elementsInRange n) 3 _ e (λ ok e1.
+    let same : sheetBytes (longestSheet n) ≡ items = cc in
+    let range = elements-range n ok in
+    let kinds : kindBytes Pf01 (length (replicate n blankElement)) ≤ 8 = rw (length-replicate n blankElement) (omega (arith, range .1)) in
+    omega (
+      arith,
+      sheet-length (longestSheet n),
+      kinds,
+      ap length (no-radii n),
+      strip-length (n - 2),
+      range .0,
+      range .1,
+      ap length same,
+    ))
+
 pub counts : Counts
 counts = record {
   report = λ bytes all. after-value (readSheet bytes) (λ f. reportOf (graphOf f)) (λ f t e. report-room f (accepted bytes all f t e));
@@ -193,4 +229,5 @@ counts = record {
   part = λ bytes c all. after-value (partOf bytes c) stepLines (λ l t e. part-short bytes c all e .1);
   part-steps = λ bytes c all l t e. part-short bytes c all e .0;
   open-merges = λ bytes steps all l t e. open-short bytes steps all e;
+  longest = longest-short;
 }

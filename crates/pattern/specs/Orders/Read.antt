@@ -252,7 +252,7 @@ parted s f t h e =
     next-value (byteBy constraintsInRange 5 s4) _ e4 (λ k s5 was5 e5.
     let q = byte-own constraintsInRange 5 s4 was5 in
     next-value (constraints es k [] s5) _ e5 (λ cs s6 was6 e6.
-    let is : s ≡ whole o n k (c .read .own) (d .own) s5 = 
+    let is : s ≡ whole o n k (c .read .own) (d .own) s5 =
     opening-own s was1
     ∙ ap (λ (l : List ℕ). openingBytes o ++ l) (b .1 ∙ ap (λ (l : List ℕ). n ∷ l) (c .read .front
     ∙ ap (λ (l : List ℕ). c .read .own ++ l) (d .front ∙ ap (λ (l : List ℕ). d .own ++ l) (q .1)))) in

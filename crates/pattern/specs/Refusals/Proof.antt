@@ -34,12 +34,13 @@ use Rattle.steps.specs.Records.{filledTo}
 use Rattle.account.specs.Account.Room.{report-room}
 use Rattle.longest.specs.Longest.{longestSheet, longestField}
 use Rattle.chain.specs.declared.Answer.the-variants.{Refused as No}
-use Rattle.chain.specs.Answer.{asRun, chainAnswer, endsFault, asked as chained, ChainAnswers}
+use Rattle.chain.specs.Chain.{Shortest, Chain}
+use Rattle.chain.specs.Answer.{asRun, chainAnswer, finalsOf, endsFault, asked as chained, ChainAnswers}
 use Rattle.missing.specs.Missing.Laws.{by-rules}
 use Rattle.pattern.specs.Entries.{itemsField, held, heldSheet}
 use Rattle.part.specs.Part.{numberFault}
 use Rattle.pattern.specs.Entries.{partOf}
-use Rattle.pattern.specs.Refusals.{Short, ShortList, Asking, Holding, Checking, Numbered, Refusals}
+use Rattle.pattern.specs.Refusals.{Short, ShortList, ShortRun, Asking, Holding, Checking, Numbered, Refusals}
 
 -- items into lent space: 17 alone, where it is shorter
 lent : (x : Field (List ℕ)) (space : List ℕ) (k : ℕ) → answerTo x space ≡ Refused k → (x ≡ refused k) ⊎ ((k ≡ 17) × Short x space)
@@ -214,18 +215,23 @@ by-ends g u v = by-rule (endsFault (g .n) u v) (value g []) (fault-ends (ltb u (
     fault-ends false = inr refl
 
 -- and 17 where the run is longer than the space
-ran : (x : Field Graph) (u v : ℕ) (space left : List ℕ) (k : ℕ) → ChainAnswers x u v space (No k) left → (x ≡ refused k) ⊎ (k ≡ 17)
+ran : (x : Field Graph) (u v : ℕ) (space left : List ℕ) (k : ℕ) → ChainAnswers x u v space (No k) left
+    → (x ≡ refused k) ⊎ ((k ≡ 17) × ShortRun x u v space)
 unfolding answer
 ran (refused j) u v space left k h = let e = h .0 in let n : j ≡ k = cc in inl (rw n)
-ran (value g rest) u v space left k h = by (h .chain) (h .answer-is)
+ran (value g rest) u v space left k h = by (h .chain) (h .is) (h .answer-is)
   where
-    long : (r : List ℕ) (b : Bool) → No k ≡ asRun (cond b (Refused 17) (Done (length r))) → (value g rest ≡ refused k) ⊎ (k ≡ 17)
-    long r true e = let n : k ≡ 17 = cc in inr n
-    long r false e = absurd (let z : _≡_ {A = ℕ} 0 1 = cc in omega arith)
+    long : (r : List ℕ) → Shortest (finalsOf g) u v r → (b : Bool) → ltb (length space) (length r) ≡ b
+        → No k ≡ asRun (cond b (Refused 17) (Done (length r))) → (value g rest ≡ refused k) ⊎ ((k ≡ 17) × ShortRun (value g rest) u v space)
+    long r s true q e =
+        let n : k ≡ 17 = cc in
+        inr (n, record { graph = g; rest = rest; run = r; gives = refl; shortest = s; longer = ltb-true (length space) (length r) q })
+    long r s false q e = absurd (let z : _≡_ {A = ℕ} 0 1 = cc in omega arith)
 
-    by : (o : Option (List ℕ)) → No k ≡ chainAnswer o space → (value g rest ≡ refused k) ⊎ (k ≡ 17)
-    by none e = absurd (let z : _≡_ {A = ℕ} 0 1 = cc in omega arith)
-    by (some r) e = long r (ltb (length space) (length r)) e
+    by : (o : Option (List ℕ)) → Chain (finalsOf g) u v o → No k ≡ chainAnswer o space
+        → (value g rest ≡ refused k) ⊎ ((k ≡ 17) × ShortRun (value g rest) u v space)
+    by none s e = absurd (let z : _≡_ {A = ℕ} 0 1 = cc in omega arith)
+    by (some r) s e = long r s (ltb (length space) (length r)) refl e
 
 pub refusals : Refusals
 refusals = record {
