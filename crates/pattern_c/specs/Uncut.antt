@@ -1,7 +1,7 @@
--- No number that a function for C answers is cut at 2^31-1 (`asCount` of Numbers): it is the count of items itself, or the place of the verdict,
--- whatever the call is given. Demand 1: no input makes it lose part of a number. The counts are those of `pattern` Counts.
+-- No number that a function for C answers is cut at 2^31-1 (`asCount` of Numbers): it is the count of items itself, or
+-- the place of the verdict, whatever the call is given. Demand 1: no input makes it lose part of a number. The counts
+-- are those of `pattern` Counts.
 use Rattle.theory.specs.Prelude.{ℕ, _%_, _≡_, List, ℤ, pos}
-use Rattle.theory.specs.Graph.{Graph}
 use Rattle.space.specs.declared.Written.{Written}
 use Rattle.space.specs.declared.Written.the-variants.{Done}
 use Rattle.sheet.specs.declared.Constraint.{Constraint}
@@ -17,7 +17,8 @@ use Rattle.longest.specs.Longest.{longestField}
 use Rattle.steps.specs.Records.{numbersField}
 use Rattle.sketch.specs.declared.Judgement.the-variants.{Is}
 use Rattle.records.specs.Record.{asJudgement, askField, placeField, placedIn, sheetField}
-use Rattle.pattern.specs.Entries.{itemsField, rewriteField, verdictField, overNumbers, initialClusters, checkField, holdField}
+use Rattle.pattern.specs.Entries.{itemsField, rewriteField, verdictField, overNumbers, initialClusters, checkField}
+use Rattle.pattern.specs.Entries.{holdField}
 use Rattle.pattern.specs.Entries.{stepsField, savedStepsField, partOf, partField, countOf, chainField, missingField}
 use Rattle.pattern.specs.Entries.{openMergesField}
 use Rattle.pattern_c.specs.Numbers.{asCount, asNumber, asItems}

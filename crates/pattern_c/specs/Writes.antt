@@ -1,5 +1,5 @@
--- What is promised of `pattern_write`, which takes a sheet's facts in columns. Document 01, "Refused": which rules refuse it, and no other; demand 2:
--- what it writes is read as those facts.
+-- What is promised of `pattern_write`, which takes a sheet's facts in columns. Document 01, "Refused": which rules
+-- refuse it, and no other; demand 2: what it writes is read as those facts.
 use Rattle.theory.specs.Prelude.{ℕ, _≡_, _⊎_, _↔_, false, List, ℤ}
 use Rattle.sheet.specs.Field.{value, refused}
 use Rattle.sheet.specs.Refusals.{By}
@@ -15,6 +15,8 @@ Columned k = (k ≡ 1) ⊎ OfFacts k
 pub record Writes (opening n e : ℕ) (kinds radii firsts seconds maps : List ℕ) (sizes : List ℤ) : Type 0 where
   pub rules : By Columned (columnsField opening n e kinds radii firsts seconds maps sizes)
   -- 1 if and only if the opening is neither 1 nor 2
-  pub opening : (openingKnown opening ≡ false) ↔ (columnsField opening n e kinds radii firsts seconds maps sizes ≡ refused 1)
-  pub written : (bytes rest : List ℕ) → columnsField opening n e kinds radii firsts seconds maps sizes ≡ value bytes rest
+  pub first : (openingKnown opening ≡ false)
+      ↔ (columnsField opening n e kinds radii firsts seconds maps sizes ≡ refused 1)
+  pub written : (bytes rest : List ℕ)
+      → columnsField opening n e kinds radii firsts seconds maps sizes ≡ value bytes rest
       → Written (sheetIn opening n e kinds radii firsts seconds maps sizes) bytes

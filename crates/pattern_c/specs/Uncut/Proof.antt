@@ -1,21 +1,22 @@
--- No number for C is cut: `pattern` Counts, a chain's 63 clusters and the five verdicts, each far below 2^31. Assumes nothing.
-use Rattle.theory.specs.Prelude.{ℕ, zero, suc, _<_, _≤_, arith, _≡_, refl, sym, ap, _∙_, Bool, true, false, cond, List, [], ltb, lt-ltb, ℤ, pos}
-use Rattle.theory.specs.Prelude.{Option, none, some, length}
+-- No number for C is cut: `pattern` Counts, a chain's 63 clusters and the five verdicts, each far below 2^31. Assumes
+-- nothing.
+use Rattle.theory.specs.Prelude.{ℕ, zero, suc, _%_, _<_, _≤_, arith, _≡_, refl, ap, _∙_, Bool, true, false, cond, List, ltb}
+use Rattle.theory.specs.Prelude.{lt-ltb, pos, Option, none, some, length}
 use Rattle.theory.specs.Graph.{Graph}
 use Rattle.theory.specs.Verdict.{verdictNumber}
 use Rattle.theory.specs.declared.Verdict.{Verdict}
 use Rattle.theory.specs.declared.Verdict.the-variants.{Over, Angle, Well, Stuck, Under}
-use Rattle.space.specs.declared.Written.{Written}
 use Rattle.space.specs.declared.Written.the-variants.{Done, Refused}
 use Rattle.space.specs.Space.{answer}
 use Rattle.sheet.specs.Field.{Field, value, refused}
 use Rattle.sheet.specs.Answer.{byRule}
 use Rattle.chain.specs.declared.Answer.{Answer}
-use Rattle.chain.specs.declared.Answer.the-variants.{Run, None, Refused as Not}
-use Rattle.chain.specs.Answer.{asRun, chainAnswer, finalsOf, Answered, ChainAnswers}
+use Rattle.chain.specs.Answer.{asRun, chainAnswer, ChainAnswers}
 use Rattle.sketch.specs.declared.Judgement.{Judgement}
 use Rattle.sketch.specs.declared.Judgement.the-variants.{Is, Refused as No}
-use Rattle.pattern.specs.Entries.{countOf, chainField}
+use Rattle.card.specs.Card.{setVerdict}
+use Rattle.records.specs.Record.{asJudgement, askField, placeField, placedIn}
+use Rattle.pattern.specs.Entries.{verdictField, countOf, chainField}
 use Rattle.pattern.specs.Counts.{AtMost}
 use Rattle.pattern.specs.Counts.Proof.{counts}
 use Rattle.pattern_c.specs.Numbers.{asCount, asNumber, asItems}
@@ -40,7 +41,8 @@ unfolding answer
 written (refused k) short few space n e = apart e
 written (value items rest) short few space n e = by (ltb (length space) (length items)) e
   where
-    by : (b : Bool) → cond b (Refused 17) (Done (length items)) ≡ Done n → asCount (cond b (Refused 17) (Done (length items))) ≡ pos n
+    by : (b : Bool) → cond b (Refused 17) (Done (length items)) ≡ Done n
+        → asCount (cond b (Refused 17) (Done (length items))) ≡ pos n
     by true h = apart h
     by false h = uncut short few items rest refl ∙ ap pos (same-count h)
 
@@ -50,7 +52,7 @@ counted (value items rest) short few n e = uncut short few items rest refl ∙ a
 
 -- a rule before them
 after-rule : {most : ℕ} (k : ℕ) (x : Field (List ℕ)) → AtMost most x → AtMost most (byRule k x)
-after-rule zero x short = short
+after-rule zero x short items rest e = short items rest e
 after-rule (suc k) x short items rest e = absurd (let z : _≡_ {A = ℕ} 0 1 = cc in omega arith)
 
 -- ---- verdicts
@@ -77,7 +79,8 @@ run-of r space few n e = by (ltb (length space) (length r)) e
     by true h = apart h
     by false h = whole (length r) n (omega arith) h
 
-run : (x : Field Graph) (start end : ℕ) (space left : List ℕ) (a : Answer) → ChainAnswers x start end space a left → Whole (asItems a)
+run : (x : Field Graph) (start end : ℕ) (space left : List ℕ) (a : Answer) → ChainAnswers x start end space a left
+    → Whole (asItems a)
 run (refused k) start end space left a h = rw (h .0) (λ n e. apart e)
 run (value g rest) start end space left a h = rw (h .answer-is) (by (h .chain) (h .few))
   where
@@ -92,7 +95,7 @@ none-cut = record {
   write = λ opening n e kinds radii firsts seconds maps sizes.
       written _ (after-rule (columnsFault opening n kinds) _ (counts .write _)) (omega arith);
   over = λ bytes. written _ (counts .over bytes) (omega arith);
-  verdict = λ bytes. judged _;
+  verdict = λ bytes. judged (asJudgement (verdictField bytes));
   plan = λ bytes all. written _ (counts .plan bytes all) (omega arith);
   initial = λ bytes all. written _ (counts .initial bytes all) (omega arith);
   clusters = λ bytes all. written _ (counts .clusters bytes all) (omega arith);
@@ -102,15 +105,15 @@ none-cut = record {
   steps = λ bytes all. written _ (counts .steps bytes all) (omega arith);
   saved-steps = λ bytes plan all. written _ (counts .saved-steps bytes plan all) (omega arith);
   hold = λ bytes all. written _ (counts .hold-in bytes all) (omega arith);
-  ask = λ lent c. judged _;
-  place = λ lent c held. judged _;
+  ask = λ lent c. judged (asJudgement (askField lent c));
+  place = λ lent c held. judged (placedIn (placeField lent c held) lent);
   held = λ lent all. written _ (counts .held-in lent all) (omega arith);
   part-steps = λ bytes c all. counted _ (counts .part-steps bytes c all) (omega arith);
   part-bytes = λ bytes c all. counted _ (counts .part bytes c all) (omega arith);
   part = λ bytes c all. written _ (counts .part bytes c all) (omega arith);
   chain = λ bytes start end. run (chainField bytes start end) start end;
   missing = λ bytes prices all. written _ (counts .missing bytes prices all) (omega arith);
-  card = λ number. judged _;
+  card = λ number. judged (Is (setVerdict 5 (number % 1024)));
   longest = λ n. written _ (counts .longest n) (omega arith);
   open-merges = λ bytes steps all. written _ (counts .open-merges bytes steps all) (omega arith);
 }

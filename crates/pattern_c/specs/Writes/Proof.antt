@@ -1,14 +1,14 @@
 -- The promises of `pattern_write` hold: the columns' own rules, then those of the writer. Assumes nothing.
-use Rattle.theory.specs.Prelude.{ℕ, zero, suc, _+_, arith, _≡_, refl, ap, _∙_, subst, inl, inr, _↔_, Bool, true, false, cond, List, [], _∷_, _++_}
-use Rattle.theory.specs.Prelude.{ℤ, length, length-append, not-true, add-one}
+use Rattle.theory.specs.Prelude.{ℕ, zero, suc, _+_, arith, _≡_, refl, ap, _∙_, subst, inl, inr, Bool, true, false, List}
+use Rattle.theory.specs.Prelude.{[], _∷_}
+use Rattle.theory.specs.Prelude.{ℤ, length, length-append, add-one}
 use Rattle.sheet.specs.Field.{Field, value, refused}
 use Rattle.sheet.specs.Field.Laws.{refused-value}
-use Rattle.sheet.specs.Rules.{elementsInRange, faultUnless, sheetFault}
+use Rattle.sheet.specs.Rules.{elementsInRange, faultUnless}
 use Rattle.sheet.specs.Answer.{byRule}
-use Rattle.sheet.specs.Refusals.{Rule, By, given, ruled, Fault}
-use Rattle.sheet.specs.Refusals.Laws.{OfFacts, by-wider, which, fault-sheet}
+use Rattle.sheet.specs.Refusals.{By, ruled, Fault}
+use Rattle.sheet.specs.Refusals.Laws.{OfFacts, by-wider, which}
 use Rattle.writer.specs.Write.{writeField}
-use Rattle.pattern.specs.ReadWrite.{Written}
 use Rattle.pattern.specs.ReadWrite.Proof.{read-write}
 use Rattle.pattern.specs.Refusals.Proof.{refusals}
 use Rattle.pattern_c.specs.Columns.{placesOf, openingKnown, kindsListed, sheetIn, columnsFault, columnsField}
@@ -17,7 +17,8 @@ use Rattle.pattern_c.specs.Writes.{Columned, Writes}
 places-long : {A : Type 0} (what : ℕ → A) (k : ℕ) → length (placesOf what k) ≡ k
 unfolding placesOf
 places-long what zero = refl
-places-long what (suc k) = length-append (placesOf what k) (what k ∷ []) ∙ ap (λ (n : ℕ). n + 1) (places-long what k) ∙ add-one k
+places-long what (suc k) = length-append (placesOf what k) (what k ∷ []) ∙ ap (λ (n : ℕ). n + 1) (places-long what k)
+    ∙ add-one k
 
 -- 3 and 18 are the writer's own
 columned : (a b c : Bool) → Fault Columned (faultUnless a 1 (faultUnless b 3 (faultUnless c 18 0)))
@@ -39,7 +40,8 @@ not-1 : OfFacts 1 → ⊥
 not-1 (inl h) = omega (arith, h .0 .from)
 not-1 (inr h) = omega (arith, h .from)
 
-first-rule : (a b c : Bool) (x : Field (List ℕ)) → By OfFacts x → byRule (faultUnless a 1 (faultUnless b 3 (faultUnless c 18 0))) x ≡ refused 1
+first-rule : (a b c : Bool) (x : Field (List ℕ)) → By OfFacts x
+    → byRule (faultUnless a 1 (faultUnless b 3 (faultUnless c 18 0))) x ≡ refused 1
     → a ≡ false
 first-rule false b c x h e = refl
 first-rule true false c x h e = absurd (let z : _≡_ {A = ℕ} 3 1 = cc in omega arith)
@@ -53,12 +55,14 @@ writes opening n e kinds radii firsts seconds maps sizes =
     let s = sheetIn opening n e kinds radii firsts seconds maps sizes in
     record {
       rules =
-          by-rule (columnsFault opening n kinds) (writeField s) (columned (openingKnown opening) (elementsInRange n) (kindsListed kinds n))
+          by-rule (columnsFault opening n kinds) (writeField s)
+          (columned (openingKnown opening) (elementsInRange n) (kindsListed kinds n))
           (by-wider (λ k h. inr h) (refusals .write s));
-      opening = (
+      first = (
         λ h. rw h,
         first-rule (openingKnown opening) (elementsInRange n) (kindsListed kinds n) (writeField s) (refusals .write s),
       );
       written = λ bytes rest q.
-          read-write .written s bytes rest (places-long _ 64) (places-long _ 200) (after-rule (columnsFault opening n kinds) (writeField s) q);
+          read-write .written s bytes rest (places-long _ 64) (places-long _ 200)
+          (after-rule (columnsFault opening n kinds) (writeField s) q);
     }
