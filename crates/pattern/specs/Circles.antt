@@ -27,14 +27,14 @@ use Rattle.sketch.specs.Sketch.{extended, asJudged, askAnswer, placeAnswer}
 use Rattle.sketch.specs.Runs.{Held}
 use Rattle.records.specs.Record.{asJudgement, askField}
 use Rattle.records.specs.Runs.{SameFacts}
-use Rattle.pattern.specs.Entries.{itemsField, verdictField, checkField, stepsField, savedStepsField, partOf, partField}
-use Rattle.pattern.specs.Entries.{chainField, missingField, openMergesField}
+use Rattle.pattern.specs.Entries.{itemsField, verdictField, checkField, stepsField, savedStepsField, partOf}
+use Rattle.pattern.specs.Entries.{partField, chainField, missingField, openMergesField}
 pub mod Proof
 
 -- ---- a round light and the sketch of its centres
 
--- two sheets with one graph: the verdict; over, plan, initial and final clusters, what these rest on, report; saved plans and step records; the steps
--- of one cluster; the chain, the missing dimensions, the open merges
+-- two sheets with one graph: the verdict; over, plan, initial and final clusters, what these rest on, report; saved
+-- plans and step records; the steps of one cluster; the chain, the missing dimensions, the open merges
 pub record SameGraph (a b : List ℕ) : Type 0 where
   pub verdict : verdictField a ≡ verdictField b
   pub items : (what : Graph → List ℕ) → itemsField what a ≡ itemsField what b
@@ -62,15 +62,20 @@ pub record Round (bytes : List ℕ) (f : Facts) : Type 0 where
   -- the answers are those of the graph of its centres
   pub verdict : verdictField bytes ≡ value (verdictOf (graphOf (centres f))) []
   pub items : (what : Graph → List ℕ) → itemsField what bytes ≡ value (what (graphOf (centres f))) []
-  pub check : (plan : List ℕ) → checkField bytes plan ≡ unlessOver (graphOf (centres f)) (savedField (graphOf (centres f)) plan)
+  pub check : (plan : List ℕ)
+      → checkField bytes plan ≡ unlessOver (graphOf (centres f)) (savedField (graphOf (centres f)) plan)
   pub steps : stepsField bytes ≡ unlessOver (graphOf (centres f)) (value (planSteps (graphOf (centres f))) [])
-  pub saved-steps : (plan : List ℕ) → savedStepsField bytes plan ≡ unlessOver (graphOf (centres f)) (savedRecords (graphOf (centres f)) plan)
-  pub part : (c : ℕ) → partField bytes c ≡ linesField (unlessOver (graphOf (centres f)) (clusterField (graphOf (centres f)) c))
+  pub saved-steps : (plan : List ℕ)
+      → savedStepsField bytes plan ≡ unlessOver (graphOf (centres f)) (savedRecords (graphOf (centres f)) plan)
+  pub part : (c : ℕ) → partField bytes c
+      ≡ linesField (unlessOver (graphOf (centres f)) (clusterField (graphOf (centres f)) c))
   pub part-steps : (c : ℕ) → partOf bytes c ≡ unlessOver (graphOf (centres f)) (clusterField (graphOf (centres f)) c)
-  pub chain : (start end : ℕ) → chainField bytes start end ≡ unlessOver (graphOf (centres f)) (asked (graphOf (centres f)) start end)
+  pub chain : (start end : ℕ)
+      → chainField bytes start end ≡ unlessOver (graphOf (centres f)) (asked (graphOf (centres f)) start end)
   pub missing : (prices : List ℕ) → missingField bytes prices
       ≡ unlessOver (graphOf (centres f)) (cheapestField (graphOf (centres f)) prices)
-  pub open-merges : (steps : ℕ) → openMergesField bytes steps ≡ unlessOver (graphOf (centres f)) (openField (graphOf (centres f)) steps)
+  pub open-merges : (steps : ℕ)
+      → openMergesField bytes steps ≡ unlessOver (graphOf (centres f)) (openField (graphOf (centres f)) steps)
   -- and of the sheet of its centres, which no rule refuses where no distance of a contact is above 40,000
   pub sheet : ((i : ℕ) → i < length (f .constraints) → isContact (listed f i .size) ≡ true → natAbs (sizeIn (f .elements) (listed f i)) ≤ 40000)
       → Accepted (centres f) × SameGraph bytes (sheetBytes (centres f))
@@ -88,8 +93,10 @@ pub record RoundHeld (s : Sheet) (c : Constraint) : Type 0 where
   pub ask : askAnswer s c ≡ judgedBy (extended (factsOf s) c)
   pub place : placeAnswer s c (s .e) ≡ judgedBy (extended (factsOf s) c)
   pub ask-in : (lent : List ℕ) → SameFacts lent s → asJudgement (askField lent c) ≡ judgedBy (extended (factsOf s) c)
-  -- the sketch of centres with it is the held sketch of centres with the constraint between the centres, which answers so where it takes that one
-  pub with-it : centres (extended (factsOf s) c) ≡ extended (centres (factsOf s)) (centreConstraint (factsOf s .elements) c)
+  -- the sketch of centres with it is the held sketch of centres with the constraint between the centres, which answers
+  -- so where it takes that one
+  pub with-it : centres (extended (factsOf s) c)
+      ≡ extended (centres (factsOf s)) (centreConstraint (factsOf s .elements) c)
   pub same : Held (sheetOf (centres (factsOf s)))
       → taken (centres (factsOf s)) (centreConstraint (factsOf s .elements) c) ≡ 0
       → askAnswer (sheetOf (centres (factsOf s))) (centreConstraint (factsOf s .elements) c) ≡ askAnswer s c

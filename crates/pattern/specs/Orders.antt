@@ -1,5 +1,6 @@
--- Every order of the constraints, over bytes. Document 01, "Every order of merging": in whichever order a sheet's constraints stand, "what precedes the
--- constraints, and each constraint's own fields, stay", and every list of merges comes to the same verdict, final clusters, joints and count of steps.
+-- Every order of the constraints, over bytes. Document 01, "Every order of merging": in whichever order a sheet's
+-- constraints stand, "what precedes the constraints, and each constraint's own fields, stay", and every list of merges
+-- comes to the same verdict, final clusters, joints and count of steps.
 use Rattle.theory.specs.Prelude.{ℕ, zero, suc, _+_, _≡_, _≢_, _↔_, List, [], _∷_, _++_, map, ones, length, take, drop}
 use Rattle.theory.specs.Constraints.{Among, Perm}
 use Rattle.theory.specs.Merge.{Merge, Valid, Maximal, joints}
@@ -27,7 +28,8 @@ pub mod Proof
 unfoldable pub ownBytes : ℕ → List ℕ → List (List ℕ)
 ownBytes zero s = []
 ownBytes (suc e) (first ∷ second ∷ map ∷ s) =
-    (first ∷ second ∷ map ∷ take (sizeLength map + tagLength map) s) ∷ ownBytes e (drop (sizeLength map + tagLength map) s)
+    (first ∷ second ∷ map ∷ take (sizeLength map + tagLength map) s) ∷ ownBytes e
+    (drop (sizeLength map + tagLength map) s)
 ownBytes (suc e) [] = []
 ownBytes (suc e) (first ∷ []) = []
 ownBytes (suc e) (first ∷ second ∷ []) = []
@@ -75,7 +77,8 @@ pub record SameAnyOrder (bytes new : List ℕ) (g h : Graph) : Type 0 where
   pub not-over : verdictOf h ≢ Over
   pub verdict : verdictField new ≡ verdictField bytes
   pub clusters : Both (itemsField finalClusters bytes) (itemsField finalClusters new) SameSets
-  pub plan : Both (itemsField planNumbers bytes) (itemsField planNumbers new) (λ a b. Agree g h (savedSteps a) (savedSteps b))
+  pub plan : Both (itemsField planNumbers bytes) (itemsField planNumbers new)
+      (λ a b. Agree g h (savedSteps a) (savedSteps b))
   pub report : Both (itemsField reportOf bytes) (itemsField reportOf new) (SameReports g h)
   pub steps : Both (stepsField bytes) (stepsField new) SameSteps
   -- a saved plan that is accepted in that order comes to what the engine's own plan does

@@ -1,5 +1,6 @@
--- Over, of all that meets it: some set of m ≥ 2 elements carries more than 2m-3 constraints (demand 2). Document 01, "Verdict names": over is tried
--- first, and of an over sheet no plan is made and no final cluster is given; "Refused": rule 11; "A held sketch"; document 02.
+-- Over, of all that meets it: some set of m ≥ 2 elements carries more than 2m-3 constraints (demand 2). Document 01,
+-- "Verdict names": over is tried first, and of an over sheet no plan is made and no final cluster is given; "Refused":
+-- rule 11; "A held sketch"; document 02.
 use Rattle.theory.specs.Prelude.{ℕ, _≡_, _↔_, List, [], _∷_, length}
 use Rattle.theory.specs.Over.{IsOver, FirstOver}
 use Rattle.theory.specs.Graph.{Graph}
@@ -19,8 +20,10 @@ use Rattle.records.specs.Record.{askField, placeField, placedIn}
 use Rattle.records.specs.Runs.{SameFacts}
 use Rattle.account.specs.Account.{reportOf}
 use Rattle.account.specs.Resting.{restNumbers}
-use Rattle.pattern.specs.Entries.{itemsField, verdictField, overNumbers, heldSheet, checkField, holdField, missingField}
-use Rattle.pattern.specs.Entries.{stepsField, savedStepsField, partOf, partField, countOf, chainField, openMergesField}
+use Rattle.pattern.specs.Entries.{itemsField, verdictField, overNumbers, heldSheet, checkField, holdField}
+use Rattle.pattern.specs.Entries.{missingField}
+use Rattle.pattern.specs.Entries.{stepsField, savedStepsField, partOf, partField, countOf, chainField}
+use Rattle.pattern.specs.Entries.{openMergesField}
 pub mod Held
 pub mod Proof
 
@@ -38,9 +41,11 @@ pub record OverTold (bytes : List ℕ) (g : Graph) : Type 0 where
       ↔ ((c x : ℕ) × (itemsField reportOf bytes ≡ value (overReport (g .n) (length (g .clusters)) c x) []))
   -- over answers two items
   pub items : IsOver (g .clusters) ↔ ((c x : ℕ) × (itemsField overNumbers bytes ≡ value (c ∷ x ∷ []) []))
-  -- they are the first constraint that makes the listed ones up to it over and the smallest set, and the report names them
+  -- they are the first constraint that makes the listed ones up to it over and the smallest set, and the report names
+  -- them
   pub first : (c x : ℕ) → itemsField overNumbers bytes ≡ value (c ∷ x ∷ []) []
-      → FirstOver (g .clusters) c x × (itemsField reportOf bytes ≡ value (overReport (g .n) (length (g .clusters)) c x) [])
+      → FirstOver (g .clusters) c x
+      × (itemsField reportOf bytes ≡ value (overReport (g .n) (length (g .clusters)) c x) [])
   -- no plan, no final cluster, nothing that it rests on
   pub no-plan : IsOver (g .clusters) → itemsField planNumbers bytes ≡ value [] []
   pub no-cluster : IsOver (g .clusters) → itemsField finalClusters bytes ≡ value [] []
@@ -72,4 +77,5 @@ pub record OverNext (s : Sheet) (c : Constraint) : Type 0 where
   pub ask : OverWith (factsOf s) c ↔ (askAnswer s c ≡ Not 11)
   pub place : OverWith (factsOf s) c ↔ (placeAnswer s c (s .e) ≡ Not 11)
   pub ask-in : (lent : List ℕ) → SameFacts lent s → OverWith (factsOf s) c ↔ (askField lent c ≡ refused 11)
-  pub place-in : (lent : List ℕ) → SameFacts lent s → OverWith (factsOf s) c ↔ (placedIn (placeField lent c (s .e)) lent ≡ Not 11)
+  pub place-in : (lent : List ℕ) → SameFacts lent s
+      → OverWith (factsOf s) c ↔ (placedIn (placeField lent c (s .e)) lent ≡ Not 11)

@@ -26,10 +26,14 @@ pub record Parts : Type 0 where
   pub written : (bytes space : List ℕ) (c n : ℕ) → answerTo (partField bytes c) space ≡ Done n → countOf (partField bytes c) ≡ Done n
   pub refused-then : (bytes space : List ℕ) (c k : ℕ) → countOf (partField bytes c) ≡ Refused k → answerTo (partField bytes c) space ≡ Refused k
   -- the steps had beforehand are those whose lines are then written; what refuses them beforehand refuses then
-  pub steps-written : (bytes space : List ℕ) (c n : ℕ) → answerTo (partField bytes c) space ≡ Done n → (steps : List Step)
-      × (countOf (partOf bytes c) ≡ Done (length steps)) × (afterTo (partField bytes c) space ≡ after (stepLines steps) space)
-  pub steps-enough : (bytes space : List ℕ) (c m n : ℕ) → countOf (partOf bytes c) ≡ Done m → countOf (partField bytes c) ≡ Done n
-      → n ≤ length space → (steps : List Step) × (length steps ≡ m) × (afterTo (partField bytes c) space ≡ after (stepLines steps) space)
+  pub steps-written : (bytes space : List ℕ) (c n : ℕ) → answerTo (partField bytes c) space ≡ Done n
+      → (steps : List Step)
+      × (countOf (partOf bytes c) ≡ Done (length steps))
+      × (afterTo (partField bytes c) space ≡ after (stepLines steps) space)
+  pub steps-enough : (bytes space : List ℕ) (c m n : ℕ) → countOf (partOf bytes c) ≡ Done m
+      → countOf (partField bytes c) ≡ Done n
+      → n ≤ length space → (steps : List Step) × (length steps ≡ m)
+      × (afterTo (partField bytes c) space ≡ after (stepLines steps) space)
   pub steps-refused : (bytes space : List ℕ) (c k : ℕ) → countOf (partOf bytes c) ≡ Refused k
       → (countOf (partField bytes c) ≡ Refused k) × (answerTo (partField bytes c) space ≡ Refused k)
   -- of a held sheet every number of a cluster is taken, and no other

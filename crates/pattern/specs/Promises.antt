@@ -87,12 +87,14 @@ pub record PlacedTold (bytes : List ℕ) (f : Facts) (events : List Event) : Typ
 pub record Promises (bytes : List ℕ) (f : Facts) : Type 0 where
   pub over : OverTold bytes (graphOf f)
   -- and the sketch held from it, after any run of asks and placings, with one constraint more
-  pub over-next : verdictOf (graphOf f) ≢ Over → (events : List Event) (c : Constraint) → OverNext (afterAll (sheetOf f) events) c
+  pub over-next : verdictOf (graphOf f) ≢ Over → (events : List Event) (c : Constraint)
+      → OverNext (afterAll (sheetOf f) events) c
   -- every order of merging (demand 3): the bytes with their constraints in any order, and any lists of merges
   pub orders : InOrders bytes f
   -- the engine's plan: at every step the open merge that comes first, compared place by place, until none is open
   pub engine : verdictOf (graphOf f) ≢ Over → (p : List Merge) × (plan told : List ℕ) × (itemsField planNumbers bytes ≡ value plan [])
-      × (itemsField reportOf bytes ≡ value told []) × IsPlan (graphOf f .clusters) p × OwnList bytes (graphOf f) p plan told
+      × (itemsField reportOf bytes ≡ value told []) × IsPlan (graphOf f .clusters) p
+      × OwnList bytes (graphOf f) p plan told
   -- a saved plan is accepted if and only if it is a maximal list of merges
   pub saved : (plan told : List ℕ) → checkField bytes plan ≡ value told [] → OwnList bytes (graphOf f) (savedSteps plan) plan told
   pub accepts : verdictOf (graphOf f) ≢ Over → (plan : List ℕ)

@@ -1,5 +1,6 @@
--- Reading and writing, of what is called (demand 2). Document 01: "reading a written sheet gives its facts, writing an accepted sheet's facts gives its
--- bytes"; document 02, 2026-11: a sheet with tags, once read and written, is the same sheet with bit 1 clear and the tag bytes gone.
+-- Reading and writing, of what is called (demand 2). Document 01: "reading a written sheet gives its facts, writing an
+-- accepted sheet's facts gives its bytes"; document 02, 2026-11: a sheet with tags, once read and written, is the same
+-- sheet with bit 1 clear and the tag bytes gone.
 use Rattle.theory.specs.Prelude.{ℕ, _≡_, true, List, [], length}
 use Rattle.sheet.specs.declared.Sheet.{Sheet}
 use Rattle.sheet.specs.Facts.{Facts, factsOf}

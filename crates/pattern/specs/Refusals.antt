@@ -95,7 +95,8 @@ pub record Refusals : Type 0 where
   pub part-steps : (bytes : List ℕ) (c : ℕ) → By Numbered (partOf bytes c)
   -- the sheet with the longest plan
   pub longest : (n : ℕ) → By (Rule 3 3) (longestField n)
-  -- the chain from one element to another; over lent space it is refused by that rule too, or by 17 where the space is shorter
+  -- the chain from one element to another; over lent space it is refused by that rule too, or by 17 where the space is
+  -- shorter
   pub chain : (bytes : List ℕ) (start end : ℕ) → By (λ k. Holding k ⊎ (k ≡ 25)) (chainField bytes start end)
   pub run : (x : Field Graph) (start end : ℕ) (space left : List ℕ) (k : ℕ) → ChainAnswers x start end space (No k) left
       → (x ≡ refused k) ⊎ ((k ≡ 17) × ShortRun x start end space)

@@ -44,7 +44,8 @@ module _ (bytes rest : List ℕ) (f : Facts) (all : Bytes bytes) (reads : readSh
   unfolding heldSheet
   held-is what =
       rw reads
-      (next-rule (overFault (graphOf f)) (value f rest) (λ x t. what (graphOf x)) ∙ ap (λ (g : Graph). unlessOver g (what g)) own)
+      (next-rule (overFault (graphOf f)) (value f rest) (λ x t. what (graphOf x))
+      ∙ ap (λ (g : Graph). unlessOver g (what g)) own)
 
   module _ (ok : Accepted (centres f)) where
     same : SameGraph bytes (sheetBytes (centres f))
@@ -100,7 +101,11 @@ module _ (s : Sheet) (c : Constraint) (h : Held s) (z : taken (factsOf s) c ≡ 
 
   together : centres (extended f c) ≡ extended (centres f) (centreConstraint (f .elements) c)
   together =
-      ap (λ (l : List Constraint). record { opening = Pf01; elements = map centreElement (f .elements); constraints = l })
+      ap (λ (l : List Constraint). record {
+        opening = Pf01;
+        elements = map centreElement (f .elements);
+        constraints = l;
+      })
       (map-append (centreConstraint (f .elements)) (f .constraints) (c ∷ []))
 
   held-round : RoundHeld s c
@@ -108,7 +113,8 @@ module _ (s : Sheet) (c : Constraint) (h : Held s) (z : taken (factsOf s) c ≡ 
     ask = asked-next s h c ∙ judged-is;
     place = placed-next s h c ∙ judged-is;
     ask-in = λ lent e.
-        asked-value lent c e ∙ ap (λ (k : ℕ). asJudged k (verdictOf (graphOf (extended f c)))) (ask-rule s h c) ∙ judged-is;
+        asked-value lent c e ∙ ap (λ (k : ℕ). asJudged k (verdictOf (graphOf (extended f c)))) (ask-rule s h c)
+        ∙ judged-is;
     with-it = together;
     same = λ held y.
         let d = centreConstraint (f .elements) c in

@@ -1,5 +1,6 @@
 -- What a call answers is short: the bounds of reports and sheets, and of the merges of constraints that are not over. Assumes nothing.
-use Rattle.theory.specs.Prelude.{ℕ, zero, suc, _+_, _*_, _-_, _≤_, arith, _≡_, refl, sym, ap, _∙_, List, [], map, length, length-map, length-append, length-replicate, replicate}
+use Rattle.theory.specs.Prelude.{ℕ, zero, suc, _+_, _*_, _-_, _≤_, arith, _≡_, refl, sym, ap, _∙_, List, [], map}
+use Rattle.theory.specs.Prelude.{length, length-map, length-append, length-replicate, replicate}
 use Rattle.theory.specs.Constraints.{NotOver}
 use Rattle.theory.specs.Over.Laws.{overOf-fine, fine-most}
 use Rattle.theory.specs.Merge.{Merge, Valid, final, left}
@@ -185,10 +186,12 @@ no-radii (suc n) = no-radii n
 
 sheet-length : (f : Facts)
     → length (sheetBytes f)
-    ≤ 6 + kindBytes (f .opening) (length (f .elements)) + length (radiiBytes (f .elements)) + 7 * length (f .constraints)
+    ≤ 6 + kindBytes (f .opening) (length (f .elements)) + length (radiiBytes (f .elements))
+    + 7 * length (f .constraints)
 unfolding sheetBytes
 sheet-length f =
-    simp (length-append, length-digits, opening-length (f .opening)) (omega (arith, constraints-length (f .constraints)))
+    simp (length-append, length-digits, opening-length (f .opening))
+    (omega (arith, constraints-length (f .constraints)))
 
 longest-short : (n : ℕ) → AtMost 889 (longestField n)
 unfolding longestField
@@ -196,7 +199,8 @@ longest-short n items rest e =
     demand-value (elementsInRange n) 3 _ e (λ ok e1.
     let same : sheetBytes (longestSheet n) ≡ items = cc in
     let range = elements-range n ok in
-    let kinds : kindBytes Pf01 (length (replicate n blankElement)) ≤ 8 = rw (length-replicate n blankElement) (omega (arith, range .1)) in
+    let kinds : kindBytes Pf01 (length (replicate n blankElement)) ≤ 8 = rw (length-replicate n blankElement)
+    (omega (arith, range .1)) in
     omega (
       arith,
       sheet-length (longestSheet n),

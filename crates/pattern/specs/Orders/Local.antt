@@ -1,6 +1,8 @@
 -- What a field of a sheet says goes by its own bytes alone, whatever follows them. Assumes nothing.
-use Rattle.theory.specs.Prelude.{ℕ, zero, suc, _+_, _*_, _/_, _%_, _≤_, arith, _≡_, refl, sym, ap, _∙_, Bool, true, false, cond, not, List, [], _∷_, _++_}
-use Rattle.theory.specs.Prelude.{append-assoc, eqb, ltb, pos, length, take, drop, length-append, take-append-drop, take-at, drop-at, length-take-le, le-ltb}
+use Rattle.theory.specs.Prelude.{ℕ, zero, suc, _+_, _*_, _/_, _%_, _≤_, arith, _≡_, refl, sym, ap, _∙_, Bool, true}
+use Rattle.theory.specs.Prelude.{false, cond, not, List, [], _∷_, _++_}
+use Rattle.theory.specs.Prelude.{append-assoc, eqb, ltb, pos, length, take, drop, length-append, take-append-drop}
+use Rattle.theory.specs.Prelude.{take-at, drop-at, length-take-le, le-ltb}
 use Rattle.theory.specs.Prelude.{ltb-false, getD}
 use Rattle.sheet.specs.declared.Kind.{Kind}
 use Rattle.sheet.specs.declared.PairKind.{PairKind}
@@ -33,7 +35,8 @@ pub field-local : (k : ℕ) (s : List ℕ) {u : ℕ} {t : List ℕ} → field k 
 unfolding field
 field-local k s {u} {t} e = by (ltb (length s) k) refl e
   where
-    by : (b : Bool) → ltb (length s) k ≡ b → cond b (refused 2) (value (number (take k s)) (drop k s)) ≡ value u t → OwnNumber k s u t
+    by : (b : Bool) → ltb (length s) k ≡ b → cond b (refused 2) (value (number (take k s)) (drop k s)) ≡ value u t
+        → OwnNumber k s u t
     by true q h = refused-value h
     by false q h =
         let long : length (take k s) ≡ k = length-take-le k s (ltb-false _ _ q) in
@@ -54,13 +57,16 @@ field-local k s {u} {t} e = by (ltb (length s) k) refl e
         })
 
 -- a byte that a rule takes
-pub byte-own : (takes : ℕ → Bool) (k : ℕ) (s : List ℕ) {b : ℕ} {t : List ℕ} → byteBy takes k s ≡ value b t → (takes b ≡ true) × (s ≡ b ∷ t)
+pub byte-own : (takes : ℕ → Bool) (k : ℕ) (s : List ℕ) {b : ℕ} {t : List ℕ} → byteBy takes k s ≡ value b t
+    → (takes b ≡ true) × (s ≡ b ∷ t)
 byte-own takes k [] e = refused-value e
-byte-own takes k (x ∷ s) e = demand-value (takes x) k _ e (λ ok e1. value-with (λ b t. (takes b ≡ true) × (x ∷ s ≡ b ∷ t)) e1 (ok, refl))
+byte-own takes k (x ∷ s) e = demand-value (takes x) k _ e
+    (λ ok e1. value-with (λ b t. (takes b ≡ true) × (x ∷ s ≡ b ∷ t)) e1 (ok, refl))
 
 -- ---- size and tag
 
-pub size-local : (p : PairKind) (y : Size) (s : List ℕ) {z : Size} {t : List ℕ} → size p y s ≡ value z t → Local (size p y) (4 * (mapOf z % 2)) s z t
+pub size-local : (p : PairKind) (y : Size) (s : List ℕ) {z : Size} {t : List ℕ} → size p y s ≡ value z t
+    → Local (size p y) (4 * (mapOf z % 2)) s z t
 unfolding size
 size-local p (Given y) s e =
     next-value (field 4 s) _ e (λ u s1 was e1.
@@ -69,22 +75,28 @@ size-local p (Given y) s e =
     value-with (λ z t. Local (size p (Given y)) (4 * (mapOf z % 2)) s z t) e2
     (record { own = f .own; front = f .front; long = f .long; again = λ w. rw (f .again w, range) })))
 size-local p Missing s e =
-    value-with (λ z t. Local (size p Missing) (4 * (mapOf z % 2)) s z t) e (record { own = []; front = refl; long = refl; again = λ w. refl })
+    value-with (λ z t. Local (size p Missing) (4 * (mapOf z % 2)) s z t) e
+    (record { own = []; front = refl; long = refl; again = λ w. refl })
 size-local p Tangent s e =
-    value-with (λ z t. Local (size p Tangent) (4 * (mapOf z % 2)) s z t) e (record { own = []; front = refl; long = refl; again = λ w. refl })
+    value-with (λ z t. Local (size p Tangent) (4 * (mapOf z % 2)) s z t) e
+    (record { own = []; front = refl; long = refl; again = λ w. refl })
 size-local p OtherTangent s e =
     value-with (λ z t. Local (size p OtherTangent) (4 * (mapOf z % 2)) s z t) e
     (record { own = []; front = refl; long = refl; again = λ w. refl })
 size-local p Unfit s e =
-    value-with (λ z t. Local (size p Unfit) (4 * (mapOf z % 2)) s z t) e (record { own = []; front = refl; long = refl; again = λ w. refl })
+    value-with (λ z t. Local (size p Unfit) (4 * (mapOf z % 2)) s z t) e
+    (record { own = []; front = refl; long = refl; again = λ w. refl })
 
-pub tag-local : (q : Bool) (s : List ℕ) {v : Unit {0}} {t : List ℕ} → tag q s ≡ value v t → Local (tag q) (2 * bitOf q) s v t
+pub tag-local : (q : Bool) (s : List ℕ) {v : Unit {0}} {t : List ℕ} → tag q s ≡ value v t
+    → Local (tag q) (2 * bitOf q) s v t
 unfolding tag
-tag-local false s e = value-with (Local (tag false) 0 s) e (record { own = []; front = refl; long = refl; again = λ w. refl })
+tag-local false s e = value-with (Local (tag false) 0 s) e
+    (record { own = []; front = refl; long = refl; again = λ w. refl })
 tag-local true s e =
     next-value (field 2 s) _ e (λ u s1 was e1.
     let f = field-local 2 s was .read in
-    value-with (Local (tag true) 2 s) e1 (record { own = f .own; front = f .front; long = f .long; again = λ w. rw (f .again w) }))
+    value-with (Local (tag true) 2 s) e1
+    (record { own = f .own; front = f .front; long = f .long; again = λ w. rw (f .again w) }))
 
 -- ---- one constraint
 
@@ -100,7 +112,8 @@ record DimensionLocal (j k : Kind) (s : List ℕ) (z : Size) (t : List ℕ) : Ty
   long : length own ≡ 4 * (mapOf z % 2) + tagLength bits
   again : (u : List ℕ) → dimension j k (bits ∷ own ++ u) ≡ value z u
 
-dimension-local : (j k : Kind) (s : List ℕ) {z : Size} {t : List ℕ} → dimension j k s ≡ value z t → DimensionLocal j k s z t
+dimension-local : (j k : Kind) (s : List ℕ) {z : Size} {t : List ℕ} → dimension j k s ≡ value z t
+    → DimensionLocal j k s z t
 unfolding dimension
 dimension-local j k s e =
     next-value (byteBy (mapAllowed j k) 8 s) _ e (λ bits s1 was e1.
@@ -116,7 +129,8 @@ dimension-local j k s e =
       own = f .own ++ g .own;
       front =
           m .1
-          ∙ ap (λ (l : List ℕ). bits ∷ l) (f .front ∙ ap (λ (l : List ℕ). f .own ++ l) (g .front) ∙ sym (append-assoc (f .own) (g .own) s3));
+          ∙ ap (λ (l : List ℕ). bits ∷ l)
+          (f .front ∙ ap (λ (l : List ℕ). f .own ++ l) (g .front) ∙ sym (append-assoc (f .own) (g .own) s3));
       long =
           length-append (f .own) (g .own)
           ∙ rw (f .long, g .long) (ap (λ (b : ℕ). 4 * (mapOf z % 2) + 2 * b) (bit-is (bits / 2 % 2) (omega arith)));
@@ -125,7 +139,8 @@ dimension-local j k s e =
 
 -- the bit map that was read is that of the size, but for bit 1
 map-is : (a b bits : ℕ) (z : Size) (s t : List ℕ)
-    → dropTags 1 (a ∷ b ∷ bits ∷ s) ≡ constraintBytes (record { first = a; second = b; size = z }) ++ dropTags 0 t → mapOf z ≡ withoutBit1 bits
+    → dropTags 1 (a ∷ b ∷ bits ∷ s) ≡ constraintBytes (record { first = a; second = b; size = z }) ++ dropTags 0 t
+    → mapOf z ≡ withoutBit1 bits
 unfolding dropTags constraintBytes
 map-is a b bits z s t e = sym (ap (λ (l : List ℕ). getD l 2 0) e)
 

@@ -1,5 +1,7 @@
--- The promises of every order hold: demand 3 is brought to the answers of two sheets whose constraints stand in different orders. Assumes nothing.
-use Rattle.theory.specs.Prelude.{ℕ, zero, suc, _≡_, refl, sym, ap, _∙_, _≢_, Iff·trans, Iff·symm, List, [], length, length-map}
+-- The promises of every order hold: demand 3 is brought to the answers of two sheets whose constraints stand in
+-- different orders. Assumes nothing.
+use Rattle.theory.specs.Prelude.{ℕ, zero, suc, _≡_, refl, sym, ap, _∙_, _≢_, Iff·trans, Iff·symm, List, [], length}
+use Rattle.theory.specs.Prelude.{length-map}
 use Rattle.theory.specs.Constraints.{Perm}
 use Rattle.theory.specs.Merge.{Merge, Maximal, final, joints}
 use Rattle.theory.specs.Plan.{planOf}
@@ -62,12 +64,15 @@ same-steps g h p q a =
   where
     joints-long : (g : Graph) (p : List Merge) → length (joints (g .clusters) p) ≡ length p
     joints-long g p =
-        ap length (sym (joints-steps g (g .clusters) p)) ∙ length-map (stepsOf g p) (λ (s : Step). s .joint) ∙ length-steps g (g .clusters) p
+        ap length (sym (joints-steps g (g .clusters) p)) ∙ length-map (stepsOf g p) (λ (s : Step). s .joint)
+        ∙ length-steps g (g .clusters) p
 
 -- ---- two orders
 
-module _ (bytes new : List ℕ) (f : Facts) (rest : List ℕ) (a : Accepted f) (reads : readSheet bytes ≡ value f rest) (ds : List Constraint)
-    (perm : Perm (f .constraints) ds) (reads′ : readSheet new ≡ value (reordered f ds) []) (v : verdictOf (graphOf f) ≢ Over) where
+module _ (bytes new : List ℕ) (f : Facts) (rest : List ℕ) (a : Accepted f) (reads : readSheet bytes ≡ value f rest)
+    (ds : List Constraint)
+    (perm : Perm (f .constraints) ds) (reads′ : readSheet new ≡ value (reordered f ds) [])
+    (v : verdictOf (graphOf f) ≢ Over) where
   abbrev g : Graph
   g = graphOf f
 
@@ -92,12 +97,14 @@ module _ (bytes new : List ℕ) (f : Facts) (rest : List ℕ) (a : Accepted f) (
   own-plan : Maximal (g .clusters) (planOf (g .clusters))
   own-plan = plan-of-maximal (g .clusters) (clusters-pairs f (a .no-fault))
 
-  clusters-same : SameSets (livingOf (final (g .clusters) (one-list .p))) (livingOf (final (h .clusters) (other-list .p)))
+  clusters-same : SameSets (livingOf (final (g .clusters) (one-list .p)))
+      (livingOf (final (h .clusters) (other-list .p)))
   clusters-same = (
     λ x.
         Iff·trans (living-live (final (g .clusters) (one-list .p)) x)
         (Iff·trans (agree .finals x) (Iff·symm (living-live (final (h .clusters) (other-list .p)) x))),
-    living-count (final (g .clusters) (one-list .p)) ∙ agree .lefts ∙ sym (living-count (final (h .clusters) (other-list .p))),
+    living-count (final (g .clusters) (one-list .p)) ∙ agree .lefts
+        ∙ sym (living-count (final (h .clusters) (other-list .p))),
   )
 
   saved : (plan told : List ℕ) → checkField new plan ≡ value told []
@@ -113,15 +120,18 @@ module _ (bytes new : List ℕ) (f : Facts) (rest : List ℕ) (a : Accepted f) (
 
   saved-steps : (plan : List ℕ) (steps : List Step) → savedStepsField new plan ≡ value steps []
       → Both (stepsField bytes) (savedStepsField new plan) SameSteps
-  saved-steps plan steps e = by (planFault (h .clusters) plan) refl (sym (saved-are new (reordered f ds) [] reads′ (other .1) plan) ∙ e)
+  saved-steps plan steps e = by (planFault (h .clusters) plan) refl
+      (sym (saved-are new (reordered f ds) [] reads′ (other .1) plan) ∙ e)
     where
-      by : (k : ℕ) → planFault (h .clusters) plan ≡ k → byRule k (value (stepsOf h (savedSteps plan)) []) ≡ value steps []
+      by : (k : ℕ) → planFault (h .clusters) plan ≡ k
+          → byRule k (value (stepsOf h (savedSteps plan)) []) ≡ value steps []
           → Both (stepsField bytes) (savedStepsField new plan) SameSteps
       by zero z q = record {
         one = stepsOf g (planOf (g .clusters));
         other = stepsOf h (savedSteps plan);
         one-is = steps-are bytes f rest reads v;
-        other-is = saved-are new (reordered f ds) [] reads′ (other .1) plan ∙ ap (λ (k : ℕ). byRule k (value (stepsOf h (savedSteps plan)) [])) z;
+        other-is = saved-are new (reordered f ds) [] reads′ (other .1) plan
+            ∙ ap (λ (k : ℕ). byRule k (value (stepsOf h (savedSteps plan)) [])) z;
         alike =
             same-steps g h (planOf (g .clusters)) (savedSteps plan)
             (lists (planOf (g .clusters)) (savedSteps plan) own-plan (accepted-maximal (h .clusters) plan .0 z .1));
@@ -132,26 +142,30 @@ module _ (bytes new : List ℕ) (f : Facts) (rest : List ℕ) (a : Accepted f) (
   same-any-order = record {
     not-over = other .1;
     verdict =
-        rw (reads, reads′) (ap (λ (w : Verdict). value w []) (other-list .verdict ∙ sym (agree .verdicts) ∙ sym (one-list .verdict)));
+        rw (reads, reads′) (ap (λ (w : Verdict). value w [])
+        (other-list .verdict ∙ sym (agree .verdicts) ∙ sym (one-list .verdict)));
     clusters = record {
       one = livingOf (final (g .clusters) (one-list .p));
       other = livingOf (final (h .clusters) (other-list .p));
       one-is = items-are bytes f rest reads finalClusters ∙ ap (λ (x : List ℕ). value x []) (one-list .clusters);
-      other-is = items-are new (reordered f ds) [] reads′ finalClusters ∙ ap (λ (x : List ℕ). value x []) (other-list .clusters);
+      other-is = items-are new (reordered f ds) [] reads′ finalClusters
+          ∙ ap (λ (x : List ℕ). value x []) (other-list .clusters);
       alike = clusters-same;
     };
     plan = record {
       one = flat (one-list .p);
       other = flat (other-list .p);
       one-is = items-are bytes f rest reads planNumbers ∙ ap (λ (x : List ℕ). value x []) (one-list .plan);
-      other-is = items-are new (reordered f ds) [] reads′ planNumbers ∙ ap (λ (x : List ℕ). value x []) (other-list .plan);
+      other-is = items-are new (reordered f ds) [] reads′ planNumbers
+          ∙ ap (λ (x : List ℕ). value x []) (other-list .plan);
       alike = rw (whole-saved (one-list .p), whole-saved (other-list .p)) agree;
     };
     report = record {
       one = listReport g (one-list .p);
       other = listReport h (other-list .p);
       one-is = items-are bytes f rest reads reportOf ∙ ap (λ (x : List ℕ). value x []) (one-list .report);
-      other-is = items-are new (reordered f ds) [] reads′ reportOf ∙ ap (λ (x : List ℕ). value x []) (other-list .report);
+      other-is = items-are new (reordered f ds) [] reads′ reportOf
+          ∙ ap (λ (x : List ℕ). value x []) (other-list .report);
       alike = record { p = one-list .p; q = other-list .p; told-is = refl; also-is = refl; agree = agree };
     };
     steps = record {
@@ -171,7 +185,8 @@ module _ (bytes new : List ℕ) (f : Facts) (rest : List ℕ) (a : Accepted f) (
     whole = sheet-demand3 (reordered f ds) (other .0) (other .1) .whole;
   }
 
-pub in-orders : (bytes : List ℕ) (f : Facts) (rest : List ℕ) → Bytes bytes → readSheet bytes ≡ value f rest → InOrders bytes f
+pub in-orders : (bytes : List ℕ) (f : Facts) (rest : List ℕ) → Bytes bytes → readSheet bytes ≡ value f rest
+    → InOrders bytes f
 in-orders bytes f rest all reads = record {
   own = own-order bytes f rest all reads;
   every = λ ps r.
@@ -181,6 +196,7 @@ in-orders bytes f rest all reads = record {
         constraints = o .perm;
         facts-are = refl;
         accepted = o .reads;
-        answers = same-any-order bytes (inOrder bytes ps) f rest (written-read bytes f rest all reads .2) reads (o .order) (o .perm) (o .reads);
+        answers = same-any-order bytes (inOrder bytes ps) f rest (written-read bytes f rest all reads .2) reads
+            (o .order) (o .perm) (o .reads);
       };
 }

@@ -1,5 +1,6 @@
 -- Over is one finding that every answer goes by. Assumes nothing.
-use Rattle.theory.specs.Prelude.{ℕ, zero, suc, _+_, arith, _≡_, refl, sym, ap, _∙_, subst, _≢_, _↔_, Iff·trans, Bool, true, false, cond, _&&_, ltb}
+use Rattle.theory.specs.Prelude.{ℕ, zero, suc, _+_, arith, _≡_, refl, sym, ap, _∙_, subst, _≢_, _↔_, Iff·trans, Bool}
+use Rattle.theory.specs.Prelude.{true, false, cond, _&&_, ltb}
 use Rattle.theory.specs.Prelude.{List, [], _∷_, _++_, length, getD, inl, inr, map}
 use Rattle.theory.specs.Constraints.{Pairs, Below}
 use Rattle.theory.specs.Over.{IsOver, FirstOver}
@@ -133,7 +134,8 @@ module _ (bytes : List ℕ) (f : Facts) (rest : List ℕ) (a : Accepted f) (read
   held-is = rw reads refl
 
   -- what a held sheet gives is refused by 11 where it is over; where it is not, no other rule is 11
-  meets-11 : {B : Type 0} (give : Field Facts → B) (eleven : B) → give (refused 11) ≡ eleven → (give (value f rest) ≡ eleven → ⊥)
+  meets-11 : {B : Type 0} (give : Field Facts → B) (eleven : B) → give (refused 11) ≡ eleven
+      → (give (value f rest) ≡ eleven → ⊥)
       → IsOver (g .clusters) ↔ (give (heldSheet bytes) ≡ eleven)
   meets-11 {B} give eleven is never = by (found g pairs below)
     where
@@ -147,14 +149,16 @@ module _ (bytes : List ℕ) (f : Facts) (rest : List ℕ) (a : Accepted f) (read
         λ e. absurd (never (ap give (sym (held-is ∙ ap (λ (k : ℕ). byRule k (value f rest)) (fine-fault g q))) ∙ e)),
       )
 
-  named : {c x : ℕ} → findingOf g ≡ First c x → itemsField reportOf bytes ≡ value (overReport (g .n) (length (g .clusters)) c x) []
+  named : {c x : ℕ} → findingOf g ≡ First c x
+      → itemsField reportOf bytes ≡ value (overReport (g .n) (length (g .clusters)) c x) []
   unfolding reportOf
   named q = items-are reportOf ∙ ap (λ (r : Finding). value (reportBy g r) []) q
 
   listed : {c x : ℕ} → findingOf g ≡ First c x → itemsField overNumbers bytes ≡ value (c ∷ x ∷ []) []
   listed q = items-are overNumbers ∙ ap (λ (r : Finding). value (overItems r) []) q
 
-  not-named : (c x : ℕ) → findingOf g ≡ Fine → itemsField reportOf bytes ≡ value (overReport (g .n) (length (g .clusters)) c x) [] → ⊥
+  not-named : (c x : ℕ) → findingOf g ≡ Fine
+      → itemsField reportOf bytes ≡ value (overReport (g .n) (length (g .clusters)) c x) [] → ⊥
   unfolding reportOf listReport report overReport
   not-named c x q e =
       unlike (listVerdict g (planOf (g .clusters))) _ _ (list-not-over g (planOf (g .clusters)))
@@ -162,15 +166,19 @@ module _ (bytes : List ℕ) (f : Facts) (rest : List ℕ) (a : Accepted f) (read
 
   not-listed : (c x : ℕ) → findingOf g ≡ Fine → itemsField overNumbers bytes ≡ value (c ∷ x ∷ []) [] → ⊥
   not-listed c x q e =
-      let z : [] ≡ c ∷ x ∷ [] = same-value (sym (items-are overNumbers ∙ ap (λ (r : Finding). value (overItems r) []) q) ∙ e) in
+      let z : [] ≡ c ∷ x ∷ [] = same-value
+      (sym (items-are overNumbers ∙ ap (λ (r : Finding). value (overItems r) []) q) ∙ e) in
       omega (arith, ap length z)
 
   verdict-told : Found g → IsOver (g .clusters) ↔ (verdictField bytes ≡ value Over [])
-  verdict-told (is-over c x q o) = (λ h. verdict-is ∙ ap (λ (v : Verdict). value v []) (over-verdict g pairs below o), λ h. o)
-  verdict-told (is-fine q none) = (λ h. absurd (none h), λ e. absurd (fine-not-over g q (same-value (sym verdict-is ∙ e))))
+  verdict-told (is-over c x q o) =
+      (λ h. verdict-is ∙ ap (λ (v : Verdict). value v []) (over-verdict g pairs below o), λ h. o)
+  verdict-told (is-fine q none) =
+      (λ h. absurd (none h), λ e. absurd (fine-not-over g q (same-value (sym verdict-is ∙ e))))
 
   report-told : Found g
-      → IsOver (g .clusters) ↔ ((c x : ℕ) × (itemsField reportOf bytes ≡ value (overReport (g .n) (length (g .clusters)) c x) []))
+      → IsOver (g .clusters)
+      ↔ ((c x : ℕ) × (itemsField reportOf bytes ≡ value (overReport (g .n) (length (g .clusters)) c x) []))
   report-told (is-over c x q o) = (λ h. (c, x, named q), λ h. o)
   report-told (is-fine q none) = (λ h. absurd (none h), λ (c, x, e). absurd (not-named c x q e))
 
@@ -179,7 +187,8 @@ module _ (bytes : List ℕ) (f : Facts) (rest : List ℕ) (a : Accepted f) (read
   items-told (is-fine q none) = (λ h. absurd (none h), λ (c, x, e). absurd (not-listed c x q e))
 
   first-told : Found g → (c x : ℕ) → itemsField overNumbers bytes ≡ value (c ∷ x ∷ []) []
-      → FirstOver (g .clusters) c x × (itemsField reportOf bytes ≡ value (overReport (g .n) (length (g .clusters)) c x) [])
+      → FirstOver (g .clusters) c x
+      × (itemsField reportOf bytes ≡ value (overReport (g .n) (length (g .clusters)) c x) [])
   first-told (is-over c x q o) d y e =
       let both = same-items c x d y (same-value (sym (listed q) ∙ e)) in
       rw (← both .0, ← both .1) (overOf-first (g .n) (g .clusters) pairs below c x q, named q)
@@ -189,9 +198,11 @@ module _ (bytes : List ℕ) (f : Facts) (rest : List ℕ) (a : Accepted f) (read
   first-told (is-fine q none) c x e = absurd (not-listed c x q e)
 
   -- no plan, no final cluster
-  none-listed : (what : Graph → List ℕ) (by : Finding → List ℕ) → what g ≡ by (findingOf g) → ((c x : ℕ) → by (First c x) ≡ []) → Found g
+  none-listed : (what : Graph → List ℕ) (by : Finding → List ℕ) → what g ≡ by (findingOf g)
+      → ((c x : ℕ) → by (First c x) ≡ []) → Found g
       → IsOver (g .clusters) → itemsField what bytes ≡ value [] []
-  none-listed what by is none (is-over c x q h) o = items-are what ∙ ap (λ (l : List ℕ). value l []) (is ∙ ap by q ∙ none c x)
+  none-listed what by is none (is-over c x q h) o = items-are what
+      ∙ ap (λ (l : List ℕ). value l []) (is ∙ ap by q ∙ none c x)
   none-listed what by is none (is-fine q unless) o = absurd (unless o)
 
   pub over-told : OverTold bytes g
@@ -228,7 +239,8 @@ module _ (bytes : List ℕ) (f : Facts) (rest : List ℕ) (a : Accepted f) (read
         missing = λ prices.
             meets-11 (λ x. next x (λ h t. cheapestField (graphOf h) prices)) (refused 11) refl (λ e.
             let r : Rule 21 23 11 = which (subst (By (Rule 21 23)) e (by-rules g prices)) in omega (arith, r .from));
-        open-merges = λ steps. meets-11 (λ x. next x (λ h t. openField (graphOf h) steps)) (refused 11) refl (λ e. not-refused e);
+        open-merges = λ steps. meets-11 (λ x. next x (λ h t. openField (graphOf h) steps)) (refused 11) refl
+            (λ e. not-refused e);
         hold = meets-11 (λ x. x) (refused 11) refl (λ e. not-refused e);
         hold-in = meets-11 writtenField (refused 11) refl (λ e. not-refused e);
       }
@@ -247,17 +259,24 @@ module _ (f : Facts) (a : Accepted f) (c : Constraint) where
 
   next-11 : OverWith f c ↔ (nextFault f c ≡ 11)
   unfolding nextFault
-  next-11 = (λ h. rw (h .0) (over-then (with-it (h .0)) (h .1)), by first-rule refl (fault-constraint (f .elements) (f .constraints) c))
+  next-11 = (
+    λ h. rw (h .0) (over-then (with-it (h .0)) (h .1)),
+    by first-rule refl
+        (fault-constraint (f .elements) (f .constraints) c),
+  )
     where
-      over-then : Found (graphOf (extended f c)) → IsOver (graphOf (extended f c) .clusters) → overFault (graphOf (extended f c)) ≡ 11
+      over-then : Found (graphOf (extended f c)) → IsOver (graphOf (extended f c) .clusters)
+          → overFault (graphOf (extended f c)) ≡ 11
       over-then (is-over d x q o) h = first-fault (graphOf (extended f c)) q
       over-then (is-fine q none) h = absurd (none h)
 
-      then-over : Found (graphOf (extended f c)) → overFault (graphOf (extended f c)) ≡ 11 → IsOver (graphOf (extended f c) .clusters)
+      then-over : Found (graphOf (extended f c)) → overFault (graphOf (extended f c)) ≡ 11
+          → IsOver (graphOf (extended f c) .clusters)
       then-over (is-over d x q o) e = o
       then-over (is-fine q none) e = absurd (omega (arith, e, fine-fault (graphOf (extended f c)) q))
 
-      by : (k : ℕ) → first-rule ≡ k → Fault OfFacts k → or-else k (overFault (graphOf (extended f c))) ≡ 11 → OverWith f c
+      by : (k : ℕ) → first-rule ≡ k → Fault OfFacts k → or-else k (overFault (graphOf (extended f c))) ≡ 11
+          → OverWith f c
       by zero z h e = (z, then-over (with-it z) e)
       by (suc k) z (inl h) e = absurd (omega (arith, h .0 .to, e))
       by (suc k) z (inr h) e = absurd (omega (arith, h .from, e))
@@ -295,10 +314,12 @@ module _ (s : Sheet) (h : Held s) (c : Constraint) where
   over-next = record {
     ask =
         Iff·trans over-next-is
-        (subst (λ (j : Judgement). (nextFault f c ≡ 11) ↔ (j ≡ Not 11)) (sym (asked-next s h c)) (judged-11 (nextFault f c) verdict-with));
+        (subst (λ (j : Judgement). (nextFault f c ≡ 11) ↔ (j ≡ Not 11)) (sym (asked-next s h c))
+        (judged-11 (nextFault f c) verdict-with));
     place =
         Iff·trans over-next-is
-        (subst (λ (j : Judgement). (nextFault f c ≡ 11) ↔ (j ≡ Not 11)) (sym (placed-next s h c)) (judged-11 (nextFault f c) verdict-with));
+        (subst (λ (j : Judgement). (nextFault f c ≡ 11) ↔ (j ≡ Not 11)) (sym (placed-next s h c))
+        (judged-11 (nextFault f c) verdict-with));
     ask-in = λ lent e.
         Iff·trans over-next-is
         (rw (e, ask-rule s h c) (rule-11 (nextFault f c) verdict-with));

@@ -1,5 +1,6 @@
 -- The promises of one cluster's steps hold. Assumes nothing.
-use Rattle.theory.specs.Prelude.{ℕ, _≤_, _<_, arith, lt-ltb, le-ltb, _≡_, refl, ap, _∙_, Bool, true, false, cond, List, [], ltb, length}
+use Rattle.theory.specs.Prelude.{ℕ, _≤_, _<_, arith, lt-ltb, le-ltb, _≡_, refl, ap, _∙_, Bool, true, false, cond, List}
+use Rattle.theory.specs.Prelude.{[], ltb, length}
 use Rattle.theory.specs.declared.Step.{Step}
 use Rattle.space.specs.declared.Written.the-variants.{Done, Refused}
 use Rattle.space.specs.Space.{answer, after}
@@ -39,7 +40,8 @@ refused-then (refused j) space k e = e
 -- steps counted, then their lines written
 
 steps-written : (x : Field (List Step)) (space : List ℕ) (n : ℕ) → answerTo (linesField x) space ≡ Done n
-    → (steps : List Step) × (countOf x ≡ Done (length steps)) × (afterTo (linesField x) space ≡ after (stepLines steps) space)
+    → (steps : List Step) × (countOf x ≡ Done (length steps))
+    × (afterTo (linesField x) space ≡ after (stepLines steps) space)
 steps-written (value steps rest) space n e = (steps, refl, refl)
 steps-written (refused k) space n e = absurd (let z : _≡_ {A = ℕ} 0 1 = cc in omega arith)
 

@@ -1,6 +1,7 @@
--- The promises hold: over is one finding that every answer goes by, demand 3 is brought to every two orders of the sheet's constraints, and the
--- answers' lists are those of `account` Own. Assumes nothing.
-use Rattle.theory.specs.Prelude.{ℕ, zero, suc, _+_, _*_, _%_, _≤_, _<_, _≡_, refl, sym, ap, ap₂, _∙_, subst, _≢_, _↔_, Iff·trans, List, [], _∷_, map}
+-- The promises hold: the answers' lists are those of `account` Own; over and orders are shown beside (Over, Orders).
+-- Assumes nothing.
+use Rattle.theory.specs.Prelude.{ℕ, zero, suc, _+_, _*_, _%_, _≤_, _<_, _≡_, refl, sym, ap, ap₂, _∙_, subst, _≢_, _↔_}
+use Rattle.theory.specs.Prelude.{Iff·trans, List, [], _∷_, map}
 use Rattle.theory.specs.Prelude.{arith, length}
 use Rattle.theory.specs.Constraints.{Among, Pairs, Below, NotOver}
 use Rattle.theory.specs.Constraints.Perm.{same}
@@ -32,7 +33,6 @@ use Rattle.merges.specs.Run.{flat}
 use Rattle.judge.specs.Judged.{planBy, planNumbers, finalClusters}
 use Rattle.plans.specs.Check.{savedSteps}
 use Rattle.plans.specs.Check.Laws.{whole-saved}
-use Rattle.report.specs.Report.{report}
 use Rattle.sketch.specs.Runs.{afterAll}
 use Rattle.sketch.specs.Runs.Proof.{sheet-held, runs}
 use Rattle.records.specs.Record.{recordBytes}
@@ -57,7 +57,8 @@ use Rattle.pattern.specs.Promises.{NameSays, OwnList, HeldRuns, Promises
 plan-ascends : (p : List Merge) (s : List ℕ) → IsPlan s p → map ascending p ≡ p
 plan-ascends [] s h = refl
 plan-ascends (m ∷ p) s h =
-    ap₂ (λ (x : Merge) (l : List Merge). x ∷ l) (ascending-same m (h .0 .i<j) (h .0 .j<k)) (plan-ascends p (put s m) (h .1))
+    ap₂ (λ (x : Merge) (l : List Merge). x ∷ l) (ascending-same m (h .0 .i<j) (h .0 .j<k))
+    (plan-ascends p (put s m) (h .1))
 
 module _ (bytes : List ℕ) (f : Facts) (rest : List ℕ) (all : Bytes bytes) (reads : readSheet bytes ≡ value f rest) where
   abbrev g : Graph
@@ -131,8 +132,10 @@ module _ (bytes : List ℕ) (f : Facts) (rest : List ℕ) (all : Bytes bytes) (r
         let own = plan-of-is (g .clusters) pairs in
         let numbers : flat (planOf (g .clusters)) ≡ flat (engine-list .p) =
         ap flat (sym (plan-ascends (planOf (g .clusters)) (g .clusters) own))
-        ∙ sym (ap (λ (o : Finding). flat (map ascending (planBy g o))) (not-over-fine g not-over)) ∙ engine-list .plan in
-        subst (IsPlan (g .clusters)) (sym (whole-saved (planOf (g .clusters))) ∙ ap savedSteps numbers ∙ whole-saved (engine-list .p)) own
+        ∙ sym (ap (λ (o : Finding). flat (map ascending (planBy g o))) (not-over-fine g not-over))
+        ∙ engine-list .plan in
+        subst (IsPlan (g .clusters))
+        (sym (whole-saved (planOf (g .clusters))) ∙ ap savedSteps numbers ∙ whole-saved (engine-list .p)) own
 
     -- every maximal list has the sets that `clusters` answers
     finals-of : (p : List Merge) → Maximal (g .clusters) p → (finals : List ℕ) × (itemsField finalClusters bytes ≡ value finals [])

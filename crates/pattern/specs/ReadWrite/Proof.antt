@@ -21,7 +21,8 @@ written s bytes rest elements constraints e = by (sheetFault s) refl e
     by : (k : ℕ) → sheetFault s ≡ k → byRule k (value (sheetBytes (factsOf s)) []) ≡ value bytes rest → Written s bytes
     by zero z q =
         let a = factsOf-accepted s elements constraints z in
-        value-with (λ b t. Written s b) q (record { reads = read-written (factsOf s) a; none = written-untagged (factsOf s) a })
+        value-with (λ b t. Written s b) q
+        (record { reads = read-written (factsOf s) a; none = written-untagged (factsOf s) a })
     by (suc k) z q = refused-value q
 
 module _ (bytes rest : List ℕ) (f : Facts) (all : Bytes bytes) (reads : readSheet bytes ≡ value f rest) where

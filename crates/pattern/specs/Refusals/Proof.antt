@@ -222,10 +222,22 @@ ran (refused j) u v space left k h = let e = h .0 in let n : j ≡ k = cc in inl
 ran (value g rest) u v space left k h = by (h .chain) (h .is) (h .answer-is)
   where
     long : (r : List ℕ) → Shortest (finalsOf g) u v r → (b : Bool) → ltb (length space) (length r) ≡ b
-        → No k ≡ asRun (cond b (Refused 17) (Done (length r))) → (value g rest ≡ refused k) ⊎ ((k ≡ 17) × ShortRun (value g rest) u v space)
+        → No k ≡ asRun (cond b (Refused 17) (Done (length r)))
+        → (value g rest ≡ refused k) ⊎ ((k ≡ 17) × ShortRun (value g rest) u v space)
     long r s true q e =
         let n : k ≡ 17 = cc in
-        inr (n, record { graph = g; rest = rest; run = r; gives = refl; shortest = s; longer = ltb-true (length space) (length r) q })
+        inr (
+          n,
+          record {
+            graph = g;
+            rest = rest;
+            run = r;
+            gives = refl;
+            shortest = s;
+            longer = ltb-true (length space)
+                (length r) q;
+          },
+        )
     long r s false q e = absurd (let z : _≡_ {A = ℕ} 0 1 = cc in omega arith)
 
     by : (o : Option (List ℕ)) → Chain (finalsOf g) u v o → No k ≡ chainAnswer o space

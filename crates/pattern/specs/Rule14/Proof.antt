@@ -18,9 +18,11 @@ use Rattle.pattern.specs.Refusals.Proof.{refusals}
 use Rattle.pattern.specs.Rule14.{Rule14}
 
 -- of the facts of a sheet that is held
-of-facts : (bytes : List ℕ) (f : Facts) (rest : List ℕ) → Bytes bytes → heldSheet bytes ≡ value f rest → Never14 (graphOf f .clusters)
+of-facts : (bytes : List ℕ) (f : Facts) (rest : List ℕ) → Bytes bytes → heldSheet bytes ≡ value f rest
+    → Never14 (graphOf f .clusters)
 of-facts bytes f rest all e =
-    let (a, o) = held-accepted bytes f rest all e in own-lists f a .rule-14 (fine-not-over (graphOf f) (fault-none (graphOf f) o))
+    let (a, o) = held-accepted bytes f rest all e in own-lists f a .rule-14
+    (fine-not-over (graphOf f) (fault-none (graphOf f) o))
 
 same-field : {A : Type 0} (bytes plan : List ℕ) (what : Facts → A) → Bytes bytes
     → next (heldSheet bytes) (λ f rest. byRule (planFault14 (graphOf f .clusters) plan) (value (what f) []))

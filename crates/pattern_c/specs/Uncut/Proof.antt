@@ -1,6 +1,7 @@
 -- No number for C is cut: `pattern` Counts, a chain's 63 clusters and the five verdicts, each far below 2^31. Assumes
 -- nothing.
-use Rattle.theory.specs.Prelude.{ℕ, zero, suc, _%_, _<_, _≤_, arith, _≡_, refl, ap, _∙_, Bool, true, false, cond, List, ltb}
+use Rattle.theory.specs.Prelude.{ℕ, zero, suc, _%_, _<_, _≤_, arith, _≡_, refl, ap, _∙_, Bool, true, false, cond, List}
+use Rattle.theory.specs.Prelude.{ltb}
 use Rattle.theory.specs.Prelude.{lt-ltb, pos, Option, none, some, length}
 use Rattle.theory.specs.Graph.{Graph}
 use Rattle.theory.specs.Verdict.{verdictNumber}
