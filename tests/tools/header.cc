@@ -20,6 +20,13 @@ int main()
         return 4;
     if (facts.n != 2 || facts.e != 1 || facts.sizes[0] != 300)
         return 5;
+    uint8_t again[PATTERN_MAX_WRITTEN];
+    if (pattern_write_columns(&facts, again, sizeof again) != len || std::memcmp(again, sheet, static_cast<size_t>(len)) != 0)
+        return 8;
+    uint8_t first = 1, second = 0;
+    int32_t size = 300;
+    if (pattern_order_ends(facts.kinds, facts.n, &first, &second, &size) != 1 || first != 0 || second != 1 || size != 300)
+        return 9;
     struct pattern_columns same = facts;
     if (pattern_read(sheet, static_cast<size_t>(len) - 1, &facts) != -PATTERN_CUT || std::memcmp(&same, &facts, sizeof facts) != 0)
         return 7; // a refused sheet leaves the columns as they were

@@ -72,7 +72,7 @@ class Install(unittest.TestCase):
 
     def test_pkg_config(self):
         with tempfile.TemporaryDirectory() as folder:
-            for name in ("Makefile", "facts.c"):
+            for name in ("Makefile", "facts.c", "edit.c"):
                 shutil.copy(os.path.join(ROOT, "examples", "pkg-config", name), folder)
             run("make", "--quiet", "-C", folder, env=self.environment)
             facts = os.path.join(folder, "facts")
@@ -85,6 +85,17 @@ class Install(unittest.TestCase):
             printed = run(facts, light, env=self.environment)
             self.assertIn("element 3 is a circle of radius 2500\n", printed)
             self.assertIn("constraint 4 holds 1 and 3 by their other contact\n", printed)
+            edit, rails = os.path.join(folder, "edit"), os.path.join(ROOT, "examples", "text", "triangle.txt")
+            lines, turned, added = (os.path.join(folder, name) for name in ("lines.sheet", "turned.sheet", "added.sheet"))
+            with open(rails) as file:
+                two = "".join(line for line in file if not line.startswith("angle a c"))
+            with open(os.path.join(folder, "lines.txt"), "w") as file:
+                file.write(two)
+            run(self.path("bin/pattern"), "make", os.path.join(folder, "lines.txt"), "-o", lines)
+            self.assertEqual(run(edit, lines, "2", "0", "12000", turned, env=self.environment), "angle\n")
+            run("sh", "-c", '"$0" add "$1" "angle L2 L0 120" -o "$2"; [ $? = 1 ]', self.path("bin/pattern"), lines, added)
+            with open(turned, "rb") as one, open(added, "rb") as other:
+                self.assertEqual(one.read(), other.read())
             source, static = os.path.join(folder, "facts.c"), self.path("lib/libpattern.a")
             run("cc", "-std=c11", "-I" + self.path("include"), source, static, "-o", facts)
             self.assertEqual(run(facts, EXAMPLE), wanted)

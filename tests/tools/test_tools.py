@@ -66,6 +66,23 @@ class Statuses(unittest.TestCase):
             self.assertIn("usage: pattern " + command, out)
 
 
+class Pipes(unittest.TestCase):
+    """Whoever reads may stop reading."""
+
+    def test_a_reader_that_has_enough(self):
+        with tempfile.TemporaryDirectory() as folder:
+            for i in range(300):
+                shutil.copy(text("gable"), os.path.join(folder, f"{i}.txt"))
+            running = subprocess.Popen(["pattern", "check", "--json", folder], stdout=subprocess.PIPE, stderr=subprocess.PIPE)
+            self.assertEqual(running.stdout.read(1), b"{")
+            running.stdout.close()
+            self.assertEqual((running.stderr.read(), running.wait()), (b"", 0))
+            running.stderr.close()
+            # standard error may be closed too
+            running = subprocess.run(["sh", "-c", "pattern check no_such_file >&- 2>&-"], cwd=folder)
+            self.assertEqual(running.returncode, 3)
+
+
 class Json(unittest.TestCase):
     """What is printed for programs is JSON, and says what the words say."""
 

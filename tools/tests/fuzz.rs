@@ -1,4 +1,5 @@
-//! Mutated inputs: text forms, sheets in bytes, plans and price lists. None makes the command panic or hang; each is accepted or gets a clear complaint.
+//! Mutated inputs: text forms with and without rough places, sheets in bytes, plans and price lists. None makes the command panic or hang; each is
+//! accepted or gets a clear complaint.
 //!
 //! As many as the environment variable PATTERN_FUZZ says, else 200,000.
 
@@ -135,14 +136,20 @@ fn is_clear(fault: &Fault, content: &[u8]) {
 /// What an accepted sheet says: all that the command would print of it; a picture of some.
 fn is_told(document: &Document, finding: &Finding, picture: bool) {
     assert!(!describe::lines(document, finding, None).is_empty());
-    assert_eq!(steps::words(document, &finding.steps).len() >= finding.steps.len(), true);
+    assert!(steps::words(document, &finding.steps).len() >= finding.steps.len());
     if document.source.is_some() {
-        let printed = text::print(&document.sheet, &document.names);
+        let printed = text::print_placed(&document.sheet, &document.names, &document.places);
         let again = Document::of("it", printed.as_bytes()).expect("what is printed is understood");
-        assert_eq!(again.bytes, document.bytes);
+        assert_eq!((&again.bytes, &again.names), (&document.bytes, &document.names));
+        let placed = |document: &Document| document.places.iter().map(Option::is_some).collect::<Vec<_>>();
+        assert_eq!(placed(&again), placed(document));
     }
     if picture {
-        draw::examine(document, finding);
+        let layout = draw::layout(document);
+        let position = draw::examine_layout(document, finding, &layout);
+        let picture = draw::picture(document, finding, &layout, position.as_ref(), draw::Options::default());
+        assert!(picture.starts_with("<svg ") && !picture.contains("NaN") && !picture.contains("inf"), "{picture}");
+        assert_eq!(draw::rough(document, &layout).len(), document.names.len());
     }
 }
 
@@ -222,7 +229,7 @@ fn mutated_inputs_are_accepted_or_refused_in_clear_words() {
             _ => (3, mutated(&mut random, &lists)),
         };
         let taken = match kind {
-            0 | 1 => sheet(&content, round % 64 == 0),
+            0 | 1 => sheet(&content, round % 8 == 0),
             2 => plan(&gable, &content),
             _ => prices(&frame, &content),
         };
