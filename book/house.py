@@ -1,6 +1,7 @@
 """What the book is made from: the crates with their files, and every name that a file declares."""
 
 import bisect
+import itertools
 import os
 import re
 import subprocess
@@ -16,7 +17,8 @@ class Decl:
         self.line, self.start = token.line, token.start
         self.marks, self.comment, self.type, self.fields = set(), "", "", []
         self.cited, self.believed, self.last = set(), False, token.line
-        self.head = ""
+        self.head, self.takes = "", []  # of a function: the head of its result, the types of its arguments
+        self.signature = token.line  # the last line of its signature
         taken = file.anchors
         self.anchor = name
         while self.anchor in taken:
@@ -35,6 +37,7 @@ class File:
         with open(os.path.join(ROOT, path), encoding="utf-8") as file:
             self.text = file.read()
         self.lines = self.text.split("\n")
+        self.starts = [0, *itertools.accumulate(len(line) + 1 for line in self.lines)]  # where each line begins
         self.language = path.rsplit(".", 1)[1]
         self.anchors, self.decls, self.names = set(), [], {}
         self.begins, self.tops = None, []
@@ -132,7 +135,8 @@ def crates():
 
 def believed_names():
     """What tests/definitions says must be believed: (file, name) -> lines, in its order, and the sum."""
-    said = subprocess.run([os.path.join(ROOT, "tests", "definitions"), "--names"], check=True, capture_output=True).stdout.decode()
+    command = [os.path.join(ROOT, "tests", "definitions"), "--names"]
+    said = subprocess.run(command, check=True, capture_output=True).stdout.decode()
     found, file, total = {}, "", 0
     for line in said.splitlines():
         if match := re.match(r"^ {6} *(\d+)  (\S+)$", line):

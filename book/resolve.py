@@ -6,7 +6,7 @@ import re
 import antt
 import house as sources
 import rattle
-from antt import Kit, Local, Made, Module, Scope, Variants
+from meanings import Kit, Local, Made, Module, Scope, Variants
 
 HERE = os.path.dirname(os.path.abspath(__file__))
 
@@ -36,12 +36,14 @@ class House:
         self.cite()
         self.believe()
 
-    @staticmethod
-    def read_prelude():
-        scope = Scope()
+    def read_prelude(self):
+        """The names that the language brings into every file, and the fields that begin with a dot."""
+        scope, self.step_fields = Scope(), set()
         with open(os.path.join(HERE, "prelude.txt"), encoding="utf-8") as file:
-            for line in file:
-                for name in line.split("#")[0].split():
+            for name in (name for line in file for name in line.split("#")[0].split()):
+                if name.startswith("."):
+                    self.step_fields.add(name[1:])
+                else:
                     scope.bind(name, Kit("Prim"))
         return scope
 
@@ -192,20 +194,24 @@ class House:
             found = reader.scope.find(head)
         return found if getattr(found, "kind", "") in ("record", "struct") else None
 
-    def record_of(self, of, file):
+    def record_of(self, of):
         """The record that something is, where its type tells."""
         if isinstance(of, Local):
             return of.head
-        if getattr(of, "kind", "") in ("field", "definition", "law", "helper"):
-            return self.named(of)
-        return None
+        return self.named(of) if getattr(of, "kind", "") in ("field", "definition", "law", "helper") else None
 
-    def head(self, toks, scope, reader):
+    def head(self, toks, scope):
         """The record that a type names, where it names one by its first word."""
         if not toks or toks[0].kind != "name" or any(t.text in ("→", "×", "≡", "⊎", "↔") for t in toks):
             return None
         found = scope.find(toks[0].text)
         return found if getattr(found, "kind", "") in ("record", "struct") else None
+
+    def of_a_step(self, name, reader):
+        """Whether a field is one of those that the kit gives each step of a function, in a file that speaks of such steps."""
+        if name not in self.step_fields:
+            return False
+        return any(m[2] == "module" and getattr(m[3], "kind", "") == "function" for m in reader.file.marks)
 
     def meets_kit(self, reader):
         """Whether a file meets records of the kit's: it brings a module that the kit makes, or a library's."""

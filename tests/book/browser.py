@@ -7,6 +7,9 @@ import subprocess
 import tempfile
 import time
 
+FLAGS = ["--headless=new", "--no-sandbox", "--disable-gpu", "--hide-scrollbars", "--host-resolver-rules=MAP * ~NOTFOUND",
+         "--remote-debugging-pipe"]
+
 
 class Browser:
     """One page of a browser. Every address that it asks for is noted."""
@@ -17,23 +20,25 @@ class Browser:
         self.folder = tempfile.TemporaryDirectory()
 
         def ends():
-            # the browser reads from 3 and writes to 4
+            """The browser reads from 3 and writes to 4."""
             a, b = os.dup(down), os.dup(up)
             os.dup2(a, 3)
             os.dup2(b, 4)
 
-        flags = ["--headless=new", "--no-sandbox", "--disable-gpu", "--hide-scrollbars", "--host-resolver-rules=MAP * ~NOTFOUND",
-                 "--remote-debugging-pipe", f"--user-data-dir={self.folder.name}", f"--window-size={width},{height}", "about:blank"]
-        self.process = subprocess.Popen(["chromium", *flags], preexec_fn=ends, pass_fds=(3, 4), stdout=subprocess.DEVNULL, stderr=subprocess.DEVNULL)
+        command = ["chromium", *FLAGS, f"--user-data-dir={self.folder.name}", f"--window-size={width},{height}", "about:blank"]
+        quiet = subprocess.DEVNULL
+        self.process = subprocess.Popen(command, preexec_fn=ends, pass_fds=(3, 4), stdout=quiet, stderr=quiet)
         os.close(down)
         os.close(up)
         self.rest, self.count, self.session = b"", 0, None
         self.asked, self.faults, self.loads = [], [], 0
         target = self.call("Target.createTarget", url="about:blank")["targetId"]
         self.session = self.call("Target.attachToTarget", targetId=target, flatten=True)["sessionId"]
-        for domain in ("Page", "Runtime", "Network", "Log"):
+        for domain in ("Page", "Runtime", "Network"):
             self.call(domain + ".enable")
         self.size(width, height)
+
+    # ---- the protocol
 
     def receive(self):
         """The next message of the browser."""
@@ -67,10 +72,14 @@ class Browser:
                     raise RuntimeError(f"{method}: {answer['error']['message']}")
                 return answer["result"]
 
+    # ---- what a reader does
+
     def size(self, width, height, phone=False):
-        self.call("Emulation.setDeviceMetricsOverride", width=width, height=height, deviceScaleFactor=2 if phone else 1, mobile=phone)
+        scale = 2 if phone else 1
+        self.call("Emulation.setDeviceMetricsOverride", width=width, height=height, deviceScaleFactor=scale, mobile=phone)
 
     def open(self, address):
+        """Opens a page, and waits until it is there."""
         loads = self.loads
         self.call("Page.navigate", url=address)
         while self.loads == loads:
@@ -83,33 +92,34 @@ class Browser:
             raise RuntimeError(answer["exceptionDetails"]["exception"].get("description", "an exception"))
         return answer["result"].get("value")
 
-    def await_(self, expression, seconds=10):
+    def holds(self, expression, seconds=20):
         """Waits until an expression holds; answers whether it did."""
         until = time.time() + seconds
         while time.time() < until:
-            if self.ask(expression):
+            if self.ask(f"!!({expression})"):
                 return True
             time.sleep(0.05)
         return False
 
     def mouse(self, selector, click):
         """Moves the mouse to the middle of what a selector finds, and clicks."""
-        place = self.ask(f"(() => {{ const e = document.querySelector({json.dumps(selector)}); e.scrollIntoView({{block: 'center'}}); "
-                         "const r = e.getClientRects()[0]; return [r.x + r.width / 2, r.y + r.height / 2]; })()")
-        for kind in ("mouseMoved", *(("mousePressed", "mouseReleased") if click else ())):
-            self.call("Input.dispatchMouseEvent", type=kind, x=place[0], y=place[1], button="left" if kind != "mouseMoved" else "none", clickCount=int(kind != "mouseMoved"))
+        x, y = self.ask(
+            f"(() => {{ const e = document.querySelector({json.dumps(selector)}); e.scrollIntoView({{block: 'center'}}); "
+            "const r = e.getClientRects()[0]; return [r.x + r.width / 2, r.y + r.height / 2]; })()"
+        )
+        self.call("Input.dispatchMouseEvent", type="mouseMoved", x=x, y=y)
+        for kind in ("mousePressed", "mouseReleased") if click else ():
+            self.call("Input.dispatchMouseEvent", type=kind, x=x, y=y, button="left", clickCount=1)
 
     def follow(self, selector):
         """Clicks a link and waits until the page that it leads to is there; answers its address."""
         to = self.ask(f"document.querySelector({json.dumps(selector)}).href")
-        loads, same = self.loads, self.ask("location.href").split("#")[0] == to.split("#")[0]
+        same = self.ask("location.href").split("#")[0] == to.split("#")[0]
+        loads = self.loads
         self.mouse(selector, True)
-        if not same:
-            until = time.time() + 20
-            while self.loads == loads and time.time() < until:
-                self.ask("1")
-                time.sleep(0.02)
-        self.await_(f"location.href === {json.dumps(to)}")
+        while self.loads == loads and not same:
+            self.receive()
+        self.holds(f"location.href === {json.dumps(to)}")
         return self.ask("decodeURIComponent(location.href)")
 
     def picture(self, path):
