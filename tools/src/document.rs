@@ -83,7 +83,19 @@ impl Document {
 
     /// A refusal of a call on this sheet.
     pub fn refused(&self, rule: pattern::Rule) -> Fault {
-        Fault::rule(&self.path, rule)
+        let hint = match rule.0 {
+            11 => "pattern check says which dimension is one too many".to_string(),
+            25 => format!("elements are 0 to {}", self.names.len() - 1),
+            26 => {
+                let steps = pattern::steps(&self.bytes).map_or(0, |steps| steps.len());
+                match (self.sheet.constraints.len() + steps).checked_sub(1) {
+                    Some(last) => format!("clusters are 0 to {last}"),
+                    None => "it has none".to_string(),
+                }
+            }
+            _ => String::new(),
+        };
+        Fault::refused(&self.path, Refusal::whole(rule).hint(hint))
     }
 }
 

@@ -167,7 +167,10 @@ impl Fault {
     /// Every complaint for a program.
     pub fn json(&self) -> Json {
         Json::List(match self {
-            Fault::Usage(message) => vec![error_json(None, self.name(), message, None)],
+            Fault::Usage(message) => {
+                let (words, usage) = message.split_once('\n').unwrap_or((message, ""));
+                vec![error_json(None, self.name(), words, Some(&Refusal::file("").hint(usage)))]
+            }
             Fault::File { path, error } => vec![error_json(Some(path), self.name(), &reason(error), None)],
             Fault::Refused { path, refusals } => {
                 let object = |refusal: &Refusal| error_json(Some(path), self.name(), &refusal.message(), Some(refusal));

@@ -58,5 +58,13 @@ pub fn refusal(document: &Document, plan: &[u16], rule: Rule) -> Refusal {
         16 => format!("after {}", describe::counted(plan.len() / 3, "step")),
         _ => String::new(),
     };
-    Refusal::rule(Spot::Whole, rule, words)
+    let hint = match rule.0 {
+        11 => "pattern check says which dimension is one too many",
+        12 => "the file is cut, or is no plan",
+        13 => "the plan is of another sheet, or its steps stand in another order",
+        15 => "the sheet may have been changed since the plan was saved",
+        16 => "pattern plan has the rest",
+        _ => "",
+    };
+    Refusal::rule(Spot::Whole, rule, words).hint(hint)
 }
