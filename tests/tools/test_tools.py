@@ -51,9 +51,18 @@ class Statuses(unittest.TestCase):
     def test_the_worst_of_many(self):
         refused = os.path.join(SHEETS, "refused_3_one.sheet")
         self.assertEqual(pattern("check", text("gable"), text("rails"))[0], 0)
+        self.assertEqual(pattern("check", "--strict", text("gable"))[0], 0)
+        self.assertEqual(pattern("check", "--strict", text("gable"), text("rails"))[0], 1)
         self.assertEqual(pattern("check", text("gable"), text("frame"), text("gable"))[0], 1)
         self.assertEqual(pattern("check", text("frame"), refused, text("gable"))[0], 2)
         self.assertEqual(pattern("check", refused, "no such file", text("gable"))[0], 3)
+
+    def test_no_placement(self):
+        """Sizes that are proved not to close are no 0, whichever command says so."""
+        for call in (["check", text("open")], ["report", text("open")], ["add", text("open"), "distance A B 1"]):
+            self.assertNotEqual(pattern(*call)[0], 0, call)
+        status, plan, _ = pattern("plan", text("open"))
+        self.assertEqual(pattern("verify", text("open"), "-", text=plan.encode())[0], 1)
 
     def test_files_and_usage(self):
         for command in ("check", "show", "make", "report", "plan", "draw"):
@@ -161,6 +170,53 @@ class Json(unittest.TestCase):
         for change in ({"exit": 7}, {"answer": None}, {"errors": [{}]}, {"more": 1}, {"answer": {**found["answer"], "status": "fine"}}):
             with self.assertRaises(jsonschema.ValidationError):
                 jsonschema.validate({**found, **change}, self.schema)
+
+
+class Advice(unittest.TestCase):
+    """What check advises is followed in the text of the sheet, and ends as it says."""
+
+    def check(self, sheet, *options):
+        """The finding of a text."""
+        found = json.loads(pattern("check", "--json", *options, "-", text=sheet.encode())[1])
+        return found["answer"]["files"][0]
+
+    def changed(self, sheet, leave_out, more=()):
+        """A text without some of its constraints, by number, and with more lines."""
+        lines = [line for line in sheet.splitlines() if line.split("#")[0].strip()]
+        demands = [i for i, line in enumerate(lines) if line.split()[0] in ("distance", "angle", "on", "tangent")]
+        gone = {demands[k] for k in leave_out}
+        return "\n".join([line for i, line in enumerate(lines) if i not in gone] + list(more))
+
+    def test_examples(self):
+        folder = os.path.join(ROOT, "tests", "tools", "advice")
+        paths = [os.path.join(folder, name) for name in sorted(os.listdir(folder)) if name.endswith(".txt")]
+        paths += [text(name) for name in ("frame", "braced", "lattice", "triangle", "hipped")]
+        followed = 0
+        for path in paths:
+            sheet = open_text(path)
+            for options in ([], ["--prices", os.path.join(folder, "cords.prices")] if "cords" in path else []):
+                advice = self.check(sheet, *options)["advice"]
+                if not advice:
+                    continue
+                for extra in advice["too_many"]:
+                    others = [other["constraint"] for other in advice["too_many"] if other is not extra]
+                    for choice in extra["choices"]:
+                        left = self.changed(sheet, others + [choice["constraint"]])
+                        self.assertEqual(self.check(left)["status"], choice["verdict"], (path, choice))
+                for change in filter(None, (advice["cheapest"], advice["change"])):
+                    point = change["new_point"]
+                    more = [f"point {point['name']}"] + [f"on {point['name']} {line}" for line in point["on"]] if point else []
+                    more += [f"distance {a} {b} 123.4" for a, b in change["measure"]]
+                    after = self.check(self.changed(sheet, change["leave_out"], more))
+                    self.assertEqual(after["status"], change["verdict"], (path, change))
+                    followed += 1
+        self.assertGreater(followed, 9)
+
+    def test_a_second_price(self):
+        """The cheapest dimension ends stuck, and another that costs 3 more does not."""
+        folder = os.path.join(ROOT, "tests", "tools", "advice")
+        out = pattern("check", os.path.join(folder, "cords.txt"), "--prices", os.path.join(folder, "cords.prices"))[1]
+        self.assertIn("measure next: C F (cheapest by count, but stuck)\n  for 3 more: A B (well)\n", out)
 
 
 class Many(unittest.TestCase):
@@ -388,10 +444,18 @@ class Documents(unittest.TestCase):
         section = guide[guide.index("## Reading a report") : guide.index("## Common mistakes")]
         rows = re.findall(r"^\| `(.*?)` \|", section, re.MULTILINE)
         self.assertEqual(rows, pattern("report", text("gable"))[1].splitlines())
-        frame = pattern("check", text("frame"))[1].replace(text("frame"), "frame.txt")
         wrong = pattern("check", "-", text=b"pont A B\npoint C\nline l\ndistance C l 0\ndistance C l 100,5\n")[1]
-        for printed in (frame, pattern("plan", "--words", text("gable"))[1], wrong):
+        for printed in (pattern("plan", "--words", text("gable"))[1], wrong):
             self.assertIn("\n".join("    " + line for line in printed.splitlines()), guide)
+        for name in ("frame", "lattice"):
+            shown = pattern("check", text(name))[1].replace(text(name), name + ".txt")
+            self.assertIn("\n".join("    " + line for line in shown.splitlines()), guide)
+        rectangle = os.path.join(ROOT, "tests", "tools", "advice", "rectangle.txt")
+        shown = pattern("check", rectangle)[1].replace(rectangle, "rectangle.txt").splitlines()
+        block = guide[guide.index("    rectangle.txt: over") :].split("\n\n")[0].splitlines()
+        cut = block.index("      ..")
+        indented = ["    " + line for line in shown]
+        self.assertEqual((indented[:cut], indented[-1]), (block[:cut], block[-1]))
 
 
 class Completion(unittest.TestCase):

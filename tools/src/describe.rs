@@ -1,5 +1,7 @@
 //! A finding in words and as JSON.
 
+mod advice;
+
 use pattern::Verdict;
 
 use crate::document::Document;
@@ -7,9 +9,6 @@ use crate::draw::Position;
 use crate::finding::{Finding, verdict_name};
 use crate::json::Json;
 use crate::sheet::members;
-
-/// The most pairs, or constraints, that are named.
-const MOST_SHOWN: usize = 8;
 
 /// A count with its noun.
 pub fn counted(count: usize, noun: &str) -> String {
@@ -26,48 +25,28 @@ pub fn lines(document: &Document, finding: &Finding, position: Option<&Position>
         Verdict::Stuck => {
             let parts = counted(finding.clusters.len(), "part");
             lines[0] += ": the count of dimensions is right, but no construction by threes";
-            lines.push(format!("{parts} left, and no three of them close: place some dimensions elsewhere"));
+            lines.push(format!("{parts} left, and no three of them close"));
         }
         Verdict::Angle => {
-            let names = document.named(finding.angle).join(" ");
-            lines.push(format!(
-                "held by angles alone: {names}; angles fix no distance, and one of these follows from the others"
-            ));
             if finding.freedoms > 0 {
-                lines.push(format!("{} missing", counted(finding.freedoms, "dimension")));
+                lines[0] += &format!(": {} missing", counted(finding.freedoms, "dimension"));
             }
+            let names = document.named(finding.angle).join(" ");
+            lines.push(format!("held by angles alone, which fix no distance: {names}"));
         }
-        Verdict::Over => {}
+        Verdict::Over => {
+            let count = finding.advice.as_ref().and_then(advice::count);
+            lines[0] += &count.map_or(String::new(), |count| format!(": {count}"));
+        }
     }
-    if let Some(over) = &finding.over {
+    let told = finding.advice.as_ref().map_or(false, |advice| advice.excess.is_some());
+    if let Some(over) = finding.over.as_ref().filter(|_| !told) {
         lines.push(format!("one too many: {} (constraint {})", document.statement(over.constraint), over.constraint));
-        lines.push(format!("the part {} is fixed already, by:", document.named(over.part).join(" ")));
-        let shown = over.earlier.iter().take(MOST_SHOWN);
-        lines.extend(shown.map(|&k| format!("  {} (constraint {k})", document.statement(k))));
-        let rest = over.earlier.len().saturating_sub(MOST_SHOWN);
-        lines.extend((rest > 0).then(|| format!("  and {rest} more")));
-        lines.push("leave one of these out, or the one too many".to_string());
+        lines.push(format!("the part {} is fixed without it", document.named(over.part).join(" ")));
     }
-    if finding.verdict == Verdict::Under {
-        match &finding.missing {
-            Ok(pairs) => {
-                let shown: Vec<_> = pairs.iter().take(MOST_SHOWN).map(|&(a, b)| names(document, a, b)).collect();
-                let rest = pairs.len() - shown.len();
-                let more = if rest > 0 { format!(" and {rest} more") } else { String::new() };
-                lines.push(format!("measure next: {}{more}", shown.join(", ")));
-            }
-            Err(_) => lines.push(
-                "no distances that may be measured will do: angles are missing, or prices forbid too much".to_string(),
-            ),
-        }
-    }
+    lines.extend(finding.advice.iter().flat_map(|advice| advice::lines(document, finding, advice)));
     lines.extend(warnings(document, finding, position));
     lines
-}
-
-/// The names of a pair.
-fn names(document: &Document, a: usize, b: usize) -> String {
-    format!("{} {}", document.names[a], document.names[b])
 }
 
 /// The warnings: steps without a placement, and a special position.
@@ -106,6 +85,7 @@ pub fn json(document: &Document, finding: &Finding, position: Option<&Position>)
         ("steps", Json::List(finding.steps.iter().map(|step| step_json(document, step)).collect())),
         ("clusters", Json::List(finding.clusters.iter().map(|cluster| cluster_json(document, cluster)).collect())),
         ("warnings", Json::list(warnings(document, finding, position))),
+        ("advice", finding.advice.as_ref().map_or(Json::Null, |advice| advice::json(document, finding, advice))),
     ]
 }
 

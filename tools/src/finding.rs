@@ -2,7 +2,9 @@
 
 use pattern::{JointKind, Rule, Step, Verdict};
 
+use crate::advice::Advice;
 use crate::document::Document;
+use crate::draw::Agreement;
 use crate::engine::{self, Cluster};
 use crate::sheet::members;
 
@@ -29,9 +31,23 @@ pub struct Finding {
     pub angle: u64,
     pub steps: Vec<Step>,
     pub clusters: Vec<Cluster>,
+    /// What to change, where that was looked for and the sheet is not well.
+    pub advice: Option<Advice>,
+    /// Whether each dimension too many agrees with the others, in the order of the advice.
+    pub agreements: Vec<Option<Agreement>>,
 }
 
 impl Finding {
+    /// What the proved library says, and what to change.
+    pub fn advised(document: &Document, prices: &[u16]) -> Result<Finding, Rule> {
+        let sheet = &document.sheet;
+        let advice = Advice::of(sheet, prices)?;
+        let excess = advice.as_ref().and_then(|advice| advice.excess.as_ref());
+        let agreements =
+            excess.map_or(Vec::new(), |excess| excess.extras.iter().map(|extra| Agreement::of(sheet, extra)).collect());
+        Ok(Finding { advice, agreements, ..Finding::of(document, prices)? })
+    }
+
     /// What the proved library says; prices of pairs in dictionary order.
     pub fn of(document: &Document, prices: &[u16]) -> Result<Finding, Rule> {
         let (bytes, sheet) = (&document.bytes, &document.sheet);
@@ -43,15 +59,17 @@ impl Finding {
             let earlier = sheet.constraints[..over.first].iter().enumerate();
             let earlier = earlier.filter(|(_, c)| within(c.first) && within(c.second)).map(|(k, _)| k).collect();
             let over = Some(Over { constraint: over.first, part: over.set, earlier });
-            let missing = Err(Rule(11));
-            return Ok(Finding { verdict, freedoms, missing, over, angle: 0, steps: Vec::new(), clusters: Vec::new() });
+            let (missing, steps, clusters) = (Err(Rule(11)), Vec::new(), Vec::new());
+            let (advice, agreements) = (None, Vec::new());
+            return Ok(Finding { verdict, freedoms, missing, over, angle: 0, steps, clusters, advice, agreements });
         }
         let steps = pattern::steps(bytes)?;
         let clusters = engine::clusters(bytes, e, &steps)?;
         let missing = engine::missing(bytes, prices);
         let lines = (0..n).filter(|&i| sheet.elements[i].is_line()).fold(0, |set, i| set | 1 << i);
         let angle = if verdict == Verdict::Angle { held_by_angles(lines, &steps, &clusters) } else { 0 };
-        Ok(Finding { verdict, freedoms, missing, over: None, angle, steps, clusters })
+        let (advice, agreements) = (None, Vec::new());
+        Ok(Finding { verdict, freedoms, missing, over: None, angle, steps, clusters, advice, agreements })
     }
 
     /// The steps that have no placement: their dimensions do not close.

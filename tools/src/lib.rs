@@ -3,6 +3,7 @@
 //! Every sheet passes through the proved reader or writer, and every verdict, plan and report is the proved library's. What is plain Rust here is the
 //! text form, the words, and the layout of pictures.
 
+pub mod advice;
 pub mod cli;
 pub mod commands;
 pub mod csv;

@@ -79,9 +79,9 @@ fn a_plan_meets_the_dimensions() {
             assert!(layout.unmet.is_empty(), "{text}");
             met += 1;
         }
-        warned += usize::from(position(&text).is_some());
+        warned += usize::from(matches!(position(&text), Some(Position::Open(_))));
     }
-    // sizes in whole tenths make a triangle flat now and then, or leave it open
+    // sizes in whole tenths leave a triangle open now and then
     assert!(met > 380 && warned < 40, "{met} of 400 were laid out by the plan, {warned} were warned of");
 }
 
@@ -101,12 +101,19 @@ fn a_layout_in_general_position_is_not_warned_of() {
 #[test]
 fn special_positions_are_warned_of() {
     let rails = include_str!("../../examples/text/rails.txt");
-    assert_eq!(position(rails), Some(Position::Loose(1 << 4)));
+    let weak = |text: &str| match position(text) {
+        Some(Position::Weak(weak)) => (weak.joint, weak.moves, weak.by),
+        other => panic!("{other:?} of {text}"),
+    };
+    assert_eq!(weak(rails), (0b10110, 4, None));
     // a flat triangle is only just held
-    assert_eq!(
-        position("point A B C\ndistance A B 10\ndistance B C 20\ndistance A C 30\n"),
-        Some(Position::Loose(0b100))
-    );
+    assert_eq!(weak("point A B C\ndistance A B 10\ndistance B C 20\ndistance A C 30\n"), (0b111, 2, None));
+    // two points that stand square to a line hold it at one distance twice
+    assert_eq!(weak("line l\npoint A B\non A l\ndistance B l 30\ndistance A B 30\n"), (0b111, 2, None));
+    // the first cause is named, and not what hangs on it
+    let hung =
+        format!("{rails}point K L\ndistance K pin 200\ndistance K corner 210\ndistance L K 90\ndistance L pin 150\n");
+    assert_eq!(weak(&hung), (0b10110, 4, None));
     // a pin between the rails at distances that contradict their gap
     let apart = rails.replace("distance pin rail2 60.0 mm", "distance pin rail2 70.0 mm");
     assert_eq!(position(&apart), Some(Position::Open(9)));
@@ -115,6 +122,35 @@ fn special_positions_are_warned_of() {
     assert_eq!(position(open), Some(Position::Open(9)));
     // what the report tells is not told again
     assert_eq!(position(include_str!("../../examples/text/open.txt")), None);
+}
+
+#[test]
+fn near_a_special_position_a_tenth_of_a_millimetre_moves_much() {
+    let rails = |angle: &str| {
+        let text = include_str!("../../examples/text/rails.txt");
+        position(&text.replace("angle crossbar rail2 90 deg", &format!("angle crossbar rail2 {angle}")))
+    };
+    let by = |position: Option<Position>| match position {
+        Some(Position::Weak(weak)) => weak.by.expect("it is held"),
+        other => panic!("{other:?}"),
+    };
+    // a point between two rails moves by a tenth over the sine of their angle
+    assert_eq!(by(rails("90.01")), 5730);
+    assert_eq!(by(rails("90.1")), 573);
+    assert_eq!(by(rails("91")), 57);
+    assert_eq!(by(rails("92")), 29);
+    assert_eq!(rails("93"), None);
+    // a tenth more in a side moves the top of a nearly flat triangle by that over the sine of the angle at the top
+    let flat =
+        |side: f64| position(&format!("point A B C\ndistance A B 1000\ndistance A C {side}\ndistance B C {side}\n"));
+    let top = |side: f64| 1.0 / (2.0 * (500.0 / side).asin()).sin();
+    assert_eq!(by(flat(500.1)), top(500.1).round() as u32);
+    assert_eq!(flat(501.0), None);
+    // a line that two points near each other hold moves much where a point far along lies on it
+    let points = "line x y l\npoint A B C\nangle x y 90\ndistance A x 240\ndistance A y 320\ndistance B x 245\ndistance B y 338\n";
+    let held = format!("{points}on A l\ndistance B l 5\non C l\ndistance A C 2000\n");
+    assert!(matches!(position(&held), Some(Position::Weak(weak)) if weak.moves == 2));
+    assert_eq!(by(position(&held)), 112);
 }
 
 #[test]

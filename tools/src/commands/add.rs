@@ -1,15 +1,20 @@
 //! `pattern add`: what more dimensions would do.
 
+use pattern::Rule;
+
+use super::STRICT;
 use super::check::status_of;
+use crate::advice;
 use crate::cli::{Answer, Call, JSON, OUTPUT};
 use crate::describe;
 use crate::document::Document;
-use crate::engine;
-use crate::fault::{Fault, Refusal, Spot};
+use crate::draw::{self, Agreement};
+use crate::engine::{self, Cluster};
+use crate::fault::{Fault, Refusal, Spot, Status};
 use crate::finding::{Finding, verdict_name};
 use crate::json::Json;
 use crate::prices::Prices;
-use crate::sheet::Part;
+use crate::sheet::{Constraint, Part};
 use crate::{hint, text};
 
 /// Runs the command.
@@ -24,21 +29,17 @@ pub fn run(call: &Call) -> Result<Answer, Fault> {
         statements.push(statement);
     }
     let bytes = engine::place(&document.bytes, &more).map_err(|(place, rule)| match place {
-        Some(place) => {
-            let mut sheet = document.sheet.clone();
-            sheet.constraints.extend(&more[..=place]);
-            let last = Part::Constraint(sheet.constraints.len() - 1);
-            let hint = hint::of(&sheet, &document.names, rule, last);
-            let refusal = Refusal::rule(Spot::Whole, rule, statements[place]).hint(hint);
-            Fault::refused(&format!("statement {}", place + 1), refusal)
-        }
+        Some(place) => refused(&document, &more[..=place], statements[place], rule),
         None => document.refused(rule),
     })?;
     let mut grown = Document::of(&document.path, &bytes)?;
-    grown.names = document.names;
-    grown.places = document.places;
-    let finding = Finding::of(&grown, &Prices::default().of(&grown)?).map_err(|rule| grown.refused(rule))?;
-    let status = status_of(finding.verdict);
+    grown.names = document.names.clone();
+    grown.places = document.places.clone();
+    let prices = Prices::default();
+    let finding = Finding::advised(&grown, &prices.of(&grown)?).map_err(|rule| grown.refused(rule))?;
+    let position = draw::examine(&grown, &finding);
+    let strict = call.has(&STRICT) && !describe::warnings(&grown, &finding, position.as_ref()).is_empty();
+    let status = if strict { Status::Other } else { status_of(finding.verdict, &finding.steps) };
     if call.value(&OUTPUT).is_some() {
         let out = match document.source {
             Some(source) => extended(source, &statements).into_bytes(),
@@ -47,12 +48,49 @@ pub fn run(call: &Call) -> Result<Answer, Fault> {
         let said = format!("{}: {}", grown.path, verdict_name(finding.verdict));
         return Ok(Answer { notes: vec![said], ..Answer::deliver(call, out, status) });
     }
+    let before = Finding::of(&document, &prices.of(&document)?).map_err(|rule| document.refused(rule))?;
+    let joined = joined(&before.clusters, &finding.clusters);
     if call.has(&JSON) {
-        return Ok(Answer::json(call, Json::Object(describe::json(&grown, &finding, None)), status));
+        let mut fields = describe::json(&grown, &finding, position.as_ref());
+        let part = |(part, from): &(u64, Vec<u64>)| {
+            let from = from.iter().map(|&part| Json::list(grown.named(part))).collect();
+            Json::Object(vec![("part", Json::list(grown.named(*part))), ("from", Json::List(from))])
+        };
+        fields.push(("joined", Json::List(joined.iter().map(part).collect())));
+        return Ok(Answer::json(call, Json::Object(fields), status));
     }
-    let lines = describe::lines(&grown, &finding, None);
+    let mut lines = describe::lines(&grown, &finding, position.as_ref());
+    let words = joined.iter().map(|(part, from)| {
+        let from: Vec<_> = from.iter().map(|&part| grown.named(part).join(" ")).collect();
+        format!("joined: {}, from {}", grown.named(*part).join(" "), from.join("; "))
+    });
+    lines.splice(1..1, words);
     let out = format!("{}: {}\n  {}\n", grown.path, verdict_name(finding.verdict), lines.join("\n  "));
     Ok(Answer::print(out, status))
+}
+
+/// Why the last of more constraints is refused; where a part cannot take it, which part, and whether it agrees there.
+fn refused(document: &Document, more: &[Constraint], statement: &str, rule: Rule) -> Fault {
+    let mut sheet = document.sheet.clone();
+    sheet.constraints.extend(more);
+    let last = Part::Constraint(sheet.constraints.len() - 1);
+    let mut hint = hint::of(&sheet, &document.names, rule, last);
+    if let Some(extra) = advice::fixed_without_last(&sheet).filter(|_| rule == Rule(11)) {
+        let by: Vec<_> =
+            extra.fixed_by.iter().map(|&k| text::constraint(&sheet, &document.names, &sheet.constraints[k])).collect();
+        hint = format!("the part {} is fixed already, by {}", document.named(extra.part).join(" "), by.join(", "));
+        if let Some(agreement) = Agreement::of(&sheet, &extra) {
+            hint += &format!("; numeric, not proved: {}", agreement.words(&sheet, extra.constraint));
+        }
+    }
+    Fault::refused(&format!("statement {}", more.len()), Refusal::rule(Spot::Whole, rule, statement).hint(hint))
+}
+
+/// The parts that hold more than they did, each with the old parts in it.
+fn joined(before: &[Cluster], after: &[Cluster]) -> Vec<(u64, Vec<u64>)> {
+    let inside = |part: u64| before.iter().map(|old| old.elements).filter(|old| old & !part == 0).collect::<Vec<_>>();
+    let parts = after.iter().map(|part| (part.elements, inside(part.elements)));
+    parts.filter(|(part, from)| !from.is_empty() && !from.contains(part)).collect()
 }
 
 /// A text with more statements at its end.

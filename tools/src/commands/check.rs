@@ -3,9 +3,9 @@
 use std::collections::BTreeMap;
 use std::ffi::OsStr;
 
-use pattern::Verdict;
+use pattern::{Step, Verdict};
 
-use super::{CSV, FAILED, PRICES, QUIET, SHORT};
+use super::{CSV, FAILED, PRICES, QUIET, SHORT, STRICT};
 use crate::cli::{Answer, Call, JSON};
 use crate::document::{self, Document};
 use crate::draw::{self, Position};
@@ -21,20 +21,21 @@ type Checked = Result<(Document, Finding, Option<Position>), Fault>;
 /// Checks one file.
 fn check(path: &OsStr, prices: &Prices) -> Checked {
     let document = Document::load(path)?;
-    let finding = Finding::of(&document, &prices.of(&document)?).map_err(|rule| document.refused(rule))?;
+    let finding = Finding::advised(&document, &prices.of(&document)?).map_err(|rule| document.refused(rule))?;
     let position = draw::examine(&document, &finding);
     Ok((document, finding, position))
 }
 
-/// The status of a verdict.
-pub fn status_of(verdict: Verdict) -> Status {
-    if verdict == Verdict::Well { Status::Well } else { Status::Other }
+/// The status of a verdict and the steps of a plan: 0 where it is well and no step is known to have no placement.
+pub fn status_of(verdict: Verdict, steps: &[Step]) -> Status {
+    let closes = steps.iter().all(|step| step.ways != Some(0));
+    if verdict == Verdict::Well && closes { Status::Well } else { Status::Other }
 }
 
 /// The status of one file.
 fn status(checked: &Checked) -> Status {
     match checked {
-        Ok((_, finding, _)) => status_of(finding.verdict),
+        Ok((_, finding, _)) => status_of(finding.verdict, &finding.steps),
         Err(fault) => fault.status(),
     }
 }
@@ -158,7 +159,9 @@ pub fn run(call: &Call) -> Result<Answer, Fault> {
     };
     let files = files::of(call)?;
     let results = parallel::map(&files, |found| check(&found.path, &prices));
-    let status = results.iter().map(status).max().unwrap_or(Status::Well);
+    let warned = call.has(&STRICT) && results.iter().any(|checked| !warnings(checked).is_empty());
+    let least = if warned { Status::Other } else { Status::Well };
+    let status = results.iter().map(status).fold(least, Status::max);
     let failed = |checked: &Checked| self::status(checked) != Status::Well || !warnings(checked).is_empty();
     let told: Vec<_> =
         files.iter().zip(&results).filter(|(_, checked)| !call.has(&FAILED) || failed(checked)).collect();

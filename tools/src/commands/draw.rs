@@ -61,7 +61,8 @@ fn chosen<'a>(document: &Document, views: &'a [View], step: &OsStr) -> Result<&'
 /// What a picture is made from.
 fn load(path: &OsStr) -> Result<(Document, Finding, Layout), Fault> {
     let document = Document::load(path)?;
-    let finding = Finding::of(&document, &Prices::default().of(&document)?).map_err(|rule| document.refused(rule))?;
+    let finding =
+        Finding::advised(&document, &Prices::default().of(&document)?).map_err(|rule| document.refused(rule))?;
     let layout = draw::layout(&document);
     Ok((document, finding, layout))
 }

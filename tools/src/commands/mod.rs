@@ -27,6 +27,7 @@ const CSV: Flag = Flag { name: "csv", short: None, value: None, says: "print a t
 const SHORT: Flag = Flag { name: "short", short: Some('s'), value: None, says: "print a line a file" };
 const FAILED: Flag =
     Flag { name: "failed", short: None, value: None, says: "leave out files that are well and have no warning" };
+const STRICT: Flag = Flag { name: "strict", short: None, value: None, says: "end with status 1 for every warning too" };
 const WORDS: Flag = Flag { name: "words", short: None, value: None, says: "print the steps in words, by names" };
 const HTML: Flag =
     Flag { name: "html", short: None, value: None, says: "a page: report, parts and steps, lit by the mouse" };
@@ -48,11 +49,11 @@ pub const COMMANDS: [Command; 15] = [
         name: "check",
         operands: "FILE..",
         count: (1, ANY),
-        flags: &[&JSON, &CSV, &SHORT, &FAILED, &LIST, &PRICES, &QUIET],
+        flags: &[&JSON, &CSV, &SHORT, &FAILED, &LIST, &PRICES, &STRICT, &QUIET],
         summary: "say whether sheets are fully dimensioned, and what is wrong",
         about: "
-Each file gets its verdict (well, under, stuck, angle, over) with what is missing, what is
-too many, and a warning where sizes do not close. Several files are checked on all cores,
+Each file gets its verdict (well, under, stuck, angle, over) with what to change, which was
+tried before, and a warning where sizes do not close. Several files are checked on all cores,
 and a table stands at the end: how many got which verdict, and how many were refused by which
 rule, with an example each. The status is that of the worst file. A folder stands for the
 sheets in it and below, whose names end in .txt or .sheet.
@@ -124,12 +125,13 @@ another order. A plan that is refused gives the rule, and the step at fault.",
         name: "add",
         operands: "FILE STATEMENT..",
         count: (2, ANY),
-        flags: &[&OUTPUT, &JSON],
+        flags: &[&OUTPUT, &JSON, &STRICT],
         summary: "ask what more dimensions would do; -o saves them",
         about: "
 Each statement is a constraint in the words of the text form, in quotation marks:
   pattern add house.txt \"distance A B 600\" \"on C bottom\"
-They are placed one after another; the verdict after all of them is printed. FILE itself is
+They are placed one after another; the verdict after all of them is printed, with the parts
+that they join. One that a part cannot take is refused, and the part is named. FILE itself is
 never changed: -o writes the new sheet, as text where FILE is text, else in bytes.",
         run: add::run,
     },

@@ -33,10 +33,11 @@ pub fn verify(call: &Call) -> Result<Answer, Fault> {
     let document = Document::load(&call.operands[0])?;
     let path = document::shown(&call.operands[1]);
     let plan = plans::numbers(&path, &document::read(&call.operands[1])?)?;
-    let status = status_of(pattern::verdict(&document.bytes).map_err(|rule| document.refused(rule))?);
+    let verdict = pattern::verdict(&document.bytes).map_err(|rule| document.refused(rule))?;
     let refused = |rule| Fault::refused(&path, plans::refusal(&document, &plan, rule));
+    let steps = pattern::saved_steps(&document.bytes, &plan).map_err(refused)?;
+    let status = status_of(verdict, &steps);
     if call.has(&JSON) {
-        let steps = pattern::saved_steps(&document.bytes, &plan).map_err(refused)?;
         return Ok(Answer::json(call, describe::steps_json(&document, &steps), status));
     }
     Ok(Answer::print(engine::check_plan(&document.bytes, &plan).map_err(refused)?, status))

@@ -14,8 +14,10 @@ use crate::prices::Prices;
 pub fn report(call: &Call) -> Result<Answer, Fault> {
     let document = Document::load(&call.operands[0])?;
     let refused = |rule| document.refused(rule);
-    let finding = Finding::of(&document, &Prices::default().of(&document)?).map_err(refused)?;
-    let status = status_of(finding.verdict);
+    let prices = Prices::default().of(&document)?;
+    let find = if call.has(&JSON) { Finding::advised } else { Finding::of };
+    let finding = find(&document, &prices).map_err(refused)?;
+    let status = status_of(finding.verdict, &finding.steps);
     if call.has(&JSON) {
         return Ok(Answer::json(call, Json::Object(describe::json(&document, &finding, None)), status));
     }

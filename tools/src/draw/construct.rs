@@ -57,7 +57,7 @@ pub struct Built {
 }
 
 /// The part of one constraint.
-fn start(sheet: &Sheet, constraint: &Constraint) -> Part {
+pub fn start(sheet: &Sheet, constraint: &Constraint) -> Part {
     let mut part = vec![None; sheet.elements.len()];
     let &Constraint { first, second, .. } = constraint;
     let size = wanted(sheet, constraint);
@@ -276,6 +276,11 @@ fn merge(sheet: &Sheet, parts: [&Part; 3], joint: u64) -> Merged {
     let near = triangles.lacking > -2.0 * SLACK && triangles.lacking < DOUBT.max(DOUBT_PART * scale);
     let found: Vec<(usize, Part)> = triangles.found.into_iter().enumerate().rev().filter_map(placed).collect();
     Merged { doubtful: near || triangles.sampled && !found.is_empty(), found }
+}
+
+/// The placements in which three parts close, each as one part.
+pub fn placements(sheet: &Sheet, parts: [&Part; 3], joint: u64) -> Vec<Part> {
+    merge(sheet, parts, joint).found.into_iter().map(|(_, part)| part).collect()
 }
 
 /// The distance or angle between two elements of one plane.

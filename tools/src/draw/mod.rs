@@ -1,13 +1,16 @@
 //! A picture of a sheet, and a look at its position. Everything here is in floating point: tested, not proved.
 
+mod agreement;
 mod clear;
 mod construct;
 pub mod dxf;
+mod firmness;
 mod fit;
 mod html;
 mod labels;
 mod layout;
 mod legend;
+mod linear;
 mod place;
 mod scene;
 mod solve;
@@ -22,6 +25,8 @@ use crate::finding::Finding;
 use crate::text::Rough;
 use system::System;
 
+pub use agreement::Agreement;
+pub use firmness::Weak;
 pub use html::page;
 pub use layout::{How, Layout, Stop, layout};
 pub use scene::{Labels, Options, SIZES};
@@ -35,8 +40,8 @@ pub enum Position {
     Open(usize),
     /// The search for a layout gave up at a step.
     GaveUp(usize),
-    /// Elements that can still move, to first order: element i as bit i.
-    Loose(u64),
+    /// A step does not hold firmly what it joins.
+    Weak(Weak),
 }
 
 impl Position {
@@ -52,16 +57,13 @@ impl Position {
                 let hint = "whether the sizes close is not known; rough places in the text (point A at 0 0) help";
                 format!("the search for a layout gave up at {}; {hint}", meeting(made))
             }
-            Position::Loose(set) => {
-                let names = document.named(set).join(" ");
-                format!("special position: nothing holds {names} firmly, and it may slide")
-            }
+            Position::Weak(weak) => weak.words(document),
         };
         format!("warning (numeric, not proved): {words}")
     }
 }
 
-/// Lays a "well" sheet out and looks whether it closes, and whether it can still move. Nothing where the report tells already that it does not close.
+/// Lays a "well" sheet out and looks whether it closes, and whether it is held firmly. Nothing where the report tells already that it does not close.
 pub fn examine(document: &Document, finding: &Finding) -> Option<Position> {
     if finding.verdict != Verdict::Well || finding.open_steps().next().is_some() {
         return None;
@@ -80,8 +82,8 @@ pub fn examine_layout(document: &Document, finding: &Finding, found: &Layout) ->
         None if found.how == How::GaveUp => return finding.steps.last().map(|step| Position::GaveUp(step.made)),
         None => {}
     }
-    let loose = System::of(&document.sheet).loose(&layout::centred(&document.sheet, found.places.clone()));
-    (loose != 0).then(|| Position::Loose(loose))
+    let places = layout::centred(&document.sheet, found.places.clone());
+    firmness::weak(&document.sheet, &finding.steps, &places).map(Position::Weak)
 }
 
 /// How far a layout is from meeting its sheet's dimensions, beside the largest of them.

@@ -1,12 +1,8 @@
-//! The constraints as equations: how far places are from meeting them, how they change, what still moves.
+//! The constraints as equations: how far places are from meeting them, and how they change.
 
 use super::place::{Place, along, between, direction, distance, dot, length, normal, wrapped};
 use crate::sheet::{Constraint, Sheet};
 
-/// A pivot below this is none, for rows of length 1.
-const PIVOT: f64 = 1e-8;
-/// A motion below this is none, beside one of length 1.
-const STILL: f64 = 1e-6;
 /// How far a length may be off and still be met: half of the last place that is written, in millimetres.
 const HALF_A_TENTH: f64 = 0.0501;
 /// How far an angle may be off, in radians: no more than its computing, since lines nearly parallel make much of little.
@@ -26,7 +22,7 @@ pub struct System<'a> {
 }
 
 /// A row of derivatives: for each end, by its two numbers.
-type Row = [(usize, [f64; 2]); 2];
+pub type Row = [(usize, [f64; 2]); 2];
 
 impl System<'_> {
     /// The equations of a sheet.
@@ -111,74 +107,4 @@ impl System<'_> {
         };
         places.iter().enumerate().map(|(i, place)| moved(i, place)).collect()
     }
-
-    /// The elements that can still move, to first order, while a pair that is held together stands still: the fewest, over all such pairs.
-    pub fn loose(&self, places: &[Place]) -> u64 {
-        let pairs = self.sheet.constraints.iter().map(|c| [c.first, c.second]);
-        let mut fewest = None;
-        for pair in pairs {
-            let moving = self.moving(places, pair);
-            if moving == 0 {
-                return 0;
-            }
-            fewest = Some(
-                fewest.map_or(moving, |set: u64| if moving.count_ones() < set.count_ones() { moving } else { set }),
-            );
-        }
-        fewest.unwrap_or(0)
-    }
-
-    /// The elements that can move while a pair stands still: the null space of the derivatives without the pair's columns.
-    fn moving(&self, places: &[Place], still: [usize; 2]) -> u64 {
-        let columns: Vec<usize> =
-            (0..places.len()).filter(|i| !still.contains(i)).flat_map(|i| [2 * i, 2 * i + 1]).collect();
-        let place_of = |column: usize| columns.iter().position(|&known| known == column);
-        let rows = self.sheet.constraints.iter().map(|constraint| {
-            let mut row = vec![0.0; columns.len()];
-            for (end, by) in self.equation(constraint, places).1 {
-                for axis in [0, 1] {
-                    if let Some(place) = place_of(2 * end + axis) {
-                        row[place] = by[axis];
-                    }
-                }
-            }
-            row
-        });
-        free(rows.collect(), columns.len()).into_iter().fold(0, |set, place| set | 1 << (columns[place] / 2))
-    }
-}
-
-/// The columns that the solutions of homogeneous equations use: elimination with the largest pivot.
-fn free(mut rows: Vec<Vec<f64>>, width: usize) -> Vec<usize> {
-    let mut pivots: Vec<usize> = Vec::new();
-    let mut taken = vec![false; width];
-    while let Some((i, j)) = largest(&rows, pivots.len(), &taken) {
-        let done = pivots.len();
-        rows.swap(done, i);
-        let pivot = rows[done][j];
-        rows[done].iter_mut().for_each(|x| *x /= pivot);
-        let row = rows[done].clone();
-        for (_, other) in rows.iter_mut().enumerate().filter(|(k, other)| *k != done && other[j] != 0.0) {
-            let times = other[j];
-            other.iter_mut().zip(&row).for_each(|(x, y)| *x -= times * y);
-        }
-        pivots.push(j);
-        taken[j] = true;
-    }
-    let depends = |row: &Vec<f64>| row.iter().zip(&taken).any(|(x, taken)| !taken && x.abs() > STILL);
-    let dependent = pivots.iter().zip(&rows).filter(|(_, row)| depends(row)).map(|(&j, _)| j);
-    (0..width).filter(|&j| !taken[j]).chain(dependent).collect()
-}
-
-/// The place of the largest entry that may be a pivot: in a row from `from` on and a column that is not taken.
-fn largest(rows: &[Vec<f64>], from: usize, taken: &[bool]) -> Option<(usize, usize)> {
-    let mut best = (PIVOT, None);
-    for (i, row) in rows.iter().enumerate().skip(from) {
-        for (j, x) in row.iter().enumerate() {
-            if !taken[j] && x.abs() > best.0 {
-                best = (x.abs(), Some((i, j)));
-            }
-        }
-    }
-    best.1
 }

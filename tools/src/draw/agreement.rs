@@ -1,0 +1,176 @@
+//! Whether a dimension too many agrees with the others of its part: they are laid out without it, in every placement, and it is measured there.
+
+use pattern::Step;
+
+use super::construct::{Part, placements, start};
+use super::linear;
+use super::place::{Place, between, distance, length, wrapped};
+use super::system::System;
+use crate::advice::Extra;
+use crate::engine;
+use crate::json::Json;
+use crate::sheet::{Constraint, Dimension, Sheet, members};
+use crate::text::{degrees, millimetres};
+
+/// The most merges of a walk through the placements of a part.
+const MOST_MERGES: usize = 2_000;
+/// How much of its last place a size may be off by rounding. A little more than half, for what is computed.
+const ROUNDING: f64 = 0.51;
+
+/// What the others of a part make of a dimension too many. Sizes are in tenths of a millimetre or hundredths of a degree.
+#[derive(Clone, PartialEq, Debug)]
+pub struct Agreement {
+    /// The size that the others make it: the nearest of all placements that were looked at.
+    pub others: i64,
+    /// Whether it is that but for the rounding of sizes.
+    pub agrees: bool,
+    /// How many placements were looked at, and whether these are all.
+    pub placements: usize,
+    pub all: bool,
+}
+
+impl Agreement {
+    /// What an extra of a sheet says beside the others of its part; none where these cannot be laid out.
+    pub fn of(sheet: &Sheet, extra: &Extra) -> Option<Agreement> {
+        let part = within(sheet, extra);
+        let rest = Sheet { constraints: part.constraints[1..].to_vec(), ..part.clone() };
+        let steps = pattern::steps(&engine::write(&rest).ok()?).ok()?;
+        if 1 + 2 * steps.len() != rest.constraints.len() {
+            return None;
+        }
+        let mut walk = Walk { sheet: &rest, steps: &steps, merges: 0, found: Vec::new() };
+        walk.on(&mut rest.constraints.iter().map(|constraint| Some(start(&rest, constraint))).collect());
+        let wanted = part.size(&part.constraints[0]) as f64;
+        let apart = |size: f64| match both_lines(&part) {
+            true => wrapped(((size - wanted) / 100.0).to_radians()).to_degrees().abs() * 100.0,
+            false => (size - wanted).abs(),
+        };
+        let measured = walk.found.iter().map(|places| (measured(&part, places), places));
+        let (size, places) = measured.min_by(|a, b| apart(a.0).total_cmp(&apart(b.0)))?;
+        let agrees = apart(size) <= rounding(&part, places);
+        let all = walk.merges < MOST_MERGES;
+        Some(Agreement { others: size.round() as i64, agrees, placements: walk.found.len(), all })
+    }
+
+    /// The agreement in words, of a constraint of a sheet.
+    pub fn words(&self, sheet: &Sheet, constraint: usize) -> String {
+        let c = &sheet.constraints[constraint];
+        let lines = [c.first, c.second].iter().all(|&end| sheet.elements[end].is_line());
+        let unit = if lines { degrees } else { millimetres };
+        let (others, own) = (unit(self.others), unit(sheet.size(c)));
+        match (self.agrees, self.all) {
+            (true, _) => format!("it agrees with the others, which make it {others}"),
+            (false, true) => format!("it contradicts the others: they make it {others}, not {own}"),
+            (false, false) => {
+                format!("none of {} placements agrees: the nearest makes it {others}, not {own}", self.placements)
+            }
+        }
+    }
+
+    /// The agreement for a program.
+    pub fn json(&self) -> Json {
+        Json::Object(vec![
+            ("agrees", self.agrees.into()),
+            ("others_make", Json::Number(self.others)),
+            ("placements", self.placements.into()),
+            ("all", self.all.into()),
+        ])
+    }
+}
+
+/// The part of an extra as a sheet: the extra first, then the others.
+fn within(sheet: &Sheet, extra: &Extra) -> Sheet {
+    let elements: Vec<usize> = members(extra.part).collect();
+    let place = |end: usize| elements.iter().position(|&known| known == end).unwrap_or(0);
+    let moved = |k: &usize| {
+        let c = &sheet.constraints[*k];
+        Constraint { first: place(c.first), second: place(c.second), dimension: c.dimension }
+    };
+    Sheet {
+        opening: sheet.opening,
+        elements: elements.iter().map(|&i| sheet.elements[i]).collect(),
+        constraints: [extra.constraint].iter().chain(&extra.fixed_by).map(moved).collect(),
+    }
+}
+
+/// Whether the first constraint is an angle.
+fn both_lines(part: &Sheet) -> bool {
+    let c = &part.constraints[0];
+    part.elements[c.first].is_line() && part.elements[c.second].is_line()
+}
+
+/// The size of the first constraint as it is at some places, in the unit of sizes.
+fn measured(part: &Sheet, places: &[Place]) -> f64 {
+    let c = &part.constraints[0];
+    let (a, b) = (places[c.first], places[c.second]);
+    match [c.first, c.second].map(|end| part.elements[end].is_line()) {
+        [false, false] => length(between(a, b)) * 10.0,
+        [false, true] => distance(a, b) * 10.0,
+        [true, false] => distance(b, a) * 10.0,
+        [true, true] => wrapped(b[0] - a[0]).to_degrees() * 100.0,
+    }
+}
+
+/// A walk through the placements of a plan.
+struct Walk<'a> {
+    sheet: &'a Sheet,
+    steps: &'a [Step],
+    merges: usize,
+    found: Vec<Vec<Place>>,
+}
+
+impl Walk<'_> {
+    /// Goes on from the parts that stand.
+    fn on(&mut self, parts: &mut Vec<Option<Part>>) {
+        let done = parts.len() - self.sheet.constraints.len();
+        if done == self.steps.len() {
+            let last = parts.last().and_then(Option::as_ref);
+            self.found.extend(last.map(|part| part.iter().flatten().copied().collect()));
+            return;
+        }
+        let Step { parts: three, joint, .. } = self.steps[done];
+        let placements = match three.map(|part| parts[part].as_ref()) {
+            [Some(a), Some(b), Some(c)] => placements(self.sheet, [a, b, c], joint),
+            _ => Vec::new(),
+        };
+        for placement in placements {
+            self.merges += 1;
+            if self.merges < MOST_MERGES {
+                parts.push(Some(placement));
+                self.on(parts);
+                parts.pop();
+            }
+        }
+    }
+}
+
+/// How far the first constraint may be from what the others make it, by the rounding of all their sizes: to first order, in the unit of sizes.
+fn rounding(part: &Sheet, places: &[Place]) -> f64 {
+    let system = System::of(part);
+    let row = |constraint: &Constraint| {
+        let mut row = vec![0.0; 2 * places.len()];
+        for (end, by) in system.equation(constraint, places).1 {
+            row[2 * end] = by[0];
+            row[2 * end + 1] = by[1];
+        }
+        row
+    };
+    let rows: Vec<Vec<f64>> = part.constraints.iter().map(row).collect();
+    let product = |a: &[f64], b: &[f64]| a.iter().zip(b).map(|(x, y)| x * y).sum::<f64>();
+    let square = |i: usize| rows[1..].iter().map(|other| product(&rows[i], other)).collect::<Vec<f64>>();
+    let right = rows[1..].iter().map(|other| product(&rows[0], other)).collect();
+    let times = linear::solve((1..rows.len()).map(square).collect(), right).unwrap_or_default();
+    // a length is rounded to a tenth of a millimetre, an angle to a hundredth of a degree, which the equations count as a length far out
+    let unit =
+        |constraint: &Constraint| match [constraint.first, constraint.second].map(|end| part.elements[end].is_line()) {
+            [true, true] => 0.01f64.to_radians() * system.scale(),
+            _ => 0.1,
+        };
+    let rounded = |constraint: &Constraint| match constraint.dimension {
+        Dimension::Size(_) => ROUNDING * unit(constraint),
+        _ => 0.0,
+    };
+    let own = &part.constraints[0];
+    let others: f64 = part.constraints[1..].iter().zip(&times).map(|(c, times)| times.abs() * rounded(c)).sum();
+    (rounded(own) + others) / unit(own)
+}
