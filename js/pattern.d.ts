@@ -6,10 +6,11 @@
  *
  *     import * as pattern from './pattern.mjs';
  *
+ *     const point = { kind: 'point' };
  *     const side = (first, second) => ({ first, second, size: 300 });
- *     const sheet = pattern.write({ elements: [{ kind: 'point' }, { kind: 'point' }, { kind: 'point' }], constraints: [side(0, 1), side(0, 2), side(1, 2)] });
+ *     const sheet = pattern.write({ elements: [point, point, point], constraints: [side(0, 1), side(0, 2), side(1, 2)] });
  *     pattern.verdict(sheet); // 'well'
- *     pattern.plan(sheet);    // [[0, 1, 2]]
+ *     pattern.plan(sheet); // [[0, 1, 2]]
  */
 
 /** What is said of a sheet, in the order it is tried. */
@@ -139,6 +140,12 @@ export function rewrite(sheet: Uint8Array): Uint8Array;
 
 /** The sheet of some facts. Without an opening it is PF02 where there is a circle, else PF01. */
 export function write(facts: Pick<Facts, 'elements'> & Partial<Facts>): Uint8Array;
+
+/**
+ * The same constraint with its lower end first, as a sheet and a sketch take it: between two lines an angle then turns the other way, and changes
+ * its sign.
+ */
+export function ordered(constraint: Constraint, elements: readonly Element[]): Constraint;
 
 /** The facts of a sheet. */
 export function read(sheet: Uint8Array): Facts;

@@ -2,7 +2,7 @@
 // and in the browser. A sheet is a Uint8Array, as it stands in a file. Where the engine refuses a call, `Refused` is thrown, with the number of the
 // rule and its text. pattern.d.ts has the types and says what each function does.
 //
-// `version`, `ruleText` and `read` are plain C, tested and not proved; the other answers are those of the proved library.
+// `version`, `ruleText`, `read` and `ordered` are plain C, tested and not proved; the other answers are those of the proved library.
 
 const MAX_ELEMENTS = 64;
 const MAX_CONSTRAINTS = 200;
@@ -141,6 +141,14 @@ export function write({ elements, constraints = [], opening = elements.some(elem
         column(Uint8Array, some.map(kindNumber)), column(Uint32Array, some.map(element => element.radius ?? 0)),
         column(Uint8Array, rows.map(row => row.first)), column(Uint8Array, rows.map(row => row.second)),
         column(Uint8Array, rows.map(mapOf)), column(Int32Array, rows.map(row => row.size ?? 0)));
+}
+
+export function ordered(constraint, elements) {
+    const { first, second, size } = constraint;
+    const given = [elements.map(kindNumber), [first, second]].map(numbers => column(Uint8Array, numbers));
+    const [kinds, count, ends, , sizes] = lay([...given, column(Int32Array, [size ?? 0])]);
+    if (!wasm.pattern_order_ends(kinds, count, ends, ends + 1, sizes)) return constraint;
+    return { ...constraint, first: second, second: first, ...(size !== undefined && { size: new Int32Array(memory.buffer, sizes, 1)[0] }) };
 }
 
 export function read(sheet) {

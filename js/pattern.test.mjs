@@ -1,4 +1,4 @@
-// Tests of the JavaScript module that targets/build puts beside the WebAssembly: node --test js
+// Tests of the JavaScript module that targets/build puts beside the WebAssembly: node --test js/pattern.test.mjs
 import assert from 'node:assert/strict';
 import { readFileSync, readdirSync, statSync } from 'node:fs';
 import { test } from 'node:test';
@@ -51,6 +51,13 @@ test('facts are written and read', () => {
     refused(18, () => pattern.write({ opening: 1, elements: [circle, line] }));
     refused(3, () => pattern.write({ elements: new Array(1000).fill(point) }));
     refused(9, () => pattern.write({ elements: [point, point], constraints: [{ first: 0, second: 1, size: 0 }] }));
+});
+
+test('ends are put in order', () => {
+    assert.deepEqual(pattern.ordered({ first: 1, second: 0, size: 300 }, [point, point]), side(0, 1));
+    assert.deepEqual(pattern.ordered({ first: 1, second: 0, size: 9000 }, [line, line]), { first: 0, second: 1, size: -9000 });
+    assert.deepEqual(pattern.ordered({ first: 1, second: 0 }, [line, point]), { first: 0, second: 1 });
+    assert.deepEqual(pattern.ordered(side(0, 1), [line, line]), side(0, 1));
 });
 
 test('a plan is made, saved and checked', () => {
@@ -137,7 +144,7 @@ test('every function of the headers is called', () => {
     const declared = [...header.matchAll(/^(?:int32_t|uint64_t|const char) \*?(pattern_\w+)\(/gm)].map(found => found[1]);
     assert.ok(declared.length >= 28);
     // VERDICTS has the names, and write takes the facts as read gives them
-    const spared = ['pattern_verdict_text', 'pattern_write_columns', 'pattern_order_ends'];
+    const spared = ['pattern_verdict_text', 'pattern_write_columns'];
     for (const name of declared) assert.ok(spared.includes(name) || new RegExp(`\\b${name}\\b`).test(source), name);
 });
 
@@ -147,6 +154,13 @@ test('constants are those of the header', () => {
     for (const [, name, value, exported, number] of constants) {
         assert.equal(value ?? number, header.match(new RegExp(`#define PATTERN_${name ?? exported} +\\(?(-?\\d+)\\)?`))?.[1], name ?? exported);
     }
+});
+
+test('the example of the types runs', () => {
+    const [, example] = file('pattern.d.ts').toString().match(/import \* as pattern.*?;\n([^]*?) \*\//);
+    const code = example.replaceAll(/^ \* ?/gm, '').replaceAll(/^ *(pattern.*); \/\/ (.*)$/gm, 'assert.deepEqual($1, $2);');
+    assert.equal(code.match(/assert/g).length, 2);
+    new Function('pattern', 'assert', code)(pattern, assert);
 });
 
 test('the types declare what the module exports', () => {

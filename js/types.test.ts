@@ -14,6 +14,7 @@ const rests: number[] = pattern.clusters(sheet).flatMap(cluster => cluster.rests
 const common: number[] = pattern.shared(new Set([1, 2]), [2]);
 const pairs: [number, number][] = pattern.missing(sheet, new Uint16Array(3));
 const run: number[] | null = pattern.chain(sheet, 0, 2);
+const turned: pattern.Constraint = pattern.ordered({ first: 1, second: 0, size: 9000 }, elements);
 const sketch = new pattern.Sketch(sheet);
 const asked: pattern.Verdict = sketch.ask({ first: 0, second: 2, size: 300 });
 const placed: pattern.Verdict = sketch.place({ first: 0, second: 2, size: 300 }, sketch.count());
@@ -40,4 +41,4 @@ new pattern.Refused('9');
 // @ts-expect-error a verdict is one of five names
 const none: typeof verdict = 'fine';
 
-export { asked, common, first, none, pairs, placed, report, rests, run, ways };
+export { asked, common, first, none, pairs, placed, report, rests, run, turned, ways };
