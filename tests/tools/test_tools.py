@@ -419,6 +419,52 @@ class Pictures(unittest.TestCase):
                 for a, b in zip(old[1::2], new[1::2]):
                     self.assertAlmostEqual(float(a), float(b), delta=0.25, msg=name)
 
+    def test_sizes_and_labels(self):
+        def shown(*options):
+            picture = xml.etree.ElementTree.fromstring(self.draw(text("gable"), *options))
+            words = {shape.text for shape in picture.iter("{http://www.w3.org/2000/svg}text") if "label" in shape.attrib.get("class", "")}
+            return float(picture.attrib["width"]), words & {"ridge", "sill", "A"}, words & {"600.0", "700.0", "90.00°"}
+
+        names, sizes = {"ridge", "sill", "A"}, {"600.0", "700.0", "90.00°"}
+        self.assertEqual(shown()[1:], (names, sizes))
+        self.assertEqual(shown("--labels", "names")[1:], (names, set()))
+        self.assertEqual(shown("--labels", "sizes")[1:], (set(), sizes))
+        self.assertEqual(shown("--labels", "none")[1:], (set(), set()))
+        self.assertLessEqual(shown("--size", "900")[0], 900)
+        self.assertGreater(shown("--size", "1800x1600")[0], 1200)
+        for wrong in (["--size", "0"], ["--size", "x"], ["--size", "900x"], ["--size", "1e3"], ["--labels", "some"], ["--html", "--step", "1"]):
+            self.assertEqual(pattern("draw", text("gable"), *wrong)[0], 64, wrong)
+
+    def test_lines_have_arrows(self):
+        for name in ("gable", "signs", "quarries"):
+            facts = self.facts(name)
+            groups = self.groups(xml.etree.ElementTree.fromstring(self.draw(text(name))))
+            for i, element in enumerate(facts["elements"]):
+                heads = [shape for shape in groups[f"e{i}"] if shape.attrib.get("d", "").endswith("z")]
+                self.assertEqual(len(heads), 1 if element["kind"] == "line" else 0, (name, element))
+
+    def test_steps(self):
+        with tempfile.TemporaryDirectory() as folder:
+            inside = os.path.join(folder, "new", "steps")
+            status, out, _ = pattern("draw", text("gable"), "--steps", inside)
+            words = pattern("plan", "--words", text("gable"))[1].splitlines()
+            self.assertEqual((status, sorted(os.listdir(inside))), (0, [f"step-{k:02}.svg" for k in range(1, len(words) + 1)]))
+            self.assertEqual(out.split(), [os.path.join(inside, name) for name in sorted(os.listdir(inside))])
+            for k, told in enumerate(words, 1):
+                picture = open_text(os.path.join(inside, f"step-{k:02}.svg"))
+                self.assertEqual(picture, self.draw(text("gable"), "--step", str(k)))
+                root = xml.etree.ElementTree.fromstring(picture)
+                lines = " ".join("".join(root.itertext()).split())
+                self.assertIn(told.split(". ", 1)[1].split(";")[0].split(",")[0], lines)
+                # three parts, a joint of three, and what is open next
+                joint = [shape for shape in root.iter() if shape.attrib.get("class") == "joint"]
+                self.assertEqual(len(joint), 3)
+                self.assertIn("open next" if k < len(words) else "nothing is open next", lines)
+        for wrong in ("0", "5", "-1", "one"):
+            self.assertEqual(pattern("draw", text("gable"), "--step", wrong)[0], 64, wrong)
+        self.assertEqual(pattern("draw", text("braced"), "--step", "1")[0], 64)
+        self.assertEqual(pattern("draw", text("gable"), "--steps", "/dev/null/x")[0], 3)
+
     def test_the_page(self):
         for name in self.NAMES:
             page = self.draw(text(name), "--html")
@@ -428,6 +474,87 @@ class Pictures(unittest.TestCase):
             self.assertEqual(len(rows), len(set(rows)))
             body = re.sub("<script>.*?</script>|<style>.*?</style>|<!DOCTYPE html>|<meta[^>]*>", "", page, flags=re.DOTALL)
             xml.etree.ElementTree.fromstring(body)
+
+
+class Places(unittest.TestCase):
+    """Places that a layout found, in each form, and read again."""
+
+    NAMES = sorted(name[: -len(".txt")] for name in os.listdir(TEXTS) if name != "open.txt")
+
+    def places(self, *arguments):
+        return json.loads(pattern("place", "--json", *arguments)[1])["answer"]["elements"]
+
+    def near(self, a, b, slack):
+        for x, y in zip(a, b):
+            self.assertAlmostEqual(x, y, delta=slack)
+
+    def test_text_is_read_again(self):
+        for name in self.NAMES:
+            status, placed, error = pattern("place", text(name))
+            self.assertEqual((status, error), (0, ""), name)
+            with tempfile.NamedTemporaryFile(suffix=".txt") as file:
+                file.write(placed.encode())
+                file.flush()
+                # the same sheet in bytes, the same places but for rounding, and the same text again
+                self.assertEqual(subprocess.run(["pattern", "make", text(name)], capture_output=True).stdout,
+                                 subprocess.run(["pattern", "make", file.name], capture_output=True).stdout)
+                self.assertEqual(pattern("show", file.name)[1], placed)
+                for old, new in zip(self.places(text(name)), self.places(file.name), strict=True):
+                    self.near(old.get("at", old.get("from")), new.get("at", new.get("from")), 0.05)
+
+    def test_tables(self):
+        for name in self.NAMES:
+            rows = list(csv.DictReader(pattern("place", "--csv", text(name))[1].splitlines()))
+            for row, element in zip(rows, self.places(text(name)), strict=True):
+                self.assertEqual((row["name"], row["kind"]), (element["name"], element["kind"]))
+                self.near([float(row["x"]), float(row["y"])], element.get("at", element.get("from")), 0.001)
+                if element["kind"] == "line":
+                    self.near([float(row["to_x"]), float(row["to_y"])], element["to"], 0.001)
+                self.assertEqual(row["radius"] != "", element["kind"] == "circle")
+
+    def test_drawings_open_in_another_program(self):
+        """ezdxf, a program of Debian's, finds no fault with them, and reads what the places say."""
+        script = (
+            "import ezdxf, json, sys\n"
+            "drawing = ezdxf.readfile(sys.argv[1])\n"
+            "point = lambda at: [at.x, at.y]\n"
+            "say = {'POINT': lambda d: [point(d.location)], 'LINE': lambda d: [point(d.start), point(d.end)], 'CIRCLE': lambda d: [point(d.center), [d.radius]]}\n"
+            "faults = len(drawing.audit().errors)\n"
+            "print(json.dumps([drawing.dxfversion, faults, [[e.dxftype(), e.dxf.layer, say[e.dxftype()](e.dxf)] for e in drawing.modelspace()]]))\n"
+        )
+        with tempfile.TemporaryDirectory() as folder:
+            for name in self.NAMES:
+                path = os.path.join(folder, name + ".dxf")
+                self.assertEqual(pattern("place", "--dxf", text(name), "-o", path)[0], 0)
+                done = subprocess.run(["/usr/bin/python3", "-c", script, path], capture_output=True)
+                self.assertEqual(done.returncode, 0, done.stderr.decode())
+                version, faults, entities = json.loads(done.stdout)
+                self.assertEqual((version, faults), ("AC1009", 0), name)
+                for (kind, layer, numbers), element in zip(entities, self.places(text(name)), strict=True):
+                    self.assertEqual((kind.lower(), layer), (element["kind"], element["kind"].upper() + "S"))
+                    wanted = {"point": ["at"], "line": ["from", "to"], "circle": ["at"]}[element["kind"]]
+                    for found, field in zip(numbers, wanted):
+                        self.near(found, element[field], 1e-5)
+                    if kind == "CIRCLE":
+                        self.assertEqual(numbers[1], [element["radius"]])
+
+    def test_a_layout_that_is_not_found(self):
+        status, out, error = pattern("place", text("open"))
+        self.assertEqual(status, 1)
+        self.assertIn("not met: distance A B 1.0 mm", error)
+        self.assertIn("point A at 0 0\n", out)
+
+    def test_signs(self):
+        """Left of the arrow is plus, angles turn against the clock, contacts are as the picture of the signs has them."""
+        found = {element["name"]: element for element in self.places(text("signs"))}
+        (x, y), (z, w) = found["sill"]["from"], found["sill"]["to"]
+        left = lambda name: ((z - x) * (found[name]["at"][1] - y) - (w - y) * (found[name]["at"][0] - x)) / math.dist((x, y), (z, w))
+        for name, wanted in (("plus", 160), ("minus", -160), ("left", 70), ("right", -70), ("ring", 110), ("beside", -60)):
+            self.assertAlmostEqual(left(name), wanted, delta=0.06)
+        way = lambda line: math.atan2(line["to"][1] - line["from"][1], line["to"][0] - line["from"][0])
+        self.assertAlmostEqual(math.degrees(way(found["brace"]) - way(found["sill"])), 60, delta=0.001)
+        self.assertAlmostEqual(math.dist(found["inside"]["at"], found["ring"]["at"]), 110 - 45, delta=0.06)
+        self.assertAlmostEqual(math.dist(found["beside"]["at"], found["right"]["at"]), 60 + 70, delta=0.06)
 
 
 class Documents(unittest.TestCase):

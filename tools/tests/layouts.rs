@@ -1,5 +1,7 @@
 //! Layouts meet the dimensions, and special positions are seen.
 
+use std::time::{Duration, Instant};
+
 use pattern_tools::document::Document;
 use pattern_tools::draw::{self, How, Options, Position};
 use pattern_tools::finding::Finding;
@@ -215,4 +217,90 @@ fn every_sheet_is_drawn() {
         assert!(!page.contains("NaN") && !page.contains("inf"), "{text}");
         assert_eq!(page.matches("class=\"element\"").count(), 2 * n, "{text}");
     }
+}
+
+/// The places of named elements in the layout of a text.
+fn places(text: &str, names: &[&str]) -> Vec<[f64; 2]> {
+    let document = document(text);
+    let layout = draw::layout(&document);
+    assert!(layout.unmet.is_empty(), "{text}");
+    let place = |name: &&str| layout.places[document.element(name).expect("an element")];
+    names.iter().map(place).collect()
+}
+
+/// How far apart two places are.
+fn apart(a: [f64; 2], b: [f64; 2]) -> f64 {
+    (a[0] - b[0]).hypot(a[1] - b[1])
+}
+
+#[test]
+fn feet_stand_between_the_corners_of_a_frame() {
+    let leaded = include_str!("../../examples/text/leaded.txt");
+    for side in
+        [["A", "p1", "B"], ["A", "p2", "B"], ["D", "q1", "C"], ["D", "q2", "C"], ["A", "r", "D"], ["B", "s", "C"]]
+    {
+        let found = places(leaded, &side);
+        let around = apart(found[0], found[1]) + apart(found[1], found[2]);
+        assert!((around - apart(found[0], found[2])).abs() < 1e-3, "{side:?}");
+    }
+}
+
+#[test]
+fn points_that_are_measured_one_from_the_next_run_on() {
+    let chain = "line l\npoint A B C D E\non A l\non B l\non C l\non D l\non E l\n\
+                 distance A B 100\ndistance B C 150\ndistance C D 120\ndistance D E 90\n";
+    let found = places(chain, &["A", "E"]);
+    assert!((apart(found[0], found[1]) - 460.0).abs() < 0.1, "{found:?}");
+}
+
+#[test]
+fn a_hipped_frame_is_no_bow_tie() {
+    let corners = places(include_str!("../../examples/text/hip.txt"), &["A", "B", "C", "D"]);
+    let turn = |k: usize| {
+        let [a, b, c] = [0, 1, 2].map(|i| corners[(k + i) % 4]);
+        (b[0] - a[0]) * (c[1] - b[1]) - (b[1] - a[1]) * (c[0] - b[0])
+    };
+    assert!((0..4).all(|k| turn(k) > 0.0), "{corners:?}");
+}
+
+#[test]
+fn a_grid_is_flat() {
+    let rows: Vec<Vec<String>> =
+        (0..6).map(|row| (1..8).map(|column| format!("{}{column}", (b'a' + row) as char)).collect()).collect();
+    let names: Vec<&str> = rows.iter().flatten().map(String::as_str).collect();
+    let found = places(include_str!("../../examples/text/grid.txt"), &names);
+    let at = |i: usize| [(i % 7) as f64 * 100.0, (i / 7) as f64 * 100.0];
+    for i in 0..42 {
+        for j in 0..i {
+            assert!((apart(found[i], found[j]) - apart(at(i), at(j))).abs() < 0.5, "{} {}", names[i], names[j]);
+        }
+    }
+}
+
+/// A page that drags an element lays out from the places before: thirty times a second, for as many elements as a sheet has.
+#[test]
+fn a_layout_from_near_places_is_quick() {
+    let mut text = String::new();
+    let at = |i: usize| [40.0 * i as f64, if i % 2 == 0 { 0.0 } else { 60.0 + i as f64 }];
+    for i in 0..64 {
+        let [x, y] = at(i);
+        text += &format!("point P{i} at {:.1} {:.1}\n", x + 8.0 * (i as f64).sin(), y + 8.0 * (i as f64).cos());
+    }
+    let mut hold = |a: usize, b: usize| text += &format!("distance P{a} P{b} {:.1}\n", apart(at(a), at(b)));
+    hold(0, 1);
+    (2..64).for_each(|i| {
+        hold(i - 2, i);
+        hold(i - 1, i);
+    });
+    let document = document(&text);
+    let mut times: Vec<Duration> = (0..9)
+        .map(|_| {
+            let start = Instant::now();
+            assert_eq!(draw::layout(&document).how, How::Near);
+            start.elapsed()
+        })
+        .collect();
+    times.sort();
+    println!("64 points from near places: {:?}", times[4]);
+    assert!(times[4] < Duration::from_millis(33), "{times:?}");
 }

@@ -44,9 +44,24 @@ fn compared(a: &Look, b: &Look) -> Ordering {
     b.doubled.cmp(&a.doubled).then(rest)
 }
 
-/// How clear a whole picture is, the least the clearest: points that fall on each other, points beyond a frame, strokes that cross.
-pub fn tangle(sheet: &Sheet, part: &Part) -> (usize, usize, usize) {
-    (doubled(sheet, part, 0), beyond(sheet, part), crossings(&spans(sheet, part, 0)))
+/// How clear a whole picture is.
+pub struct Whole {
+    /// Points that fall on each other, points beyond a frame, strokes that cross.
+    tangle: (usize, usize, usize),
+    spread: f64,
+}
+
+impl Whole {
+    /// The look of a whole.
+    pub fn of(sheet: &Sheet, part: &Part) -> Whole {
+        let tangle = (doubled(sheet, part, 0), beyond(sheet, part), crossings(&spans(sheet, part, 0)));
+        Whole { tangle, spread: spread(sheet, part) }
+    }
+
+    /// Whether one is clearer than another: less of a tangle, or as much of it and clearly wider.
+    pub fn clearer(&self, other: &Whole) -> bool {
+        self.tangle < other.tangle || self.tangle == other.tangle && self.spread > 1.02 * other.spread
+    }
 }
 
 /// The points of a part.

@@ -169,14 +169,18 @@ impl Build<'_> {
     /// Turns single steps to their other placement as long as that makes the picture of the whole clearer.
     fn tidy(&mut self) {
         let (first, last) = (self.sheet.constraints.len(), self.parts.len() - 1);
-        let look = |part: &Option<Part>| part.as_ref().map(|part| clear::tangle(self.sheet, part));
+        let look = |part: &Option<Part>| part.as_ref().map(|part| clear::Whole::of(self.sheet, part));
         let mut best = look(&self.parts[last]);
         let (mut step, mut idle, mut turns) = (0, 0, 0);
-        while idle < self.steps.len() && turns < MOST_TURNS && best != Some((0, 0, 0)) {
+        while idle < self.steps.len() && turns < MOST_TURNS {
             let (kept, taken) = (self.parts[first + step..].to_vec(), self.taken[step]);
             self.taken[step] = 1 - taken.min(1);
             let turned = if self.again(step) { look(&self.parts[last]) } else { None };
-            if turned.is_some() && turned < best {
+            let clearer = match (&turned, &best) {
+                (Some(turned), Some(best)) => turned.clearer(best),
+                _ => false,
+            };
+            if clearer {
                 best = turned;
                 idle = 0;
             } else {

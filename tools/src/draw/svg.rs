@@ -18,6 +18,8 @@ use crate::text::{degrees, millimetres};
 const LINE: f64 = 18.0;
 /// The least width of a picture, so that the legend fits.
 const LEAST: f64 = 720.0;
+/// The radius of the arc of an angle.
+const ARC: f64 = 30.0;
 /// The red of what does not fit.
 const RED: &str = "#d00000";
 
@@ -212,7 +214,14 @@ fn shelf(scene: &Scene) -> Shelf {
     }
     for c in &sheet.constraints {
         let lines = [c.first, c.second].map(|end| sheet.elements[end].is_line());
-        if lines != [true, true] && matches!(c.dimension, Dimension::Size(_)) {
+        if lines == [true, true] {
+            if let Some(meeting) = scene.meeting(c) {
+                let (from, turn) = angle_of(scene, c);
+                let at = |part: f64| scene.at(along(meeting, ARC / scene.long(1.0), direction(from + turn * part)));
+                shelf.take(at(1.0), 6.0);
+                [0.0, 0.25, 0.5, 0.75].iter().for_each(|&part| shelf.stroke([at(part), at(part + 0.25)]));
+            }
+        } else if matches!(c.dimension, Dimension::Size(_)) {
             let [a, b] = scene.span(c);
             shelf.stroke([scene.at(a), scene.at(b)]);
         }
@@ -429,14 +438,14 @@ fn angle(scene: &Scene, k: usize, paint: Paint) -> String {
         None => return marks(scene, c, paint),
     };
     let (from, turn) = angle_of(scene, c);
-    let radius = 30.0 / scene.long(1.0);
+    let radius = ARC / scene.long(1.0);
     let arc = (0..=16).map(|i| scene.at(along(meeting, radius, direction(from + turn * f64::from(i) / 16.0))));
     let path: String =
         arc.enumerate().map(|(i, [x, y])| format!("{}{x:.1} {y:.1}", if i == 0 { 'M' } else { 'L' })).collect();
     let end = scene.at(along(meeting, radius, direction(from + turn)));
     // the head lies along the last part of the arc
     let way = direction(from + turn + turn.signum() * (std::f64::consts::FRAC_PI_2 - 0.18));
-    let head = if turn.abs() * 30.0 > 14.0 { arrow(end, way, paint.colour) } else { String::new() };
+    let head = if turn.abs() * ARC > 14.0 { arrow(end, way, paint.colour) } else { String::new() };
     format!("<path d=\"{path}\" {}/><path class=\"catch\" d=\"{path}\"/>{head}", stroke(paint, 1.2))
 }
 
