@@ -118,7 +118,7 @@ fn beyond(sheet: &Sheet, part: &Part) -> usize {
 }
 
 /// The points on a line that have places, in the order of their names.
-fn on_line(sheet: &Sheet, part: &[Option<Place>], line: usize) -> Vec<(usize, Place)> {
+pub fn on_line(sheet: &Sheet, part: &[Option<Place>], line: usize) -> Vec<(usize, Place)> {
     let on = sheet.constraints.iter().filter(|c| c.dimension == Dimension::On);
     let points = on.filter_map(|c| match line {
         line if line == c.first => Some((c.second, part[c.second]?)),

@@ -111,8 +111,8 @@ pub fn beside([a, b]: [Place; 2], half: [f64; 2]) -> Vec<Place> {
     let parts = [0.5, 0.42, 0.58, 0.34, 0.66, 0.26, 0.74, 0.18, 0.82];
     let place = |part: f64, aside: f64| [0, 1].map(|axis| a[axis] + part * way[axis] + aside * across[axis]);
     let on = parts.iter().map(|&part| place(part, 0.0));
-    let off = parts.iter().flat_map(|&part| [place(part, clear), place(part, -clear)]);
-    on.chain(off).collect()
+    let off = |by: f64| parts.iter().flat_map(move |&part| [place(part, by), place(part, -by)]);
+    on.chain(off(clear)).chain(off(clear + 8.0)).collect()
 }
 
 #[cfg(test)]

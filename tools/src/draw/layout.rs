@@ -8,11 +8,11 @@ use pattern::Step;
 use super::clear;
 use super::construct::{self, Outcome, Part, Taste};
 use super::fit::{fit, line_through};
-use super::place::{Motion, Place, along, between, direction, dot, length, meeting, normal};
+use super::place::{Motion, Place, along, between, direction, dot, length, meeting, normal, wrapped};
 use super::system::System;
 use crate::document::Document;
 use crate::engine::{self, Cluster};
-use crate::sheet::{Kind, Sheet};
+use crate::sheet::{Constraint, Dimension, Kind, Sheet};
 use crate::text::Rough;
 
 /// How many times a search begins again a little aside of rough places.
@@ -317,6 +317,7 @@ fn beside(sheet: &Sheet, part: &Part, placed: &Part, free: Place) -> Motion {
 
 /// The places turned so that the first line, or else the first two points that are held together, lie level, and shifted to the middle.
 fn upright(sheet: &Sheet, places: Vec<Place>) -> Vec<Place> {
+    let places = forward(sheet, places);
     let line = (0..places.len()).find(|&i| sheet.elements[i].is_line()).map(|i| places[i][0]);
     let level = line.or_else(|| {
         let pair = sheet.constraints.first()?;
@@ -329,6 +330,23 @@ fn upright(sheet: &Sheet, places: Vec<Place>) -> Vec<Place> {
     let below = sheet.constraints.first().map_or(false, |pair| places[pair.first][1] > 1e-6);
     if line.is_none() && below {
         places.iter_mut().for_each(|place| place[1] = -place[1]);
+    }
+    places
+}
+
+/// The places with every line turned round, where no sign stands in the way and the first points on the first line would run against its arrow.
+fn forward(sheet: &Sheet, mut places: Vec<Place>) -> Vec<Place> {
+    let is_line = |i: usize| sheet.elements[i].is_line();
+    let signed = |c: &Constraint| is_line(c.first) != is_line(c.second) && c.dimension != Dimension::On;
+    let part: Part = places.iter().copied().map(Some).collect();
+    let first = (0..places.len()).find(|&i| is_line(i)).map(|line| (line, clear::on_line(sheet, &part, line)));
+    if let Some((line, on)) = first {
+        let backward = on.len() > 1 && dot(direction(places[line][0]), between(on[0].1, on[1].1)) < 0.0;
+        if backward && !sheet.constraints.iter().any(signed) {
+            for (_, place) in places.iter_mut().enumerate().filter(|(i, _)| is_line(*i)) {
+                *place = [wrapped(place[0] + PI), -place[1]];
+            }
+        }
     }
     places
 }
