@@ -1,6 +1,7 @@
-//! Links the static library, `libpattern_c.a` or the installed `libpattern.a`: from the folder that PATTERN_LIB_DIR names; else from this package's
-//! own for the target, from where `make` and `make targets` leave it under the repository's root, or from the folder lib of the prefix that this package
-//! is installed in; else from where pkg-config says.
+//! Links the static library, `libpattern_c.a` or the installed `libpattern.a`: from the folder that PATTERN_LIB_DIR
+//! names; else from this package's own for the target, from where `make` and `make targets` leave it under the
+//! repository's root, or from the folder lib of the prefix that this package is installed in; else from where
+//! pkg-config says.
 
 use std::env;
 use std::path::{Path, PathBuf};
@@ -24,7 +25,8 @@ fn held(folder: &Path) -> Option<&'static str> {
     ["pattern_c", "pattern"].into_iter().find(|name| file(folder, name).exists())
 }
 
-/// Where the library may be installed, where the program is for this machine: in the prefix of this package, or where pkg-config says.
+/// Where the library may be installed, where the program is for this machine: in the prefix of this package, or where
+/// pkg-config says.
 fn installed(root: &Path, target: &str) -> Vec<PathBuf> {
     if env::var("HOST").ok().as_deref() != Some(target) {
         return Vec::new();

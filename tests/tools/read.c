@@ -1,6 +1,6 @@
 /*
- * pattern_read on damaged sheets, built with the sanitizers: it refuses what pattern_rewrite refuses, reads nothing that
- * is not there, and what it gives is written back as the same sheet.
+ * pattern_read on damaged sheets, built with the sanitizers: it refuses what pattern_rewrite refuses, reads nothing
+ * that is not there, and what it gives is written back as the same sheet.
  */
 #include <stdio.h>
 #include <stdlib.h>

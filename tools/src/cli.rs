@@ -90,15 +90,18 @@ impl Answer {
     }
 }
 
-/// What every command prints for a program (docs/pattern.schema.json): its name, the version, the exit status, complaints, and the answer, which is null
-/// where there are complaints.
+/// What every command prints for a program (docs/pattern.schema.json): its name, the version, the exit status,
+/// complaints, and the answer, which is null where there are complaints.
 pub fn envelope(command: Option<&str>, status: Status, errors: Json, answer: Json) -> String {
-    let (command, version, exit) = (Json::maybe(command), Json::from(env!("PATTERN_VERSION")), status as u8);
-    format!(
-        "{{\n  \"command\": {command},\n  \"version\": {version},\n  \"exit\": {exit},\n  \"errors\": {},\n  \"answer\": {}\n}}\n",
-        errors.laid_out(1, 2),
-        answer.laid_out(2, 2)
-    )
+    let fields = [
+        ("command", Json::maybe(command).to_string()),
+        ("version", Json::from(env!("PATTERN_VERSION")).to_string()),
+        ("exit", (status as u8).to_string()),
+        ("errors", errors.laid_out(1, 2)),
+        ("answer", answer.laid_out(2, 2)),
+    ];
+    let rows = fields.map(|(name, value)| format!("  \"{name}\": {value}"));
+    format!("{{\n{}\n}}\n", rows.join(",\n"))
 }
 
 /// `-o FILE`.

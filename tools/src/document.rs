@@ -126,8 +126,8 @@ fn read_up_to(path: &OsStr, most: u64) -> Result<Vec<u8>, Fault> {
     Ok(content)
 }
 
-/// The bytes of what a text says, or every complaint about it: those of the text, and what the proved writer refuses. What it refuses is left out, and
-/// the rest tried again.
+/// The bytes of what a text says, or every complaint about it: those of the text, and what the proved writer refuses.
+/// What it refuses is left out, and the rest tried again.
 fn judge(parsed: &text::Text, mut complaints: Vec<Refusal>) -> Result<Vec<u8>, Vec<Refusal>> {
     let understood = complaints.is_empty();
     let mut rest = parsed.clone();

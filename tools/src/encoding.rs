@@ -1,6 +1,7 @@
 //! What a file holds: a text form, a sheet in bytes, or neither, which is then told by name.
 
-/// The content as a text form, if it is one: it does not open as a sheet, and holds characters and no control characters but white space.
+/// The content as a text form, if it is one: it does not open as a sheet, and holds characters and no control
+/// characters but white space.
 pub fn text(content: &[u8]) -> Option<&str> {
     let text = std::str::from_utf8(content).ok()?;
     let text = text.strip_prefix('\u{feff}').unwrap_or(text);

@@ -150,8 +150,8 @@ impl Fault {
         }
     }
 
-    /// What counts as the reason of a refusal where reasons are counted, the rule, or none where a text was not understood; and the first complaint in
-    /// short.
+    /// What counts as the reason of a refusal where reasons are counted, the rule, or none where a text was not
+    /// understood; and the first complaint in short.
     pub fn reason(&self) -> Option<(Option<u8>, String)> {
         match self {
             Fault::Refused { path, refusals } => refusals.first().map(|first| {

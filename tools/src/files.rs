@@ -20,7 +20,8 @@ pub struct Found {
     pub name: PathBuf,
 }
 
-/// The files of a call: its operands, then those of its list; a folder stands for the sheets in it and below, in the order of their names.
+/// The files of a call: its operands, then those of its list; a folder stands for the sheets in it and below, in the
+/// order of their names.
 pub fn of(call: &Call) -> Result<Vec<Found>, Fault> {
     let listed = match call.value(&LIST) {
         Some(path) => names(&document::read_all(path)?),
@@ -44,7 +45,8 @@ pub fn of(call: &Call) -> Result<Vec<Found>, Fault> {
     Ok(found)
 }
 
-/// The sheets of a folder and of the folders in it; what begins with a dot is passed over, and so are links to folders.
+/// The sheets of a folder and of the folders in it; what begins with a dot is passed over, and so are links to
+/// folders.
 fn gather(folder: &Path, within: &Path, found: &mut Vec<Found>) -> Result<(), Fault> {
     let fault = |error| Fault::File { path: folder.display().to_string(), error };
     let mut entries = std::fs::read_dir(folder).and_then(Iterator::collect::<Result<Vec<_>, _>>).map_err(fault)?;
@@ -85,8 +87,8 @@ fn os(name: Vec<u8>) -> OsString {
     String::from_utf8_lossy(&name).into_owned().into()
 }
 
-/// The names of what is made from files, in a folder: each file's own with another ending. Where two would be one, they keep their old endings before it,
-/// and where these are one too, they are numbered.
+/// The names of what is made from files, in a folder: each file's own with another ending. Where two would be one,
+/// they keep their old endings before it, and where these are one too, they are numbered.
 pub fn outputs(folder: &Path, files: &[Found], ending: &str) -> Vec<PathBuf> {
     let short = |found: &Found| found.name.with_extension(ending);
     let long = |found: &Found, number: usize| {

@@ -26,8 +26,8 @@ impl Json {
         value.map_or(Json::Null, Into::into)
     }
 
-    /// The value laid out over lines, so many levels deep: a line for each item of a list and for each field of an object. All lines but the first stand
-    /// behind so much space.
+    /// The value laid out over lines, so many levels deep: a line for each item of a list and for each field of an
+    /// object. All lines but the first stand behind so much space.
     pub fn laid_out(&self, levels: usize, space: usize) -> String {
         let inner = |value: &Json| value.laid_out(levels - 1, space + 2);
         let (open, close, rows): (_, _, Vec<String>) = match self {

@@ -7,8 +7,8 @@ use crate::fault::{Fault, Refusal, Spot};
 use crate::text::Line;
 use crate::{describe, encoding, engine};
 
-/// The numbers of a saved plan: text, or 16 bits each. No plan of a sheet is both: 16-bit numbers without a control character are far above the numbers
-/// of any cluster.
+/// The numbers of a saved plan: text, or 16 bits each. No plan of a sheet is both: 16-bit numbers without a control
+/// character are far above the numbers of any cluster.
 pub fn numbers(path: &str, content: &[u8]) -> Result<Vec<u16>, Fault> {
     let refused = |refusals| Fault::Refused { path: path.to_string(), refusals };
     if let Some(text) = encoding::plain(content).ok().filter(|_| !content.is_empty()) {

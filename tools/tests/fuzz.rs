@@ -1,5 +1,5 @@
-//! Mutated inputs: text forms with and without rough places, sheets in bytes, plans and price lists. None makes the command panic or hang; each is
-//! accepted or gets a clear complaint.
+//! Mutated inputs: text forms with and without rough places, sheets in bytes, plans and price lists. None makes the
+//! command panic or hang; each is accepted or gets a clear complaint.
 //!
 //! As many as the environment variable PATTERN_FUZZ says, else 200,000.
 
@@ -16,8 +16,9 @@ use pattern_tools::{describe, draw, engine, plans, steps, text};
 const PATIENCE: Duration = Duration::from_secs(5);
 
 /// Words of the text form, of price lists and of plans, and what is near to them, a space between two.
-const TOKENS: &str = "point line circle distance angle on tangent opening other at from to default never PF01 PF02 A B C a sill P0 mm cm m \
-    deg \u{b0} 0 1 -1 5 90 180 270 -0.0 600.05 100,5 4000 4000.1 1e9 99999999999999999999 65535 65536 # \n \r\n \u{feff} \u{2212}5";
+const TOKENS: &str = "point line circle distance angle on tangent opening other at from to default never PF01 PF02 \
+    A B C a sill P0 mm cm m deg \u{b0} 0 1 -1 5 90 180 270 -0.0 600.05 100,5 4000 4000.1 1e9 99999999999999999999 \
+    65535 65536 # \n \r\n \u{feff} \u{2212}5";
 
 /// Numbers at random, the same in every run.
 struct Random(u64);

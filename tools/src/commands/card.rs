@@ -19,7 +19,8 @@ fn pairs(points: usize) -> Vec<(usize, usize)> {
     (0..points).flat_map(|a| (a + 1..points).map(move |b| (a, b))).collect()
 }
 
-/// The verdict of some points with a set of distances between them, by the proved library: pair i of the dictionary as bit i.
+/// The verdict of some points with a set of distances between them, by the proved library: pair i of the dictionary
+/// as bit i.
 fn verdict(points: usize, set: usize) -> Verdict {
     if points == POINTS {
         return pattern::card(set);

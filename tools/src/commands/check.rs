@@ -140,7 +140,8 @@ fn table(results: &[Checked]) -> String {
     table + &format!("{:10} {:6}\n{:10} {warned:6}\n", "files", results.len(), "warnings")
 }
 
-/// Why files were refused: each reason with how many it refused and the first of them. Rules by number, then texts that were not understood.
+/// Why files were refused: each reason with how many it refused and the first of them. Rules by number, then texts
+/// that were not understood.
 fn reasons(results: &[Checked]) -> String {
     let mut reasons: BTreeMap<u8, (usize, String)> = BTreeMap::new();
     for (rule, example) in results.iter().filter_map(|checked| checked.as_ref().err()?.reason()) {

@@ -106,7 +106,8 @@ impl<'t> Reader<'t> {
         }
     }
 
-    /// Whether a complaint only follows from one about an earlier line: it is about a name that stands in that line, and that therefore is not known.
+    /// Whether a complaint only follows from one about an earlier line: it is about a name that stands in that line,
+    /// and that therefore is not known.
     fn follows(&self, line: &Line, refusal: &Refusal) -> bool {
         let at = |word: &&Word| matches!(refusal.spot, Spot::Text { column, .. } if column == word.column);
         let holding = line.words().first().map_or(false, |word| HOLDING.contains(&word.text));
@@ -211,7 +212,8 @@ fn statement_meant(word: &str) -> String {
     known.to_string()
 }
 
-/// Reads a text: what it says as far as it is understood, and every complaint, by line. A sheet with circles opens PF02 where the text does not say.
+/// Reads a text: what it says as far as it is understood, and every complaint, by line. A sheet with circles opens
+/// PF02 where the text does not say.
 pub fn parse(text: &str) -> (Text, Vec<Refusal>) {
     let mut reader = Reader::knowing(&[], &[]);
     Line::all(text).for_each(|line| reader.note(&line));
