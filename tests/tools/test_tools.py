@@ -163,6 +163,10 @@ class Json(unittest.TestCase):
             for wrong, status in ((["no such file", *operands], "unreadable"), ([refused, *operands], "refused"), ([], "usage")):
                 errors = self.answer(command, *wrong)["errors"]
                 self.assertEqual([error["status"] for error in errors], [status], command)
+        with tempfile.TemporaryDirectory() as folder:
+            to = os.path.join(folder, "new.txt")
+            self.assertEqual(self.answer("add", text("frame"), "distance A C 721.1", "-o", to)["answer"]["status"], "well")
+            self.assertTrue(open_text(to).endswith("distance A C 721.1\n"))
         self.assertEqual(self.answer("nonsense")["errors"][0]["status"], "usage")
         self.assertEqual(len(self.answer("show", "-", text=b"pont A\npoint B B\ncircle c\n")["errors"]), 3)
         self.assertEqual(self.answer("verify", text("braced"), plan)["errors"][0]["rule"], 11)

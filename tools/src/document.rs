@@ -4,10 +4,12 @@ use std::ffi::OsStr;
 use std::fs::File;
 use std::io::{self, Read};
 
+use pattern::Rule;
+
 use crate::describe::counted;
 use crate::fault::{Fault, Refusal, Spot};
 use crate::near::did_you_mean;
-use crate::sheet::{Constraint, Kind, Opening, Part, Sheet, members};
+use crate::sheet::{Kind, Opening, Part, Sheet, members};
 use crate::{encoding, engine, fields, hint, text};
 
 /// The most bytes that are read of a file.
@@ -177,13 +179,9 @@ fn judge(parsed: &text::Text, mut complaints: Vec<Refusal>) -> Result<Vec<u8>, V
 
 /// Which statement above holds the two ends of a constraint already.
 fn earlier(parsed: &text::Text, k: usize) -> String {
-    let constraints = &parsed.sheet.constraints;
-    let ends = |constraint: &Constraint| (constraint.first, constraint.second);
-    let found = constraints[..k].iter().position(|other| ends(other) == ends(&constraints[k]));
-    let statement = |j: usize| text::constraint(&parsed.sheet, &parsed.names, &constraints[j]);
-    match found.map(|j| (j, parsed.constraints[j])) {
+    let statement = |j: usize| text::constraint(&parsed.sheet, &parsed.names, &parsed.sheet.constraints[j]);
+    match hint::earlier(&parsed.sheet, k).map(|j| (j, parsed.constraints[j])) {
         Some((j, Spot::Text { line, .. })) => format!("line {line} has it: {}", statement(j)),
-        Some((j, _)) => format!("constraint {j} has it: {}", statement(j)),
-        None => String::new(),
+        _ => hint::of(&parsed.sheet, &parsed.names, Rule(7), Part::Constraint(k)),
     }
 }

@@ -3,7 +3,7 @@
 use pattern::Rule;
 
 use crate::sheet::{Constraint, Dimension, Kind, Part, Sheet};
-use crate::text::{degrees, millimetres};
+use crate::text::{self, degrees, millimetres};
 
 /// A half turn in hundredths of a degree.
 const HALF_TURN: i32 = 18_000;
@@ -31,11 +31,21 @@ fn constraint(sheet: &Sheet, names: &[String], rule: Rule, k: usize) -> String {
             format!("both ends are {}: a dimension holds two different elements", names[c.first])
         }
         (6, _) => format!("ends are elements 0 to {}, the lower one first", sheet.elements.len().saturating_sub(1)),
+        (7, [Some(_), Some(_)]) => match earlier(sheet, k) {
+            Some(j) => format!("constraint {j} has it: {}", text::constraint(sheet, names, &sheet.constraints[j])),
+            None => String::new(),
+        },
         (8, [Some(a), Some(b)]) => format!("{} take {}", pair(a, b), allowed(a, b)),
         (9, [Some(a), Some(b)]) => size(c, names, a, b),
         (20, _) => "leave out \"other\", or give the circles different radii".to_string(),
         _ => String::new(),
     }
+}
+
+/// The constraint before another that has the same two ends.
+pub fn earlier(sheet: &Sheet, k: usize) -> Option<usize> {
+    let ends = |constraint: &Constraint| (constraint.first, constraint.second);
+    sheet.constraints[..k].iter().position(|other| ends(other) == ends(&sheet.constraints[k]))
 }
 
 /// The range of a size, and what to write for a size that lies just outside of it.

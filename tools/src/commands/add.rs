@@ -1,5 +1,7 @@
 //! `pattern add`: what more dimensions would do.
 
+use std::path::Path;
+
 use pattern::Rule;
 
 use super::STRICT;
@@ -41,12 +43,17 @@ pub fn run(call: &Call) -> Result<Answer, Fault> {
     let strict = call.has(&STRICT) && !describe::warnings(&grown, &finding, position.as_ref()).is_empty();
     let status = if strict { Status::Other } else { status_of(finding.verdict, &finding.steps) };
     if call.value(&OUTPUT).is_some() {
-        let out = match document.source {
-            Some(source) => extended(source, &statements).into_bytes(),
+        let out = match &document.source {
+            Some(source) => extended(source.clone(), &statements).into_bytes(),
             None => bytes,
         };
         let said = format!("{}: {}", grown.path, verdict_name(finding.verdict));
-        return Ok(Answer { notes: vec![said], ..Answer::deliver(call, out, status) });
+        let saved = Answer { notes: vec![said], ..Answer::deliver(call, out, status) };
+        match (call.has(&JSON), &saved.to) {
+            (false, _) => return Ok(saved),
+            (true, Some(to)) => save(to, &saved.out)?,
+            (true, None) => return Err(Fault::Usage("--json and -o - both want standard output".to_string())),
+        }
     }
     let before = Finding::of(&document, &prices.of(&document)?).map_err(|rule| document.refused(rule))?;
     let joined = joined(&before.clusters, &finding.clusters);
@@ -67,6 +74,11 @@ pub fn run(call: &Call) -> Result<Answer, Fault> {
     lines.splice(1..1, words);
     let out = format!("{}: {}\n  {}\n", grown.path, verdict_name(finding.verdict), lines.join("\n  "));
     Ok(Answer::print(out, status))
+}
+
+/// Saves the sheet beside an answer.
+fn save(to: &Path, sheet: &[u8]) -> Result<(), Fault> {
+    std::fs::write(to, sheet).map_err(|error| Fault::File { path: to.display().to_string(), error })
 }
 
 /// Why the last of more constraints is refused; where a part cannot take it, which part, and whether it agrees there.
