@@ -44,7 +44,9 @@ class Reader(Terms):
                         left, right = split_at(sub.toks, ":")
                         for t in left:
                             if t.kind == "name":
-                                inner = self.file.declare(t.text, "field" if item.kind == "record" else "constructor", t, decl)
+                                inner = self.file.declare(
+                                    t.text, "field" if item.kind == "record" else "constructor", t, decl
+                                )
                                 inner.type = self.text_of(sub.toks)
                                 inner.head = right[1].text if len(right) > 1 and right[1].kind == "name" else ""
                                 inner.last = sub.all[-1].line
@@ -60,7 +62,12 @@ class Reader(Terms):
                 decl.marks, decl.type = marks, self.text_of(item.toks)
                 decl.last = item.all[-1].line
                 decl.head, decl.takes, decl.signature = self.result(right), takes(right[1:]), decl.last
-                if marks & {"abbrev", "unfoldable"} or right[-1].text == "0" and len(right) > 1 and right[-2].text == "Type":
+                if (
+                    marks & {"abbrev", "unfoldable"}
+                    or right[-1].text == "0"
+                    and len(right) > 1
+                    and right[-2].text == "Type"
+                ):
                     decl.kind = "definition"
                 item.decls = [decl]
                 last = decl
@@ -94,7 +101,11 @@ class Reader(Terms):
                 self.use(item.toks, scope)
             elif item.kind == "mod":
                 t = item.toks[-1]
-                child = self.house.file_at(self.file.crate.name, self.file.folder, (self.file.module + "/" if self.file.module != "Lib" else "") + t.text)
+                child = self.house.file_at(
+                    self.file.crate.name,
+                    self.file.folder,
+                    (self.file.module + "/" if self.file.module != "Lib" else "") + t.text,
+                )
                 if child is None:
                     self.unknown(t)
                 else:

@@ -56,23 +56,44 @@ class Book(SourcePages, PromisePages, EntryPages, Documents, HousePages):
         page = "index.html"
         with open(os.path.join(ROOT, "README.md"), encoding="utf-8") as file:
             first = re.search(r"\n\n((?:[^#\n|`].*\n)+)", "\n\n" + re.sub(r"^#.*\n", "", file.read()))
-        renderer = Renderer(lambda t: self.code_span(page, t), lambda t, label: self.document_link("README.md", page, t, label))
+        renderer = Renderer(
+            lambda t: self.code_span(page, t), lambda t, label: self.document_link("README.md", page, t, label)
+        )
         cards = [
-            ("What you must believe", "believe.html",
-             f"{self.house.count} lines of definitions, in the order in which they build on each other. All else is checked."),
-            ("Promises", "promises/index.html",
-             f"{len(self.rows)} sentences of the papers, each with its definition, theorem and wrong programs."),
-            ("Entry points", "entries/index.html",
-             f"{len(self.entries)} functions: prototype, contract, rules, promises, a call to try."),
-            ("Wrong programs", "wrong/index.html",
-             f"{len(self.edits)} programs that the prover refuses, each with an input on which it answers wrongly."),
-            ("The house", "house/index.html",
-             f"{len(self.house.crates)} crates in {len(self.layers())} layers, {len(self.house.files)} files."),
+            (
+                "What you must believe",
+                "believe.html",
+                f"{self.house.count} lines of definitions, in the order in which they build on each other. All else "
+                "is checked.",
+            ),
+            (
+                "Promises",
+                "promises/index.html",
+                f"{len(self.rows)} sentences of the papers, each with its definition, theorem and wrong programs.",
+            ),
+            (
+                "Entry points",
+                "entries/index.html",
+                f"{len(self.entries)} functions: prototype, contract, rules, promises, a call to try.",
+            ),
+            (
+                "Wrong programs",
+                "wrong/index.html",
+                f"{len(self.edits)} programs that the prover refuses, each with an input on which it answers wrongly.",
+            ),
+            (
+                "The house",
+                "house/index.html",
+                f"{len(self.house.crates)} crates in {len(self.layers())} layers, {len(self.house.files)} files.",
+            ),
             ("Documents", "docs/index.html", "Readme, guide, format, trust, architecture, decisions."),
         ]
         out = [f"<h1>{TITLE}</h1>", f"<p>{renderer.inline(first[1].strip())}</p>" if first else ""]
-        out.append("<p>From each promise to its proof by clicks: the sentence, the definition that renders it, the theorem that shows "
-                   "it, the code that keeps it, and the wrong programs that are refused.</p>")
+        out.append(
+            "<p>From each promise to its proof by clicks: the sentence, the definition that renders it, the theorem "
+            "that shows "
+            "it, the code that keeps it, and the wrong programs that are refused.</p>"
+        )
         shown = (f"<li><h3>{self.link(page, to, title)}</h3><p>{words}</p></li>" for title, to, words in cards)
         out.append(f'<ul class="cards">{"".join(shown)}</ul>')
         for section in self.sections:
@@ -131,8 +152,11 @@ def main():
     for place in lost:
         print(f"{place} leads nowhere")
     links = sum(m[2] in ("link", "made") for f in made.house.files.values() for m in f.marks)
-    print(f"{os.path.relpath(folder)}/index.html: {len(made.site.pages)} pages, {links} names linked, {len(lost)} not resolved, "
-          f"{time.time() - began:.1f} s")
+    print(
+        f"{os.path.relpath(folder)}/index.html: {len(made.site.pages)} pages, {links} names linked, {len(lost)} not "
+        "resolved, "
+        f"{time.time() - began:.1f} s"
+    )
     return 1 if lost else 0
 
 

@@ -22,7 +22,9 @@ class Documents(Links):
             if os.path.exists(os.path.join(ROOT, path)):
                 title = self.chapter(path)
                 self.chapters.append((path, title))
-        items = "".join(f"<li>{self.link(INDEX, chapter_page(p), t)} <small>{escape(p)}</small></li>" for p, t in self.chapters)
+        items = "".join(
+            f"<li>{self.link(INDEX, chapter_page(p), t)} <small>{escape(p)}</small></li>" for p, t in self.chapters
+        )
         self.site.write(INDEX, "Documents", f"<h1>Documents</h1><ul>{items}</ul>")
 
     def chapter(self, path):
@@ -45,7 +47,9 @@ class Documents(Links):
                 if name := re.match(r"\n*#+ (.*)", part):
                     heading = name[1].replace("`", "").strip()
                     words = " ".join(part.split())
-                    self.site.sections.append((f"{heading} ({os.path.basename(path)})", page, anchors.get(heading, ""), words))
+                    self.site.sections.append(
+                        (f"{heading} ({os.path.basename(path)})", page, anchors.get(heading, ""), words)
+                    )
         self.site.write(page, title, body, "chapter", [("Documents", INDEX)])
         return title
 
@@ -80,7 +84,11 @@ class Documents(Links):
     def document_link(self, path, page, target, label):
         """A link of a document: to its page in the book. What lies outside is named, and no link."""
         if re.match(r"https?:|mailto:", target):
-            return f"{label} (<code>{escape(target)}</code>)" if label != escape(target) else f"<code>{escape(target)}</code>"
+            return (
+                f"{label} (<code>{escape(target)}</code>)"
+                if label != escape(target)
+                else f"<code>{escape(target)}</code>"
+            )
         name, _, anchor = target.partition("#")
         full = posixpath.normpath(posixpath.join(posixpath.dirname(path), name)) if name else path
         crate = self.house.crates.get(full.split("/")[1]) if full.startswith("crates/") else None

@@ -78,6 +78,7 @@ def contract_names(decl):
 
 # ---- the rules that refuse
 
+
 class Rules:
     """Reads the sets of rules that the record of refusals names."""
 
@@ -136,7 +137,8 @@ class Rules:
 
 
 def tried(comment, others):
-    """The rules that the words of the header list, in the order in which they are tried: "Tries rules 1 to 10, then 17."."""
+    """The rules that the words of the header list, in the order in which they are tried: "Tries rules 1 to 10, then
+    17."."""
     said = re.search(r"\b(?:Tries (?:the )?rules?|Rules) (.*?)\.(?:\s|$)", comment, re.S)
     if not said:
         return []
@@ -149,7 +151,8 @@ def tried(comment, others):
 
 
 def in_order(listed, proved, names):
-    """The rules that refuse, in the order in which they are tried: as the header lists them; what it does not list stands
+    """The rules that refuse, in the order in which they are tried: as the header lists them; what it does not list
+    stands
     behind the rule that its own words name."""
     order = [k for k in listed if k in proved or not proved]
     for k in proved:
@@ -174,6 +177,7 @@ def refused(entry, refusals, rules):
 
 
 # ---- all of it
+
 
 def called(word, entries):
     """The entry points that a call of tests/wrong/inputs means."""

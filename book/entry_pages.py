@@ -14,10 +14,29 @@ from pages import escape
 WASM = [os.path.join(ROOT, "target/targets", path) for path in ("js/pattern.wasm", "wasm32/pattern.wasm")]
 #: What stands in the fields of a call to try, by the name of the parameter.
 EXAMPLES = {
-    "sheet": "pppp 0-1 0-2 1-2 1-3 2-3", "record": "pppp 0-1 0-2 1-2 1-3", "plan": "0 1 2 3 4 5", "a": "7", "b": "14", "n": "5",
-    "number": "6", "from": "0", "to": "3", "steps": "0", "first": "2", "second": "3", "map": "1", "size": "300", "held": "4",
-    "opening": "1", "e": "3", "kinds": "0 0 0 0 0", "firsts": "0 0 1", "seconds": "1 2 2", "maps": "1 1 1",
-    "sizes": "300 300 300", "prices": "1 1 1 1 1 1",
+    "sheet": "pppp 0-1 0-2 1-2 1-3 2-3",
+    "record": "pppp 0-1 0-2 1-2 1-3",
+    "plan": "0 1 2 3 4 5",
+    "a": "7",
+    "b": "14",
+    "n": "5",
+    "number": "6",
+    "from": "0",
+    "to": "3",
+    "steps": "0",
+    "first": "2",
+    "second": "3",
+    "map": "1",
+    "size": "300",
+    "held": "4",
+    "opening": "1",
+    "e": "3",
+    "kinds": "0 0 0 0 0",
+    "firsts": "0 0 1",
+    "seconds": "1 2 2",
+    "maps": "1 1 1",
+    "sizes": "300 300 300",
+    "prices": "1 1 1 1 1 1",
 }
 SHEET = re.compile(r"=?([plk]|c\d+)+( [\d:a-z-]+)+$")
 
@@ -37,15 +56,24 @@ class EntryPages(Links):
         page = e.page
         out = [f"<h1>{e.name}</h1>", f'<pre class="block">{escape(e.prototype)};</pre>']
         for text in re.split(r"\n\s*\n", e.comment):
-            out.append(f'<pre class="block">{escape(text)}</pre>' if text.startswith("  ") else f"<p>{escape(text)}</p>")
-        out.append("<h2>The contract, unfolded a step at a time</h2><p>Click a name with a golden line and its definition opens below; "
-                   f'every one is among {self.link(page, "believe.html", "what must be believed")}.</p>')
+            out.append(
+                f'<pre class="block">{escape(text)}</pre>' if text.startswith("  ") else f"<p>{escape(text)}</p>"
+            )
+        out.append(
+            "<h2>The contract, unfolded a step at a time</h2><p>Click a name with a golden line and its definition "
+            "opens below; "
+            f'every one is among {self.link(page, "believe.html", "what must be believed")}.</p>'
+        )
         for decl, language in ((e.function, "for C"), (e.inner, "in Rattle")):
             if decl is not None:
                 out.append(self.unfolded(page, decl, language))
         out.append(self.refusing(page, e))
         if e.rows:
-            out.append("<h2>Promises about it</h2><ul>" + "".join(f"<li>{self.promise(page, r)}</li>" for r in e.rows) + "</ul>")
+            out.append(
+                "<h2>Promises about it</h2><ul>"
+                + "".join(f"<li>{self.promise(page, r)}</li>" for r in e.rows)
+                + "</ul>"
+            )
         if e.edits:
             out.append(f"<h2>Wrong programs that are refused because of it</h2>{self.wrongs(page, e.edits)}")
         return "\n".join(out) + self.call(page, e)
@@ -56,8 +84,10 @@ class EntryPages(Links):
         name = self.to(page, decl, f"{decl.file.crate.name}::{decl.name}")
         out = [f'<div class="unfold"><p class="note">{language}: {name}</p><pre>{head}</pre>']
         for cited in entries.contract_names(decl):
-            out.append(f'<details class="unfold"><summary>{self.to(page, cited)} {escape(cited.comment)}</summary>'
-                       f"<pre>{self.site.decl_code(page, cited)}</pre></details>")
+            out.append(
+                f'<details class="unfold"><summary>{self.to(page, cited)} {escape(cited.comment)}</summary>'
+                f"<pre>{self.site.decl_code(page, cited)}</pre></details>"
+            )
         return "".join(out) + "</div>"
 
     def refusing(self, page, e):
@@ -78,12 +108,16 @@ class EntryPages(Links):
     # ---- a call to try
 
     def call(self, page, e):
-        """A call to try: by the proved library in the page where it was made for WebAssembly, and one whose answer is kept."""
+        """A call to try: by the proved library in the page where it was made for WebAssembly, and one whose answer
+        is kept."""
         mine = [x for x in e.edits if x.answers and e in entries.called(x.call, self.entries)]
         out = [self.form(page, e, mine)] if self.wasm else []
         if mine:
             given, answer = mine[0].inputs[0], mine[0].answers[0][0]
-            out.append(f'<p class="note">Kept from the tests: <code>{escape(given)}</code> answers <code>{escape(answer[:300])}</code></p>')
+            out.append(
+                f'<p class="note">Kept from the tests: <code>{escape(given)}</code> answers '
+                f"<code>{escape(answer[:300])}</code></p>"
+            )
         return "<h2>A call to try</h2>" + "\n".join(out) if out else ""
 
     def form(self, page, e, mine):
@@ -94,15 +128,24 @@ class EntryPages(Links):
         if sheets and [p["name"] for p in asked if not p.get("out")] == ["sheet"]:
             given["sheet"] = sheets[0]
         sets = re.search(r"by number:[^.]*\bbit \w\s+for element", e.comment) is not None
-        call = {"name": e.name, "parameters": asked, "rules": {k: says for k, (_, says) in self.rules.items()}, "sets": sets}
-        out = [f'<form class="try" data-call="{html.escape(json.dumps(call))}">'
-               '<p class="note">The proved library runs in this page, as WebAssembly.</p>']
+        call = {
+            "name": e.name,
+            "parameters": asked,
+            "rules": {k: says for k, (_, says) in self.rules.items()},
+            "sets": sets,
+        }
+        out = [
+            f'<form class="try" data-call="{html.escape(json.dumps(call))}">'
+            '<p class="note">The proved library runs in this page, as WebAssembly.</p>'
+        ]
         for p in asked:
             if p.get("out") and not p.get("record"):
                 continue
             words = p["type"] + (" list" if p.get("list") else "")
             if p.get("sheet") or p.get("record"):
-                words = ("held first: " if p.get("record") else "") + "a sheet: p, l or c300 for each element, then its constraints"
+                words = (
+                    "held first: " if p.get("record") else ""
+                ) + "a sheet: p, l or c300 for each element, then its constraints"
             value = html.escape(given.get(p["name"], ""))
             out.append(f'<label>{p["name"]} <small>{words}</small><input name="{p["name"]}" value="{value}"></label>')
         out.append(f'<button>call {e.name}</button><output></output></form><script defer src="../try.js"></script>')

@@ -7,8 +7,17 @@ from house import ROOT, Crate, Decl, File
 from pages import escape
 
 #: The chapters, where they stand; what is not there is left out.
-CHAPTERS = ["README.md", "docs/GUIDE.md", "docs/FORMAT.md", "docs/PROMISES.md", "docs/TRUST.md", "docs/ARCHITECTURE.md",
-            "docs/DECISIONS.md", "CONTRIBUTING.md", "CHANGELOG.md"]
+CHAPTERS = [
+    "README.md",
+    "docs/GUIDE.md",
+    "docs/FORMAT.md",
+    "docs/PROMISES.md",
+    "docs/TRUST.md",
+    "docs/ARCHITECTURE.md",
+    "docs/DECISIONS.md",
+    "CONTRIBUTING.md",
+    "CHANGELOG.md",
+]
 
 
 def chapter_page(path):
@@ -61,7 +70,9 @@ class Links:
             return f"<code>{self.link(page, entry.page, text)}</code>"
         if text in self.edits or text in self.house.crates:
             return self.to(page, self.edits.get(text) or self.house.crates[text])
-        chapter = next((c for c in (text, "docs/" + text) if c in CHAPTERS and os.path.exists(os.path.join(ROOT, c))), None)
+        chapter = next(
+            (c for c in (text, "docs/" + text) if c in CHAPTERS and os.path.exists(os.path.join(ROOT, c))), None
+        )
         if chapter:
             return f"<code>{self.link(page, chapter_page(chapter), text)}</code>"
         meaning = self.house.files.get(text)

@@ -1,10 +1,15 @@
-"""Markdown as the documents here write it: headings, paragraphs, lists, tables, code, quotations, links, pictures and emphasis."""
+"""Markdown as the documents here write it: headings, paragraphs, lists, tables, code, quotations, links, pictures
+and emphasis."""
 
 import html
 import re
 
-INLINE = re.compile(r"(?P<code>`+)(?P<text>.+?)(?P=code)|!\[(?P<alt>[^\]]*)\]\((?P<image>[^)\s]+)\)|\[(?P<label>(?:[^\[\]]|\[[^\]]*\])*)\]\((?P<link>[^)\s]+)\)"
-                    r"|\*\*(?P<strong>.+?)\*\*|(?<![\w*])\*(?P<em>[^*\s][^*]*?)\*(?![\w*])|<(?P<url>https?://[^>]+)>", re.S)
+INLINE = re.compile(
+    r"(?P<code>`+)(?P<text>.+?)(?P=code)|!\[(?P<alt>[^\]]*)\]\((?P<image>[^)\s]+)\)"
+    r"|\[(?P<label>(?:[^\[\]]|\[[^\]]*\])*)\]\((?P<link>[^)\s]+)\)"
+    r"|\*\*(?P<strong>.+?)\*\*|(?<![\w*])\*(?P<em>[^*\s][^*]*?)\*(?![\w*])|<(?P<url>https?://[^>]+)>",
+    re.S,
+)
 
 
 def cells(line):
@@ -74,7 +79,7 @@ class Renderer:
                     j += 1
                 pad = len(line) - len(line.lstrip())
                 body = "\n".join(x[pad:] if not x[:pad].strip() else x for x in lines[i + 1 : j])
-                out.append(f"<pre class=\"block\">{html.escape(body, quote=False)}</pre>")
+                out.append(f'<pre class="block">{html.escape(body, quote=False)}</pre>')
                 i = j + 1
             elif m := re.match(r"^(#{1,6}) +(.*?) *#*$", line):
                 anchor = self.anchor(m[2])
@@ -84,7 +89,11 @@ class Renderer:
             elif re.match(r"^ *([-*_] *){3,}$", line):
                 out.append("<hr>")
                 i += 1
-            elif line.lstrip().startswith("|") and i + 1 < len(lines) and re.match(r"^\s*\|[\s:|-]+\|?\s*$", lines[i + 1]):
+            elif (
+                line.lstrip().startswith("|")
+                and i + 1 < len(lines)
+                and re.match(r"^\s*\|[\s:|-]+\|?\s*$", lines[i + 1])
+            ):
                 j = i + 2
                 while j < len(lines) and lines[j].lstrip().startswith("|"):
                     j += 1
@@ -103,11 +112,19 @@ class Renderer:
                 j = i
                 while j < len(lines) and (lines[j].startswith("    ") or not lines[j].strip()):
                     j += 1
-                out.append("<pre class=\"block\">" + html.escape("\n".join(x[4:] for x in lines[i:j]).rstrip(), quote=False) + "</pre>")
+                out.append(
+                    '<pre class="block">'
+                    + html.escape("\n".join(x[4:] for x in lines[i:j]).rstrip(), quote=False)
+                    + "</pre>"
+                )
                 i = j
             else:
                 j = i
-                while j < len(lines) and lines[j].strip() and (j == i or not re.match(r"^(#{1,6} |```|~~~|> | *[-*+] | *\d+[.)] |\s*\|.*\|\s*$)", lines[j])):
+                while (
+                    j < len(lines)
+                    and lines[j].strip()
+                    and (j == i or not re.match(r"^(#{1,6} |```|~~~|> | *[-*+] | *\d+[.)] |\s*\|.*\|\s*$)", lines[j]))
+                ):
                     j += 1
                 out.append("<p>" + self.inline("\n".join(lines[i:j])) + "</p>")
                 i = j
@@ -135,7 +152,12 @@ class Renderer:
                     break
                 inner.append(lines[i][min(m.end(), len(lines[i]) - len(lines[i].lstrip())) :])
                 i += 1
-            while i < len(lines) and not lines[i].strip() and i + 1 < len(lines) and re.match(r"^" + " " * indent + r"([-*+]|\d+[.)]) +", lines[i + 1]):
+            while (
+                i < len(lines)
+                and not lines[i].strip()
+                and i + 1 < len(lines)
+                and re.match(r"^" + " " * indent + r"([-*+]|\d+[.)]) +", lines[i + 1])
+            ):
                 i += 1
             body = self.blocks(inner)
             parts.append("<li>" + (re.sub(r"^<p>(.*?)</p>", r"\1", body, count=1, flags=re.S)) + "</li>")

@@ -120,7 +120,8 @@ class Names:
     # ---- whole texts
 
     def pieces(self, text, lost=None):
-        """A text in parts: (words, what they lead to or None, whether they are code). Names that lead nowhere are noted."""
+        """A text in parts: (words, what they lead to or None, whether they are code). Names that lead nowhere are
+        noted."""
         out, at = [], 0
         for m in SPAN.finditer(text):
             out += self.plain(text[at : m.start()])

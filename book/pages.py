@@ -11,8 +11,14 @@ from house import Crate, Decl, File
 
 CLASSES = {"comment": "c", "string": "s", "number": "n", "word": "w", "kit": "x", "label": "b", "unknown": "u"}
 SORTS = {"believed": "believed", "inner": "inner definition", "law": "law or proof", "program": "program"}
-FOOT = [("Contents", "index.html"), ("What you must believe", "believe.html"), ("Promises", "promises/index.html"),
-        ("Entry points", "entries/index.html"), ("The house", "house/index.html"), ("Documents", "docs/index.html")]
+FOOT = [
+    ("Contents", "index.html"),
+    ("What you must believe", "believe.html"),
+    ("Promises", "promises/index.html"),
+    ("Entry points", "entries/index.html"),
+    ("The house", "house/index.html"),
+    ("Documents", "docs/index.html"),
+]
 PAGE = """<!doctype html>
 <html lang="en"><head><meta charset="utf-8"><title>{title}</title>
 <meta name="viewport" content="width=device-width, initial-scale=1"><link rel="stylesheet" href="{root}book.css">
@@ -111,10 +117,17 @@ class Site:
         link = lambda t, p: f'<a href="{self.href(page, p)}">{escape(t)}</a>'
         trail = " › ".join(link(t, p) for t, p in [(self.title, "index.html"), *up] if p != page)
         with open(path, "w", encoding="utf-8") as file:
-            file.write(PAGE.format(
-                title=escape(title), root="../" * page.count("/"), page=html.escape(page), kind=kind, trail=trail, body=body,
-                foot=" · ".join(link(t, p) for t, p in FOOT),
-            ))
+            file.write(
+                PAGE.format(
+                    title=escape(title),
+                    root="../" * page.count("/"),
+                    page=html.escape(page),
+                    kind=kind,
+                    trail=trail,
+                    body=body,
+                    foot=" · ".join(link(t, p) for t, p in FOOT),
+                )
+            )
         self.pages[page] = title
 
     # ---- sources
@@ -147,7 +160,11 @@ class Site:
         if isinstance(meaning, list):
             meaning = meaning[0]
         if isinstance(meaning, Decl):
-            return f'<a class="x" href="{self.href(page, meaning)}">{escape(word)}</a>' if cls == "made" else self.ref(page, meaning, word)
+            return (
+                f'<a class="x" href="{self.href(page, meaning)}">{escape(word)}</a>'
+                if cls == "made"
+                else self.ref(page, meaning, word)
+            )
         if isinstance(meaning, (File, Crate)):
             return f'<a class="m" href="{self.href(page, meaning)}">{escape(word)}</a>'
         if cls in ("kit", "module"):
@@ -169,7 +186,10 @@ class Site:
             if end > begin:
                 out.append(self.plain(page, file, at, begin))
                 code = self.code(page, file, begin, end, True).rstrip()
-                out.append(f'<section id="{html.escape(decl.anchor)}" class="decl {sort(decl)}"><pre>{code}</pre>{below(page, decl)}</section>')
+                out.append(
+                    f'<section id="{html.escape(decl.anchor)}" class="decl '
+                    f'{sort(decl)}"><pre>{code}</pre>{below(page, decl)}</section>'
+                )
                 at = end
         out.append(self.plain(page, file, at, len(file.text)))
         self.sections.append((file.path, page, "", file.comment))

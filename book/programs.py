@@ -7,7 +7,8 @@ import words
 from meanings import Kit, Local, Scope
 
 RESERVED = set(
-    "as break const continue crate else enum extern false fn for ghost if impl in let loop match mod move mut pub ref return "
+    "as break const continue crate else enum extern false fn for ghost if impl in let loop match mod move mut pub "
+    "ref return "
     "self Self static struct super trait true type unsafe use where while requires ensures".split()
 )
 BUILTIN = set(
@@ -190,8 +191,14 @@ class Programs(antt.Reader):
         crate, last = self.file.crate, self.last
         of = self.house.struct_of(last.head if isinstance(last, Local) else last)
         if call:
-            found = [d for d in self.house.methods.get(t.text, []) if d.file.crate is crate or d.file.crate.name in crate.below]
-            found = [d for d in found if of is not None and d.owner == of.name and d.file.crate is of.file.crate] or found
+            found = [
+                d
+                for d in self.house.methods.get(t.text, [])
+                if d.file.crate is crate or d.file.crate.name in crate.below
+            ]
+            found = [
+                d for d in found if of is not None and d.owner == of.name and d.file.crate is of.file.crate
+            ] or found
         else:
             found = self.house.fields(t.text, crate, "rt")
             found = [d for d in found if d.parent is of] or found

@@ -35,7 +35,8 @@ class PromisePages(Links):
     # ---- one promise
 
     def at_length(self, page, row, level=2):
-        """A promise: the sentence, the definitions, the theorems with their proofs' ideas, the code, the wrong programs."""
+        """A promise: the sentence, the definitions, the theorems with their proofs' ideas, the code, the wrong
+        programs."""
         h, told = f"h{level}", set()
         out = [f"<blockquote><p>{self.words(page, row.pieces[0])}</p></blockquote>"]
         for word, title in (("what", "What it says"), ("definition", "Definition"), ("shown", "Shown by")):
@@ -49,14 +50,18 @@ class PromisePages(Links):
                     told.add(whole)
                     out.append(self.shown(page, whole))
         wrongs = [m for m in row.names("wrong") if isinstance(m, promises.Edit)]
+        i = row.cell("wrong")
         if wrongs:
             out.append(f"<{h}>Wrong programs that are refused</{h}>{self.wrongs(page, wrongs)}")
+        elif i is not None and i < len(row.texts) and row.texts[i]:
+            out.append(f"<{h}>Wrong programs that are refused</{h}><p>{self.words(page, row.pieces[i])}</p>")
         return "\n".join(out)
 
     def wrongs(self, page, edits):
         """Wrong programs, each to be opened."""
         return "\n".join(
-            f"<details><summary>{self.to(page, e)}: {escape(e.comment)}</summary>{wrong.body(self.site, self.house, page, e)}</details>"
+            f"<details><summary>{self.to(page, e)}: "
+            f"{escape(e.comment)}</summary>{wrong.body(self.site, self.house, page, e)}</details>"
             for e in edits
         )
 
@@ -73,14 +78,19 @@ class PromisePages(Links):
         else:
             code = self.site.decl_code(page, decl)
         where = f"{escape(file.crate.name)} {self.link(page, decl, file.module)}"
-        return (f'<section class="decl {sort(decl)}"><pre>{code}</pre>'
-                f'<div class="below"><span class="note">{where}</span> {escape(idea)}</div></section>')
+        return (
+            f'<section class="decl {sort(decl)}"><pre>{code}</pre>'
+            f'<div class="below"><span class="note">{where}</span> {escape(idea)}</div></section>'
+        )
 
     # ---- pages
 
     def promise_pages(self):
-        out = ["<h1>Promises</h1><p>What the papers promise, sentence by sentence: the definition that renders it, the theorem or "
-               "contract that shows it, and the wrong programs that the prover refuses because of it.</p>"]
+        out = [
+            "<h1>Promises</h1><p>What the papers promise, sentence by sentence: the definition that renders it, the "
+            "theorem or "
+            "contract that shows it, and the wrong programs that the prover refuses because of it.</p>"
+        ]
         for section in self.sections:
             if section.rows:
                 title = self.link(INDEX, section.page, section.title, slug(section.title))
@@ -117,11 +127,16 @@ class PromisePages(Links):
 
     def wrong_pages(self):
         page, crate = "wrong/index.html", None
-        out = [f"<h1>Wrong programs</h1><p>{len(self.edits)} programs, each one edit away from the proved one, each refused by the "
-               "prover. Each answers wrongly on the input that it names.</p>"]
+        out = [
+            f"<h1>Wrong programs</h1><p>{len(self.edits)} programs, each one edit away from the proved one, each "
+            "refused by the "
+            "prover. Each answers wrongly on the input that it names.</p>"
+        ]
         for edit in self.edits.values():
             if edit.crate is not crate:
-                out.append(("</ul>" if crate is not None else "") + f"<h2>{self.to(page, edit.crate, code=False)}</h2><ul>")
+                out.append(
+                    ("</ul>" if crate is not None else "") + f"<h2>{self.to(page, edit.crate, code=False)}</h2><ul>"
+                )
                 crate = edit.crate
             out.append(f"<li>{self.to(page, edit)} {escape(edit.comment)}</li>")
             self.wrong_page(edit)
@@ -131,7 +146,11 @@ class PromisePages(Links):
         page = edit.page
         body = f"<h1>{escape(edit.label)}</h1>" + wrong.body(self.site, self.house, page, edit)
         if edit.rows:
-            body += "<h2>Refused because of</h2><ul>" + "".join(f"<li>{self.promise(page, r)}</li>" for r in edit.rows) + "</ul>"
+            body += (
+                "<h2>Refused because of</h2><ul>"
+                + "".join(f"<li>{self.promise(page, r)}</li>" for r in edit.rows)
+                + "</ul>"
+            )
         calls = [self.link(page, e.page, e.name) for e in self.entries if edit in e.edits]
         if calls:
             body += f"<h2>Entry points</h2><p><code>{', '.join(calls)}</code></p>"

@@ -80,7 +80,8 @@ def records(told):
 
 
 def resolve(row, previous, names, about, lost):
-    """Reads the names of a row. The columns behind the first are read first: they say which files the sentence means."""
+    """Reads the names of a row. The columns behind the first are read first: they say which files the sentence
+    means."""
     names.reset()
     names.pieces(" ; ".join(row.texts[1:]))
     told = records(reversed(names.told))

@@ -83,7 +83,9 @@ class House:
                 return None
             return Variants(decl) if rest[at + 1 :] == ["the-variants"] else Made(decl, ".".join(words))
         for word in rest[1:]:
-            decl = next((d for d in self.crate_items(crate).get(word, []) if d.kind in ("function", "struct", "enum")), None)
+            decl = next(
+                (d for d in self.crate_items(crate).get(word, []) if d.kind in ("function", "struct", "enum")), None
+            )
             if decl is None:
                 decl = next((d for d in self.methods.get(word, []) if d.file.crate is crate), None)
             if decl is None and word.startswith("+"):
@@ -178,7 +180,13 @@ class House:
         return [r for r in found if {f.name for f in r.fields} == names]
 
     def struct_of(self, decl):
-        return decl if getattr(decl, "kind", "") in ("struct", "record", "enum", "variant") else self.named(decl) if getattr(decl, "kind", "") == "field" else None
+        return (
+            decl
+            if getattr(decl, "kind", "") in ("struct", "record", "enum", "variant")
+            else self.named(decl)
+            if getattr(decl, "kind", "") == "field"
+            else None
+        )
 
     def named(self, decl):
         """The record that a declaration's result, or a field, is."""
@@ -208,7 +216,8 @@ class House:
         return found if getattr(found, "kind", "") in ("record", "struct") else None
 
     def of_a_step(self, name, reader):
-        """Whether a field is one of those that the kit gives each step of a function, in a file that speaks of such steps."""
+        """Whether a field is one of those that the kit gives each step of a function, in a file that speaks of such
+        steps."""
         if name not in self.step_fields:
             return False
         return any(m[2] == "module" and getattr(m[3], "kind", "") == "function" for m in reader.file.marks)
@@ -216,7 +225,9 @@ class House:
     def meets_kit(self, reader):
         """Whether a file meets records of the kit's: it brings a module that the kit makes, or a library's."""
         if not hasattr(reader, "kit"):
-            reader.kit = any(m[2] in ("made", "kit") or m[2] == "module" and not hasattr(m[3], "path") for m in reader.file.marks)
+            reader.kit = any(
+                m[2] in ("made", "kit") or m[2] == "module" and not hasattr(m[3], "path") for m in reader.file.marks
+            )
         return reader.kit
 
     # ---- who cites whom
@@ -224,7 +235,10 @@ class House:
     def cite(self):
         for file in self.files.values():
             file.marks.sort(key=lambda m: (m[0], -m[1]))
-            tops = sorted((d for d in file.decls if d.kind not in ("field", "constructor", "variant", "helper")), key=lambda d: d.line)
+            tops = sorted(
+                (d for d in file.decls if d.kind not in ("field", "constructor", "variant", "helper")),
+                key=lambda d: d.line,
+            )
             file.tops = tops
             at = 0
             for start, end, cls, meaning in file.marks:
@@ -233,7 +247,13 @@ class House:
                 found = meaning if isinstance(meaning, list) else [meaning]
                 if len(found) > 1:
                     continue
-                while at + 1 < len(tops) and getattr(tops[at + 1], "open", None) is not None and tops[at + 1].start <= start or at + 1 < len(tops) and tops[at + 1].start <= start:
+                while (
+                    at + 1 < len(tops)
+                    and getattr(tops[at + 1], "open", None) is not None
+                    and tops[at + 1].start <= start
+                    or at + 1 < len(tops)
+                    and tops[at + 1].start <= start
+                ):
                     at += 1
                 by = tops[at] if tops and tops[at].start <= start else None
                 for decl in found:

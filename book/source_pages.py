@@ -13,8 +13,11 @@ class SourcePages(Links):
         for file in self.house.files.values():
             self.site.source(file, self.below)
         page = "fields.html"
-        out = ["<h1>Fields that several records have</h1><p>A field is written behind a dot; where its record cannot be told "
-               "from the line, the link leads here.</p>"]
+        out = [
+            "<h1>Fields that several records have</h1><p>A field is written behind a dot; where its record cannot be "
+            "told "
+            "from the line, the link leads here.</p>"
+        ]
         for name in sorted(self.site.many):
             out.append(f'<h3 id="{html.escape(name)}"><code>{escape(name)}</code></h3><ul>')
             for d in sorted(self.site.many[name].values(), key=lambda d: (d.file.path, d.line)):
@@ -37,7 +40,9 @@ class SourcePages(Links):
                 f'{", ".join(links)}</li>'
                 for f, links in files.items()
             )
-            out.append(f'<div class="below"><details><summary>cited by {len(by)}</summary><ul>{items}</ul></details></div>')
+            out.append(
+                f'<div class="below"><details><summary>cited by {len(by)}</summary><ul>{items}</ul></details></div>'
+            )
         elif decl.kind in ("law", "definition") and "pub" in decl.marks:
             out.append('<div class="below">cited by no other declaration</div>')
         return "".join(out)
@@ -60,14 +65,19 @@ class SourcePages(Links):
             files.setdefault(path, []).append((name, lines))
         files = {self.house.files[path]: files[path] for path in self.reading_order(files)}
         out = [
-            "<h1>What you must believe</h1><p>The contracts of the entry points cite definitions, and these cite others. They "
-            f"are all that a reader has to take for the paper's meaning: <b>{self.house.count} lines</b> in {len(files)} files, "
-            "as <code>tests/definitions</code> counts them. Everything else is checked by the prover. They stand here in the "
+            "<h1>What you must believe</h1><p>The contracts of the entry points cite definitions, and these cite "
+            "others. They "
+            f"are all that a reader has to take for the paper's meaning: <b>{self.house.count} lines</b> in "
+            f"{len(files)} files, "
+            "as <code>tests/definitions</code> counts them. Everything else is checked by the prover. They stand "
+            "here in the "
             "order in which they build on each other: what is used comes before what uses it.</p><ol>"
         ]
         for file, names in files.items():
             title = f"{escape(file.crate.name)} {escape(file.module)}"
-            out.append(f'<li><a href="#{slug(file.path)}">{title}</a> <small>{sum(n for _, n in names)} lines</small></li>')
+            out.append(
+                f'<li><a href="#{slug(file.path)}">{title}</a> <small>{sum(n for _, n in names)} lines</small></li>'
+            )
         out.append("</ol>")
         for file, names in files.items():
             title = self.link(page, file, f"{file.crate.name} {file.module}")

@@ -117,7 +117,10 @@ class Terms:
         if words[0] is not None:
             self.refer(t, meaning)
         for word in words[1:]:
-            holds = isinstance(meaning, (Kit, Made, Module, Variants)) or getattr(meaning, "kind", "") in ("data", "enum")
+            holds = isinstance(meaning, (Kit, Made, Module, Variants)) or getattr(meaning, "kind", "") in (
+                "data",
+                "enum",
+            )
             if holds:
                 meaning = self.house.member(meaning, word.text, self.file)
                 if meaning is None:
@@ -376,7 +379,9 @@ class Terms:
             depth += deeper(t)
             if depth == 0 and t.text == "in":
                 break
-            if depth == 0 and (t.text in (".", ",") or t.text in SIGNS or t.kind == "name" and self.meaning(t, scope)[1]):
+            if depth == 0 and (
+                t.text in (".", ",") or t.text in SIGNS or t.kind == "name" and self.meaning(t, scope)[1]
+            ):
                 return None
         found = scope.find(toks[i].text)
         return found if getattr(found, "kind", "") in ("definition", "law", "helper") else None

@@ -3,12 +3,14 @@
 import re
 
 RESERVED = set(
-    "data record deriving module where use mod pub package using open as unfoldable abbrev axiom unfold unfolding ruleset mutual infix infixl "
+    "data record deriving module where use mod pub package using open as unfoldable abbrev axiom unfold unfolding "
+    "ruleset mutual infix infixl "
     "infixr elim let in do λ ∀ Type 𝕀 𝔽 coe fcoe tcoe hcom com V vin vproj inS outS ∨ ∧".split()
 )
 SIGNS = set("→ : = × | ↦ ← _ [ ] ⊔ ⌜ ⌝ ∗".split())
 TOKEN = re.compile(
-    r'(?P<space>\s+)|(?P<block>\{-.*?-\})|(?P<comment>--(?=[\s-]|$)[^\n]*)|(?P<string>"(?:\\.|[^"\\])*")|(?P<name>«[^»]*»|[^\s(){}.;,@"«»]+)|(?P<mark>.)',
+    r'(?P<space>\s+)|(?P<block>\{-.*?-\})|(?P<comment>--(?=[\s-]|$)[^\n]*)|(?P<string>"(?:\\.|[^"\\])*")'
+    r'|(?P<name>«[^»]*»|[^\s(){}.;,@"«»]+)|(?P<mark>.)',
     re.S,
 )
 
@@ -19,7 +21,15 @@ class Token:
     __slots__ = ("text", "start", "end", "line", "col", "first", "kind")
 
     def __init__(self, text, start, line, col, first, kind):
-        self.text, self.start, self.end, self.line, self.col, self.first, self.kind = text, start, start + len(text), line, col, first, kind
+        self.text, self.start, self.end, self.line, self.col, self.first, self.kind = (
+            text,
+            start,
+            start + len(text),
+            line,
+            col,
+            first,
+            kind,
+        )
 
 
 def tokens(text, start=0, end=None, line=1, mark=None):
@@ -99,7 +109,21 @@ class Item:
         self.marks, self.toks = toks[:i], toks[i:]
         self.decls, self.block, self.kind = [], [], "clause"
         head = self.toks[0].text if self.toks else ""
-        if head in ("use", "mod", "module", "record", "data", "mutual", "infix", "infixl", "infixr", "unfolding", "open", "deriving", "ruleset"):
+        if head in (
+            "use",
+            "mod",
+            "module",
+            "record",
+            "data",
+            "mutual",
+            "infix",
+            "infixl",
+            "infixr",
+            "unfolding",
+            "open",
+            "deriving",
+            "ruleset",
+        ):
             self.kind = head
         else:
             left, right = split_at(self.toks, ":")

@@ -80,8 +80,10 @@ def body(site, house, page, edit):
     where = escape(edit.source)
     if edit.function is not None:
         where += f" in {site.ref(page, edit.function, edit.crate.name + '::' + edit.function.name)}"
-    out = [f"<p>{escape(edit.comment[:1].upper() + edit.comment[1:])}.</p>",
-           f'<p class="note">{where}. The prover refuses it: the contract does not hold of it.</p>']
+    out = [
+        f"<p>{escape(edit.comment[:1].upper() + edit.comment[1:])}.</p>",
+        f'<p class="note">{where}. The prover refuses it: the contract does not hold of it.</p>',
+    ]
     if file is not None:
         out.append(f'<pre class="diff">{changed(file, edit)}</pre>')
     for i, words in enumerate(edit.inputs):

@@ -7,8 +7,14 @@ import subprocess
 import tempfile
 import time
 
-FLAGS = ["--headless=new", "--no-sandbox", "--disable-gpu", "--hide-scrollbars", "--host-resolver-rules=MAP * ~NOTFOUND",
-         "--remote-debugging-pipe"]
+FLAGS = [
+    "--headless=new",
+    "--no-sandbox",
+    "--disable-gpu",
+    "--hide-scrollbars",
+    "--host-resolver-rules=MAP * ~NOTFOUND",
+    "--remote-debugging-pipe",
+]
 
 
 class Browser:
@@ -25,7 +31,13 @@ class Browser:
             os.dup2(a, 3)
             os.dup2(b, 4)
 
-        command = ["chromium", *FLAGS, f"--user-data-dir={self.folder.name}", f"--window-size={width},{height}", "about:blank"]
+        command = [
+            "chromium",
+            *FLAGS,
+            f"--user-data-dir={self.folder.name}",
+            f"--window-size={width},{height}",
+            "about:blank",
+        ]
         quiet = subprocess.DEVNULL
         self.process = subprocess.Popen(command, preexec_fn=ends, pass_fds=(3, 4), stdout=quiet, stderr=quiet)
         os.close(down)
@@ -76,7 +88,9 @@ class Browser:
 
     def size(self, width, height, phone=False):
         scale = 2 if phone else 1
-        self.call("Emulation.setDeviceMetricsOverride", width=width, height=height, deviceScaleFactor=scale, mobile=phone)
+        self.call(
+            "Emulation.setDeviceMetricsOverride", width=width, height=height, deviceScaleFactor=scale, mobile=phone
+        )
 
     def open(self, address):
         """Opens a page, and waits until it is there."""
@@ -104,7 +118,8 @@ class Browser:
     def mouse(self, selector, click):
         """Moves the mouse to the middle of what a selector finds, and clicks."""
         x, y = self.ask(
-            f"(() => {{ const e = document.querySelector({json.dumps(selector)}); e.scrollIntoView({{block: 'center'}}); "
+            "(() => "
+            f"{{ const e = document.querySelector({json.dumps(selector)}); e.scrollIntoView({{block: 'center'}}); "
             "const r = e.getClientRects()[0]; return [r.x + r.width / 2, r.y + r.height / 2]; })()"
         )
         self.call("Input.dispatchMouseEvent", type="mouseMoved", x=x, y=y)

@@ -1,4 +1,5 @@
-"""Makes the book and looks at it: no name without a place, no dead link, no request to anywhere else. check.py [FOLDER]"""
+"""Makes the book and looks at it: no name without a place, no dead link, no request to anywhere else. check.py
+[FOLDER]"""
 
 import gc
 import html
@@ -98,7 +99,10 @@ def main():
         for decl in file.decls:
             must(decl.anchor in anchors, f"{file.path}: {decl.name} has no anchor")
     must(f"<b>{house.count} lines</b>" in pages["believe.html"][0], "the count of what must be believed")
-    must(len(made.read) == len(house.believed), f"{len(made.read)} of {len(house.believed)} definitions in the reading order")
+    must(
+        len(made.read) == len(house.believed),
+        f"{len(made.read)} of {len(house.believed)} definitions in the reading order",
+    )
 
     # every name in the promises is a link, and each promise, entry point, wrong program and crate has its page
     chapter = pages["docs/PROMISES.html"][0]
@@ -115,7 +119,9 @@ def main():
         must(edit.page in pages and edit.function is not None, f"{edit.label}: nothing that it edits")
 
     # a name that is declared nowhere would be seen, of either language, in a term, a pattern, a contract and a use line
-    laws = next(f for f in house.files.values() if f.language == "antt" and re.search(r"^use Rattle·[^{]*\{", f.text, re.M))
+    laws = next(
+        f for f in house.files.values() if f.language == "antt" and re.search(r"^use Rattle·[^{]*\{", f.text, re.M)
+    )
     brought = re.search(r"^use Rattle·[^{]*\{([^,}\s]+)", laws.text, re.M)[1]
     wrong_name_seen(house, laws.path, "{" + brought, "{nowhere")
     ensured = "ensures { λ r. ⌜ r ≡ "

@@ -27,8 +27,16 @@ CALLS = [
     ("report", "c600c300c100 0-1:o 0-2:o 1-2:200", "121 bytes\nverdict well"),
 ]
 ANSWER = "document.querySelector('form.try output').textContent"
-PAGES = ["index.html", "believe.html", "entries/over.html", "house/index.html", "promises/demand-2.html", "docs/GUIDE.html",
-         "docs/PROMISES.html", "fields.html"]
+PAGES = [
+    "index.html",
+    "believe.html",
+    "entries/over.html",
+    "house/index.html",
+    "promises/demand-2.html",
+    "docs/GUIDE.html",
+    "docs/PROMISES.html",
+    "fields.html",
+]
 failed = []
 
 
@@ -81,10 +89,16 @@ def names_told(browser):
 def search(browser):
     """Search finds names and words, and leads there."""
     browser.open(BOOK + "index.html")
-    for words, hit in (("IsOver", ".antt.html#IsOver"), ("smallest set", "promises/"), ("pattern_chain", "entries/chain.html")):
+    for words, hit in (
+        ("IsOver", ".antt.html#IsOver"),
+        ("smallest set", "promises/"),
+        ("pattern_chain", "entries/chain.html"),
+    ):
         browser.ask(f"(() => {{ q.value = {json.dumps(words)}; q.dispatchEvent(new Event('input')); }})()")
         links = "[...document.querySelectorAll('#found a')].map(a => decodeURIComponent(a.href))"
-        must(browser.holds(f"!found.hidden && {links}.some(a => a.includes({json.dumps(hit)}))"), f"{words} is not found")
+        must(
+            browser.holds(f"!found.hidden && {links}.some(a => a.includes({json.dumps(hit)}))"), f"{words} is not found"
+        )
 
 
 def contract(browser, folder):
@@ -98,7 +112,9 @@ def contract(browser, folder):
             "[...box.querySelectorAll(':scope > pre a.d.B')].filter(a => a.href !== own).pop().click(); })()"
         )
         must(browser.holds(f"{opened}.length === {step}"), f"step {step} of the contract does not unfold")
-    must(browser.ask(f"{opened}.every(d => d.querySelector('pre').textContent.length > 20)"), "what is unfolded is empty")
+    must(
+        browser.ask(f"{opened}.every(d => d.querySelector('pre').textContent.length > 20)"), "what is unfolded is empty"
+    )
     inside = f"[...document.querySelectorAll('.unfold a')].every(a => a.href.startsWith({json.dumps(BOOK)}))"
     must(browser.ask(inside), "a link of an unfolded definition leads outside")
     if folder:
@@ -120,8 +136,11 @@ def calls(browser):
     for name, sheet, answer in CALLS:
         browser.open(BOOK + f"entries/{name}.html")
         browser.holds(ANSWER)
-        browser.ask(f"(() => {{ const f = document.querySelector('form.try'); {ANSWER} = ''; f.sheet.value = {json.dumps(sheet)};"
-                    "f.requestSubmit(); })()")
+        browser.ask(
+            "(() => "
+            f"{{ const f = document.querySelector('form.try'); {ANSWER} = ''; f.sheet.value = {json.dumps(sheet)};"
+            "f.requestSubmit(); })()"
+        )
         browser.holds(ANSWER)
         said = browser.ask(ANSWER)
         must(said.startswith(answer), f"{name} of {sheet}: {said} for {answer}")
