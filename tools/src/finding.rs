@@ -40,11 +40,9 @@ pub struct Finding {
 impl Finding {
     /// What the proved library says, and what to change.
     pub fn advised(document: &Document, prices: &[u16]) -> Result<Finding, Rule> {
-        let sheet = &document.sheet;
-        let advice = Advice::of(sheet, prices)?;
+        let advice = Advice::of(&document.sheet, prices)?;
         let excess = advice.as_ref().and_then(|advice| advice.excess.as_ref());
-        let agreements =
-            excess.map_or(Vec::new(), |excess| excess.extras.iter().map(|extra| Agreement::of(sheet, extra)).collect());
+        let agreements = excess.map_or(Vec::new(), |excess| Agreement::of(document, &excess.extras));
         Ok(Finding { advice, agreements, ..Finding::of(document, prices)? })
     }
 

@@ -269,6 +269,38 @@ fn the_words_say_what_the_advice_is() {
     assert!(told.iter().all(|&count| count > 0), "{told:?}");
 }
 
+#[test]
+fn a_dimension_too_many_agrees_or_contradicts() {
+    let said = |text: &str| {
+        let document = Document::of("it", text.as_bytes()).unwrap_or_else(|fault| panic!("{fault}"));
+        let finding = Finding::advised(&document, &vec![0; 6]).expect("a finding");
+        let found = finding.agreements.first().and_then(Option::as_ref).map(|found| (found.agrees, found.others));
+        (found, describe::lines(&document, &finding, None).join("\n"))
+    };
+    let frame = "distance A B 600\ndistance B C 400\ndistance C D 600\ndistance A D 400\ndistance A C 721.1\n";
+    let free = |size: &str| said(&format!("point A B C D\n{frame}distance B D {size}\n"));
+    assert_eq!(free("721.1").0, Some((true, 7211)));
+    assert!(free("721.1").1.ends_with("distance B D 721.1 mm: it agrees with the others"));
+    // a tenth more is what sizes rounded to a tenth may make
+    assert_eq!(free("721.2").0, Some((true, 7211)));
+    assert!(free("721.2").1.contains("it agrees with the others but for rounding: they make it 721.1 mm"));
+    assert_eq!(free("722").0, Some((false, 7211)));
+    assert!(free("722").1.contains("it contradicts the others: they make it 721.1 mm, not 722.0 mm"));
+    // folded over its diagonal the frame gives another distance, unless rough places say that it is not folded
+    let folded = free("280").0.expect("it is laid out");
+    assert!(!folded.0 && (2700..2800).contains(&folded.1), "{folded:?}");
+    let size = format!("{:.1}", folded.1 as f64 / 10.0);
+    assert_eq!(free(&size).0, Some((true, folded.1)));
+    let places = "point A at 0 0\npoint B at 600 0\npoint C at 600 400\npoint D at 0 400\n";
+    assert_eq!(said(&format!("{places}{frame}distance B D {size}\n")).0, Some((false, 7211)));
+    // an angle that follows from others
+    let rectangle = said(include_str!("../../tests/tools/advice/rectangle.txt"));
+    assert_eq!(rectangle.0, Some((true, 9000)));
+    assert!(rectangle.1.contains("angle a b 90.00 deg: it agrees with the others"));
+    let slanted = include_str!("../../tests/tools/advice/rectangle.txt").replace("angle a b 90", "angle a b 91");
+    assert_eq!(said(&slanted).0, Some((false, 9000)));
+}
+
 /// Sheets of 64 elements for which there is much to try.
 fn large(random: &mut Random) -> Vec<Sheet> {
     let mut sheets = Vec::new();

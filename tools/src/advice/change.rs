@@ -66,7 +66,8 @@ pub struct Costs {
 }
 
 impl Costs {
-    /// The prices of so many elements' pairs in dictionary order; where the list is not so long, every pair costs nothing.
+    /// The prices of so many elements' pairs in dictionary order; where the list is not so long, every pair costs
+    /// nothing.
     pub fn of(count: usize, prices: &[u16]) -> Costs {
         let pairs = count * count.saturating_sub(1) / 2;
         let prices = if prices.len() == pairs { prices.to_vec() } else { vec![0; pairs] };

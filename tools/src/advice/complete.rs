@@ -17,8 +17,8 @@ pub fn cheapest(sheet: &Sheet, costs: &Costs, tries: &mut Tries) -> Option<(Vec<
     Some((pairs, verdict))
 }
 
-/// Pairs that give "well": the cheapest by the count, if they do; else the cheapest set that differs from it in one pair; else what the parts of the sheet
-/// grow by, made cheaper pair by pair. Nothing that costs as much as `below`.
+/// Pairs that give "well": the cheapest by the count, if they do; else the cheapest set that differs from it in one
+/// pair; else what the parts of the sheet grow by, made cheaper pair by pair. Nothing that costs as much as `below`.
 pub fn complete(sheet: &Sheet, costs: &Costs, below: usize, tries: &mut Tries) -> Option<Vec<Pair>> {
     let (pairs, verdict) = cheapest(sheet, costs, tries)?;
     let least = costs.in_all(&pairs);
@@ -82,8 +82,8 @@ fn cheapen(sheet: &Sheet, mut pairs: Vec<Pair>, costs: &Costs, tries: &mut Tries
     pairs
 }
 
-/// Pairs that give "well", one after another: each joins two parts of the sheet that share an element, the cheapest first and of these the one that makes
-/// the largest part. Nothing that costs as much as `below`.
+/// Pairs that give "well", one after another: each joins two parts of the sheet that share an element, the cheapest
+/// first and of these the one that makes the largest part. Nothing that costs as much as `below`.
 pub fn grow(sheet: &Sheet, costs: &Costs, below: usize, tries: &mut Tries) -> Option<Vec<Pair>> {
     let wanted = (2 * sheet.elements.len()).checked_sub(3)?;
     let (mut grown, mut price) = (sheet.clone(), 0);
@@ -113,8 +113,8 @@ pub fn grow(sheet: &Sheet, costs: &Costs, below: usize, tries: &mut Tries) -> Op
     (tries.verdict(&grown)? == Verdict::Well).then(|| pairs)
 }
 
-/// The pairs that make a merge with two parts that share an element, by price, then the largest union, then pair. A sheet whose parts do not merge becomes
-/// "well" by one more pair only if it is one of these.
+/// The pairs that make a merge with two parts that share an element, by price, then the largest union, then pair. A
+/// sheet whose parts do not merge becomes "well" by one more pair only if it is one of these.
 pub fn joining(sheet: &Sheet, parts: &[u64], costs: &Costs) -> Vec<(usize, Pair)> {
     let n = sheet.elements.len();
     let with: Vec<Vec<u64>> =

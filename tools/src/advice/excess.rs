@@ -1,4 +1,5 @@
-//! What is too many in a sheet that is over: every constraint too many with the part that is fixed without it, and what may be left out in its place.
+//! What is too many in a sheet that is over: every constraint too many with the part that is fixed without it, and what
+//! may be left out in its place.
 
 use pattern::Verdict;
 
@@ -15,7 +16,8 @@ pub struct Extra {
     pub part: u64,
     /// The other constraints of the part: they fix it.
     pub fixed_by: Vec<usize>,
-    /// What may be left out for this one, itself included, each with the verdict that it gives while the other extras are left out: the best first.
+    /// What may be left out for this one, itself included, each with the verdict that it gives while the other extras
+    /// are left out: the best first.
     pub choices: Vec<(usize, Verdict)>,
 }
 
@@ -66,7 +68,8 @@ pub fn extras(sheet: &Sheet, tries: &mut Tries) -> Vec<usize> {
     found
 }
 
-/// The smallest part that a constraint makes over, and the others of its constraints, where `out` is left out and this one is not.
+/// The smallest part that a constraint makes over, and the others of its constraints, where `out` is left out and this
+/// one is not.
 pub fn part_of(sheet: &Sheet, out: &[usize], constraint: usize, tries: &mut Tries) -> Option<(u64, Vec<usize>)> {
     let mut last = without(sheet, &[out, &[constraint]].concat());
     last.constraints.push(sheet.constraints[constraint]);
@@ -78,7 +81,8 @@ pub fn part_of(sheet: &Sheet, out: &[usize], constraint: usize, tries: &mut Trie
     Some((set, (0..sheet.constraints.len()).filter(within).collect()))
 }
 
-/// What is too many in a sheet that is over. In place of each extra every constraint of its part is tried; what ends best is left out.
+/// What is too many in a sheet that is over. In place of each extra every constraint of its part is tried; what ends
+/// best is left out.
 pub fn excess(sheet: &Sheet, tries: &mut Tries) -> Option<Excess> {
     let mut out = extras(sheet, tries);
     let mut best = standing(sheet, &out, tries)?;

@@ -48,7 +48,8 @@ impl Task<'_> {
         self.first.iter().copied().chain(rest).filter(|k| !self.out.contains(k)).collect()
     }
 
-    /// The change that gives "well": nothing more left out, one more, or as many as it takes; else with a new point where two lines meet.
+    /// The change that gives "well": nothing more left out, one more, or as many as it takes; else with a new point
+    /// where two lines meet.
     pub fn mend(&self, tries: &mut Tries) -> Option<Change> {
         if let Some(pairs) = complete(&self.rest(&[]), self.costs, usize::MAX, tries) {
             return Some(self.change(&[], pairs));
@@ -83,8 +84,9 @@ impl Task<'_> {
         best
     }
 
-    /// A sheet built anew around a part: each element outside is held by two dimensions from what is built, those that the sheet has first. Of all parts to
-    /// begin with, the one that changes least; what need not be left out is put back.
+    /// A sheet built anew around a part: each element outside is held by two dimensions from what is built, those that
+    /// the sheet has first. Of all parts to begin with, the one that changes least; what need not be left out is put
+    /// back.
     fn rebuilt(&self, tries: &mut Tries) -> Option<Change> {
         let rest = self.rest(&[]);
         let mut parts = tries.parts(&rest)?;
@@ -115,8 +117,8 @@ impl Task<'_> {
         Some(self.change(&out, measure))
     }
 
-    /// How an element is held by two dimensions from what is built: those that the sheet has, from points first, then the cheapest pairs. A line is held by
-    /// one angle at most, since angles fix no distance.
+    /// How an element is held by two dimensions from what is built: those that the sheet has, from points first, then
+    /// the cheapest pairs. A line is held by one angle at most, since angles fix no distance.
     fn hold(&self, element: usize, built: u64) -> Option<Hold> {
         let is_line = |i: usize| self.sheet.elements[i].is_line();
         let mut held = 0u64;

@@ -1,6 +1,7 @@
 //! What to change in a sheet that is not "well". Everything that is advised was tried before, by the proved verdict.
 //!
-//! Plain functions over the facts of a sheet, which give data: `describe` has the words. A search stops after so many calls of the library, and says so.
+//! Plain functions over the facts of a sheet, which give data: `describe` has the words. A search stops after so many
+//! calls of the library, and says so.
 
 mod change;
 mod complete;
@@ -14,7 +15,7 @@ use pattern::{Rule, Verdict};
 use crate::engine;
 use crate::sheet::Sheet;
 
-pub use change::{Change, Costs};
+pub use change::{Change, Costs, without};
 pub use excess::{Excess, Extra, rank};
 pub use ring::{Link, Ring};
 pub use tries::Tries;
@@ -94,7 +95,8 @@ fn ring_of(sheet: &Sheet, bytes: &[u8]) -> Result<Option<Ring>, Rule> {
     Ok(ring::ring(sheet, &steps, &clusters))
 }
 
-/// The constraints that merge with nothing: of a sheet that is "stuck" those that are best moved. None of one that is over.
+/// The constraints that merge with nothing: of a sheet that is "stuck" those that are best moved. None of one that is
+/// over.
 fn lonely(sheet: &Sheet, bytes: &[u8]) -> Result<Vec<usize>, Rule> {
     if pattern::over(bytes)?.is_some() {
         return Ok(Vec::new());

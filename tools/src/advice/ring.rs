@@ -1,4 +1,5 @@
-//! The ring of an "angle": lines each held to the next by an angle, the last to the first, so that one angle follows from the others.
+//! The ring of an "angle": lines each held to the next by an angle, the last to the first, so that one angle follows
+//! from the others.
 
 use std::collections::VecDeque;
 
@@ -74,7 +75,8 @@ fn sets(sheet: &Sheet, steps: &[Step]) -> Vec<u64> {
     sets
 }
 
-/// The shortest way from one line to another through parts that share lines: the lines, and the part between each and the next.
+/// The shortest way from one line to another through parts that share lines: the lines, and the part between each and
+/// the next.
 fn path(parts: &[(usize, u64)], from: usize, to: usize) -> Option<(Vec<usize>, Vec<usize>)> {
     let mut reached: Vec<Option<(usize, usize)>> = vec![None; 64];
     let mut seen = 1u64 << from;

@@ -1,5 +1,5 @@
-//! The calls of the proved library that a search makes, counted: it stops after so many of them and not after a time, so that its answer is the same on
-//! every machine.
+//! The calls of the proved library that a search makes, counted: it stops after so many of them and not after a time,
+//! so that its answer is the same on every machine.
 
 use pattern::{MOST_CLUSTERS, Over, Verdict};
 

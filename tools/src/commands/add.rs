@@ -91,7 +91,8 @@ fn refused(document: &Document, more: &[Constraint], statement: &str, rule: Rule
         let by: Vec<_> =
             extra.fixed_by.iter().map(|&k| text::constraint(&sheet, &document.names, &sheet.constraints[k])).collect();
         hint = format!("the part {} is fixed already, by {}", document.named(extra.part).join(" "), by.join(", "));
-        if let Some(agreement) = Agreement::of(&sheet, &extra) {
+        let grown = Document { sheet: sheet.clone(), ..document.clone() };
+        if let Some(Some(agreement)) = Agreement::of(&grown, &[extra.clone()]).first() {
             hint += &format!("; numeric, not proved: {}", agreement.words(&sheet, extra.constraint));
         }
     }

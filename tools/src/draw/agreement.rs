@@ -1,12 +1,15 @@
-//! Whether a dimension too many agrees with the others of its part: they are laid out without it, in every placement, and it is measured there.
+//! Whether a dimension too many agrees with the others of its part: they are laid out without it, near rough places or
+//! in every placement, and it is measured there.
 
 use pattern::Step;
 
 use super::construct::{Part, placements, start};
+use super::layout::{How, layout};
 use super::linear;
 use super::place::{Place, between, distance, length, wrapped};
 use super::system::System;
-use crate::advice::Extra;
+use crate::advice::{Extra, without};
+use crate::document::Document;
 use crate::engine;
 use crate::json::Json;
 use crate::sheet::{Constraint, Dimension, Sheet, members};
@@ -17,39 +20,56 @@ const MOST_MERGES: usize = 2_000;
 /// How much of its last place a size may be off by rounding. A little more than half, for what is computed.
 const ROUNDING: f64 = 0.51;
 
-/// What the others of a part make of a dimension too many. Sizes are in tenths of a millimetre or hundredths of a degree.
+/// What the others of a part make of a dimension too many. Sizes are in tenths of a millimetre or hundredths of a
+/// degree.
 #[derive(Clone, PartialEq, Debug)]
 pub struct Agreement {
     /// The size that the others make it: the nearest of all placements that were looked at.
     pub others: i64,
     /// Whether it is that but for the rounding of sizes.
     pub agrees: bool,
-    /// How many placements were looked at, and whether these are all.
+    /// How many placements were looked at, and whether these are all that count: the one near rough places is.
     pub placements: usize,
     pub all: bool,
 }
 
+/// The places of a document without some of its constraints, near its rough places; none where it has none, or these
+/// lead nowhere.
+fn near(document: &Document, out: &[usize]) -> Option<Vec<Place>> {
+    if document.places.iter().all(Option::is_none) {
+        return None;
+    }
+    let sheet = without(&document.sheet, out);
+    let found = layout(&Document { bytes: engine::write(&sheet).ok()?, sheet, ..document.clone() });
+    (found.how == How::Near && found.unmet.is_empty()).then(|| found.places)
+}
+
 impl Agreement {
-    /// What an extra of a sheet says beside the others of its part; none where these cannot be laid out.
-    pub fn of(sheet: &Sheet, extra: &Extra) -> Option<Agreement> {
+    /// What each extra of a document says beside the others of its part, where all extras are left out; none where a
+    /// part cannot be laid out.
+    pub fn of(document: &Document, extras: &[Extra]) -> Vec<Option<Agreement>> {
+        let out: Vec<usize> = extras.iter().map(|extra| extra.constraint).collect();
+        let near = near(document, &out);
+        extras.iter().map(|extra| Agreement::of_one(&document.sheet, extra, near.as_deref())).collect()
+    }
+
+    /// What an extra says, at some places of the whole sheet or else in every placement of its part.
+    fn of_one(sheet: &Sheet, extra: &Extra, near: Option<&[Place]>) -> Option<Agreement> {
         let part = within(sheet, extra);
         let rest = Sheet { constraints: part.constraints[1..].to_vec(), ..part.clone() };
-        let steps = pattern::steps(&engine::write(&rest).ok()?).ok()?;
-        if 1 + 2 * steps.len() != rest.constraints.len() {
-            return None;
-        }
-        let mut walk = Walk { sheet: &rest, steps: &steps, merges: 0, found: Vec::new() };
-        walk.on(&mut rest.constraints.iter().map(|constraint| Some(start(&rest, constraint))).collect());
+        let (found, all) = match near {
+            Some(places) => (vec![members(extra.part).map(|i| places[i]).collect()], true),
+            None => every(&rest)?,
+        };
         let wanted = part.size(&part.constraints[0]) as f64;
         let apart = |size: f64| match both_lines(&part) {
             true => wrapped(((size - wanted) / 100.0).to_radians()).to_degrees().abs() * 100.0,
             false => (size - wanted).abs(),
         };
-        let measured = walk.found.iter().map(|places| (measured(&part, places), places));
+        let measured = found.iter().map(|places| (measured(&part, places), places));
         let (size, places) = measured.min_by(|a, b| apart(a.0).total_cmp(&apart(b.0)))?;
         let agrees = apart(size) <= rounding(&part, places);
-        let all = walk.merges < MOST_MERGES;
-        Some(Agreement { others: size.round() as i64, agrees, placements: walk.found.len(), all })
+        Some(Agreement { others: size.round() as i64, agrees, placements: found.len(), all })
     }
 
     /// The agreement in words, of a constraint of a sheet.
@@ -59,7 +79,8 @@ impl Agreement {
         let unit = if lines { degrees } else { millimetres };
         let (others, own) = (unit(self.others), unit(sheet.size(c)));
         match (self.agrees, self.all) {
-            (true, _) => format!("it agrees with the others, which make it {others}"),
+            (true, _) if others == own => "it agrees with the others".to_string(),
+            (true, _) => format!("it agrees with the others but for rounding: they make it {others}"),
             (false, true) => format!("it contradicts the others: they make it {others}, not {own}"),
             (false, false) => {
                 format!("none of {} placements agrees: the nearest makes it {others}, not {own}", self.placements)
@@ -111,6 +132,17 @@ fn measured(part: &Sheet, places: &[Place]) -> f64 {
     }
 }
 
+/// The placements of a sheet that is built by its plan, as far as they are walked through, and whether these are all.
+fn every(sheet: &Sheet) -> Option<(Vec<Vec<Place>>, bool)> {
+    let steps = pattern::steps(&engine::write(sheet).ok()?).ok()?;
+    if 1 + 2 * steps.len() != sheet.constraints.len() {
+        return None;
+    }
+    let mut walk = Walk { sheet, steps: &steps, merges: 0, found: Vec::new() };
+    walk.on(&mut sheet.constraints.iter().map(|constraint| Some(start(sheet, constraint))).collect());
+    Some((walk.found, walk.merges < MOST_MERGES))
+}
+
 /// A walk through the placements of a plan.
 struct Walk<'a> {
     sheet: &'a Sheet,
@@ -144,7 +176,8 @@ impl Walk<'_> {
     }
 }
 
-/// How far the first constraint may be from what the others make it, by the rounding of all their sizes: to first order, in the unit of sizes.
+/// How far the first constraint may be from what the others make it, by the rounding of all their sizes: to first
+/// order, in the unit of sizes.
 fn rounding(part: &Sheet, places: &[Place]) -> f64 {
     let system = System::of(part);
     let row = |constraint: &Constraint| {
@@ -160,7 +193,8 @@ fn rounding(part: &Sheet, places: &[Place]) -> f64 {
     let square = |i: usize| rows[1..].iter().map(|other| product(&rows[i], other)).collect::<Vec<f64>>();
     let right = rows[1..].iter().map(|other| product(&rows[0], other)).collect();
     let times = linear::solve((1..rows.len()).map(square).collect(), right).unwrap_or_default();
-    // a length is rounded to a tenth of a millimetre, an angle to a hundredth of a degree, which the equations count as a length far out
+    // a length is rounded to a tenth of a millimetre, an angle to a hundredth of a degree, which the equations count as
+    // a length far out
     let unit =
         |constraint: &Constraint| match [constraint.first, constraint.second].map(|end| part.elements[end].is_line()) {
             [true, true] => 0.01f64.to_radians() * system.scale(),

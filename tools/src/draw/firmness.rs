@@ -57,7 +57,8 @@ impl Weak {
     }
 }
 
-/// The first step of a plan that does not hold firmly what it joins, where the elements are at these places. What comes after it is its consequence.
+/// The first step of a plan that does not hold firmly what it joins, where the elements are at these places. What comes
+/// after it is its consequence.
 pub fn weak(sheet: &Sheet, steps: &[Step], places: &[Place]) -> Option<Weak> {
     let mut sets: Vec<u64> = sheet.constraints.iter().map(|c| 1 << c.first | 1 << c.second).collect();
     for step in steps {
@@ -95,7 +96,8 @@ impl Plane<'_> {
         }
     }
 
-    /// How an element moves where its distance from another grows by a tenth; none of two lines, which have no distance.
+    /// How an element moves where its distance from another grows by a tenth; none of two lines, which have no
+    /// distance.
     fn grown(&self, from: usize, i: usize) -> Option<[f64; 2]> {
         let (a, b) = (self.places[from], self.places[i]);
         let way = match (self.is_line(from), self.is_line(i)) {

@@ -11,6 +11,8 @@ use crate::finding::verdict_name;
 
 /// The most clusters that are named.
 const MOST_PARTS: usize = 12;
+/// The most lines of words: the command check tells all.
+const MOST_WORDS: usize = 40;
 /// The longest line in characters.
 const WRAP: usize = 84;
 
@@ -25,6 +27,11 @@ pub fn words(scene: &Scene, position: Option<&Position>) -> Vec<String> {
     for words in describe::lines(scene.document, scene.finding, position) {
         let class = if words.to_lowercase().starts_with("warning") { "loud" } else { "plain" };
         rows.extend(wrapped_words(&words).iter().map(|words| line(class, words)));
+    }
+    let rest = rows.len().saturating_sub(MOST_WORDS);
+    if rest > 1 {
+        rows.truncate(MOST_WORDS);
+        rows.push(line("plain", &format!("and {rest} more lines, which pattern check prints")));
     }
     rows
 }
