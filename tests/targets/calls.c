@@ -7,6 +7,10 @@
  */
 #include "sheets.h"
 
+_Static_assert(sizeof(pattern_len) == 8, "lengths have 64 bits on every target");
+_Static_assert(sizeof(struct pattern_step) == PATTERN_STEP * sizeof(uint64_t), "a list of steps is lent as one of numbers");
+_Static_assert(sizeof(struct pattern_columns) == 1744, "as js/pattern.mjs reads them");
+
 enum function {
 #define X(name) OF_##name,
 #include "names.h"
