@@ -19,18 +19,20 @@ KIT := $(shell command -v rt)
 
 all: $(STATIC) $(SHARED) command
 
+NO_KIT = the Rattle kit is missing (no command rt), and no proved objects for $(HOST) are here; \
+	the source archive pattern-$(VERSION)-source.tar.gz has some
+
 # What is needed is looked for before minutes of proving.
 need:
 	@tools/cargo --version >/dev/null
-	@[ -n "$(KIT)" ] || [ -f objects/$(HOST)/libpattern_c.a ] || { echo "make: the Rattle kit is missing (no command rt), and no proved objects\
-		for $(HOST) are here; the source archive pattern-$(VERSION)-source.tar.gz has some" >&2; exit 1; }
+	@[ -n "$(KIT)" ] || [ -f objects/$(HOST)/libpattern_c.a ] || { echo "make: $(NO_KIT)" >&2; exit 1; }
 
 # The proved library: proved and compiled by the kit where a crate changed; without the kit the proved objects of the source archive.
 ifneq ($(KIT),)
 $(PROVED): crates.txt $(shell find crates -name must-fail -prune -o -type f -print) | need
 	rt staticlib pattern_c
 else
-$(PROVED): $(wildcard objects/*) | need
+$(PROVED): $(wildcard objects/$(HOST)/libpattern_c.a objects/SHA256SUMS) | need
 	@cd objects && sha256sum --check --quiet SHA256SUMS
 	@install -D -m 644 objects/$(HOST)/libpattern_c.a $@
 	@echo "The Rattle kit is not here: the library is the proved one of the archive, for $(HOST), which was made from" && cat objects/ORIGIN
@@ -59,6 +61,10 @@ try: all
 # The library for Arm, Windows and WebAssembly, in target/targets; targets/README.md says more.
 targets: $(PROVED)
 	targets/build
+
+# The packages of a release, in target/dist, over what `make targets` built; packages/README.md says more.
+dist: all
+	packages/build
 
 install: all
 	install -d $(TO)/bin $(TO)/include $(TO)/lib/pkgconfig $(TO)/share/man/man1
@@ -93,4 +99,4 @@ book:
 clean:
 	rm -rf $(OUT)
 
-.PHONY: all need command try targets book install uninstall clean
+.PHONY: all need command try targets dist book install uninstall clean
