@@ -1,6 +1,6 @@
 """The house: the crates in their layers as a picture, their sizes, and what an edit of each rechecks."""
 
-from links import Links
+from links import Links, shortened
 from pages import escape, page_of, sort
 
 INDEX = "house/index.html"
@@ -57,7 +57,9 @@ class HousePages(Links):
         body = []
         for c in self.house.crates.values():
             rechecked = number(f"{len(self.above(c)) + 1} crates")
-            body.append(f"<tr><td>{self.to(INDEX, c)}</td>{''.join(map(number, count[c.name].values()))}{rechecked}</tr>")
+            body.append(
+                f"<tr><td>{self.to(INDEX, c)}</td>{''.join(map(number, count[c.name].values()))}{rechecked}</tr>"
+            )
         sums = "".join(number(f"<b>{sum(c[k] for c in count.values())}</b>") for k in SORTS)
         body.append(f"<tr><th>all</th>{sums}{number(f'{len(self.house.crates)} crates')}</tr>")
         self.site.write(
@@ -126,7 +128,7 @@ class HousePages(Links):
                 believed = sum(d.believed for d in file.tops)
                 note = f' <span class="key believed">{believed} believed</span>' if believed else ""
                 items.append(
-                    f"<li>{self.link(page, file, file.module)}{note} <small>{escape(file.comment[:180])}</small></li>"
+                    f"<li>{self.link(page, file, file.module)}{note} <small>{escape(shortened(file.comment, 180))}</small></li>"
                 )
             out.append(f'<h2>{escape(folder)}</h2><ul>{"".join(items)}</ul>')
         edits = [f"<li>{self.to(page, e)} {escape(e.comment)}</li>" for e in self.edits.values() if e.crate is crate]

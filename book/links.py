@@ -28,7 +28,11 @@ def sentence(row, most=None):
     """The words of a promise: its sentence, or the field that it is about and what it says."""
     text = row.texts[0] if row.head[0] == "sentence" else row.texts[0] + ": " + row.texts[1]
     text = re.sub(r"`([^`]*)`", r"\1", text)
-    text = text[:1].upper() + text[1:]
+    return shortened(text[:1].upper() + text[1:], most)
+
+
+def shortened(text, most):
+    """A text, cut behind a word where it has more letters than so many."""
     return text if most is None or len(text) <= most else text[:most].rsplit(" ", 1)[0] + " …"
 
 

@@ -53,7 +53,7 @@ function call(wasm, name, parameters, values) {
         const lacking = top - wasm.memory.buffer.byteLength;
         if (lacking > 0) wasm.memory.grow(Math.ceil(lacking / 65536));
         new Uint8Array(wasm.memory.buffer).set(new Uint8Array(items.buffer), at);
-        if (p.out) lent.push({Type, at, room: items.length});
+        if (p.out && !p.record) lent.push({Type, at, room: items.length});
         words.push(at, BigInt(items.length));
     });
     const answer = wasm[name](...words);

@@ -77,16 +77,16 @@ def wrong_name_seen(house, path, old, new):
 
 def main():
     gc.disable()
-    began = time.time()
+    began = time.process_time()
     folder = os.path.abspath(sys.argv[1] if len(sys.argv) > 1 else os.path.join(ROOT, "target/book"))
     made = book.write(folder)
-    took = time.time() - began
+    took = time.process_time() - began
     house = made.house
     for path, line, name in house.unresolved:
         failed.append(f"{path}:{line}: {name} leads nowhere")
     for name in made.lost:
         failed.append(f"docs/PROMISES.md: {name} leads nowhere")
-    must(took < 30 or os.getloadavg()[0] > os.cpu_count(), f"it took {took:.0f} s")
+    must(took < 30, f"it took {took:.0f} s")
 
     pages = read_pages(folder)
     count = links_live(pages)
@@ -131,7 +131,7 @@ def main():
 
     for what in failed[:40]:
         print(what)
-    print(f"the book: {len(pages)} files, {count} links, {len(failed)} faults, made in {took:.1f} s")
+    print(f"the book: {len(pages)} files, {count} links, {len(failed)} faults, made in {took:.1f} s of a processor")
     return 1 if failed else 0
 
 
