@@ -1,5 +1,5 @@
-// The report of a constraint graph in lent arrays: for the engine's plan, and for a saved plan that is accepted; and what its final clusters rest on.
-// Contracts cite specs/Account.antt and specs/Resting.antt.
+// The report of a constraint graph in lent arrays: for the engine's plan, and for a saved plan that is accepted; its final clusters, and what they rest
+// on. Contracts cite specs/Account.antt and specs/Resting.antt.
 ghost use mathlib.Core.Path.{_≡_};
 ghost use mathlib.Core.List.{List, [], _∷_};
 ghost use Prim.Native.Nat.{_+_, _≤_, _<_, _^_};
@@ -11,6 +11,7 @@ ghost use Rattle.merges.specs.Run.{runIn, Merged};
 ghost use Rattle.space.specs.Space.{Put, answer, after};
 ghost use Rattle.sheet.specs.Answer.{byRule, Answers};
 ghost use Rattle.sheet.specs.Graph.{overFault};
+ghost use Rattle.judge.specs.Judged.{finalClusters};
 ghost use Rattle.account.specs.Resting.{restNumbers};
 ghost use Rattle.account.specs.Resting.Pairs.{pairsIn};
 ghost use Rattle.account.specs.Account.{reportWith, listReport, reportOf, savedField};
@@ -169,7 +170,22 @@ pub fn check_plan(
     }
 }
 
-// ---- what the final clusters rest on
+// ---- the final clusters
+
+// The final clusters of a sheet as sets, by number; none of an over sheet.
+pub fn clusters(h: Head, near: &[u64; 64], start: &[u64; 200], out: &mut [u64]) -> Written
+    requires { ⌜ Drawn h (now near) (now start) ⌝ }
+    ensures { λ r. ⌜ ((z : List ℤ) → (r ≡ answer (finalClusters (graphIn h (now (start .entry)) z)) (now (out .entry)))
+        × (now (out .exit) ≡ after (finalClusters (graphIn h (now (start .entry)) z)) (now (out .entry)))) ⌝ }
+{
+    let mut slots = [0u64; 192];
+    let mut parts = [0u16; 192];
+    let mut joints = [0u64; 64];
+    judge::plan_on(h, near, start, &mut slots, &mut parts, &mut joints);
+    engine::put_clusters(&slots, 192, out)
+}
+
+// ---- what they rest on
 
 // The two words of a cluster, unless it is dead.
 fn put_pair(out: &mut [u64], at: usize, x: u64, low: u64, high: u64) -> usize

@@ -11,7 +11,8 @@ ghost use Rattle.reader.specs.Answers.{asReading};
 ghost use Rattle.writer.specs.Write.{writeField};
 ghost use Rattle.judge.specs.Judged.{planNumbers, finalClusters};
 ghost use Rattle.sketch.specs.Sketch.{askAnswer, placedOf};
-ghost use Rattle.records.specs.Record.{asJudgement, askField, placeField, writtenField, placedIn, sheetField};
+ghost use Rattle.records.specs.Record.{asJudgement, askField, placeField, writtenField, placedIn, heldRecord, sheetField};
+ghost use Rattle.held.specs.Held.{heldValue, heldCount, heldItems};
 ghost use Rattle.account.specs.Account.{reportOf};
 ghost use Rattle.account.specs.Resting.{restNumbers};
 ghost use Rattle.card.specs.Card.{setVerdict};
@@ -198,11 +199,7 @@ pub fn clusters(bytes: &[u8], out: &mut [u64]) -> Written
     let GraphRead::Value(head) = got else {
         return Written::Refused(got.refusal());
     };
-    let mut slots = [0u64; 192];
-    let mut parts = [0u16; 192];
-    let mut joints = [0u64; 64];
-    judge::plan_on(head, &near, &start, &mut slots, &mut parts, &mut joints);
-    engine::put_clusters(&slots, 192, out)
+    account::clusters(head, &near, &start, out)
 }
 
 // What the final clusters rest on, by number: two words each, the constraint numbers to 63 and those from 64 on; none of an over sheet.
@@ -419,6 +416,27 @@ pub fn place(s: &mut Sheet, c: Constraint, held: usize) -> Judgement
     r.answer
 }
 
+// How many constraints a held sketch has, the number that placing takes; or 27.
+pub fn held_count(s: Sheet) -> Written
+    ensures { λ r. ⌜ r ≡ heldCount (heldValue s) ⌝ }
+{
+    held::count(s)
+}
+
+// The final clusters of a held sketch as sets, by number, or the rule of 27 and 17 that refuses.
+pub fn held_clusters(s: Sheet, out: &mut [u64]) -> Written
+    ensures { λ r. ⌜ Answers (heldItems finalClusters (heldValue s)) (now (out .entry)) r (now (out .exit)) ⌝ }
+{
+    held::clusters(s, out)
+}
+
+// What they rest on, by number: two words each, the constraint numbers to 63 and those from 64 on; or the rule of 27 and 17 that refuses.
+pub fn held_rests(s: Sheet, out: &mut [u64]) -> Written
+    ensures { λ r. ⌜ Answers (heldItems restNumbers (heldValue s)) (now (out .entry)) r (now (out .exit)) ⌝ }
+{
+    held::rests(s, out)
+}
+
 // ---- a held sketch in lent bytes
 
 // The sketch held from a sheet, as a record in lent bytes, or the rule of 1 to 11 and 17 to 20 that refuses it.
@@ -461,6 +479,27 @@ pub fn held_in(lent: &[u8], out: &mut [u8]) -> Written
     ensures { λ r. ⌜ Answers (sheetField (now (lent .entry))) (now (out .entry)) r (now (out .exit)) ⌝ }
 {
     records::sheet(lent, out)
+}
+
+// How many constraints the sketch in a record has, the number that placing takes; or 27.
+pub fn held_count_in(lent: &[u8]) -> Written
+    ensures { λ r. ⌜ r ≡ heldCount (heldRecord (now (lent .entry))) ⌝ }
+{
+    held::count_in(lent)
+}
+
+// The final clusters of the sketch in a record as sets, by number, or the rule of 27 and 17 that refuses.
+pub fn held_clusters_in(lent: &[u8], out: &mut [u64]) -> Written
+    ensures { λ r. ⌜ Answers (heldItems finalClusters (heldRecord (now (lent .entry)))) (now (out .entry)) r (now (out .exit)) ⌝ }
+{
+    held::clusters_in(lent, out)
+}
+
+// What they rest on, by number: two words each, the constraint numbers to 63 and those from 64 on; or the rule of 27 and 17 that refuses.
+pub fn held_rests_in(lent: &[u8], out: &mut [u64]) -> Written
+    ensures { λ r. ⌜ Answers (heldItems restNumbers (heldRecord (now (lent .entry)))) (now (out .entry)) r (now (out .exit)) ⌝ }
+{
+    held::rests_in(lent, out)
 }
 
 // ---- the chain from one element to another

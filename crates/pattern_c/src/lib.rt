@@ -6,7 +6,8 @@ ghost use Rattle.judge.specs.Judged.{planNumbers, finalClusters};
 ghost use Rattle.account.specs.Account.{reportOf};
 ghost use Rattle.account.specs.Resting.{restNumbers};
 ghost use Rattle.pattern.specs.Entries.{itemsField, rewriteField, verdictField, overNumbers, initialClusters, checkField, holdField};
-ghost use Rattle.records.specs.Record.{asJudgement, askField, placeField, sheetField};
+ghost use Rattle.records.specs.Record.{asJudgement, askField, placeField, heldRecord, sheetField};
+ghost use Rattle.held.specs.Held.{heldCount, heldItems};
 ghost use Rattle.pattern.specs.Entries.{stepsField, savedStepsField};
 ghost use Rattle.steps.specs.Records.{numbersField};
 ghost use Rattle.pattern.specs.Entries.{chainField};
@@ -381,6 +382,31 @@ pub extern "C" fn pattern_held(lent: &[u8], out: &mut [u8]) -> i32
     ensures { λ r. ⌜ AnswersCount (sheetField (now (lent .entry))) (now (out .entry)) r (now (out .exit)) ⌝ }
 {
     count(pattern::held_in(lent, out))
+}
+
+// How many constraints the sketch in a record has, the number that placing takes; or -27 where none stands there.
+#[no_mangle]
+pub extern "C" fn pattern_held_count(lent: &[u8]) -> i32
+    ensures { λ r. ⌜ r ≡ asCount (heldCount (heldRecord (now (lent .entry)))) ⌝ }
+{
+    count(pattern::held_count_in(lent))
+}
+
+// The final clusters of the sketch in a record as sets, element i as bit i, by cluster number; or the rule of 27 and 17 that refuses.
+#[no_mangle]
+pub extern "C" fn pattern_held_clusters(lent: &[u8], out: &mut [u64]) -> i32
+    ensures { λ r. ⌜ AnswersCount (heldItems finalClusters (heldRecord (now (lent .entry)))) (now (out .entry)) r (now (out .exit)) ⌝ }
+{
+    count(pattern::held_clusters_in(lent, out))
+}
+
+// What they rest on, in the order of `pattern_held_clusters`: two words each, constraint i as bit i of the first, 64 + i of the second; or the rule of 27
+// and 17 that refuses.
+#[no_mangle]
+pub extern "C" fn pattern_held_rests(lent: &[u8], out: &mut [u64]) -> i32
+    ensures { λ r. ⌜ AnswersCount (heldItems restNumbers (heldRecord (now (lent .entry)))) (now (out .entry)) r (now (out .exit)) ⌝ }
+{
+    count(pattern::held_rests_in(lent, out))
 }
 
 // How many steps one cluster of the plan has, by its number; or minus the rule of 1 to 11, 18 to 20 and 26 that refuses.

@@ -66,6 +66,12 @@ abbrev pub placedIn : Field Facts → List ℕ → Judgement
 placedIn (value f rest) lent = placeJudged (answer (recordBytes f) lent) (Is (verdictOf (graphOf f)))
 placedIn (refused k) lent = Refused k
 
+-- ---- what is asked of the sketch in it
+
+-- its facts: 27 of an over sheet too, from which no sketch is held
+unfoldable pub heldRecord : List ℕ → Field Facts
+heldRecord lent = next (recordSheet lent) (λ f rest. byRule (by27 (overFault (graphOf f))) (value f []))
+
 -- the sheet in it again
 abbrev pub sheetField : List ℕ → Field (List ℕ)
-sheetField lent = next (recordSheet lent) (λ f rest. byRule (by27 (overFault (graphOf f))) (value (sheetBytes f) []))
+sheetField lent = next (heldRecord lent) (λ f rest. value (sheetBytes f) [])

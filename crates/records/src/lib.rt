@@ -10,7 +10,7 @@ ghost use Rattle.sheet.specs.Rules.{sheetFault};
 ghost use Rattle.sheet.specs.Answer.{Answers, afterTo};
 ghost use Rattle.reader.specs.Answers.{SheetRead};
 ghost use Rattle.records.specs.Record.{recordBytes, recordSheet, asJudgement, askField, placeField};
-ghost use Rattle.records.specs.Record.{writtenField, placeJudged, placedIn, sheetField};
+ghost use Rattle.records.specs.Record.{writtenField, placeJudged, placedIn, heldRecord, sheetField};
 use graph::Front;
 use reader::CodesRead;
 use sheet::Constraint;
@@ -126,6 +126,29 @@ pub fn place(lent: &mut [u8], c: Constraint, held: usize) -> Judgement
     judged(write(more, lent), answer)
 }
 
+// ---- the sketch in a record
+
+// The sketch in a record, in arrays that were blank; 27 where none stands there, or a sheet that is over.
+pub fn read_held(
+    lent: &[u8],
+    near: &mut [u64; 64],
+    start: &mut [u64; 200],
+    codes: &mut [i32; 200],
+    radii: &mut [u32; 64],
+) -> CodesRead
+    requires { ⌜ (now near ≡ replicate 64 0) × (now start ≡ replicate 200 0) × (now codes ≡ replicate 200 (pos 0)) × (length (now radii) ≡ 64) ⌝ }
+    ensures { λ r. ⌜ SheetRead (heldRecord (now (lent .entry))) r (now (near .exit)) (now (start .exit)) (now (codes .exit)) (now (radii .exit)) ⌝ }
+{
+    let got = read(lent, near, start, codes, radii);
+    let CodesRead::Value(front) = got else {
+        return got;
+    };
+    if judge::over_fault(graph::head_of(front), near, start) != 0 {
+        return CodesRead::Refused(27);
+    }
+    CodesRead::Value(front)
+}
+
 // The sheet in a record, as bytes in lent space, or the rule of 27 and 17 that refuses.
 pub fn sheet(lent: &[u8], out: &mut [u8]) -> Written
     ensures { λ r. ⌜ Answers (sheetField (now (lent .entry))) (now (out .entry)) r (now (out .exit)) ⌝ }
@@ -134,13 +157,10 @@ pub fn sheet(lent: &[u8], out: &mut [u8]) -> Written
     let mut start = [0u64; 200];
     let mut codes = [0i32; 200];
     let mut radii = [0u32; 64];
-    let got = read(lent, &mut near, &mut start, &mut codes, &mut radii);
+    let got = read_held(lent, &mut near, &mut start, &mut codes, &mut radii);
     let CodesRead::Value(front) = got else {
         return Written::Refused(got.refusal());
     };
-    if judge::over_fault(graph::head_of(front), &near, &start) != 0 {
-        return Written::Refused(27);
-    }
     let held = graph::sheet_of(front, &start, &codes, &radii);
     writer::write_accepted(held, out)
 }

@@ -1,13 +1,7 @@
--- `pattern::clusters` meets its contract: the final clusters of the judgement of the graph that is read. Assumes nothing.
-use Rattle.theory.specs.Prelude.{needs, _≡_, refl, sym, ap, _∙_, List, [], ℕ, length, take}
+-- `pattern::clusters` meets its contract: the final clusters of the graph that is read. Assumes nothing.
+use Rattle.theory.specs.Prelude.{needs, refl, sym, ap, []}
 use Rattle.theory.specs.Graph.{Graph}
-use Rattle.sheet.specs.Graph.{graphOf}
-use Rattle.graph.specs.Lent.Sheets.{accepted-sound}
-use Rattle.merges.specs.Run.{runIn}
-use Rattle.engine.specs.Lists.{livingOf}
-use Rattle.merges.specs.declared.Run.{Run}
-use Rattle.judge.specs.Judged.{judgedOf}
-use Rattle.judge.specs.Judged.Lists.{Held, judged-held}
+use Rattle.judge.specs.Judged.{finalClusters}
 use Rattle.sheet.specs.Field.{value}
 use Rattle.sheet.specs.Answer.Laws.{answers-refused, answers-items}
 use Rattle.pattern.specs.Entries.Reading.{FactsRead, refused-read, facts-read}
@@ -18,45 +12,23 @@ returns c =
     answers-refused (rw (refused-read _ _ _ _ _ (c .before .before .before .read-graph .ensures) (c .before .enum-told .given .1) (c .refusal .ensures)))
 
 -- the facts of the sheet
-read : (c : tie.After-start2)
-    → FactsRead (c .before .before .before .before .before .before .before .before .before .before .before .args .bytes .now)
-    (c .before .before .before .got .given .0 .0)
-    (c .before .before .before .before .before .read-graph .last .1 .0) (c .before .before .before .before .before .read-graph .last .1 .1 .0)
-    (c .before .before .before .before .before .read-graph .last .1 .1 .1 .0)
+read : (c : tie.After-clusters-arg)
+    → FactsRead (c .before .before .before .before .before .before .before .before .before .before .before .before .args .bytes .now)
+    (c .before .before .before .before .got .given .0 .0)
+    (c .before .before .before .before .before .before .read-graph .last .1 .0)
+    (c .before .before .before .before .before .before .read-graph .last .1 .1 .0)
+    (c .before .before .before .before .before .before .read-graph .last .1 .1 .1 .0)
 read c =
-    facts-read _ _ _ _ _ (c .before .before .before .before .before .read-graph .ensures) (c .before .before .before .got .given .1)
-
-plan-on-requires : tie.Need-plan-on-requires
-plan-on-requires c κs = (read (c .before .before .before) .drawn-is, record { slots-blank = refl; parts-blank = refl; joints-blank = refl })
-
--- the plan of its graph
-module _ (c : tie.After-plan-on) where
-  abbrev lent : tie.After-start2
-  lent = c .before .before .before .before
-
-  abbrev run : Run
-  run = let l = c .plan-on .last .1 .1 .1 in runIn (c .plan-on .result) (l .1 .0) (l .1 .1 .0) (l .0)
-
-  run-is : run ≡ judgedOf (graphOf (read lent .facts)) .run
-  run-is = c .plan-on .ensures _ ∙ ap (λ (g : Graph). judgedOf g .run) (read lent .graph-read)
-
-  held : Held (graphOf (read lent .facts)) (accepted-sound _ (read lent .stands .accepted)) (judgedOf (graphOf (read lent .facts)))
-  held = judged-held _ _ refl
-
-put-clusters-requires : tie.Need-put-clusters-requires
-put-clusters-requires c κs =
-    let k = c .before .before in
-    (search needs, ap (λ (r : Run). length (r .slots)) (run-is k) ∙ held k .slots-long)
+    facts-read _ _ _ _ _ (c .before .before .before .before .before .before .read-graph .ensures)
+    (c .before .before .before .before .got .given .1)
 
 returns-2 : tie.Need-returns-2
 returns-2 c =
-    let k = c .before .before .before .before .before in
-    answers-items (c .before .before .put-clusters .ensures)
-    (rw (read (lent k) .reads)
-    (ap (λ (l : List ℕ). value l []) (sym (ap (λ (r : Run). livingOf (take 192 (r .slots))) (run-is k) ∙ held k .finals))))
+    let f = read (c .before .before .before) in
+    answers-items (c .before .before .clusters .ensures (c .before .before .before .before .before .before .before .before .before .read-graph .last .1 .1 .1 .0)) (rw (f .reads) (ap (λ (g : Graph). value (finalClusters g) []) (sym (f .graph-read))))
 
 pub clusters-spec : {M : Type 1} → Rattle.pattern.proofs.clusters.Statement.statement M
 clusters-spec =
     tie.close
     (tie.spec (λ c κs. (refl, refl, refl)) (λ c. search needs) (λ c. search needs) (λ c κs. search needs) returns
-    plan-on-requires put-clusters-requires (λ c. search needs) returns-2)
+    (λ c κs. read c .drawn-is) (λ c. search needs) returns-2)

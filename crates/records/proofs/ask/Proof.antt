@@ -5,19 +5,20 @@ use Rattle.sheet.specs.Graph.{graphOf}
 use Rattle.graph.specs.declared.Head.{Head}
 use Rattle.sketch.specs.Sketch.{extended, asJudged}
 use Rattle.sketch.specs.Placing.Laws.{place-asked}
-use Rattle.records.specs.Record.Laws.{RecordRead, read-refused, record-read, asked-refused, asked-value}
+use Rattle.records.specs.Record.{recordSheet}
+use Rattle.records.specs.Record.Laws.{FactsIn, read-refused, facts-in, asked-refused, asked-value}
 use Rattle.records.proofs.ask.Tie as tie
 
 returns : tie.Need-returns
 returns c =
-    asked-refused _ _ (read-refused _ _ _ _ _ (c .before .before .before .read .ensures) (c .before .enum-told .given .1) (c .refusal .ensures))
+    asked-refused _ _ (read-refused _ _ _ _ (c .before .before .before .read .ensures) (c .before .enum-told .given .1) (c .refusal .ensures))
 
 -- the facts in the record
 read : (c : tie.After-radii2)
-    → RecordRead (c .before .before .before .before .before .before .before .before .before .before .before .before .before .args .lent .now) (c .before .before .before .before .before .got .given .0 .0)
+    → FactsIn (recordSheet (c .before .before .before .before .before .before .before .before .before .before .before .before .before .args .lent .now)) (c .before .before .before .before .before .got .given .0 .0)
     (c .before .before .before .before .before .before .before .read .last .1 .0) (c .before .before .before .before .before .before .before .read .last .1 .1 .0)
     (c .before .before .before .before .before .before .before .read .last .1 .1 .1 .0) (c .before .before .before .before .before .before .before .read .last .1 .1 .1 .1 .0)
-read c = record-read _ _ _ _ _ (c .before .before .before .before .before .before .before .read .ensures) (c .before .before .before .before .before .got .given .1)
+read c = facts-in _ _ _ _ (c .before .before .before .before .before .before .before .read .ensures) (c .before .before .before .before .before .got .given .1)
 
 returns-2 : tie.Need-returns-2
 returns-2 c =

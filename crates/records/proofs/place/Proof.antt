@@ -7,18 +7,19 @@ use Rattle.graph.specs.Lent.{SheetIn}
 use Rattle.graph.specs.Lent.Sheets.{drawn-in}
 use Rattle.sketch.specs.Sketch.{extended}
 use Rattle.sketch.specs.Placing.{withMore, PlacedIn}
-use Rattle.records.specs.Record.Laws.{RecordRead, read-refused, record-read, placed-unread, placed-refused, placed-none, placed-taken}
+use Rattle.records.specs.Record.{recordSheet}
+use Rattle.records.specs.Record.Laws.{FactsIn, read-refused, facts-in, placed-unread, placed-refused, placed-none, placed-taken}
 use Rattle.records.proofs.place.Tie as tie
 
 returns : tie.Need-returns
-returns c = placed-unread _ _ _ (read-refused _ _ _ _ _ (c .before .before .before .read .ensures) (c .before .enum-told .given .1) (c .refusal .ensures))
+returns c = placed-unread _ _ _ (read-refused _ _ _ _ (c .before .before .before .read .ensures) (c .before .enum-told .given .1) (c .refusal .ensures))
 
 -- the facts in the record
 read : (c : tie.After-known-told)
-    → RecordRead (c .before .before .before .before .before .before .before .before .before .before .args .lent .now) (c .before .got .given .0 .0)
+    → FactsIn (recordSheet (c .before .before .before .before .before .before .before .before .before .before .args .lent .now)) (c .before .got .given .0 .0)
     (c .before .before .before .read .last .1 .0) (c .before .before .before .read .last .1 .1 .0)
     (c .before .before .before .read .last .1 .1 .1 .0) (c .before .before .before .read .last .1 .1 .1 .1 .0)
-read c = record-read _ _ _ _ _ (c .before .before .before .read .ensures) (c .before .got .given .1)
+read c = facts-in _ _ _ _ (c .before .before .before .read .ensures) (c .before .got .given .1)
 
 -- what placing in its arrays gives
 module _ (c : tie.After-place-next) where

@@ -34,7 +34,7 @@ use Rattle.sketch.specs.declared.Judgement.the-variants.{Is, Refused}
 use Rattle.sketch.specs.Sketch.{extended, by27, askFault, placeFault, asJudged}
 use Rattle.sketch.specs.Sketch.Laws.{judged-taken, judged-not}
 use Rattle.records.specs.Record.{recordBytes, as27, counted, recordSheet, asJudgement, askField, placeField}
-use Rattle.records.specs.Record.{writtenField, placeJudged, placedIn, sheetField}
+use Rattle.records.specs.Record.{writtenField, placeJudged, placedIn, heldRecord, sheetField}
 
 -- ---- the bytes that a record counts
 
@@ -74,22 +74,21 @@ as27-value : (x : Field Facts) {f : Facts} {t : List ℕ} → as27 x ≡ value f
 as27-value (value g s) e = e
 as27-value (refused k) e = absurd (let z : _≡_ {A = ℕ} 0 1 = cc in omega arith)
 
--- the facts in a record, in front and arrays
-pub record RecordRead (lent : List ℕ) (h : Front) (near start : List ℕ) (codes : List ℤ) (radii : List ℕ) : Type 0 where
+-- the facts of a sheet that is read, in front and arrays
+pub record FactsIn (x : Field Facts) (h : Front) (near start : List ℕ) (codes : List ℤ) (radii : List ℕ) : Type 0 where
   pub facts : Facts
   pub rest : List ℕ
-  pub reads : recordSheet lent ≡ value facts rest
+  pub reads : x ≡ value facts rest
   pub sheet-in : SheetIn facts h near start codes radii
 
--- what the reading of a record answers is one or the other
-module _ (lent near start : List ℕ) (codes : List ℤ) (radii : List ℕ) {r : CodesRead} (got : SheetRead (recordSheet lent) r near start codes radii) where
-  pub read-refused : {k j : ℕ} → r ≡ Unread k → j ≡ codesRule r → recordSheet lent ≡ refused j
-  read-refused {k} e n =
-      subst (λ (y : CodesRead). SheetRead (recordSheet lent) y near start codes radii) e got ∙ ap refused (sym (n ∙ ap codesRule e))
+-- what the reading answers is one or the other
+module _ {x : Field Facts} (near start : List ℕ) (codes : List ℤ) (radii : List ℕ) {r : CodesRead} (got : SheetRead x r near start codes radii) where
+  pub read-refused : {k j : ℕ} → r ≡ Unread k → j ≡ codesRule r → x ≡ refused j
+  read-refused {k} e n = subst (λ (y : CodesRead). SheetRead x y near start codes radii) e got ∙ ap refused (sym (n ∙ ap codesRule e))
 
-  pub record-read : {h : Front} → r ≡ Value h → RecordRead lent h near start codes radii
-  record-read e =
-      let (f, t, q, a) = subst (λ (x : CodesRead). SheetRead (recordSheet lent) x near start codes radii) e got in
+  pub facts-in : {h : Front} → r ≡ Value h → FactsIn x h near start codes radii
+  facts-in e =
+      let (f, t, q, a) = subst (λ (y : CodesRead). SheetRead x y near start codes radii) e got in
       record { facts = f; rest = t; reads = q; sheet-in = a }
 
 -- no rule refuses them, and all bytes that are counted are read
@@ -114,20 +113,31 @@ module _ (lent : List ℕ) (c : Constraint) where
       → asJudgement (askField lent c) ≡ asJudged (askFault f c) (verdictOf (graphOf (extended f c)))
   asked-value {f} e = rw e (judged-by (askFault f c) (verdictOf (graphOf (extended f c))))
 
+-- ---- the sketch in it
+
 module _ (lent : List ℕ) where
-  pub sheet-refused : {k : ℕ} → recordSheet lent ≡ refused k → sheetField lent ≡ refused k
-  sheet-refused e = rw e
+  pub held-unread : {k : ℕ} → recordSheet lent ≡ refused k → heldRecord lent ≡ refused k
+  unfolding heldRecord
+  held-unread e = rw e
 
   module _ {f : Facts} {t : List ℕ} (e : recordSheet lent ≡ value f t) where
-    pub sheet-over : (overFault (graphOf f) ≡ 0 → ⊥) → sheetField lent ≡ refused 27
-    sheet-over n = rw e (by (overFault (graphOf f)) refl)
+    pub held-over : (overFault (graphOf f) ≡ 0 → ⊥) → heldRecord lent ≡ refused 27
+    unfolding heldRecord
+    held-over n = rw e (by (overFault (graphOf f)) refl)
       where
-        by : (k : ℕ) → overFault (graphOf f) ≡ k → byRule (by27 k) (value (sheetBytes f) []) ≡ refused 27
+        by : (k : ℕ) → overFault (graphOf f) ≡ k → byRule (by27 k) (value f []) ≡ refused 27
         by zero q = absurd (n q)
         by (suc k) q = refl
 
-    pub sheet-value : {g : Facts} → g ≡ f → overFault (graphOf f) ≡ 0 → sheetField lent ≡ value (sheetBytes g) []
-    sheet-value same o = rw (e, o, same)
+    pub held-value : overFault (graphOf f) ≡ 0 → heldRecord lent ≡ value f []
+    unfolding heldRecord
+    held-value o = rw (e, o)
+
+  pub sheet-refused : {k : ℕ} → heldRecord lent ≡ refused k → sheetField lent ≡ refused k
+  sheet-refused e = rw e
+
+  pub sheet-value : {f g : Facts} {t : List ℕ} → heldRecord lent ≡ value f t → g ≡ f → sheetField lent ≡ value (sheetBytes g) []
+  sheet-value e same = rw (e, same)
 
 -- ---- a record written
 
