@@ -10,7 +10,9 @@ use Rattle.account.specs.Account.{reportOf}
 use Rattle.account.specs.Resting.{restNumbers}
 use Rattle.longest.specs.Longest.{longestField}
 use Rattle.steps.specs.Records.{numbersField}
-use Rattle.records.specs.Record.{placeField, writtenField, sheetField}
+use Rattle.space.specs.declared.Written.the-variants.{Done}
+use Rattle.records.specs.Record.{placeField, writtenField, heldRecord, sheetField}
+use Rattle.held.specs.Held.{heldCount, heldItems}
 use Rattle.pattern.specs.Entries.{itemsField, rewriteField, overNumbers, initialClusters, checkField, stepsField, savedStepsField, holdField}
 use Rattle.pattern.specs.Entries.{partOf, partField, missingField}
 use Rattle.pattern.specs.Entries.{openMergesField}
@@ -36,6 +38,9 @@ pub record Counts : Type 0 where
   pub hold-in : (bytes : List ℕ) → Bytes bytes → AtMost 1155 (holdField bytes)
   pub place-in : (lent : List ℕ) (c : Constraint) (held : ℕ) → Bytes lent → AtMost 1155 (writtenField (placeField lent c held))
   pub held-in : (lent : List ℕ) → Bytes lent → AtMost 1153 (sheetField lent)
+  pub held-count : (lent : List ℕ) (k : ℕ) → Bytes lent → heldCount (heldRecord lent) ≡ Done k → k ≤ 125
+  pub held-clusters : (lent : List ℕ) → Bytes lent → AtMost 125 (heldItems finalClusters (heldRecord lent))
+  pub held-rests : (lent : List ℕ) → Bytes lent → AtMost 250 (heldItems restNumbers (heldRecord lent))
   pub part : (bytes : List ℕ) (c : ℕ) → Bytes bytes → AtMost 3534 (partField bytes c)
   pub part-steps : (bytes : List ℕ) (c : ℕ) → Bytes bytes → AtMost 62 (partOf bytes c)
   pub open-merges : (bytes : List ℕ) (steps : ℕ) → Bytes bytes → AtMost 186 (openMergesField bytes steps)

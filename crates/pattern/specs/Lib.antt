@@ -6,6 +6,7 @@ pub mod Refusals
 pub mod Rule14
 pub mod ReadWrite
 pub mod Promises
+pub mod Held
 pub mod Counts
 pub mod Parts
 pub mod Untagged

@@ -30,6 +30,7 @@ use Rattle.missing.specs.Missing.{pairsOf, Told}
 use Rattle.pattern.specs.Entries.{itemsField, verdictField, heldSheet, checkField, holdField, missingField}
 use Rattle.pattern.specs.Over.{OverTold, OverNext}
 use Rattle.pattern.specs.Orders.{InOrders}
+use Rattle.pattern.specs.Held.{HeldPage}
 pub mod Growth
 pub mod Proof
 
@@ -112,3 +113,5 @@ pub record Promises (bytes : List ℕ) (f : Facts) : Type 0 where
   pub grown : (new rest : List ℕ) (g : Facts) → Bytes new → readSheet new ≡ value g rest → Grown f g → verdictOf (graphOf g) ≢ Over
       → GrownTold bytes new f g
   pub placed : verdictOf (graphOf f) ≢ Over → (events : List Event) → PlacedTold bytes f events
+  -- what is answered of the sketch held from it, by value and in lent bytes, after any run of asks and placings (document 02, 2026-04 and 2026-05)
+  pub held : verdictOf (graphOf f) ≢ Over → (events : List Event) → HeldPage bytes f events

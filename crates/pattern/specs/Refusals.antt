@@ -1,5 +1,5 @@
 -- Demand 1: nothing is refused except by a numbered rule. Which rules refuse a call of each entry point, for all bytes, plans and lent space.
-use Rattle.theory.specs.Prelude.{ℕ, _≤_, _<_, _≡_, _⊎_, List, [], _∷_, length}
+use Rattle.theory.specs.Prelude.{ℕ, _≤_, _<_, _≡_, _↔_, _⊎_, List, [], _∷_, length}
 use Rattle.theory.specs.Constraints.{Among}
 use Rattle.theory.specs.Graph.{Graph}
 use Rattle.space.specs.declared.Written.the-variants.{Refused}
@@ -13,7 +13,8 @@ use Rattle.sheet.specs.Refusals.Laws.{OfFacts}
 use Rattle.writer.specs.Write.{writeField}
 use Rattle.sketch.specs.declared.Judgement.the-variants.{Refused as Not}
 use Rattle.sketch.specs.Sketch.{askAnswer, placeAnswer}
-use Rattle.records.specs.Record.{askField, placeField, sheetField}
+use Rattle.records.specs.Record.{askField, placeField, writtenField, placedIn, heldRecord, sheetField}
+use Rattle.held.specs.Held.{heldValue, heldCount, heldItems}
 use Rattle.account.specs.Account.{reportOf}
 use Rattle.longest.specs.Longest.{longestField}
 use Rattle.chain.specs.declared.Answer.the-variants.{Refused as No}
@@ -90,6 +91,14 @@ pub record Refusals : Type 0 where
   pub ask-in : (lent : List ℕ) (c : Constraint) → By (λ k. Among k Asking) (askField lent c)
   pub place-in : (lent : List ℕ) (c : Constraint) (held : ℕ) → By (λ k. Among k (24 ∷ Asking)) (placeField lent c held)
   pub held-in : (lent : List ℕ) → By (Rule 27 27) (sheetField lent)
+  -- 17 if and only if the record with the constraint is longer than the lent one
+  pub place-in-short : (lent : List ℕ) (c : Constraint) (held : ℕ)
+      → (placedIn (placeField lent c held) lent ≡ Not 17) ↔ Short (writtenField (placeField lent c held)) lent
+  -- how many constraints a held sketch has, its clusters and what they rest on, by value and in lent bytes
+  pub held-count : (s : Sheet) (k : ℕ) → heldCount (heldValue s) ≡ Refused k → k ≡ 27
+  pub held-count-in : (lent : List ℕ) (k : ℕ) → heldCount (heldRecord lent) ≡ Refused k → k ≡ 27
+  pub held-items : (what : Graph → List ℕ) (s : Sheet) → By (Rule 27 27) (heldItems what (heldValue s))
+  pub held-items-in : (what : Graph → List ℕ) (lent : List ℕ) → By (Rule 27 27) (heldItems what (heldRecord lent))
   -- the steps of one cluster, counted beforehand or written; 26 where no cluster has the number
   pub part : (bytes : List ℕ) (c : ℕ) → By Numbered (partField bytes c)
   pub part-steps : (bytes : List ℕ) (c : ℕ) → By Numbered (partOf bytes c)

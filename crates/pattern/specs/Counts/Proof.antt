@@ -1,5 +1,5 @@
 -- What a call answers is short: the bounds of reports and sheets, and of the merges of constraints that are not over. Assumes nothing.
-use Rattle.theory.specs.Prelude.{ℕ, zero, suc, _+_, _*_, _-_, _≤_, arith, _≡_, refl, sym, ap, _∙_, List, [], map}
+use Rattle.theory.specs.Prelude.{ℕ, zero, suc, _+_, _*_, _-_, _≤_, arith, _≡_, refl, sym, ap, _∙_, subst, List, [], map}
 use Rattle.theory.specs.Prelude.{length, length-map, length-append, length-replicate, replicate}
 use Rattle.theory.specs.Constraints.{NotOver}
 use Rattle.theory.specs.Over.Laws.{overOf-fine, fine-most}
@@ -14,7 +14,7 @@ use Rattle.theory.specs.declared.Finding.{Finding}
 use Rattle.theory.specs.declared.Finding.the-variants.{Fine, First}
 use Rattle.sheet.specs.declared.Opening.the-variants.{Pf01}
 use Rattle.sheet.specs.Facts.{Facts, factsOf, blankElement}
-use Rattle.sheet.specs.Field.{Field, value, next, kindBytes, Bytes}
+use Rattle.sheet.specs.Field.{Field, value, refused, next, kindBytes, Bytes}
 use Rattle.sheet.specs.Field.Laws.{next-value, demand-value, refused-value, length-digits, opening-length}
 use Rattle.sheet.specs.Rules.{elementsInRange, sheetFault}
 use Rattle.sheet.specs.Rules.Laws.{elements-range, constraints-most}
@@ -38,7 +38,10 @@ use Rattle.longest.specs.Longest.Rules.{strip-length}
 use Rattle.steps.specs.Records.{planSteps, stepNumbers, numbersField}
 use Rattle.steps.specs.Records.Laws.{length-numbers as length-records}
 use Rattle.sketch.specs.Sketch.{by27}
-use Rattle.records.specs.Record.{recordBytes, recordSheet, placeField, sheetField}
+use Rattle.sketch.specs.Sketch.Laws.{few-held}
+use Rattle.records.specs.Record.{recordBytes, recordSheet, placeField, heldRecord, sheetField}
+use Rattle.held.specs.Held.{heldCount}
+use Rattle.space.specs.declared.Written.the-variants.{Done}
 use Rattle.records.specs.Record.Laws.{record-accepted, sheet-short}
 use Rattle.records.specs.Record.Room.{held-length, record-room, by27-none, placed-room}
 use Rattle.account.specs.Account.{listReport, reportOf, savedFault}
@@ -126,11 +129,21 @@ over-short (First c x) = omega arith
 -- ---- by a record
 
 module _ (lent : List ℕ) (all : Bytes lent) where
+  sketch-few : (f : Facts) (t : List ℕ) → heldRecord lent ≡ value f t → Accepted f × (overFault (graphOf f) ≡ 0)
+  unfolding heldRecord
+  sketch-few f t e =
+      next-value (recordSheet lent) _ e (λ h u was e1.
+      let (z, q) = rule-value (by27 (overFault (graphOf h))) (value h []) e1 in
+      let same : h ≡ f = cc in
+      subst (λ (x : Facts). Accepted x × (overFault (graphOf x) ≡ 0)) same
+      (record-accepted lent all was .1, by27-none (overFault (graphOf h)) z))
+
   held-short : AtMost 1153 (sheetField lent)
-  held-short items rest e =
-      next-value (recordSheet lent) _ e (λ f t was e1.
-      after-rule (by27 (overFault (graphOf f))) (sheetBytes f) (λ z. held-length f (record-accepted lent all was .1) (by27-none (overFault (graphOf f)) z))
-      items rest e1)
+  held-short = after-value (heldRecord lent) sheetBytes (λ f t e. let (h, o) = sketch-few f t e in held-length f h o)
+
+  count-short : (x : Field Facts) → ((f : Facts) (t : List ℕ) → x ≡ value f t → length (f .constraints) ≤ 125) → (k : ℕ) → heldCount x ≡ Done k → k ≤ 125
+  count-short (value f t) h k e = let same : length (f .constraints) ≡ k = cc in omega (arith, h f t refl)
+  count-short (refused j) h k e = absurd (let z : _≡_ {A = ℕ} 0 1 = cc in omega arith)
 
 -- ---- by bytes
 
@@ -230,6 +243,9 @@ counts = record {
   hold-in = hold-short;
   place-in = λ lent c held all. after-value (placeField lent c held) recordBytes (placed-room lent c held all);
   held-in = λ lent all. held-short lent all;
+  held-count = λ lent k all. count-short lent all (heldRecord lent) (λ f t e. let (h, o) = sketch-few lent all f t e in few-held f h o) k;
+  held-clusters = λ lent all. after-value (heldRecord lent) (λ f. finalClusters (graphOf f)) (λ f t e. clusters-short f (sketch-few lent all f t e .0));
+  held-rests = λ lent all. after-value (heldRecord lent) (λ f. restNumbers (graphOf f)) (λ f t e. rests-short f (sketch-few lent all f t e .0));
   part = λ bytes c all. after-value (partOf bytes c) stepLines (λ l t e. part-short bytes c all e .1);
   part-steps = λ bytes c all l t e. part-short bytes c all e .0;
   open-merges = λ bytes steps all l t e. open-short bytes steps all e;

@@ -50,6 +50,7 @@ use Rattle.pattern.specs.Entries.{itemsField, verdictField, heldSheet, c
 use Rattle.pattern.specs.Entries.Sketches.{check-saved}
 use Rattle.pattern.specs.Over.Proof.{over-told, over-next}
 use Rattle.pattern.specs.Orders.Proof.{in-orders}
+use Rattle.pattern.specs.Held.Proof.{held-page}
 use Rattle.pattern.specs.Promises.Growth.{grown-told, placed-told}
 use Rattle.pattern.specs.Promises.{NameSays, OwnList, HeldRuns, Promises}
 
@@ -239,4 +240,5 @@ module _ (bytes : List ℕ) (f : Facts) (rest : List ℕ) (all : Bytes bytes) (r
     words = words-are;
     grown = λ new left h b e w v. grown-told bytes rest f accepted reads new left h (written-read new h left b e .2) e w v;
     placed = λ v events. placed-told bytes rest f accepted reads v (held-runs v) events;
+    held = held-page bytes f rest all reads;
   }

@@ -1,18 +1,19 @@
 -- Each entry point refuses by its numbered rules alone: those of the fields that it reads, one after another. Assumes nothing.
-use Rattle.theory.specs.Prelude.{ℕ, zero, suc, _≤_, arith, ltb-true, _≡_, refl, sym, _∙_, subst, _⊎_, inl, inr, Bool, true, false, cond, _&&_, List}
+use Rattle.theory.specs.Prelude.{ℕ, zero, suc, _≤_, _<_, decLt, arith, ltb-true, _≡_, refl, sym, _∙_, subst, _↔_, _⊎_, inl, inr, Bool, true, false, cond, _&&_, List}
 use Rattle.theory.specs.Prelude.{[], _∷_, eqb, ltb, Option, none, some, length}
 use Rattle.theory.specs.declared.Finding.{Finding}
 use Rattle.theory.specs.declared.Finding.the-variants.{Fine, First}
-use Rattle.theory.specs.Graph.{Graph, findingOf, stepsOf}
+use Rattle.theory.specs.Graph.{Graph, findingOf, verdictOf, stepsOf}
 use Rattle.theory.specs.declared.Step.{Step}
 use Rattle.space.specs.declared.Written.the-variants.{Done, Refused}
 use Rattle.space.specs.Space.{answer}
-use Rattle.space.specs.Space.Laws.{long-answer}
+use Rattle.space.specs.Space.Laws.{long-answer, put-refused}
 use Rattle.sheet.specs.declared.Constraint.{Constraint}
 use Rattle.sheet.specs.declared.Sheet.{Sheet}
 use Rattle.sheet.specs.Facts.{Facts, factsOf}
 use Rattle.sheet.specs.Rules.{elementsInRange, faultUnless, or-else, sheetFault}
 use Rattle.sheet.specs.Field.{Field, value, refused, next, demand, field, Bytes}
+use Rattle.sheet.specs.Field.Laws.{refused-value}
 use Rattle.sheet.specs.Decode.{readSheet}
 use Rattle.sheet.specs.Encode.{sheetBytes}
 use Rattle.sheet.specs.Answer.{byRule, answerTo}
@@ -25,10 +26,12 @@ use Rattle.plans.specs.Check.{savedSteps, planFault}
 use Rattle.plans.specs.Check.Laws.{fault-range}
 use Rattle.theory.specs.declared.Verdict.{Verdict}
 use Rattle.theory.specs.Constraints.{Among}
-use Rattle.sketch.specs.declared.Judgement.the-variants.{Refused as Not}
+use Rattle.sketch.specs.declared.Judgement.the-variants.{Is, Refused as Not}
 use Rattle.sketch.specs.Sketch.{nextFault, by27, askFault, placeFault, askRule, placeRule, asJudged, askAnswer, placeAnswer}
 use Rattle.sketch.specs.Runs.Proof.{Rule as Told-rule, next-rule}
-use Rattle.records.specs.Record.{as27, counted, recordSheet}
+use Rattle.records.specs.Record.{recordBytes, as27, counted, recordSheet, placeField, writtenField, placedIn, heldRecord}
+use Rattle.sketch.specs.Runs.{holdFault}
+use Rattle.held.specs.Held.{heldValue, heldCount}
 use Rattle.account.specs.Account.{listReport, reportOf}
 use Rattle.steps.specs.Records.{filledTo}
 use Rattle.account.specs.Account.Room.{report-room}
@@ -199,9 +202,63 @@ by-count n = by-range (elementsInRange n) (value (sheetBytes (longestSheet n)) [
     by-range true x h = h
     by-range false x h = ruled {k = 3} (record { from = omega arith; to = omega arith })
 
+by-place : (lent : List ℕ) (c : Constraint) (held : ℕ) → By Placing (placeField lent c held)
+by-place lent c held =
+    by-next (by-wider (λ k h. inr (inl (only-27 k h))) (by-record lent)) (λ f rest. by-rule (placeFault f c held) _ (fault-place f c held) given)
+
 over-27 : (k : ℕ) → Fault (Rule 27 27) (by27 k)
 over-27 zero = tt
 over-27 (suc k) = record { from = omega arith; to = omega arith }
+
+-- ---- a held sketch
+
+by-held-record : (lent : List ℕ) → By (Rule 27 27) (heldRecord lent)
+unfolding heldRecord
+by-held-record lent = by-next (by-record lent) (λ f rest. by-rule (by27 (overFault (graphOf f))) _ (over-27 (overFault (graphOf f))) given)
+
+by-held-value : (s : Sheet) → By (Rule 27 27) (heldValue s)
+unfolding heldValue
+by-held-value s = by-rule (by27 (holdFault s)) _ (over-27 (holdFault s)) given
+
+count-27 : (x : Field Facts) → By (Rule 27 27) x → (k : ℕ) → heldCount x ≡ Refused k → k ≡ 27
+count-27 (value f rest) h k e = absurd (let z : _≡_ {A = ℕ} 0 1 = cc in omega arith)
+count-27 (refused j) h k e = let n : j ≡ k = cc in sym n ∙ only-27 j (which h)
+
+-- the answer is 17 where the record is too short, and no rule of placing has that number
+place-short : (lent : List ℕ) (c : Constraint) (held : ℕ)
+    → (placedIn (placeField lent c held) lent ≡ Not 17) ↔ Short (writtenField (placeField lent c held)) lent
+place-short space c number = by (placeField space c number) (by-place space c number)
+  where
+    not-17 : Placing 17 → ⊥
+    not-17 (inl e) = omega arith
+    not-17 (inr (inl e)) = omega arith
+    not-17 (inr (inr (inl e))) = omega arith
+    not-17 (inr (inr (inr (inl e)))) = omega arith
+    not-17 (inr (inr (inr (inr (inl e))))) = omega arith
+    not-17 (inr (inr (inr (inr (inr (inl e)))))) = omega arith
+    not-17 (inr (inr (inr (inr (inr (inr (inl e))))))) = omega arith
+    not-17 (inr (inr (inr (inr (inr (inr (inr (inl e)))))))) = omega arith
+
+    written : (f : Facts) (rest : List ℕ) → Dec (length space < length (recordBytes f))
+        → (placedIn (value f rest) space ≡ Not 17) ↔ Short (writtenField (value f rest)) space
+    written f rest (yes l) = (
+      λ e. record { items = recordBytes f; rest = []; gives = refl; longer = l },
+      λ s. rw (← put-refused (recordBytes f) space l .0),
+    )
+    written f rest (no l) = (
+      λ e. absurd (let z : Is (verdictOf (graphOf f)) ≡ Not 17 = sym (rw (long-answer (recordBytes f) space (omega arith))) ∙ e in let y : _≡_ {A = ℕ} 0 1 = cc in omega arith),
+      λ s. absurd (l (let same : recordBytes f ≡ s .items = same-items (s .gives) in rw same (s .longer))),
+    )
+      where
+        same-items : {a b s t : List ℕ} → _≡_ {A = Field (List ℕ)} (value a s) (value b t) → a ≡ b
+        same-items e = cc
+
+    by : (x : Field Facts) → By Placing x → (placedIn x space ≡ Not 17) ↔ Short (writtenField x) space
+    by (value f rest) h = written f rest (decLt (length space) (length (recordBytes f)))
+    by (refused k) h = (
+      λ e. absurd (let n : k ≡ 17 = cc in not-17 (subst Placing n (which h))),
+      λ s. refused-value (s .gives),
+    )
 
 -- the chain: 25 where the start or the end is no element
 abbrev Chaining : ℕ → Type 0
@@ -264,9 +321,13 @@ refusals = record {
   hold-in = λ bytes. by-next (by-sketch bytes) (λ f rest. given);
   ask-in = λ lent c. by-next (by-wider (λ k h. inl (only-27 k h)) (by-record lent))
       (λ f rest. by-rule (askFault f c) _ (fault-ask (λ k. Among k Asking) (λ k h. h) f c) given);
-  place-in = λ lent c held. by-next (by-wider (λ k h. inr (inl (only-27 k h))) (by-record lent))
-      (λ f rest. by-rule (placeFault f c held) _ (fault-place f c held) given);
-  held-in = λ lent. by-next (by-record lent) (λ f rest. by-rule (by27 (overFault (graphOf f))) _ (over-27 (overFault (graphOf f))) given);
+  place-in = by-place;
+  held-in = λ lent. by-next (by-held-record lent) (λ f rest. given);
+  place-in-short = place-short;
+  held-count = λ s. count-27 (heldValue s) (by-held-value s);
+  held-count-in = λ lent. count-27 (heldRecord lent) (by-held-record lent);
+  held-items = λ what s. by-next (by-held-value s) (λ f rest. given);
+  held-items-in = λ what lent. by-next (by-held-record lent) (λ f rest. given);
   part = λ bytes c. by-next (by-part bytes c) (λ l rest. given);
   part-steps = by-part;
   longest = by-count;
