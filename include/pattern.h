@@ -293,16 +293,8 @@ int32_t pattern_saved_steps(
  */
 int32_t pattern_hold(const uint8_t *sheet, pattern_len len, uint8_t *record, pattern_len room);
 
-/* How many constraints a record of pattern_hold and pattern_place holds: e, which follows the kinds and, of PF02, the radii. */
-static inline size_t pattern_held_count(const uint8_t *record)
-{
-    size_t n = record[6], circles = 0;
-    if (record[5] == '1')
-        return record[7 + (n + 7) / 8];
-    for (size_t i = 0; i < n; i++)
-        circles += (record[7 + i / 4] >> 2 * (i % 4) & 3) == PATTERN_CIRCLE;
-    return record[7 + (n + 3) / 4 + 4 * circles];
-}
+/* How many constraints the sketch in a record has, the number that pattern_place takes. Tries rule 27. At most PATTERN_MAX_CLUSTERS. */
+int32_t pattern_held_count(const uint8_t *record, pattern_len room);
 
 /*
  * Asks what one more constraint would do: the verdict, one of the names above, that the sketch with it
@@ -318,14 +310,22 @@ int32_t pattern_ask(
 
 /*
  * Places the constraint: answers as asking would, and the record then holds it last. held is the number
- * of constraints held when it was asked. Tries rules 27, 24 where another number is held, 6, 7, 8, 20, 9,
- * 11, and 17 where the record has no room for it. A refusal leaves every byte as it was.
+ * of constraints held when it was asked (pattern_held_count). Tries rules 27, 24 where another number is
+ * held, 6, 7, 8, 20, 9, 11, and 17 where the record has no room for it: the one answer that asking does
+ * not give, and never in a record of PATTERN_MAX_RECORD bytes. A refusal leaves every byte as it was.
  */
 int32_t pattern_place(
     uint8_t *record, pattern_len room, uint8_t first, uint8_t second, uint8_t map, int32_t size, pattern_len held);
 
 /* The sheet in a record again. Tries rules 27 and 17. Answers the count of bytes. */
 int32_t pattern_held(const uint8_t *record, pattern_len record_room, uint8_t *out, pattern_len room);
+
+/*
+ * The clusters of the sketch in a record, as pattern_clusters gives those of a sheet, and what they rest
+ * on, as pattern_rests does: constraint i is the one that was the i-th held. Tries rules 27 and 17.
+ */
+int32_t pattern_held_clusters(const uint8_t *record, pattern_len record_room, uint64_t *out, pattern_len room);
+int32_t pattern_held_rests(const uint8_t *record, pattern_len record_room, uint64_t *out, pattern_len room);
 
 /*
  * The steps of one cluster of the plan alone, as pattern_report's step lines: those from which the

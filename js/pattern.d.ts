@@ -166,4 +166,7 @@ export class Sketch {
 
     /** How many constraints are held. */
     count(): number;
+
+    /** The clusters of the sketch, by number; constraint i is the one that was the i-th held. */
+    clusters(): Cluster[];
 }

@@ -89,9 +89,13 @@ export function initial(sheet) {
 }
 
 export function clusters(sheet) {
-    const sets = list('pattern_clusters', BigUint64Array, MAX_CLUSTERS, bytes(sheet));
-    const words = list('pattern_rests', BigUint64Array, MAX_RESTS, bytes(sheet));
-    return Array.from(sets, (set, i) => ({ elements: members(set), restsOn: members(words[2 * i] | words[2 * i + 1] << 64n) }));
+    return clustersBy('pattern_clusters', 'pattern_rests', bytes(sheet));
+}
+
+function clustersBy(sets, rests, given) {
+    const elements = list(sets, BigUint64Array, MAX_CLUSTERS, given);
+    const words = list(rests, BigUint64Array, MAX_RESTS, given);
+    return Array.from(elements, (set, i) => ({ elements: members(set), restsOn: members(words[2 * i] | words[2 * i + 1] << 64n) }));
 }
 
 export function shared(a, b) {
@@ -192,7 +196,11 @@ export class Sketch {
     }
 
     count() {
-        return read(this.sheet()).constraints.length;
+        return call('pattern_held_count', this.#record);
+    }
+
+    clusters() {
+        return clustersBy('pattern_held_clusters', 'pattern_held_rests', this.#record);
     }
 }
 

@@ -111,7 +111,10 @@ test('a sketch is held', () => {
     refused(24, () => sketch.place(side(0, 2), 0));
     refused(7, () => sketch.ask(side(0, 1)));
     assert.equal(sketch.place(side(0, 2), 1), 'under');
+    assert.deepEqual(sketch.clusters(), [{ elements: [0, 1], restsOn: [0] }, { elements: [0, 2], restsOn: [1] }]);
     assert.equal(sketch.place(side(1, 2), 2), 'well');
+    assert.equal(sketch.count(), 3);
+    assert.deepEqual(sketch.clusters(), [{ elements: [0, 1, 2], restsOn: [0, 1, 2] }]);
     assert.deepEqual(pattern.read(sketch.sheet()).constraints, [side(0, 1), side(0, 2), side(1, 2)]);
     assert.throws(() => sketch.ask(side(0, 256)), RangeError);
     refused(11, () => new pattern.Sketch(pattern.write({ ...FACTS, constraints: [...FACTS.constraints, side(0, 3)] })));

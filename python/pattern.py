@@ -258,10 +258,14 @@ def initial(sheet: bytes) -> list[frozenset[int]]:
 
 def clusters(sheet: bytes) -> list[Cluster]:
     """The clusters that are left when no merge is open, by number. A sheet that is over has none."""
-    sets = _list("pattern_clusters", ctypes.c_uint64, MOST_CLUSTERS, *_bytes(sheet))
-    words = _list("pattern_rests", ctypes.c_uint64, MOST_RESTS, *_bytes(sheet))
-    rests = [_set(low | high << 64) for low, high in zip(words[::2], words[1::2])]
-    return [Cluster(_set(elements), on) for elements, on in zip(sets, rests)]
+    return _clusters("pattern_clusters", "pattern_rests", *_bytes(sheet))
+
+
+def _clusters(sets: str, rests: str, *given: Any) -> list[Cluster]:
+    """The clusters that two calls tell of: their elements, and what they rest on."""
+    elements = _list(sets, ctypes.c_uint64, MOST_CLUSTERS, *given)
+    words = _list(rests, ctypes.c_uint64, MOST_RESTS, *given)
+    return [Cluster(_set(own), _set(low | high << 64)) for own, low, high in zip(elements, words[::2], words[1::2])]
 
 
 def shared(a: Iterable[int], b: Iterable[int]) -> frozenset[int]:
@@ -368,6 +372,8 @@ class Sketch:
     ('WELL', 0)
     >>> sketch.place(side, held=0).name, sketch.count()
     ('WELL', 1)
+    >>> [sorted(cluster.rests_on) for cluster in sketch.clusters()]
+    [[0]]
     """
 
     def __init__(self, sheet: bytes) -> None:
@@ -388,7 +394,11 @@ class Sketch:
 
     def count(self) -> int:
         """How many constraints are held."""
-        return len(read(self.sheet()).constraints)
+        return _call("pattern_held_count", self._record, ctypes.c_size_t(MOST_RECORD))
+
+    def clusters(self) -> list[Cluster]:
+        """The clusters of the sketch, by number; constraint i is the one that was the i-th held."""
+        return _clusters("pattern_held_clusters", "pattern_held_rests", self._record, ctypes.c_size_t(MOST_RECORD))
 
     @staticmethod
     def _fields(more: Constraint) -> tuple[Any, ...]:

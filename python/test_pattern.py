@@ -159,11 +159,21 @@ class Calls(unittest.TestCase):
         sketch = pattern.Sketch(b"PF01\x02\0\0")
         side = Constraint(0, 1, 300)
         self.assertEqual((sketch.ask(side), sketch.count()), (Verdict.WELL, 0))
+        self.assertEqual(sketch.clusters(), [])
         self.assertEqual((sketch.place(side, 0), sketch.count()), (Verdict.WELL, 1))
+        self.assertEqual(sketch.clusters(), [pattern.Cluster(frozenset({0, 1}), frozenset({0}))])
         self.refused(7, sketch.ask, side)
         self.refused(24, sketch.place, side, 0)
         self.assertEqual(pattern.verdict(sketch.sheet()), Verdict.WELL)
         self.refused(11, pattern.Sketch, stored("report/over.sheet"))
+
+    def test_sketch_clusters(self):
+        """The clusters of a held sketch are those of the sheet in it, after each placing."""
+        sketch, strip = pattern.Sketch(pattern.write(Facts([POINT] * 9))), pattern.read(pattern.longest(9)).constraints
+        for held, side in enumerate(strip):
+            sketch.place(side, held)
+            self.assertEqual(sketch.clusters(), pattern.clusters(sketch.sheet()))
+        self.assertEqual([cluster.rests_on for cluster in sketch.clusters()], [frozenset(range(len(strip)))])
 
     def test_nothing_is_cut(self):
         """What does not fit its field is refused before the call; a call would answer for another number."""

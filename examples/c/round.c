@@ -38,6 +38,6 @@ int main(int argc, char **argv)
     uint8_t record[PATTERN_MAX_RECORD];
     pattern_hold(sheet, (size_t)len, record, sizeof record);
     int32_t asked = pattern_ask(record, sizeof record, 1, 3, PATTERN_TANGENT, 0);
-    printf("%d held, one more contact: %d\n", (int)pattern_held_count(record), (int)asked);
+    printf("%d held, one more contact: %d\n", (int)pattern_held_count(record, sizeof record), (int)asked);
     return 0;
 }

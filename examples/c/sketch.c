@@ -15,7 +15,7 @@ int main(void)
 
     for (int i = 0; i < 6; i++) {
         uint8_t a = pairs[i][0], b = pairs[i][1];
-        size_t held = pattern_held_count(record);
+        pattern_len held = (pattern_len)pattern_held_count(record, sizeof record);
         int32_t asked = pattern_ask(record, sizeof record, a, b, PATTERN_SIZED, 300);
         if (asked < 0) {
             printf("%d %d: refused %d\n", a, b, (int)-asked);

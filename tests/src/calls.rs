@@ -186,6 +186,18 @@ pub fn held(run: &mut Run, record: &[u8]) {
     run.lent("pattern_held", &Hex(record), &answer, |out| ffi::held(given.held(), out));
 }
 
+/// Compares `pattern_held_count`, `pattern_held_clusters` and `pattern_held_rests` on a record.
+#[inline]
+pub fn told_of_held(run: &mut Run, record: &[u8]) {
+    let given = Space::holding(record, &mut run.random);
+    let found = Found::held(record);
+    let count = found.accepted().map(|(sheet, _)| sheet.e() as u8);
+    run.count("pattern_held_count", outcome(&count));
+    run.same("pattern_held_count", &Hex(record), ffi::held_count(given.held()), number(count));
+    run.lent("pattern_held_clusters", &Hex(record), &found.clusters(), |out| ffi::held_clusters(given.held(), out));
+    run.lent("pattern_held_rests", &Hex(record), &found.rests(), |out| ffi::held_rests(given.held(), out));
+}
+
 /// Compares `pattern_open` on some bytes and a number of steps; the answer.
 #[inline]
 pub fn open(run: &mut Run, bytes: &[u8], found: &Found, count: usize) -> Result<Vec<u16>, Rule> {

@@ -172,6 +172,24 @@ pub fn held(record: &[u8], out: &mut [u8]) -> i32 {
     unsafe { c::pattern_held(record.as_ptr(), len(record), out.as_mut_ptr(), len(out)) }
 }
 
+/// `pattern_held_count`
+#[inline]
+pub fn held_count(record: &[u8]) -> i32 {
+    unsafe { c::pattern_held_count(record.as_ptr(), len(record)) }
+}
+
+/// `pattern_held_clusters`
+#[inline]
+pub fn held_clusters(record: &[u8], out: &mut [u64]) -> i32 {
+    unsafe { c::pattern_held_clusters(record.as_ptr(), len(record), out.as_mut_ptr(), len(out)) }
+}
+
+/// `pattern_held_rests`
+#[inline]
+pub fn held_rests(record: &[u8], out: &mut [u64]) -> i32 {
+    unsafe { c::pattern_held_rests(record.as_ptr(), len(record), out.as_mut_ptr(), len(out)) }
+}
+
 #[cfg(test)]
 mod tests {
     use super::c;
@@ -245,6 +263,12 @@ mod tests {
             assert_eq!(c::pattern_place(out, 9, 0, 1, 0, 0, 0), -17);
             assert_eq!(c::pattern_held(null(), 0, null_mut(), 0), -27);
             assert_eq!(c::pattern_held(out, room, null_mut(), 0), -17);
+            assert_eq!(c::pattern_held_count(null(), 0), -27);
+            assert_eq!(c::pattern_held_count(out, room), 0);
+            assert_eq!(c::pattern_held_clusters(null(), 0, null_mut(), 0), -27);
+            assert_eq!(c::pattern_held_clusters(out, room, null_mut(), 0), 0);
+            assert_eq!(c::pattern_held_rests(null(), 0, null_mut(), 0), -27);
+            assert_eq!(c::pattern_held_rests(out, room, null_mut(), 0), 0);
             assert_eq!(c::pattern_open(null(), 0, 0, null_mut(), 0), -1);
             assert_eq!(c::pattern_open(sheet, len, 0, null_mut(), 0), 0);
         }

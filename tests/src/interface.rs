@@ -85,6 +85,14 @@ impl Found {
         }))
     }
 
+    /// Reads and judges the sketch in a record.
+    pub fn held(record: &[u8]) -> Found {
+        Found(sketch::in_record(record).map(|sheet| {
+            let judged = judge(&sheet);
+            (sheet, judged)
+        }))
+    }
+
     /// What is found of an accepted sheet.
     pub fn accepted(&self) -> Result<&(Sheet, Judged), Rule> {
         self.0.as_ref().map_err(|&rule| rule)

@@ -90,10 +90,13 @@ static void *ask(void *u)
 static void *place(void *u)
 {
     for (uint8_t k = 0; k < 64; k++)
-        pattern_place(record_, sizeof record_, 0, k, PATTERN_SIZED, 1, pattern_held_count(record_));
+        pattern_place(record_, sizeof record_, 0, k, PATTERN_SIZED, 1, (pattern_len)pattern_held_count(record_, sizeof record_));
     return u;
 }
 static void *held(void *u) { pattern_held(record_, sizeof record_, bytes, sizeof bytes); return u; }
+static void *held_count(void *u) { pattern_held_count(record_, sizeof record_); return u; }
+static void *held_clusters(void *u) { pattern_held_clusters(record_, sizeof record_, items, PATTERN_MAX_CLUSTERS); return u; }
+static void *held_rests(void *u) { pattern_held_rests(record_, sizeof record_, items, PATTERN_MAX_RESTS); return u; }
 
 static void *part(void *u) { pattern_part(sheet, len, last, bytes, sizeof bytes); return u; }
 static void *part_steps(void *u) { pattern_part_steps(sheet, len, last); return u; }
@@ -145,6 +148,7 @@ int main(int argc, char **argv)
         {"pattern_initial", initial}, {"pattern_clusters", clusters}, {"pattern_rests", rests}, {"pattern_report", report},
         {"pattern_check_plan", check}, {"pattern_missing", missing}, {"pattern_hold", hold}, {"pattern_ask", ask},
         {"pattern_place", place}, {"pattern_held", held},
+        {"pattern_held_count", held_count}, {"pattern_held_clusters", held_clusters}, {"pattern_held_rests", held_rests},
         {"pattern_steps", steps}, {"pattern_saved_steps", saved_steps},
         {"pattern_part", part}, {"pattern_part_steps", part_steps}, {"pattern_part_bytes", part_bytes},
         {"pattern_chain", chain}, {"pattern_open", open_},

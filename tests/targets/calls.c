@@ -179,12 +179,15 @@ static void held(size_t n)
         static const uint8_t some_maps[] = {PATTERN_SIZED, PATTERN_SIZED, PATTERN_SIZED, 0, PATTERN_TANGENT, PATTERN_TANGENT | PATTERN_OTHER};
         uint8_t map = once_in(8) ? (uint8_t)next() : some_maps[below(sizeof some_maps)];
         int32_t size = (int32_t)(once_in(8) ? next() : 1 + below(17999));
-        pattern_len number = record[6] < 64 && once_in(2) ? record[7 + (record[6] + 7) / 8] : some_number(20);
+        int32_t count = CALL(pattern_held_count, record, space);
+        pattern_len number = count >= 0 && once_in(2) ? (pattern_len)count : some_number(20);
         CALL(pattern_ask, record, space, first, second, map, size);
         CALL(pattern_place, record, space, first, second, map, size, number);
         add_bytes(OF_pattern_place, record, sizeof record);
     }
     LENT(pattern_held, uint8_t, PATTERN_MAX_WRITTEN, record, space);
+    LENT(pattern_held_clusters, uint64_t, PATTERN_MAX_CLUSTERS, record, space);
+    LENT(pattern_held_rests, uint64_t, PATTERN_MAX_RESTS, record, space);
 }
 
 /* Changes one of the facts, so that a rule may refuse them. */

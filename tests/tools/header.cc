@@ -13,7 +13,7 @@ int main()
         return 1;
     if (pattern_hold(points, sizeof points, record, sizeof record) < 0)
         return 2;
-    if (pattern_place(record, sizeof record, 0, 1, PATTERN_SIZED, 300, pattern_held_count(record)) != PATTERN_WELL)
+    if (pattern_place(record, sizeof record, 0, 1, PATTERN_SIZED, 300, pattern_held_count(record, sizeof record)) != PATTERN_WELL)
         return 3;
     int32_t len = pattern_held(record, sizeof record, sheet, sizeof sheet);
     if (len < 0 || pattern_read(sheet, static_cast<size_t>(len), &facts) != 0)

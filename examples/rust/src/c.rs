@@ -60,6 +60,9 @@ extern "C" {
     pub fn pattern_place(record: *mut u8, room: Length, first: u8, second: u8, map: u8, size: i32, held: Length)
     -> i32;
     pub fn pattern_held(record: *const u8, record_room: Length, out: *mut u8, room: Length) -> i32;
+    pub fn pattern_held_count(record: *const u8, room: Length) -> i32;
+    pub fn pattern_held_clusters(record: *const u8, record_room: Length, out: *mut u64, room: Length) -> i32;
+    pub fn pattern_held_rests(record: *const u8, record_room: Length, out: *mut u64, room: Length) -> i32;
     pub fn pattern_part_steps(sheet: *const u8, len: Length, number: Length) -> i32;
     pub fn pattern_part_bytes(sheet: *const u8, len: Length, number: Length) -> i32;
     pub fn pattern_part(sheet: *const u8, len: Length, number: Length, out: *mut u8, room: Length) -> i32;

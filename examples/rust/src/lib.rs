@@ -755,6 +755,8 @@ pub fn check_plan<'a>(sheet: &[u8], plan: &[u16], out: &'a mut [u8]) -> Result<&
 /// assert_eq!(sketch.ask(&more)?, Verdict::Well); // nothing changes
 /// assert_eq!(sketch.place(&more, held)?, Verdict::Well);
 /// assert_eq!(sketch.count(), 1);
+/// assert_eq!(sketch.clusters(&mut [0; 1])?, [0b11]); // elements 0 and 1,
+/// assert_eq!(sketch.rests(&mut [0; 2])?, [0b1, 0]); // which rest on constraint 0
 ///
 /// assert_eq!(sketch.ask(&more), Err(Rule(7)));
 /// assert_eq!(sketch.place(&more, held), Err(Rule(24))); // another number is held now
@@ -784,14 +786,11 @@ impl Sketch {
         Ok(Sketch { record })
     }
 
-    /// How many constraints it holds: the count follows the kinds and, of PF02, the radii.
+    /// How many constraints it holds.
     pub fn count(&self) -> usize {
-        let (record, n) = (&self.record, usize::from(self.record[6]));
-        if record[5] == b'1' {
-            return record[7 + (n + 7) / 8].into();
-        }
-        let circles = (0..n).filter(|i| record[7 + i / 4] >> (2 * (i % 4)) & 3 == 2).count();
-        record[7 + (n + 3) / 4 + 4 * circles].into()
+        // SAFETY: the record is a live slice of its length.
+        let answer = unsafe { c::pattern_held_count(self.record.as_ptr(), len(&self.record)) };
+        counted(answer).expect("the record is one that pattern_hold wrote")
     }
 
     /// The verdict of the sketch with one more constraint.
@@ -816,6 +815,22 @@ impl Sketch {
     pub fn sheet<'a>(&self, out: &'a mut [u8]) -> Result<&'a [u8], Rule> {
         // SAFETY: each list is a live slice of its length, and `out` is borrowed alone.
         let answer = unsafe { c::pattern_held(self.record.as_ptr(), len(&self.record), out.as_mut_ptr(), len(out)) };
+        written(answer, out)
+    }
+
+    /// Its clusters, as [`clusters`] gives those of a sheet.
+    pub fn clusters<'a>(&self, out: &'a mut [u64]) -> Result<&'a [u64], Rule> {
+        let record = &self.record;
+        // SAFETY: each list is a live slice of its length, and `out` is borrowed alone.
+        let answer = unsafe { c::pattern_held_clusters(record.as_ptr(), len(record), out.as_mut_ptr(), len(out)) };
+        written(answer, out)
+    }
+
+    /// What they rest on, as [`rests`] does: constraint i is the one that was the i-th held.
+    pub fn rests<'a>(&self, out: &'a mut [u64]) -> Result<&'a [u64], Rule> {
+        let record = &self.record;
+        // SAFETY: each list is a live slice of its length, and `out` is borrowed alone.
+        let answer = unsafe { c::pattern_held_rests(record.as_ptr(), len(record), out.as_mut_ptr(), len(out)) };
         written(answer, out)
     }
 }

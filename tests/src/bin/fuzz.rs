@@ -39,6 +39,7 @@ fn main() -> ExitCode {
         let held = run.random.below(6);
         calls::place(&mut run, &record, &more, held);
         calls::held(&mut run, &record);
+        calls::told_of_held(&mut run, &record);
         let facts = facts(&bytes, &mut run.random);
         calls::write(&mut run, &facts);
         let (a, b) = (run.random.bits(), run.random.bits());

@@ -28,7 +28,12 @@ fn main() -> ExitCode {
     rules([6, 7, 8, 9, 11, 17, 24, 27]).for_each(|rule| run.must("pattern_place", &rule, 100));
     ["pattern_ask", "pattern_place"].iter().for_each(|call| run.must(call, "rule 20", 30));
     rules([17, 27]).for_each(|rule| run.must("pattern_held", &rule, 100));
-    for call in ["pattern_hold", "pattern_ask", "pattern_place", "pattern_held"] {
+    run.must("pattern_held_count", "rule 27", 100);
+    for call in ["pattern_held_clusters", "pattern_held_rests"] {
+        rules([17, 27]).for_each(|rule| run.must(call, &rule, 100));
+    }
+    let held = ["pattern_held", "pattern_held_count", "pattern_held_clusters", "pattern_held_rests"];
+    for call in ["pattern_hold", "pattern_ask", "pattern_place"].iter().chain(&held) {
         run.must(call, "accepted", 1000);
     }
     run.finish()
@@ -66,12 +71,14 @@ fn events(run: &mut Run, sheet: &Sheet) {
             2..=4 => {
                 record = calls::place(run, &record, &more, told);
                 held = sketch::in_record(&record).unwrap_or(held);
+                calls::told_of_held(run, &record);
             }
             _ => {
                 let broken = broken(run, &record);
                 calls::ask(run, &broken, &more);
                 calls::place(run, &broken, &more, told);
                 calls::held(run, &broken);
+                calls::told_of_held(run, &broken);
             }
         }
     }
@@ -112,6 +119,7 @@ fn grow(run: &mut Run, sheet: &Sheet) {
         held = sketch::next(&held, &more).unwrap_or(held);
     }
     calls::held(run, &record);
+    calls::told_of_held(run, &record);
     let bytes = writer::bytes(&held);
     calls::plan(run, &bytes, &Found::of(&bytes));
 }

@@ -1,5 +1,5 @@
 -- `account::clusters` meets its contract: the living clusters of the judgement's plan. Assumes nothing.
-use Rattle.theory.specs.Prelude.{needs, _≡_, refl, sym, ap, _∙_, List, [], ℕ, ℤ, length, take}
+use Rattle.theory.specs.Prelude.{needs, _≡_, refl, ap, _∙_, List, [], ℕ, ℤ, length, take}
 use Rattle.theory.specs.Graph.{Graph}
 use Rattle.space.specs.Space.{answer, after}
 use Rattle.graph.specs.Lent.{graphIn}

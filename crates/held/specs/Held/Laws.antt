@@ -1,5 +1,5 @@
 -- What a held sketch that is read into arrays says of the fields that are asked of it. Assumes nothing.
-use Rattle.theory.specs.Prelude.{ℕ, zero, suc, _≡_, refl, sym, ap, _∙_, subst, List, [], ℤ}
+use Rattle.theory.specs.Prelude.{ℕ, zero, suc, _≡_, refl, sym, ap, _∙_, List, [], ℤ}
 use Rattle.theory.specs.Graph.{Graph}
 use Rattle.space.specs.declared.Written.{Written}
 use Rattle.space.specs.declared.Written.the-variants.{Done, Refused as Not}
@@ -8,7 +8,6 @@ use Rattle.sheet.specs.Facts.{Facts, factsOf}
 use Rattle.sheet.specs.Field.{Field, value, refused}
 use Rattle.sheet.specs.Rules.{sheetFault}
 use Rattle.sheet.specs.Graph.{graphOf, overFault}
-use Rattle.sheet.specs.Answer.{byRule}
 use Rattle.graph.specs.declared.Head.{Head}
 use Rattle.graph.specs.declared.Front.{Front}
 use Rattle.graph.specs.Lent.{graphIn, headIn, sizesOf, Drawn}
@@ -16,7 +15,6 @@ use Rattle.graph.specs.Lent.Sheets.{graph-is, drawn-in}
 use Rattle.reader.specs.declared.CodesRead.{CodesRead}
 use Rattle.reader.specs.declared.CodesRead.the-variants.{Value, Refused as Unread}
 use Rattle.reader.specs.Answers.{codesRule, SheetRead}
-use Rattle.sketch.specs.Sketch.{by27}
 use Rattle.sketch.specs.Runs.{holdFault}
 use Rattle.records.specs.Record.Laws.{FactsIn, read-refused, facts-in}
 use Rattle.held.specs.Held.{heldValue, heldCount, heldItems}

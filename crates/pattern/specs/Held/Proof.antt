@@ -1,17 +1,15 @@
 -- The page of the held sketch holds: the facts after any run are accepted and not over. Assumes nothing.
-use Rattle.theory.specs.Prelude.{ℕ, _+_, _≤_, arith, _≡_, refl, sym, ap, _∙_, _≢_, List, [], _++_, length, length-append}
+use Rattle.theory.specs.Prelude.{ℕ, _+_, _≤_, _≡_, sym, ap, _∙_, _≢_, List, [], length, length-append}
 use Rattle.theory.specs.Constraints.{Pairs, NotOver}
 use Rattle.theory.specs.Merge.{final}
 use Rattle.theory.specs.Plan.{planOf}
 use Rattle.theory.specs.Plan.Laws.{plan-of-maximal}
-use Rattle.theory.specs.Graph.{findingOf, verdictOf}
+use Rattle.theory.specs.Graph.{verdictOf}
 use Rattle.theory.specs.Graph.Laws.{not-over-fine}
 use Rattle.theory.specs.declared.Finding.{Finding}
-use Rattle.theory.specs.declared.Finding.the-variants.{Fine}
 use Rattle.theory.specs.declared.Verdict.the-variants.{Over}
 use Rattle.space.specs.Space.{after}
 use Rattle.space.specs.declared.Written.the-variants.{Done}
-use Rattle.sheet.specs.declared.Constraint.{Constraint}
 use Rattle.sheet.specs.declared.Sheet.{Sheet}
 use Rattle.sheet.specs.Facts.{Facts, sheetOf, factsOf}
 use Rattle.sheet.specs.Field.{Field, value, Bytes}
@@ -21,7 +19,6 @@ use Rattle.sheet.specs.Decode.{readSheet}
 use Rattle.sheet.specs.Accepted.{Accepted}
 use Rattle.sheet.specs.Accepted.Laws.{factsOf-sheetOf}
 use Rattle.sheet.specs.RoundTrip.{written-read}
-use Rattle.sheet.specs.Answer.{afterTo}
 use Rattle.sheet.specs.Graph.{graphOf, overFault}
 use Rattle.sheet.specs.Graph.Laws.{clusters-pairs, fault-none, fine-fault}
 use Rattle.graph.specs.Lent.Sheets.{accepted-sound, found-fine}
@@ -37,7 +34,7 @@ use Rattle.records.specs.Record.Laws.{held-value}
 use Rattle.records.specs.Runs.{allIn, withRoom, SameFacts}
 use Rattle.records.specs.Runs.Proof.{after-stands, record-runs}
 use Rattle.held.specs.Held.{heldValue, heldCount, heldItems}
-use Rattle.pattern.specs.Entries.{heldSheet, holdField}
+use Rattle.pattern.specs.Entries.{heldSheet}
 use Rattle.pattern.specs.Held.{clustersOf, SketchTold, RecordTold, HeldPage}
 
 -- ---- a sketch whose facts no rule refuses, and that is not over
@@ -111,8 +108,8 @@ module _ (bytes : List ℕ) (f : Facts) (a : Accepted f) (o : overFault (graphOf
       record {
         by-value = told;
         number = told .count ∙ ap Done (
-          ap length (later events .constraints) ∙ length-append (factsOf (sheetOf f) .constraints) (placedIn (sheetOf f) events)
-          ∙ ap (λ (x : Facts). length (x .constraints) + length (placedIn (sheetOf f) events)) (factsOf-sheetOf f));
+            ap length (later events .constraints) ∙ length-append (factsOf (sheetOf f) .constraints) (placedIn (sheetOf f) events)
+            ∙ ap (λ (x : Facts). length (x .constraints) + length (placedIn (sheetOf f) events)) (factsOf-sheetOf f));
         in-record = λ lent fits. rw hold (in-record events lent fits);
       }
 
