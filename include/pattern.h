@@ -293,7 +293,7 @@ int32_t pattern_saved_steps(
  */
 int32_t pattern_hold(const uint8_t *sheet, pattern_len len, uint8_t *record, pattern_len room);
 
-/* How many constraints the sketch in a record has, the number that pattern_place takes. Tries rule 27. At most PATTERN_MAX_CLUSTERS. */
+/* How many constraints the sketch in a record has, at most 125: the number that pattern_place takes. Tries rule 27. */
 int32_t pattern_held_count(const uint8_t *record, pattern_len room);
 
 /*
