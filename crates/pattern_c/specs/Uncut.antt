@@ -16,7 +16,8 @@ use Rattle.chain.specs.Answer.{ChainAnswers}
 use Rattle.longest.specs.Longest.{longestField}
 use Rattle.steps.specs.Records.{numbersField}
 use Rattle.sketch.specs.declared.Judgement.the-variants.{Is}
-use Rattle.records.specs.Record.{asJudgement, askField, placeField, placedIn, sheetField}
+use Rattle.records.specs.Record.{asJudgement, askField, placeField, placedIn, heldRecord, sheetField}
+use Rattle.held.specs.Held.{heldCount, heldItems}
 use Rattle.pattern.specs.Entries.{itemsField, rewriteField, verdictField, overNumbers, initialClusters, checkField}
 use Rattle.pattern.specs.Entries.{holdField}
 use Rattle.pattern.specs.Entries.{stepsField, savedStepsField, partOf, partField, countOf, chainField, missingField}
@@ -52,6 +53,9 @@ pub record NoneCut : Type 0 where
   pub ask : (lent : List ℕ) (c : Constraint) → Whole (asNumber (asJudgement (askField lent c)))
   pub place : (lent : List ℕ) (c : Constraint) (held : ℕ) → Whole (asNumber (placedIn (placeField lent c held) lent))
   pub held : (lent : List ℕ) → Bytes lent → Uncut (sheetField lent)
+  pub held-count : (lent : List ℕ) → Bytes lent → Whole (heldCount (heldRecord lent))
+  pub held-clusters : (lent : List ℕ) → Bytes lent → Uncut (heldItems finalClusters (heldRecord lent))
+  pub held-rests : (lent : List ℕ) → Bytes lent → Uncut (heldItems restNumbers (heldRecord lent))
   pub part-steps : (bytes : List ℕ) (c : ℕ) → Bytes bytes → Whole (countOf (partOf bytes c))
   pub part-bytes : (bytes : List ℕ) (c : ℕ) → Bytes bytes → Whole (countOf (partField bytes c))
   pub part : (bytes : List ℕ) (c : ℕ) → Bytes bytes → Uncut (partField bytes c)
