@@ -35,7 +35,8 @@ impl Random {
     }
 }
 
-/// A sheet that is well, its sizes measured in a layout at random: two elements that are held together, then each held by two that are.
+/// A sheet that is well, its sizes measured in a layout at random: two elements that are held together, then each held
+/// by two that are.
 fn well(random: &mut Random, n: usize) -> String {
     let lines: Vec<bool> = (0..n).map(|i| i > 1 && random.below(3) == 0).collect();
     let places: Vec<[f64; 2]> = lines
@@ -277,7 +278,8 @@ fn a_grid_is_flat() {
     }
 }
 
-/// A page that drags an element lays out from the places before: thirty times a second, for as many elements as a sheet has.
+/// A page that drags an element lays out from the places before: thirty times a second, for as many elements as a sheet
+/// has.
 #[test]
 fn a_layout_from_near_places_is_quick() {
     let mut text = String::new();

@@ -117,7 +117,8 @@ fn measured_sheets_are_laid_out() {
         let free = all(near).filter(|outcome| outcome.free).count();
         let kept = all(near).filter(|outcome| outcome.off < 0.25 * SIDE).count();
         println!("held from near ones: {near}; of {}, {free} without places, {kept} stay near", all(near).count());
-        // the search without places gives up on a few; rough places that are off by a tenth may stand for another mirror image
+        // the search without places gives up on a few; rough places that are off by a tenth may stand for another
+        // mirror image
         assert!(free * 10 >= 8 * all(near).count() && kept * 10 >= 7 * all(near).count());
     }
 }

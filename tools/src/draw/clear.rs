@@ -17,8 +17,8 @@ struct Look {
     spread: f64,
 }
 
-/// Sorts the placements of a step that joins some parts, the clearest last. What lies within the largest part is the same in all. A quick look is at
-/// the spread alone.
+/// Sorts the placements of a step that joins some parts, the clearest last. What lies within the largest part is the
+/// same in all. A quick look is at the spread alone.
 pub fn sort(sheet: &Sheet, found: &mut Vec<(usize, Part)>, parts: [u64; 3], thorough: bool) {
     let base = parts.iter().copied().max_by_key(|set| set.count_ones()).unwrap_or(0);
     let mut looks: Vec<(Look, (usize, Part))> = found
@@ -38,7 +38,8 @@ pub fn sort(sheet: &Sheet, found: &mut Vec<(usize, Part)>, parts: [u64; 3], thor
     found.extend(looks.into_iter().map(|(_, part)| part));
 }
 
-/// The clearer one is the greater: no two points in one place, what stands on a frame within it, few crossings, and else the wider.
+/// The clearer one is the greater: no two points in one place, what stands on a frame within it, few crossings, and
+/// else the wider.
 fn compared(a: &Look, b: &Look) -> Ordering {
     let rest = b.beyond.cmp(&a.beyond).then(b.crossed.cmp(&a.crossed)).then(a.spread.total_cmp(&b.spread));
     b.doubled.cmp(&a.doubled).then(rest)
@@ -93,8 +94,8 @@ fn doubled(sheet: &Sheet, part: &Part, base: u64) -> usize {
     added.map(|&(i, a)| others(i, a)).sum()
 }
 
-/// How many points lie on a line beyond all that were named before them. A frame's corners are named before the feet on its sides, which belong
-/// between them; a point that is measured from the one before it runs on, and is not counted.
+/// How many points lie on a line beyond all that were named before them. A frame's corners are named before the feet on
+/// its sides, which belong between them; a point that is measured from the one before it runs on, and is not counted.
 fn beyond(sheet: &Sheet, part: &Part) -> usize {
     let held = |a: usize, b: usize| {
         sheet.constraints.iter().any(|c| (c.first, c.second) == (a.min(b), a.max(b)) && c.dimension != Dimension::On)
@@ -136,7 +137,8 @@ fn turn(a: Place, b: Place, c: Place) -> f64 {
     along[0] * to[1] - along[1] * to[0]
 }
 
-/// What is seen as a stroke: distances between points, and lines between the outermost points on them. Those of a base stand behind the others.
+/// What is seen as a stroke: distances between points, and lines between the outermost points on them. Those of a base
+/// stand behind the others.
 pub struct Spans {
     all: Vec<[Place; 2]>,
     /// How many are not of the base.

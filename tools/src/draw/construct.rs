@@ -1,7 +1,8 @@
 //! Places of the elements from a plan: each step puts three parts together by the triangle of their joint.
 //!
-//! A step may have two placements, and what comes after it may close with the one or the other. The search for placements in which all steps close goes
-//! back from a step that does not close to the last one on which its triangle rests (conflict-directed backjumping).
+//! A step may have two placements, and what comes after it may close with the one or the other. The search for
+//! placements in which all steps close goes back from a step that does not close to the last one on which its triangle
+//! rests (conflict-directed backjumping).
 
 use pattern::Step;
 
@@ -15,7 +16,8 @@ use crate::sheet::{Constraint, Sheet, members};
 const NEAR: f64 = 1e-7;
 /// How much three sides may lack and still count as a flat triangle: sizes are written to a tenth of a millimetre.
 const SLACK: f64 = 0.16;
-/// Where a triangle lacks less than this, or than this part of its largest side, rounding in what it rests on may be the cause.
+/// Where a triangle lacks less than this, or than this part of its largest side, rounding in what it rests on may be
+/// the cause.
 const DOUBT: f64 = 1.0;
 const DOUBT_PART: f64 = 0.05;
 /// The most merges that are tried before the search gives up.

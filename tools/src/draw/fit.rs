@@ -2,8 +2,8 @@
 
 use super::place::{Motion, Place, Vector, along, direction, distance, dot, length, normal};
 
-/// The motion that brings some places nearest to where they are wanted, and how far they are from there in squares. A line counts by its direction at
-/// a distance of `scale`, and by how far it lies beside where it is wanted.
+/// The motion that brings some places nearest to where they are wanted, and how far they are from there in squares. A
+/// line counts by its direction at a distance of `scale`, and by how far it lies beside where it is wanted.
 pub fn fit(lines: &[bool], from: &[Option<Place>], to: &[Option<Place>], scale: f64) -> (Motion, f64) {
     let known = || {
         let pairs = from.iter().zip(to).zip(lines);

@@ -1,4 +1,5 @@
-//! The picture as a page of its own: with the report, parts and dimensions that the mouse lights, and the steps of the plan. It loads nothing.
+//! The picture as a page of its own: with the report, parts and dimensions that the mouse lights, and the steps of the
+//! plan. It loads nothing.
 
 use super::layout::Layout;
 use super::scene::{Options, Scene};
@@ -39,15 +40,19 @@ pub fn page(
     let slider = match views.len() {
         0 => String::new(),
         most => format!(
-            "<div id=\"steps\"><label for=\"step\">steps</label><input id=\"step\" type=\"range\" min=\"0\" max=\"{most}\" value=\"0\"/>\
+            "<div id=\"steps\"><label for=\"step\">steps</label>\
+             <input id=\"step\" type=\"range\" min=\"0\" max=\"{most}\" value=\"0\"/>\
              <output for=\"step\"></output></div>\n"
         ),
     };
     format!(
-        "<!DOCTYPE html>\n<html lang=\"en\">\n<head><meta charset=\"utf-8\"><title>{name}: {verdict}</title>\n<style>\n{STYLE}</style></head>\n<body>\n\
-         <header><h1>{name}: {verdict}</h1></header>\n<main>\n<div id=\"picture\">{}{slider}</div>\n<div id=\"tables\">\n{lines}\
+        "<!DOCTYPE html>\n<html lang=\"en\">\n<head><meta charset=\"utf-8\"><title>{name}: {verdict}</title>\n\
+         <style>\n{STYLE}</style></head>\n<body>\n\
+         <header><h1>{name}: {verdict}</h1></header>\n<main>\n\
+         <div id=\"picture\">{}{slider}</div>\n<div id=\"tables\">\n{lines}\
          <h2>Parts</h2>\n<table>\n{parts}</table>\n<h2>Dimensions</h2>\n<table>\n{constraints}</table>\n\
-         <h2>Report</h2>\n<pre>{report}</pre>\n</div>\n</main>\n<script>\nconst STEPS = {steps};\n{SCRIPT}</script>\n</body>\n</html>\n",
+         <h2>Report</h2>\n<pre>{report}</pre>\n</div>\n</main>\n\
+         <script>\nconst STEPS = {steps};\n{SCRIPT}</script>\n</body>\n</html>\n",
         bare(&scene)
     )
 }
@@ -82,7 +87,8 @@ fn part(scene: &Scene, p: usize) -> String {
         .chain(rests.iter().map(|k| format!("k{k}")))
         .chain(members(cluster.elements).map(|i| format!("e{i}")));
     format!(
-        "<tr tabindex=\"0\" data-key=\"p{p}\" data-lit=\"{}\"><td><span class=\"swatch\" style=\"background:{}\"></span></td><td>{}</td><td>{}</td><td>rests on {numbers}</td></tr>\n",
+        "<tr tabindex=\"0\" data-key=\"p{p}\" data-lit=\"{}\">\
+         <td><span class=\"swatch\" style=\"background:{}\"></span></td><td>{}</td><td>{}</td><td>rests on {numbers}</td></tr>\n",
         keys.collect::<Vec<_>>().join(" "),
         scene.colour(p),
         cluster.number,
@@ -94,7 +100,8 @@ fn part(scene: &Scene, p: usize) -> String {
 fn constraint(scene: &Scene, k: usize) -> String {
     let paint = scene.constraint_paint(k);
     format!(
-        "<tr tabindex=\"0\" data-key=\"k{k}\" data-lit=\"{}\"><td><span class=\"swatch\" style=\"background:{}\"></span></td><td>{k}</td><td>{}</td></tr>\n",
+        "<tr tabindex=\"0\" data-key=\"k{k}\" data-lit=\"{}\">\
+         <td><span class=\"swatch\" style=\"background:{}\"></span></td><td>{k}</td><td>{}</td></tr>\n",
         constraint_keys(scene, k),
         paint.colour,
         escaped(&scene.document.statement(k))

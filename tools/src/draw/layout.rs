@@ -1,5 +1,5 @@
-//! Places of all elements of a sheet: near the rough places of its text, or from its plan where that gives a construction, else by a search. Where no
-//! places meet the sizes, those that come nearest.
+//! Places of all elements of a sheet: near the rough places of its text, or from its plan where that gives a
+//! construction, else by a search. Where no places meet the sizes, those that come nearest.
 
 use std::f64::consts::{PI, TAU};
 
@@ -194,8 +194,8 @@ fn near(plan: &Plan, rough: &[Option<Place>]) -> (Vec<Place>, How, Option<Stop>)
     (home(nearest.map_or(start, |(_, places)| places)), How::GaveUp, stop)
 }
 
-/// Rough places of all elements: those that are given; a line through the outermost given points on it, in the direction that it has in a base; else
-/// the base's own.
+/// Rough places of all elements: those that are given; a line through the outermost given points on it, in the
+/// direction that it has in a base; else the base's own.
 fn begun(sheet: &Sheet, rough: &[Option<Place>], base: &[Place]) -> Vec<Place> {
     let place = |i: usize| {
         rough[i].unwrap_or_else(|| match clear::stretch(sheet, &based(rough, base, i), i) {
@@ -220,7 +220,8 @@ fn aside(system: &System, places: &[Place], turn: u32) -> Vec<Place> {
     system.moved(places, &(0..2 * places.len()).map(by).collect::<Vec<f64>>())
 }
 
-/// How clear a picture is: its points, and the places where lines meet at a given angle, far apart, and few strokes that cross.
+/// How clear a picture is: its points, and the places where lines meet at a given angle, far apart, and few strokes
+/// that cross.
 fn clearness(sheet: &Sheet, places: &[Place]) -> f64 {
     let is_line = |i: usize| sheet.elements[i].is_line();
     let angles = sheet.constraints.iter().filter(|c| is_line(c.first) && is_line(c.second));
@@ -280,7 +281,8 @@ fn joined(sheet: &Sheet, parts: &[Part], scale: f64) -> Vec<Place> {
     placed.into_iter().flatten().collect()
 }
 
-/// The motion that brings a part to what is placed: on two elements in common, on one and turned outwards, or to a free place.
+/// The motion that brings a part to what is placed: on two elements in common, on one and turned outwards, or to a free
+/// place.
 fn beside(sheet: &Sheet, part: &Part, placed: &Part, free: Place) -> Motion {
     let is_line = |i: usize| sheet.elements[i].is_line();
     let common: Vec<(usize, Place, Place)> = (0..part.len()).filter_map(|i| Some((i, part[i]?, placed[i]?))).collect();
@@ -315,7 +317,8 @@ fn beside(sheet: &Sheet, part: &Part, placed: &Part, free: Place) -> Motion {
     }
 }
 
-/// The places turned so that the first line, or else the first two points that are held together, lie level, and shifted to the middle.
+/// The places turned so that the first line, or else the first two points that are held together, lie level, and
+/// shifted to the middle.
 fn upright(sheet: &Sheet, places: Vec<Place>) -> Vec<Place> {
     let places = forward(sheet, places);
     let line = (0..places.len()).find(|&i| sheet.elements[i].is_line()).map(|i| places[i][0]);
@@ -334,7 +337,8 @@ fn upright(sheet: &Sheet, places: Vec<Place>) -> Vec<Place> {
     places
 }
 
-/// The places with every line turned round, where no sign stands in the way and the first points on the first line would run against its arrow.
+/// The places with every line turned round, where no sign stands in the way and the first points on the first line
+/// would run against its arrow.
 fn forward(sheet: &Sheet, mut places: Vec<Place>) -> Vec<Place> {
     let is_line = |i: usize| sheet.elements[i].is_line();
     let signed = |c: &Constraint| is_line(c.first) != is_line(c.second) && c.dimension != Dimension::On;

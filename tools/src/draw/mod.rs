@@ -63,7 +63,8 @@ impl Position {
     }
 }
 
-/// Lays a "well" sheet out and looks whether it closes, and whether it is held firmly. Nothing where the report tells already that it does not close.
+/// Lays a "well" sheet out and looks whether it closes, and whether it is held firmly. Nothing where the report tells
+/// already that it does not close.
 pub fn examine(document: &Document, finding: &Finding) -> Option<Position> {
     if finding.verdict != Verdict::Well || finding.open_steps().next().is_some() {
         return None;
@@ -91,8 +92,8 @@ pub fn error(document: &Document, layout: &Layout) -> f64 {
     System::of(&document.sheet).error(&layout.places)
 }
 
-/// The places of a layout as the text form has them: a line between the outermost points on it. Where the text says nothing of places the first point
-/// is at 0 0.
+/// The places of a layout as the text form has them: a line between the outermost points on it. Where the text says
+/// nothing of places the first point is at 0 0.
 pub fn rough(document: &Document, layout: &Layout) -> Vec<Rough> {
     let is_line = |i: usize| document.sheet.elements[i].is_line();
     let given = document.places.iter().any(Option::is_some);
@@ -111,11 +112,13 @@ fn note(how: How) -> &'static str {
     match how {
         How::Near => "Laid out from the rough places of the text, by a numeric search. Tested, not proved.",
         How::Plan => {
-            "Laid out from the dimensions, step by step by the plan; of two placements the clearer one. Tested, not proved."
+            "Laid out from the dimensions, step by step by the plan; of two placements the clearer one. \
+             Tested, not proved."
         }
         How::Search => "Laid out from the dimensions by a numeric search. Tested, not proved.",
         How::GaveUp => {
-            "No layout that meets every size was found: this one comes near. What it does not meet stands as asked \u{2260} drawn."
+            "No layout that meets every size was found: this one comes near. \
+             What it does not meet stands as asked \u{2260} drawn."
         }
     }
 }

@@ -14,7 +14,8 @@ const slider = document.querySelector('#steps input');
 const show = number => {
   const step = STEPS[number - 1];
   slider.value = number;
-  document.querySelector('#steps output').textContent = step ? step.words : 'the whole: arrow keys go through the steps';
+  const words = step ? step.words : 'the whole: arrow keys go through the steps';
+  document.querySelector('#steps output').textContent = words;
   document.body.classList.toggle('stepping', !!step);
   for (const node of all('svg [data-key]')) {
     for (const name of ['built', 'part0', 'part1', 'part2', 'joint']) {

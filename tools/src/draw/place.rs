@@ -2,7 +2,8 @@
 
 use std::f64::consts::PI;
 
-/// Where an element is: a point or a centre by its two coordinates; a line by the angle of its direction and its signed distance from the origin.
+/// Where an element is: a point or a centre by its two coordinates; a line by the angle of its direction and its signed
+/// distance from the origin.
 pub type Place = [f64; 2];
 
 /// A vector.
@@ -87,7 +88,8 @@ impl Motion {
             [true, false] => Motion::onto([false, true], [from[1], from[0]], [to[1], to[0]]),
             [true, true] => {
                 let turned = Motion { turn: wrapped(to[0][0] - from[0][0]), shift: [0.0; 2] };
-                // the shift is the meeting of two lines of shifts, or straight on to the first line where they are parallel
+                // the shift is the meeting of two lines of shifts, or straight on to the first line where they are
+                // parallel
                 let shifts = [0, 1].map(|i| [from[i][0] + turned.turn, to[i][1] - from[i][1]]);
                 let shift = meeting(shifts[0], shifts[1])
                     .unwrap_or_else(|| along([0.0; 2], shifts[0][1], normal(shifts[0][0])));

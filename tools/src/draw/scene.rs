@@ -199,7 +199,8 @@ impl<'a> Scene<'a> {
         Paint::of(part.map_or(GREY, |part| self.colour(part)), part.map_or(false, |part| self.free(part)))
     }
 
-    /// From where to where a constraint measures: between points, from a point to its foot on a line, or between the middles of what is drawn.
+    /// From where to where a constraint measures: between points, from a point to its foot on a line, or between the
+    /// middles of what is drawn.
     pub fn span(&self, constraint: &Constraint) -> [Place; 2] {
         let &Constraint { first, second, .. } = constraint;
         let lines = [first, second].map(|end| self.document.sheet.elements[end].is_line());
@@ -244,7 +245,8 @@ fn step_paint(role: Role) -> Paint {
     }
 }
 
-/// The places that must be seen: points, edges of circles, feet of points on lines, meetings of lines that are not far off.
+/// The places that must be seen: points, edges of circles, feet of points on lines, meetings of lines that are not far
+/// off.
 fn seen(document: &Document, places: &[Place]) -> Vec<Place> {
     let sheet = &document.sheet;
     let is_line = |i: usize| sheet.elements[i].is_line();

@@ -15,7 +15,8 @@ impl System<'_> {
         self.met(&places).then(|| places)
     }
 
-    /// The places to which the search comes from the given ones: a solution near them, or a place where it gets no further.
+    /// The places to which the search comes from the given ones: a solution near them, or a place where it gets no
+    /// further.
     pub fn settle(&self, mut places: Vec<Place>) -> Vec<Place> {
         let (mut damping, mut idle) = (1e-3, 0);
         let mut now = self.squares(&places);

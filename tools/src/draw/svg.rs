@@ -102,8 +102,10 @@ impl Drawing {
         let height = top + LINE * (legend.len() as f64 + 1.0);
         let verdict = verdict_name(scene.finding.verdict);
         let mut out = format!(
-            "<svg xmlns=\"http://www.w3.org/2000/svg\" viewBox=\"0 0 {width:.0} {height:.0}\" width=\"{width:.0}\" height=\"{height:.0}\" role=\"img\">\n\
-             <title>{}: {verdict}</title>\n<style>{STYLE}</style>\n<rect width=\"100%\" height=\"100%\" fill=\"#fff\"/>\n",
+            "<svg xmlns=\"http://www.w3.org/2000/svg\" viewBox=\"0 0 {width:.0} {height:.0}\" \
+             width=\"{width:.0}\" height=\"{height:.0}\" role=\"img\">\n\
+             <title>{}: {verdict}</title>\n<style>{STYLE}</style>\n\
+             <rect width=\"100%\" height=\"100%\" fill=\"#fff\"/>\n",
             escaped(scene.document.title())
         );
         let shift = (width - scene.size[0] - 2.0 * MARGIN) / 2.0;
@@ -233,7 +235,8 @@ fn shelf(scene: &Scene) -> Shelf {
 fn label([x, y]: Place, class: &str, font: f64, colour: &str, text: &str) -> String {
     let y = y + 0.35 * font;
     format!(
-        "<text class=\"label {class}\" x=\"{x:.1}\" y=\"{y:.1}\" text-anchor=\"middle\" style=\"fill:{colour}\">{}</text>",
+        "<text class=\"label {class}\" x=\"{x:.1}\" y=\"{y:.1}\" text-anchor=\"middle\" \
+         style=\"fill:{colour}\">{}</text>",
         escaped(text)
     )
 }

@@ -5,7 +5,8 @@ use crate::sheet::{Constraint, Sheet};
 
 /// How far a length may be off and still be met: half of the last place that is written, in millimetres.
 const HALF_A_TENTH: f64 = 0.0501;
-/// How far an angle may be off, in radians: no more than its computing, since lines nearly parallel make much of little.
+/// How far an angle may be off, in radians: no more than its computing, since lines nearly parallel make much of
+/// little.
 const TURNED: f64 = 1e-7;
 
 /// The size that a constraint asks for: millimetres, or radians.

@@ -1,5 +1,5 @@
-//! Rough places in the text form: `at X Y` behind a point or a circle, `from X Y to X Y` behind a line, in millimetres. A layout begins there; no verdict
-//! looks at them, and they are never in the bytes.
+//! Rough places in the text form: `at X Y` behind a point or a circle, `from X Y to X Y` behind a line, in millimetres.
+//! A layout begins there; no verdict looks at them, and they are never in the bytes.
 
 use super::line::Line;
 use crate::fault::Refusal;
