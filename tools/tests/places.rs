@@ -159,3 +159,23 @@ fn words_that_begin_a_place_are_names_elsewhere() {
     let named = document("point at from to\npoint A B\n");
     assert_eq!(named.names, ["at", "from", "to", "A", "B"].iter().map(|name| name.to_string()).collect::<Vec<_>>());
 }
+
+#[test]
+fn a_few_places_will_do() {
+    // a ridge that hangs below its sill, by one place
+    let gable = include_str!("../../examples/text/gable.txt").replace("point ridge", "point ridge at 300 -500");
+    let gable = document(&gable.replace("line sill left right", "line sill from 0 0 to 600 0\nline left right"));
+    let layout = draw::layout(&gable);
+    assert_eq!(layout.how, How::Near);
+    let at = |name: &str| layout.places[gable.element(name).expect("an element")];
+    assert!(at("ridge")[1] < at("A")[1] - 500.0, "{:?}", layout.places);
+    // a frame that racks keeps its corners apart
+    let frame =
+        include_str!("../../examples/text/frame.txt").replace("point A B C D", "point A at 0 0 B at 600 20\npoint C D");
+    let layout = draw::layout(&document(&frame));
+    let apart = |a: usize, b: usize| {
+        let ([x, y], [z, w]) = (layout.places[a], layout.places[b]);
+        (x - z).hypot(y - w)
+    };
+    assert!(layout.how == How::Near && apart(0, 2) > 500.0 && apart(1, 3) > 500.0, "{:?}", layout.places);
+}

@@ -177,7 +177,9 @@ fn near(plan: &Plan, rough: &[Option<Place>]) -> (Vec<Place>, How, Option<Stop>)
         }
     }
     let (parts, whole, stop) = plan.built(Taste::Near(rough, system.scale()));
-    let base = home(joined(sheet, &parts, system.scale()));
+    // what has no place of its own and is held by no plan begins where it stands in a clear picture
+    let given = rough.iter().all(Option::is_some);
+    let base = home(if whole || given { joined(sheet, &parts, system.scale()) } else { free(plan, Taste::Clear).0 });
     let start = begun(sheet, rough, &base);
     let first = if whole { vec![start.clone(), base] } else { vec![start.clone()] };
     let mut nearest: Option<(f64, Vec<Place>)> = None;
