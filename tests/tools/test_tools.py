@@ -469,6 +469,15 @@ class Pictures(unittest.TestCase):
         self.assertEqual(pattern("draw", text("braced"), "--step", "1")[0], 64)
         self.assertEqual(pattern("draw", text("gable"), "--steps", "/dev/null/x")[0], 3)
 
+    def test_the_legend_fits(self):
+        """No line below a picture is wider than it, in letters of 13 pixels, and of 15 in a heading."""
+        for name in sorted(os.listdir(TEXTS)):
+            for step in ["0", "1", "2", "3"]:
+                picture = pattern("draw", text(name[:-4]), *([] if step == "0" else ["--step", step]))[1]
+                for kind, most in [("head", 74), ("plain", 90), ("loud", 90)]:
+                    for words in re.findall(f'class="{kind}">([^<]*)', picture):
+                        self.assertLessEqual(len(words), most, f"{name}, step {step}: {words}")
+
     def test_the_page(self):
         for name in self.NAMES:
             page = self.draw(text(name), "--html")

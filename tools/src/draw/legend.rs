@@ -13,8 +13,9 @@ use crate::finding::verdict_name;
 const MOST_PARTS: usize = 12;
 /// The most lines of words: the command check tells all.
 const MOST_WORDS: usize = 40;
-/// The longest line in characters.
+/// The longest line in characters, and the longest in the larger letters of a heading.
 const WRAP: usize = 84;
+const WRAP_HEAD: usize = 70;
 
 /// A line of the legend.
 fn line(class: &str, text: &str) -> String {
@@ -64,7 +65,7 @@ pub fn noted(scene: &Scene, left_out: usize) -> Vec<String> {
 /// A step: what it joins, where, and what is open next.
 pub fn step(scene: &Scene, view: &View) -> Vec<String> {
     let document = scene.document;
-    let mut rows: Vec<String> = wrapped_words(&view.words).iter().map(|words| line("head", words)).collect();
+    let mut rows: Vec<String> = wrapped_at(&view.words, WRAP_HEAD).iter().map(|words| line("head", words)).collect();
     for (i, part) in view.parts.iter().enumerate() {
         let swatch = format!("<path d=\"M0 -4h26\" stroke=\"{}\" stroke-width=\"4\"/>", scene.colour(i));
         let words = escaped(&shortened(&piece_words(document, part)));
@@ -88,10 +89,15 @@ fn shortened(text: &str) -> String {
 
 /// A text in lines that are short enough.
 fn wrapped_words(text: &str) -> Vec<String> {
+    wrapped_at(text, WRAP)
+}
+
+/// A text in lines of at most so many characters.
+fn wrapped_at(text: &str, most: usize) -> Vec<String> {
     let mut lines = vec![String::new()];
     for word in text.split(' ') {
         let last = lines.len() - 1;
-        if lines[last].chars().count() + word.chars().count() > WRAP {
+        if lines[last].chars().count() + word.chars().count() > most {
             lines.push(format!("   {word}"));
         } else {
             let gap = if lines[last].is_empty() { "" } else { " " };
