@@ -590,8 +590,7 @@ class Documents(unittest.TestCase):
         for name in ("frame", "lattice"):
             shown = pattern("check", text(name))[1].replace(text(name), name + ".txt")
             self.assertIn("\n".join("    " + line for line in shown.splitlines()), guide)
-        rectangle = os.path.join(ROOT, "tests", "tools", "advice", "rectangle.txt")
-        shown = pattern("check", rectangle)[1].replace(rectangle, "rectangle.txt").splitlines()
+        shown = pattern("check", text("rectangle"))[1].replace(text("rectangle"), "rectangle.txt").splitlines()
         block = guide[guide.index("    rectangle.txt: over") :].split("\n\n")[0].splitlines()
         cut = block.index("      ..")
         indented = ["    " + line for line in shown]
