@@ -22,8 +22,7 @@ use space::Written;
 use space::put_number64;
 use theory::Verdict;
 
-// The report of a list of merges of the constraints in lent arrays, with the given verdict: where one cluster is left, it is the last one, and it rests
-// on all constraints.
+// The report of a list of merges of the constraints in lent arrays, with the given verdict.
 fn put_list(
     h: Head,
     start: &[u64; 200],
@@ -41,27 +40,6 @@ fn put_list(
         → (r ≡ answer (reportWith (graphIn h (now (start .entry)) (now (sizes .entry))) (verdict) (m .p)) (now (out .entry)))
         × (now (out .exit) ≡ after (reportWith (graphIn h (now (start .entry)) (now (sizes .entry))) (verdict) (m .p)) (now (out .entry)))) ⌝ }
 {
-    if 2 * count + 1 == h.e {
-        let last = h.e + count - 1;
-        let low = rests::all_low(h.e);
-        let high = rests::all_high(h.e);
-        return report::write_one(
-            out,
-            h.n,
-            h.e,
-            h.lines,
-            verdict,
-            start,
-            sizes,
-            count,
-            parts,
-            joints,
-            last,
-            slots[last],
-            low,
-            high,
-        );
-    }
     let mut low = [0u64; 192];
     let mut high = [0u64; 192];
     rests::carry(parts, h.e, count, &mut low, &mut high);

@@ -4,10 +4,10 @@ use mathlib.Core.Bool.{Bool, true, false, _&&_}
 use Prim.Native.Nat.{ℕ, zero, suc, _/_, _%_, _^_}
 use lib.Dec.{eqb}
 use lib.IntN.{pos}
-use lib.ListN.{length, getD, replicate}
+use lib.ListN.{length, replicate}
 use Rattle.theory.specs.Graph.{verdictOf}
 use Rattle.theory.specs.declared.Verdict.{Verdict}
-use Rattle.report.specs.Report.{verdictName}
+use Rattle.theory.specs.declared.Verdict.the-variants.{Over, Angle, Well, Stuck, Under}
 use Rattle.sheet.specs.declared.Opening.the-variants.{Pf01}
 use Rattle.sheet.specs.declared.Size.the-variants.{Given}
 use Rattle.sheet.specs.declared.Constraint.{Constraint}
@@ -45,9 +45,13 @@ setVerdict n i = verdictOf (graphOf (pointsSheet n i))
 unfoldable pub sets : ℕ → ℕ
 sets n = 2 ^ length (eachTwo 0 n)
 
--- the first letter of a verdict's name
+-- the first letter of a verdict's name, in ASCII: o, a, w, s, u
 abbrev pub initial : Verdict → ℕ
-initial v = getD (verdictName v) 0 0
+initial Over = 111
+initial Angle = 97
+initial Well = 119
+initial Stuck = 115
+initial Under = 117
 
 -- the entry rule, tested over the whole table: each letter is that of the verdict of the set of its place, counted from i
 unfoldable pub allRight : ℕ → List ℕ → Bool

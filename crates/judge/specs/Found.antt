@@ -1,8 +1,11 @@
 -- What is judged of a sheet whose plan stands in arrays that a caller lends. Assumes nothing.
-use Rattle.theory.specs.Prelude.{_≡_, _≢_, List, [], ℕ}
+use Rattle.theory.specs.Prelude.{_≡_, _≢_, List, [], ℕ, ℤ, take}
+use Rattle.theory.specs.Constraints.{NotOver}
 use Rattle.theory.specs.Verdict.{verdictNumber}
 use Rattle.theory.specs.Graph.{Graph}
-use Rattle.merges.specs.Run.{runOf, runIn}
+use Rattle.graph.specs.declared.Head.{Head}
+use Rattle.graph.specs.Lent.{graphIn}
+use Rattle.merges.specs.Run.{runOf, runIn, Merged}
 use Rattle.merges.specs.declared.Run.{Run}
 use Rattle.judge.specs.declared.Found.{Found}
 use Rattle.judge.specs.declared.Judged.{Judged}
@@ -17,3 +20,8 @@ judgedWith f run = record { verdict = f .verdict; first = f .first; set = f .set
 pub record JudgedIn (g : Graph) (f : Found) (parts joints slots : List ℕ) : Type 0 where
   pub over : verdictNumber (f .verdict) ≡ 0 → judgedWith f (runOf [] []) ≡ judgedOf g
   pub plan : verdictNumber (f .verdict) ≢ 0 → judgedWith f (runIn (f .steps) parts joints slots) ≡ judgedOf g
+
+-- merges of the constraints, and the sheet's judgement where these are not over
+pub record MergedIn (h : Head) (start : List ℕ) (f : Found) (parts joints slots : List ℕ) : Type 0 where
+  pub merged : Merged (take (h .e) start) (runIn (f .steps) parts joints slots)
+  pub judged : NotOver (take (h .e) start) → (z : List ℤ) → JudgedIn (graphIn h start z) f parts joints slots

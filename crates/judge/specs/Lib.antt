@@ -1,5 +1,4 @@
 -- The judgement of a constraint graph.
 pub mod Judged
 pub mod Found
-pub mod Angles
 pub mod Telling

@@ -5,12 +5,11 @@ use Rattle.theory.specs.Merge.{slot, Merge, merge, OpenAt, Ended}
 use Rattle.theory.specs.Plan.{First, firstOf, isSome}
 use Rattle.theory.specs.Plan.Laws.{first-is, none-is}
 use Rattle.theory.specs.Plan.Search.{Found, found as first-one, nothing as no-one, first-found}
-use Rattle.search.specs.State.{Ready, Wanted, Reaching, Lowest, Outs}
+use Rattle.search.specs.State.{linked, Ready, Wanted, Reaching, Lowest, Outs, Joined, Best}
 use Rattle.search.specs.State.Triangle.{corners}
 use Rattle.search.specs.State.Open.{open-reached, reached-open}
-use Rattle.search.specs.State.Choice.{within, two-pair, joined-pair, nothing, found}
+use Rattle.search.specs.State.Choice.{within, joined-pair, nothing, found}
 use Rattle.search.specs.State.Sheet.{open-same}
-use Rattle.search.specs.Words.{Chosen, by-two, by-links}
 
 module _ {s : List ℕ} {used rim : ℕ} {links hold todo : List ℕ} (room : used ≤ 192) {i : ℕ} (li : Lowest (Wanted s links rim todo) 0 192 i)
     (ready : Ready s used rim links hold todo) where
@@ -18,13 +17,12 @@ module _ {s : List ℕ} {used rim : ℕ} {links hold todo : List ℕ} (room : us
   none-found h = sym (none-is s (nothing ready room li h))
 
   module _ {o : ℕ} (outs : Outs links (slot s i) (slot s i ∩ rim) o) {v : ℕ} where
-    pub chosen-first : Chosen links hold (slot s i) o v → First s (merge i (v / 256) (v % 256))
-    chosen-first (by-two a b all best) = found ready room li outs (λ z w h m. two-pair ready room i z h a b all w m) best
-    chosen-first (by-links best) = found ready room li outs (λ z w h m. joined-pair ready room i z h w m) best
+    pub chosen-first : Best (λ z. Joined hold (linked links z ∩ slot s i) z) o v → First s (merge i (v / 256) (v % 256))
+    chosen-first best = found ready room li outs (λ z w h m. joined-pair ready room i z h w m) best
 
-    pub chosen-used : Chosen links hold (slot s i) o v → v % 256 < used
-    chosen-used c =
-        let g = corners s i (v / 256) (v % 256) (chosen-first c .isopen) in
+    pub chosen-used : Best (λ z. Joined hold (linked links z ∩ slot s i) z) o v → v % 256 < used
+    chosen-used best =
+        let g = corners s i (v / 256) (v % 256) (chosen-first best .isopen) in
         within ready room (v % 256) (g .q) (g .q-k)
 
 -- ---- whether a merge is open

@@ -1,11 +1,10 @@
 -- The choice among pairs as numbers, and what the code keeps between two pairs. Assumes nothing.
 use Rattle.theory.specs.Prelude.{_≡_, _≢_, true, false, List, [], _∷_, ℕ, _/_, _%_, _<_, length, getD}
-use Rattle.theory.specs.Set.{_∈_, _⊑_, full}
+use Rattle.theory.specs.Set.{_∈_, full}
 use Rattle.theory.specs.Constraints.{pair, Among, Pairs, Below}
 use Rattle.theory.specs.Over.{IsOver, isOver}
 use Rattle.greedy.specs.Completion.Rank.{Exact}
 use Rattle.sparsity.specs.Answer.{Using}
-pub mod Tight
 pub mod Laws
 
 -- the two elements of a number
@@ -21,14 +20,6 @@ chooseNumbers n cs (k ∷ ks) =
 -- each is the number of a pair of n elements
 pub record Numbered (n : ℕ) (ks : List ℕ) : Type 0 where
   pub each : (k : ℕ) → Among k ks → (k / 256 < k % 256) × (k % 256 < n)
-
--- each two elements of s lie in a tight set
-pub record Rigid (cs : List ℕ) (s : ℕ) : Type 0 where
-  pub each : (x y : ℕ) → x ∈ s → y ∈ s → (r : ℕ) × (x ∈ r) × (y ∈ r) × Exact cs r
-
--- z lies in a tight set with the whole of s
-abbrev pub Within : List ℕ → ℕ → ℕ → Type 0
-Within cs s z = (u : ℕ) × (s ⊑ u) × (z ∈ u) × Exact cs u
 
 -- each element that item x of tied has lies in a tight set with x
 pub record Tied (cs tied : List ℕ) : Type 0 where

@@ -1,16 +1,10 @@
 -- Elements that are in the way of no over set, and the core that is left without them. Assumes nothing.
-use Rattle.theory.specs.Prelude.{_≡_, Bool, true, false, List, [], _∷_, ℕ, _+_, _*_, _-_, _^_, _≤_, _<_, ones, eqb, length, take, getD}
-use Rattle.theory.specs.Set.{_∈_, _∩_, _∪_, _⊑_, at, full}
-use Rattle.theory.specs.Constraints.{Below, carried, NotOver}
-use Rattle.theory.specs.Merge.{joints}
-use Rattle.theory.specs.Plan.{planOf}
-use Rattle.theory.specs.Verdict.{angled}
+use Rattle.theory.specs.Prelude.{_≡_, List, ℕ, _+_, _*_, _-_, _^_, _≤_, _<_, ones, take, getD}
+use Rattle.theory.specs.Set.{_∈_, _∩_, _⊑_, at, full}
+use Rattle.theory.specs.Constraints.{carried, NotOver}
 pub mod Neighbours
 pub mod Peeling
 pub mod Merging
-pub mod Corner
-pub mod Joints
-pub mod Angle
 
 -- within u, element x has at most k constraints
 pub record Few (cs : List ℕ) (u x k : ℕ) : Type 0 where
@@ -60,22 +54,3 @@ pub record Mutual (near : List ℕ) : Type 0 where
 pub data Peeled (near : List ℕ) : ℕ → Type 0 where
   whole : Peeled near (full 64)
   less : {u : ℕ} (x : ℕ) → Peeled near u → x ∈ u → ones (getD near x 0 ∩ u) ≤ 2 → Peeled near (u - 2 ^ x)
-
--- an element taken away, with its neighbours among those left
-abbrev pub corner : List ℕ → ℕ → ℕ → ℕ
-corner near u x = 2 ^ x ∪ (getD near x 0 ∩ u)
-
--- of those taken away with two neighbours the three elements
-unfoldable pub corners : {near : List ℕ} {u : ℕ} → Peeled near u → List ℕ
-corners whole = []
-corners {near = near} (less {u = v} x p q h) = elim (eqb (ones (corner near v x)) 3) [ true ↦ corner near v x ∷ corners p | false ↦ corners p ]
-
--- what is left, and whether three lines are among these corners
-pub record Taken (near : List ℕ) (lines left : ℕ) (angle : Bool) : Type 0 where
-  pub peeled : Peeled near left
-  pub angle-is : angle ≡ angled lines (corners peeled)
-
--- the core; and of 2n-3 constraints that leave none, whether some joint of the plan is three lines
-pub record Told (cs : List ℕ) (lines left : ℕ) (angle : Bool) : Type 0 where
-  pub core : Core cs left
-  pub angle-is : left ≡ 0 → (n : ℕ) → 2 ≤ n → n ≤ 64 → Below n cs → length cs + 3 ≡ 2 * n → angle ≡ angled lines (joints cs (planOf cs))

@@ -5,14 +5,11 @@ ghost use mathlib.Core.Path.{_≡_};
 ghost use mathlib.Core.Logic.{_≢_};
 ghost use mathlib.Core.List.{List};
 ghost use Prim.Native.Nat.{ℕ, suc, _≤_, _<_};
-ghost use mathlib.Core.Bool.{_&&_, _||_};
 ghost use lib.Count.{ones};
-ghost use lib.Dec.{eqb};
 ghost use lib.ListN.{length, take, getD};
 ghost use Rattle.theory.specs.Set.{_∈_, _⊑_, at, full};
 ghost use Rattle.theory.specs.Near.{Simple, Standing, Near};
-ghost use Rattle.theory.specs.Verdict.{allLines};
-ghost use Rattle.peeling.specs.Core.{Core, Dense, Largest, Beyond, Light, Heavy, Mutual, Peeled, Taken, Told};
+ghost use Rattle.peeling.specs.Core.{Core, Largest, Beyond, Light, Heavy, Peeled};
 ghost use Rattle.peeling.specs.Hard.{Shown, Linked, Left, Marks};
 
 // A byte as an index.
@@ -28,6 +25,15 @@ pub fn other_end(pair: u64, a: u8) -> u8
     ensures { λ r. ⌜ (r < 64) × (r ∈ pair) × (a ≢ r) ⌝ }
 {
     sets::lowest(pair - sets::single(a))
+}
+
+// The elements below n.
+fn below(n: usize) -> u64
+    requires { ⌜ (1 ≤ n) × (n ≤ 64) ⌝ }
+    ensures { λ r. ⌜ r ≡ full n ⌝ }
+{
+    let top = sets::single((n - 1) as u8);
+    top - 1 + top
 }
 
 // How many elements come before those, from the highest down, that have no neighbour; one at least.
@@ -81,71 +87,6 @@ fn light_of(near: &[u64; 64], left: u64, who: u64) -> u64
     todo
 }
 
-// Are there three, and all of them lines?
-fn three_lines(around: u64, lines: u64) -> bool
-    ensures { λ r. ⌜ r ≡ eqb (ones around) 3 && allLines lines around ⌝ }
-{
-    if around & lines == around {
-        u64::count_ones(around) == 3
-    } else {
-        false
-    }
-}
-
-// Was there such an angle before, or is there one now?
-fn angle_after(around: u64, lines: u64, angle: bool) -> bool
-    ensures { λ r. ⌜ r ≡ (eqb (ones around) 3 && allLines lines around) || angle ⌝ }
-{
-    if angle {
-        true
-    } else {
-        three_lines(around, lines)
-    }
-}
-
-// What is left when elements are taken away, and whether one with two neighbours went that made three lines with them.
-pub struct Peeling {
-    pub left: u64,
-    pub angle: bool,
-}
-
-// Takes elements with two neighbours at most away, one after another; those from n on are gone.
-fn peel(near: &[u64; 64], n: u8, low: u64, lines: u64) -> Peeling
-    requires { ⌜ (1 ≤ n) × (n ≤ 64) × Beyond (now near) n × Light (now near) (full n) low
-        × ((x : ℕ) → x < n → at x low ≡ 0 → 3 ≤ ones (getD (now near) x 0)) ⌝ }
-    ensures { λ r. ⌜ Taken (now (near .entry)) lines (r .left) (r .angle) × (Mutual (now (near .entry)) → Dense (now (near .entry)) (r .left)) ⌝ }
-{
-    let mut left = cycles::below(wide(n));
-    let mut todo = low;
-    let mut angle = false;
-    while todo != 0 {
-        let x = sets::lowest(todo);
-        let i = wide(x);
-        let bit = sets::single(x);
-        angle = angle_after(bit | (near[i] & left), lines, angle);
-        left = left - bit;
-        todo = (todo - bit) | light_of(near, left, near[i] & left);
-    }
-    Peeling { left, angle }
-}
-
-// The same of all elements.
-fn peel_all(near: &[u64; 64], lines: u64) -> Peeling
-    ensures { λ r. ⌜ Taken (now (near .entry)) lines (r .left) (r .angle) × (Mutual (now (near .entry)) → Dense (now (near .entry)) (r .left)) ⌝ }
-{
-    let n = used(near);
-    let low = light_all(near, n);
-    peel(near, n, low, lines)
-}
-
-// The elements that an over set can have; and where there is none, and 2n-3 constraints of n elements, whether some joint of the plan is three lines.
-pub fn peel_of(near: &[u64; 64], lines: u64) -> Peeling
-    ensures { λ r. ⌜ ((cs : List ℕ) → Simple cs → Near cs (now (near .entry))
-        → Told cs lines (r .left) (r .angle) × Largest (now (near .entry)) (r .left)) ⌝ }
-{
-    peel_all(near, lines)
-}
-
 // All neighbours of the elements of a set.
 fn neighbours(near: &[u64; 64], who: u64) -> u64
     ensures { λ r. ⌜ ((x : ℕ) → x ∈ who → getD (now (near .entry)) x 0 ⊑ r) ⌝ }
@@ -168,7 +109,7 @@ pub fn core_of(near: &[u64; 64]) -> u64
         × ((cs : List ℕ) → Simple cs → Near cs (now (near .entry)) → Core cs r × Largest (now (near .entry)) r) ⌝ }
 {
     let n = used(near);
-    let mut left = cycles::below(wide(n));
+    let mut left = below(wide(n));
     let mut todo = light_all(near, n);
     while todo != 0 {
         left = left - todo;

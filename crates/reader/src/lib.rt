@@ -11,7 +11,6 @@ ghost use Rattle.sheet.specs.Facts.{kindAt};
 ghost use Rattle.sheet.specs.Facts.Kinds.{KindsIn};
 ghost use Rattle.sheet.specs.Field.{refused, signed32, begins};
 ghost use Rattle.sheet.specs.declared.Size.the-variants.{Given};
-ghost use Rattle.sheet.specs.Rules.{pairOf};
 ghost use Rattle.sheet.specs.Decode.{opening, size, dimension, constraint, constraints, readSheet};
 ghost use Rattle.sheet.specs.Noted.{Noted};
 ghost use Rattle.graph.specs.Lent.{InArrays};
@@ -241,7 +240,7 @@ fn read_size(s: &[u8], c: Cursor, p: PairKind) -> SizeRead
     SizeRead::Value(z, after)
 }
 
-// The tag after a size, where bit 1 of the map stands: twice the bit is how many bytes are passed over, so that the way does not part at the bit.
+// The tag after a size, where bit 1 of the map stands: twice the bit is how many bytes are passed over.
 fn pass_tag(s: &[u8], c: Cursor, bit: u8, z: i32) -> SizeRead
     requires { ⌜ bit < 2 ⌝ }
     ensures { λ r. ⌜ asSize (now (s .entry)) r ≡ tagged z (eqb bit 1) (drop (c .at) (now (s .entry))) ⌝ }
@@ -254,9 +253,21 @@ fn pass_tag(s: &[u8], c: Cursor, bit: u8, z: i32) -> SizeRead
     SizeRead::Value(z, Cursor { at: at + width })
 }
 
-// What follows a map with a contact, or with a bit that no pair takes: rules 8 and 20, and then the tag.
-fn read_contact(s: &[u8], c: Cursor, j: Kind, k: Kind, map: u8) -> SizeRead
-    requires { ⌜ 4 ≤ map ⌝ }
+// The size that a map announces: only a given one has bytes.
+fn read_announced(s: &[u8], c: Cursor, p: PairKind, z: Size) -> SizeRead
+    ensures { λ r. ⌜ asSize (now (s .entry)) r ≡ codeIn (size p z (drop (c .at) (now (s .entry)))) ⌝ }
+{
+    match z {
+        Size::Given(_) => read_size(s, c, p),
+        Size::Missing => SizeRead::Value(graph::code_of(z), c),
+        Size::Tangent => SizeRead::Value(graph::code_of(z), c),
+        Size::OtherTangent => SizeRead::Value(graph::code_of(z), c),
+        Size::Unfit => SizeRead::Value(graph::code_of(z), c),
+    }
+}
+
+// What follows a map: rules 8 and 20, the size, and the tag.
+fn read_by(s: &[u8], c: Cursor, j: Kind, k: Kind, map: u8) -> SizeRead
     ensures { λ r. ⌜ asSize (now (s .entry)) r ≡ codeIn (dimensionBy j k map (drop (c .at) (now (s .entry)))) ⌝ }
 {
     let size = sheet::size_by(map, 0);
@@ -266,29 +277,14 @@ fn read_contact(s: &[u8], c: Cursor, j: Kind, k: Kind, map: u8) -> SizeRead
     if !sheet::radii_differ(j, k, size) {
         return SizeRead::Refused(20);
     }
-    pass_tag(s, c, map / 2 % 2, graph::code_of(size))
-}
-
-// What follows a map without a contact: rule 8, the size by rule 9, and the tag. The way parts at bit 0, so that each has its own next place.
-fn read_bare(s: &[u8], c: Cursor, p: PairKind, map: u8) -> SizeRead
-    requires { ⌜ map < 4 ⌝ }
-    ensures { λ r. ⌜ ((j k : Kind) → pairOf j k ≡ p → asSize (now (s .entry)) r ≡ codeIn (dimensionBy j k map (drop (c .at) (now (s .entry))))) ⌝ }
-{
-    if map % 2 == 0 {
-        if !sheet::size_optional(p) {
-            return SizeRead::Refused(8);
-        }
-        return pass_tag(s, c, map / 2, 0);
-    }
-    let sized = read_size(s, c, p);
+    let sized = read_announced(s, c, sheet::pair_of(j, k), size);
     let SizeRead::Value(z, after) = sized else {
         return sized;
     };
-    pass_tag(s, after, map / 2, z)
+    pass_tag(s, after, map / 2 % 2, z)
 }
 
-// What follows the two ends: the bit map and the fields whose bit stands, by the kinds of the elements. Where there is no line, each pair counts as two
-// points.
+// What follows the two ends: the bit map and the fields whose bit stands, by the kinds of the elements.
 fn read_dimension(s: &[u8], c: Cursor, kinds: Kinds, radii: &[u32; 64], a: u8, b: u8) -> SizeRead
     requires { ⌜ (a < 64) × (b < 64) ⌝ }
     ensures { λ r. ⌜ ((es : List Element) → KindsIn es kinds (now (radii .entry))
@@ -298,16 +294,9 @@ fn read_dimension(s: &[u8], c: Cursor, kinds: Kinds, radii: &[u32; 64], a: u8, b
     let ByteRead::Value(map, c1) = third else {
         return SizeRead::Refused(third.refusal());
     };
-    if map < 4 {
-        if kinds.lines == 0 {
-            return read_bare(s, c1, PairKind::Points, map);
-        }
-        let p = sheet::pair_by(sheet::has(kinds.lines, a), sheet::has(kinds.lines, b));
-        return read_bare(s, c1, p, map);
-    }
     let j = sheet::kind_at(kinds, radii, a);
     let k = sheet::kind_at(kinds, radii, b);
-    read_contact(s, c1, j, k, map)
+    read_by(s, c1, j, k, map)
 }
 
 // Constraints i0 to e - 1 after those in the arrays, and then the end of the bytes: rules 6 to 10 and 20. The ends are noted as soon as they are

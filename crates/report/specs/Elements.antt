@@ -14,11 +14,6 @@ unfoldable pub among : ℕ → ℕ → ℕ → List ℕ
 among zero x a = []
 among (suc k) x a = member (at x a) x (among k (suc x) a)
 
--- k numbers from x on, without a gap
-unfoldable pub consecutive : ℕ → ℕ → List ℕ
-consecutive x zero = []
-consecutive x (suc k) = x ∷ consecutive (suc x) k
-
 -- the elements of a, ascending; a sheet's are below 64
 unfoldable pub elements : ℕ → List ℕ
 elements a = among 64 0 a

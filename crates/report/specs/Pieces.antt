@@ -7,8 +7,7 @@ use Rattle.theory.specs.declared.Ways.{Ways}
 use Rattle.theory.specs.declared.Step.{Step}
 use Rattle.engine.specs.Steps.{stepAt, stepsFor}
 use Rattle.report.specs.Elements.{elements}
-use Rattle.report.specs.Report.{others, kindName, waysName, verdictLine, elementsLine, stepLines, slotLine}
-pub mod Consecutive
+use Rattle.report.specs.Report.{others, kindName, waysName, verdictLine, elementsLine, stepLines}
 
 -- numbers, a space before each
 unfoldable pub numbers : List ℕ → List ℕ
@@ -49,10 +48,6 @@ stepsBetween lines e sizes cs parts joints first last = stepsFor (stepAt lines e
 -- a report of a sheet that is not over, up to its clusters
 unfoldable pub front : ℕ → ℕ → Verdict → List Step → List ℕ
 front n e v steps = verdictLine v ++ (elementsLine n e ++ stepLines steps)
-
--- the report where one cluster is left: its number, its elements and what it rests on
-unfoldable pub oneReport : ℕ → ℕ → Verdict → List Step → ℕ → ℕ → ℕ → List ℕ
-oneReport n e v steps c a r = verdictLine v ++ (elementsLine n e ++ (stepLines steps ++ slotLine c a r))
 
 -- the longest report of a sheet that is not over, in bytes
 abbrev pub longest : ℕ

@@ -17,7 +17,7 @@ use Rattle.report.specs.Elements.{elements, constraintsOf}
 pub mod Laws
 pub mod Length
 pub mod Bound
-pub mod One
+pub mod Front
 
 -- ---- words and lines
 

@@ -2,16 +2,15 @@
 // on and answers the place after them; what stands beyond that place is not told. Contracts cite specs/Report.antt, specs/Block.antt.
 ghost use mathlib.Core.Path.{_≡_};
 ghost use mathlib.Core.List.{[], _∷_, _++_};
-ghost use Prim.Native.Nat.{_+_, _-_, _*_, _<_, _≤_, _^_};
+ghost use Prim.Native.Nat.{_+_, _*_, _<_, _≤_, _^_};
 ghost use lib.ListN.{length, take};
 ghost use Rattle.space.specs.Space.{answer, after};
 ghost use Rattle.space.specs.Text.{decimal};
-ghost use Rattle.theory.specs.Set.{full};
-ghost use Rattle.report.specs.Elements.{elements, consecutive};
+ghost use Rattle.report.specs.Elements.{elements};
 ghost use Rattle.engine.specs.Steps.{stepsIn};
 ghost use Rattle.report.specs.Report.{verdictLine, elementsLine, stepLine, stepLines, slotLine, clusterLines, report, overReport};
 ghost use Rattle.report.specs.Pieces.{numbers, above, wide, partsWords, kindWords, waysWords, restWords, longest, Small, AllSmall};
-ghost use Rattle.report.specs.Pieces.{stepsBetween, front, oneReport};
+ghost use Rattle.report.specs.Pieces.{stepsBetween, front};
 ghost use Rattle.report.specs.Block.{block, Numerals, Stands};
 use merges::ELEMENTS;
 use merges::PLACES;
@@ -47,33 +46,6 @@ pub fn numerals() -> [u8; TEXT]
     ensures { λ r. ⌜ Numerals r ⌝ }
 {
     NUMBERS
-}
-
-// The numbers below 192, one after another, a space before each.
-const RUN: usize = 658;
-
-const ALL: [u8; RUN] = *b" \
-    0 1 2 3 4 5 6 7 8 9 10 11 12 13 14 15 16 17 18 19 20 21 22 23 24 \
-    25 26 27 28 29 30 31 32 33 34 35 36 37 38 39 40 41 42 43 44 45 46 47 48 49 \
-    50 51 52 53 54 55 56 57 58 59 60 61 62 63 64 65 66 67 68 69 70 71 72 73 74 \
-    75 76 77 78 79 80 81 82 83 84 85 86 87 88 89 90 91 92 93 94 95 96 97 98 99 \
-    100 101 102 103 104 105 106 107 108 109 110 111 112 113 114 115 116 117 118 119 120 121 122 123 124 \
-    125 126 127 128 129 130 131 132 133 134 135 136 137 138 139 140 141 142 143 144 145 146 147 148 149 \
-    150 151 152 153 154 155 156 157 158 159 160 161 162 163 164 165 166 167 168 169 170 171 172 173 174 \
-    175 176 177 178 179 180 181 182 183 184 185 186 187 188 189 190 191";
-
-// How long the text of the first `count` numbers is.
-fn run_end(count: usize) -> usize
-    requires { ⌜ count ≤ 192 ⌝ }
-    ensures { λ r. ⌜ r ≡ length (numbers (consecutive 0 count)) ⌝ }
-{
-    if count < 10 {
-        return 2 * count;
-    }
-    if count < 100 {
-        return 3 * count - 10;
-    }
-    4 * count - 110
 }
 
 // How many digits a number below 1,000 has.
@@ -120,17 +92,6 @@ fn put_word(out: &mut [u8; BLOCK], at: usize, word: &[u8]) -> usize
     at + i
 }
 
-// The numbers from `first` to before `last`, a space before each: they stand together in the text of all.
-fn put_run(out: &mut [u8; BLOCK], at: usize, first: usize, last: usize) -> usize
-    requires { ⌜ (first ≤ last) × (last ≤ 192) × (at + length (numbers (consecutive first (last - first))) ≤ block) ⌝ }
-    ensures { λ r. ⌜ Stands (now (out .entry)) at (numbers (consecutive first (last - first))) r (now (out .exit)) ⌝ }
-{
-    let all = ALL;
-    let a = run_end(first);
-    let b = run_end(last);
-    put_word(out, at, &all[a..b])
-}
-
 // A space and a count below 1,000.
 fn put_count(out: &mut [u8; BLOCK], at: usize, n: usize) -> usize
     requires { ⌜ (n < 1000) × (at + 4 ≤ block) ⌝ }
@@ -167,28 +128,6 @@ fn put_set(out: &mut [u8; BLOCK], at: usize, text: &[u8; TEXT], set: u64) -> usi
     ensures { λ r. ⌜ Stands (now (out .entry)) at (numbers (elements set)) r (now (out .exit)) × (r ≤ at + 192) ⌝ }
 {
     put_set_from(out, at, text, 0, set)
-}
-
-// The set of the numbers below `m`.
-fn below(m: usize) -> u64
-    requires { ⌜ (1 ≤ m) × (m ≤ 64) ⌝ }
-    ensures { λ r. ⌜ r ≡ full m ⌝ }
-{
-    !0u64 >> (64 - m)
-}
-
-// A set's numbers from `first` on, a space before each: copied where the set is that of the numbers below its size.
-fn put_members(out: &mut [u8; BLOCK], at: usize, text: &[u8; TEXT], first: usize, set: u64) -> usize
-    requires { ⌜ Numerals (now text) × (first ≤ 128) × (at + 260 ≤ block) ⌝ }
-    ensures { λ r. ⌜ Stands (now (out .entry)) at (numbers (above first (elements set))) r (now (out .exit)) × (r ≤ at + 256) ⌝ }
-{
-    if set & 255 == 255 {
-        let m = u64::count_ones(set) as usize;
-        if set == below(m) {
-            return put_run(out, at, first, first + m);
-        }
-    }
-    put_set_from(out, at, text, first, set)
 }
 
 // A word and a number.
@@ -330,31 +269,6 @@ fn put_slot_line(
     let a2 = put_word(out, a1, b" holds");
     let a3 = put_set(out, a2, text, a);
     put_rests(out, a3, text, low, high)
-}
-
-// The same of a cluster that holds, and rests on, numbers that are mostly a run.
-fn put_one_line(
-    out: &mut [u8; BLOCK],
-    at: usize,
-    text: &[u8; TEXT],
-    c: usize,
-    a: u64,
-    low: u64,
-    high: u64,
-) -> usize
-    requires { ⌜ Numerals (now text) × (c < 256) × (at + 800 ≤ block) ⌝ }
-    ensures { λ r. ⌜ Stands (now (out .entry)) at (slotLine c a (high * 2 ^ 64 + low)) r (now (out .exit)) ⌝ }
-{
-    if a == 0 {
-        return at;
-    }
-    let a1 = put_entry(out, at, text, b"cluster", c);
-    let a2 = put_word(out, a1, b" holds");
-    let a3 = put_members(out, a2, text, 0, a);
-    let a4 = put_word(out, a3, b" rests on");
-    let a5 = put_members(out, a4, text, 0, low);
-    let a6 = put_members(out, a5, text, 64, high);
-    put_word(out, a6, b"\n")
 }
 
 // The lines of the steps from `first` to before `last` of a list of merges, from its parts and joints.
@@ -514,49 +428,6 @@ fn put_report(
     put_clusters(out, a1, text, slots, low, high, e + count)
 }
 
-// The same where the list of merges leaves one cluster, c, which holds the elements of a set and rests on the constraints of two words.
-fn put_one(
-    out: &mut [u8; BLOCK],
-    text: &[u8; TEXT],
-    n: usize,
-    e: usize,
-    lines: u64,
-    verdict: Verdict,
-    start: &[u64; 200],
-    sizes: &[i32; 200],
-    count: usize,
-    parts: &[u16; PLACES],
-    joints: &[u64; ELEMENTS],
-    c: usize,
-    set: u64,
-    low: u64,
-    high: u64,
-) -> usize
-    requires { ⌜ Numerals (now text) ⌝ }
-    requires { ⌜ (n < 1000) × (e ≤ 125) × (count ≤ 62) × (c < 256)
-        × AllSmall (stepsIn lines e (now sizes) (now start) (now parts) (now joints) count) ⌝ }
-    requires { ⌜ length (oneReport n e verdict (stepsIn lines e (now sizes) (now start) (now parts) (now joints) count) c set (high * 2 ^ 64 + low))
-        ≤ longest ⌝ }
-    ensures { λ r. ⌜ Stands (now (out .entry)) 0
-        (oneReport n e verdict (stepsIn lines e (now (sizes .entry)) (now (start .entry)) (now (parts .entry)) (now (joints .entry)) count) c set
-        (high * 2 ^ 64 + low)) r (now (out .exit)) ⌝ }
-{
-    let a1 = put_front(
-        out,
-        text,
-        n,
-        e,
-        lines,
-        verdict,
-        start,
-        sizes,
-        count,
-        parts,
-        joints,
-    );
-    put_one_line(out, a1, text, c, set, low, high)
-}
-
 // The report of an over sheet: the first constraint that makes those up to it over, and the smallest set.
 fn put_over_report(
     out: &mut [u8; BLOCK],
@@ -630,56 +501,6 @@ pub fn write_report(
         parts,
         joints,
         slots,
-        low,
-        high,
-    );
-    put_whole(out, &whole[0..length])
-}
-
-// The same where one cluster is left.
-pub fn write_one(
-    out: &mut [u8],
-    n: usize,
-    e: usize,
-    lines: u64,
-    verdict: Verdict,
-    start: &[u64; 200],
-    sizes: &[i32; 200],
-    count: usize,
-    parts: &[u16; PLACES],
-    joints: &[u64; ELEMENTS],
-    c: usize,
-    set: u64,
-    low: u64,
-    high: u64,
-) -> Written
-    requires { ⌜ (n < 1000) × (e ≤ 125) × (count ≤ 62) × (c < 256)
-        × AllSmall (stepsIn lines e (now sizes) (now start) (now parts) (now joints) count) ⌝ }
-    requires { ⌜ length (oneReport n e verdict (stepsIn lines e (now sizes) (now start) (now parts) (now joints) count) c set (high * 2 ^ 64 + low))
-        ≤ longest ⌝ }
-    ensures answers { λ r. ⌜ r ≡ answer
-        (oneReport n e verdict (stepsIn lines e (now (sizes .entry)) (now (start .entry)) (now (parts .entry)) (now (joints .entry)) count) c set
-        (high * 2 ^ 64 + low)) (now (out .entry)) ⌝ }
-    ensures leaves { λ r. ⌜ now (out .exit) ≡ after
-        (oneReport n e verdict (stepsIn lines e (now (sizes .entry)) (now (start .entry)) (now (parts .entry)) (now (joints .entry)) count) c set
-        (high * 2 ^ 64 + low)) (now (out .entry)) ⌝ }
-{
-    let text = numerals();
-    let mut whole: [u8; BLOCK] = [0; BLOCK];
-    let length = put_one(
-        &mut whole,
-        &text,
-        n,
-        e,
-        lines,
-        verdict,
-        start,
-        sizes,
-        count,
-        parts,
-        joints,
-        c,
-        set,
         low,
         high,
     );

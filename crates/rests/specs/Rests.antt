@@ -9,7 +9,6 @@ use lib.ListN.{length}
 use Rattle.theory.specs.Set.{_∈_, _⊑_}
 use Rattle.theory.specs.Merge.{Merge, slot, final}
 pub mod Laws
-pub mod One
 
 -- k initial clusters, from number i on: each came from the constraint of its own number
 unfoldable pub aloneFrom : ℕ → ℕ → List ℕ

@@ -3,9 +3,9 @@
 ghost use mathlib.Core.Path.{_≡_};
 ghost use Prim.Native.Nat.{_+_, _≤_, _<_, _^_};
 ghost use lib.ListN.{getD, set, replicate};
-ghost use Rattle.theory.specs.Set.{_∪_, full};
+ghost use Rattle.theory.specs.Set.{_∪_};
 ghost use Rattle.merges.specs.Run.{mostConstraints, mostSteps, places};
-ghost use Rattle.rests.specs.Words.{word, Listed, Told, Alone};
+ghost use Rattle.rests.specs.Words.{Listed, Told, Alone};
 use merges::PLACES;
 
 // The set of one number below 64, as a word.
@@ -42,33 +42,6 @@ fn join(words: &mut [u64; PLACES], made: usize, i: usize, j: usize, k: usize)
         (getD (now (words .entry)) i 0 ∪ getD (now (words .entry)) j 0 ∪ getD (now (words .entry)) k 0) ⌝ }
 {
     words[made] = words[i] | words[j] | words[k];
-}
-
-// The set of the numbers below n, as a word.
-fn all_below(n: usize) -> u64
-    requires { ⌜ n < 64 ⌝ }
-    ensures { λ r. ⌜ r ≡ full n ⌝ }
-{
-    single(n) - 1
-}
-
-// All of e constraints in two words: those from 0 to 63.
-pub fn all_low(e: usize) -> u64
-    ensures { λ r. ⌜ r ≡ word 0 (full e) ⌝ }
-{
-    if e < 64 {
-        all_below(e)
-    } else {
-        18446744073709551615
-    }
-}
-
-// Those from 64 on.
-pub fn all_high(e: usize) -> u64
-    requires { ⌜ e ≤ mostConstraints ⌝ }
-    ensures { λ r. ⌜ r ≡ word 1 (full e) ⌝ }
-{
-    if e < 64 { 0 } else { all_below(e - 64) }
 }
 
 // What the clusters of e constraints rest on after a list of merges, from its parts: a merged one on what its three rest on. By number, in arrays that

@@ -1,3 +1,2 @@
 -- What the loops of the test for a ring have done so far.
 pub mod Turns
-pub mod Rows

@@ -37,27 +37,11 @@ calls-by {hold} {todo} {todo′} {da} {db} {dc} {ma} {mb} {mc} {o} {ra} {rb} {rc
 
 module _ {hold : List ℕ} (todo : List ℕ) (da db dc ma mb mc : ℕ) {o ra rb rc : ℕ} (long : length todo ≡ 3) (ga : Gathered hold 0 o ra)
     (gb : Gathered hold 64 o rb) (gc : Gathered hold 128 o rc) where
-  -- where every holder waits already
-  pub calls-kept : (replaced da ma (getD todo 0 0) ≡ bitOr (replaced da ma (getD todo 0 0)) ra)
-      × (replaced db mb (getD todo 1 0) ≡ bitOr (replaced db mb (getD todo 1 0)) rb)
-      × (replaced dc mc (getD todo 2 0) ≡ bitOr (replaced dc mc (getD todo 2 0)) rc)
-      → Calls hold todo da db dc ma mb mc o
-      (set (set (set todo 0 (replaced da ma (getD todo 0 0))) 1 (replaced db mb (getD todo 1 0))) 2 (replaced dc mc (getD todo 2 0)))
-  calls-kept same =
-      let at-word = set-three todo (kept todo 0 da ma) (kept todo 1 db mb) (kept todo 2 dc mc) long in
-      calls-by (stored-long todo _ _ _ long) ga gb gc (at-word 0 (omega arith) ∙ same .0) (at-word 1 (omega arith) ∙ same .1)
-      (at-word 2 (omega arith) ∙ same .2)
-
-  -- where the words are stored again with the holders
-  pub calls-all : Calls hold todo da db dc ma mb mc o
-      (set (set (set
-      (set (set (set todo 0 (replaced da ma (getD todo 0 0))) 1 (replaced db mb (getD todo 1 0))) 2 (replaced dc mc (getD todo 2 0)))
+  pub calls-all : Calls hold todo da db dc ma mb mc o (set (set (set todo
       0 (bitOr (replaced da ma (getD todo 0 0)) ra)) 1 (bitOr (replaced db mb (getD todo 1 0)) rb)) 2 (bitOr (replaced dc mc (getD todo 2 0)) rc))
   calls-all =
-      let t = stored todo (kept todo 0 da ma) (kept todo 1 db mb) (kept todo 2 dc mc) in
-      let l = stored-long todo (kept todo 0 da ma) (kept todo 1 db mb) (kept todo 2 dc mc) long in
-      let at-word = set-three t (bitOr (kept todo 0 da ma) ra) (bitOr (kept todo 1 db mb) rb) (bitOr (kept todo 2 dc mc) rc) l in
-      calls-by (stored-long t _ _ _ l) ga gb gc (at-word 0 (omega arith)) (at-word 1 (omega arith)) (at-word 2 (omega arith))
+      let at-word = set-three todo (bitOr (kept todo 0 da ma) ra) (bitOr (kept todo 1 db mb) rb) (bitOr (kept todo 2 dc mc) rc) long in
+      calls-by (stored-long todo _ _ _ long) ga gb gc (at-word 0 (omega arith)) (at-word 1 (omega arith)) (at-word 2 (omega arith))
 
 module _ {m : Merge} {n da db dc ma mb mc : ℕ} (dead : SetOf da db dc (λ c. Part c m)) (made : SetOf ma mb mc (λ c. c ≡ n)) where
   -- the word of c that is taken out, and that is put in

@@ -22,15 +22,6 @@ single x r l n z e = single-case (first-or x r l n e)
     single-case (inl h) = h
     single-case (inr h) = absurd (omega (arith, ap (at r) z, at-zero r))
 
--- a set of two
-pub double : (x r : ℕ) → x < 2 ^ 64 → x ≢ 0 → bitAnd x (x - 1) ≢ 0 → bitAnd (bitAnd x (x - 1)) (bitAnd x (x - 1) - 1) ≡ 0 → r ∈ x
-    → (r ≡ trailingZeros 64 x) ⊎ (r ≡ trailingZeros 64 (bitAnd x (x - 1)))
-double x r l n m z e = double-case (first-or x r l n e)
-  where
-    double-case : (r ≡ trailingZeros 64 x) ⊎ (r ∈ bitAnd x (x - 1)) → (r ≡ trailingZeros 64 x) ⊎ (r ≡ trailingZeros 64 (bitAnd x (x - 1)))
-    double-case (inl h) = inl h
-    double-case (inr h) = inr (single (bitAnd x (x - 1)) r (omega (arith, and-le-l x (x - 1))) m z h)
-
 -- ---- the clusters that join two elements to z
 
 pub met-swap : (hold : List ℕ) (p q z v : ℕ) → Met hold p q z v → Met hold q p z v

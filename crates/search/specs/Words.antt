@@ -1,8 +1,8 @@
 -- Sets of cluster numbers below 192 in three words, and what the small functions on sets say. Assumes nothing.
-use Rattle.theory.specs.Prelude.{_≡_, _≢_, _⊎_, List, ℕ, zero, suc, _+_, _*_, _/_, _%_, _^_, _<_, trailingZeros, bitOr, length, getD}
+use Rattle.theory.specs.Prelude.{_≡_, _≢_, List, ℕ, zero, suc, _+_, _*_, _/_, _%_, _^_, _<_, trailingZeros, bitOr, length, getD}
 use Rattle.theory.specs.Set.{_∈_, _∩_, at}
 use Rattle.theory.specs.Merge.{slot}
-use Rattle.search.specs.State.{linked, beyond, Linking, Reaching, Outs, Best, Met, Joined}
+use Rattle.search.specs.State.{linked, beyond, Linking, Reaching, Outs}
 pub mod Laws
 
 -- the word of a place
@@ -47,11 +47,6 @@ pub record Passing (s links : List ℕ) (rim w word rest o : ℕ) : Type 0 where
   pub gone : (x : ℕ) → x ∈ word → at x rest ≡ 0 → Reaching s links rim (64 * w + x) → ⊥
   pub some : rest ≢ 0 → o ≢ 0
   pub here : rest ≢ 0 → Outs links (slot s (64 * w + trailingZeros 64 rest)) (slot s (64 * w + trailingZeros 64 rest) ∩ rim) o
-
--- v is the least key over the elements of o: by the two elements of x, where it has no third, or by the links of each element of o
-pub data Chosen (links hold : List ℕ) (x o v : ℕ) : Type 0 where
-  by-two : (a b : ℕ) → ((r : ℕ) → r ∈ x → (r ≡ a) ⊎ (r ≡ b)) → Best (Met hold a b) o v → Chosen links hold x o v
-  by-links : Best (λ z. Joined hold (linked links z ∩ x) z) o v → Chosen links hold x o v
 
 -- the words a, b and c are the set of the numbers below 192 that have the property
 pub record SetOf (a b c : ℕ) (P : ℕ → Type 0) : Type 0 where

@@ -2,14 +2,13 @@
 // elements that two living clusters may share; and the clusters that wait to be looked at. All of it lies in arrays that the caller lends.
 // Contracts cite specs/State.antt and specs/Words.antt.
 ghost use mathlib.Core.Path.{_≡_};
-ghost use mathlib.Core.Bool.{true};
 ghost use mathlib.Core.Logic.{_≢_};
 ghost use Prim.Native.Nat.{ℕ, _+_, _*_, _≤_, _<_};
 ghost use lib.ListN.{length, replicate};
 ghost use Rattle.theory.specs.Set.{_∈_, _∩_};
 ghost use Rattle.theory.specs.Merge.{slot, Part, merge as numbers};
 ghost use Rattle.search.specs.State.{linked, waits, Outs, Nearby, Lowest, Joining, Met, Joined, Best, Wanted, Kept, Begun, Renewed, threeOf};
-ghost use Rattle.search.specs.Words.{Member, Alone, Gathered, Inner, Passing, Chosen, SetOf, Calls, Rejoined, Entered};
+ghost use Rattle.search.specs.Words.{Member, Alone, Gathered, Inner, Passing, SetOf, Calls, Rejoined, Entered};
 
 // The clusters of 125 constraints and 62 steps: three words of 64.
 pub const PLACES: usize = 192;
@@ -172,27 +171,9 @@ pub fn joined(links: &[u64; ELEMENTS], hold: &[u64; PLACES], x: u64, z: usize) -
     met(hold, p, q, z)
 }
 
-// The least key of the clusters that join an element of o to a and to b.
-fn best_of_two(hold: &[u64; PLACES], a: usize, b: usize, o: u64) -> usize
-    requires { ⌜ (a < 64) × (b < 64) × (o ≢ 0) ⌝ }
-    ensures { λ r. ⌜ Best (Met (now (hold .entry)) a b) o r × (r < 65536) ⌝ }
-{
-    let z = u64::trailing_zeros(o) as usize;
-    let mut best = met(hold, a, b, z);
-    let mut rest = o & (o - 1);
-    while rest != 0 {
-        let y = u64::trailing_zeros(rest) as usize;
-        let v = met(hold, a, b, y);
-        if v < best {
-            best = v;
-        }
-        rest = rest & (rest - 1);
-    }
-    best
-}
-
-// The least key of the clusters that join an element of o to the two elements of x that it is linked with.
-fn best_pair(links: &[u64; ELEMENTS], hold: &[u64; PLACES], x: u64, o: u64) -> usize
+// The least key of the clusters that make an open merge with x, one for each element of o, which x reaches: those that join it to the two elements of x
+// that it is linked with.
+pub fn best(links: &[u64; ELEMENTS], hold: &[u64; PLACES], x: u64, o: u64) -> usize
     requires { ⌜ o ≢ 0 ⌝ }
     ensures { λ r. ⌜ Best (λ z. Joined (now (hold .entry)) (linked (now (links .entry)) z ∩ x) z) o r × (r < 65536) ⌝ }
 {
@@ -208,24 +189,6 @@ fn best_pair(links: &[u64; ELEMENTS], hold: &[u64; PLACES], x: u64, o: u64) -> u
         rest = rest & (rest - 1);
     }
     best
-}
-
-// The least key of the clusters that make an open merge with x, one for each element of o, which x reaches.
-pub fn best(links: &[u64; ELEMENTS], hold: &[u64; PLACES], x: u64, o: u64) -> usize
-    requires { ⌜ o ≢ 0 ⌝ }
-    ensures { λ r. ⌜ Chosen (now (links .entry)) (now (hold .entry)) x o r × (r < 65536) ⌝ }
-{
-    if x != 0 {
-        let y = x & (x - 1);
-        if y != 0 {
-            if y & (y - 1) == 0 {
-                let a = u64::trailing_zeros(x) as usize;
-                let b = u64::trailing_zeros(y) as usize;
-                return best_of_two(hold, a, b, o);
-            }
-        }
-    }
-    best_pair(links, hold, x, o)
 }
 
 // ---- sets of cluster numbers
@@ -326,21 +289,7 @@ fn holders(hold: &[u64; PLACES], o: u64) -> Words
     Words { a, b, c }
 }
 
-// Whether two sets of cluster numbers are the same.
-fn same_words(x: Words, y: Words) -> bool
-    ensures { λ r. ⌜ (r ≡ true → (x .a ≡ y .a) × (x .b ≡ y .b) × (x .c ≡ y .c)) ⌝ }
-{
-    if x.a != y.a {
-        return false;
-    }
-    if x.b != y.b {
-        return false;
-    }
-    x.c == y.c
-}
-
-// The clusters of dead wait no more; those of made wait, and each holder of an element of o. Holders that wait already are not stored again, so that
-// the next search need not wait for them.
+// The clusters of dead wait no more; those of made wait, and each holder of an element of o.
 fn call_up(hold: &[u64; PLACES], todo: &mut [u64; 3], dead: Words, made: Words, o: u64)
     requires { ⌜ length (now todo) ≡ 3 ⌝ }
     ensures { λ r. ⌜ Calls (now (hold .entry)) (now (todo .entry)) (dead .a) (dead .b) (dead .c) (made .a) (made .b) (made .c) o
@@ -350,24 +299,9 @@ fn call_up(hold: &[u64; PLACES], todo: &mut [u64; 3], dead: Words, made: Words, 
     let y = todo[1];
     let z = todo[2];
     let h = holders(hold, o);
-    let a = (x ^ (x & dead.a)) | made.a;
-    let b = (y ^ (y & dead.b)) | made.b;
-    let c = (z ^ (z & dead.c)) | made.c;
-    let kept = Words { a, b, c };
-    let all = Words {
-        a: a | h.a,
-        b: b | h.b,
-        c: c | h.c,
-    };
-    todo[0] = a;
-    todo[1] = b;
-    todo[2] = c;
-    if same_words(kept, all) {
-        return;
-    }
-    todo[0] = all.a;
-    todo[1] = all.b;
-    todo[2] = all.c;
+    todo[0] = (x ^ (x & dead.a)) | made.a | h.a;
+    todo[1] = (y ^ (y & dead.b)) | made.b | h.b;
+    todo[2] = (z ^ (z & dead.c)) | made.c | h.c;
 }
 
 // A set, where two numbers are the same; else none.

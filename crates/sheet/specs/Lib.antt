@@ -2,7 +2,6 @@
 pub mod Facts
 pub mod Field
 pub mod Rules
-pub mod Range
 pub mod Decode
 pub mod Encode
 pub mod WithoutTags

@@ -11,9 +11,8 @@ ghost use Rattle.theory.specs.Block.{block};
 ghost use Rattle.sheet.specs.Facts.{isPoint, isLine, isCircle, radiusOf, bitOf, blankElement};
 ghost use Rattle.sheet.specs.Facts.Kinds.{circlesOf, kindIn, KindsIn};
 ghost use Rattle.sheet.specs.Rules.{elementsInRange, kindsAllowed, radiusInRange, radiiInRange, constraintsInRange, endsAscend, stands};
-ghost use Rattle.sheet.specs.Rules.{pairBy, sizeOptional, sizeBy, sizeAllowed, radiiDiffer, within as liesWithin, sizeInRange};
+ghost use Rattle.sheet.specs.Rules.{pairBy, pairOf, sizeOptional, sizeBy, sizeAllowed, radiiDiffer, within as liesWithin, sizeInRange};
 ghost use Rattle.sheet.specs.Rules.{rangeFault, sizeFault, constraintFault, constraintsFault, sheetFault};
-ghost use Rattle.sheet.specs.Range.{lowestSize, highestSize};
 ghost use Rattle.sheet.specs.Noted.{Noted};
 
 // The four bytes that open a sheet.
@@ -153,7 +152,7 @@ pub fn radius_of(k: Kind) -> u32
 }
 
 // The kinds of a pair, by whether each is a line.
-pub fn pair_by(j: bool, k: bool) -> PairKind
+fn pair_by(j: bool, k: bool) -> PairKind
     ensures { λ r. ⌜ r ≡ pairBy j k ⌝ }
 {
     if j {
@@ -171,7 +170,15 @@ pub fn pair_by(j: bool, k: bool) -> PairKind
     }
 }
 
-pub fn size_optional(p: PairKind) -> bool
+// The kinds of a pair.
+pub fn pair_of(j: Kind, k: Kind) -> PairKind
+    ensures { λ r. ⌜ r ≡ pairOf j k ⌝ }
+{
+    pair_by(is_line(j), is_line(k))
+}
+
+// Whether a size may be missing.
+fn size_optional(p: PairKind) -> bool
     ensures { λ r. ⌜ r ≡ sizeOptional p ⌝ }
 {
     match p {
@@ -221,7 +228,7 @@ pub fn size_allowed(j: Kind, k: Kind, size: Size) -> bool
 {
     match size {
         Size::Given(_) => true,
-        Size::Missing => size_optional(pair_by(is_line(j), is_line(k))),
+        Size::Missing => size_optional(pair_of(j, k)),
         Size::Tangent => some_circle(j, k),
         Size::OtherTangent => {
             if some_circle(j, k) {
@@ -268,36 +275,27 @@ fn within(low: i32, high: i32, z: i32) -> bool
     if low <= z { z <= high } else { false }
 }
 
-// The lowest size of a pair.
-fn lowest_size(p: PairKind) -> i32
-    ensures { λ r. ⌜ r ≡ lowestSize p ⌝ }
-{
-    match p {
-        PairKind::Points => 1,
-        PairKind::PointLine => -40000,
-        PairKind::Lines => -17999,
-    }
-}
-
-// The highest size of a pair.
-fn highest_size(p: PairKind) -> i32
-    ensures { λ r. ⌜ r ≡ highestSize p ⌝ }
-{
-    match p {
-        PairKind::Points => 40000,
-        PairKind::PointLine => 40000,
-        PairKind::Lines => 17999,
-    }
-}
-
-// Rule 9: one range with 0 left out, so that the way does not part at the kind of pair.
+// Rule 9.
 pub fn size_in_range(p: PairKind, z: i32) -> bool
     ensures { λ r. ⌜ r ≡ sizeInRange p z ⌝ }
 {
-    if z == 0 {
-        return false;
+    match p {
+        PairKind::Points => within(1, 40000, z),
+        PairKind::PointLine => {
+            if within(-40000, -1, z) {
+                true
+            } else {
+                within(1, 40000, z)
+            }
+        }
+        PairKind::Lines => {
+            if within(-17999, -1, z) {
+                true
+            } else {
+                within(1, 17999, z)
+            }
+        }
     }
-    within(lowest_size(p), highest_size(p), z)
 }
 
 // Rule 9, of a size that is given: its number, or 0.
@@ -323,11 +321,11 @@ fn size_fault(j: Kind, k: Kind, size: Size) -> u8
     if !radii_differ(j, k, size) {
         return 20;
     }
-    range_fault(pair_by(is_line(j), is_line(k)), size)
+    range_fault(pair_of(j, k), size)
 }
 
 // Whether element i is in a set.
-pub fn has(set: u64, i: u8) -> bool
+fn has(set: u64, i: u8) -> bool
     requires { ⌜ i < 64 ⌝ }
     ensures { λ r. ⌜ r ≡ eqb (at i set) 1 ⌝ }
 {

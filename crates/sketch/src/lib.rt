@@ -2,7 +2,7 @@
 // which rule refuses, what is answered and what the sketch is then.
 ghost use mathlib.Core.Path.{_≡_};
 ghost use mathlib.Core.List.{List};
-ghost use Prim.Native.Nat.{_+_, _*_, _<_, _≤_};
+ghost use Prim.Native.Nat.{_<_};
 ghost use lib.IntN.{ℤ};
 ghost use Rattle.sheet.specs.Facts.{Facts};
 ghost use Rattle.sheet.specs.Rules.{or-else};
@@ -14,7 +14,6 @@ use graph::Front;
 use graph::Head;
 use sheet::Constraint;
 use sheet::Sheet;
-use theory::Finding;
 use theory::Verdict;
 
 // The answer to a call for a verdict: the verdict, or the rule that refuses.
@@ -60,31 +59,17 @@ fn last_rule(first: usize, e: usize) -> u8
     if first + 1 == e { 11 } else { 27 }
 }
 
-// What the last constraint of a graph with 2n-3 constraints is answered: what is told of it has the first that makes it over.
-fn judge_full_last(h: Head, near: &[u64; 64], start: &[u64; 200]) -> Judgement
-    requires { ⌜ Drawn h (now near) (now start) × (h .e + 3 ≡ 2 * h .n) ⌝ }
+// What the last constraint of a graph is answered: what is told of it has the first that makes it over.
+fn judge_last(h: Head, near: &[u64; 64], start: &[u64; 200]) -> Judgement
+    requires { ⌜ Drawn h (now near) (now start) ⌝ }
     ensures { λ r. ⌜ ((z : List ℤ) → r ≡ lastAnswer (graphIn h (now (start .entry)) z)) ⌝ }
 {
-    let told = judge::full_told(h, near, start);
+    let told = judge::tell(h, near, start);
     let verdict = told.verdict;
     if verdict.number() != 0 {
         return Judgement::Is(verdict);
     }
     Judgement::Refused(last_rule(told.first, h.e))
-}
-
-// What the last constraint of a graph is answered, by the first that makes it over: it is looked for once.
-fn judge_last(h: Head, near: &[u64; 64], start: &[u64; 200]) -> Judgement
-    requires { ⌜ Drawn h (now near) (now start) × (h .e + 3 ≤ 2 * h .n) ⌝ }
-    ensures { λ r. ⌜ ((z : List ℤ) → r ≡ lastAnswer (graphIn h (now (start .entry)) z)) ⌝ }
-{
-    if h.e + 3 == 2 * h.n {
-        return judge_full_last(h, near, start);
-    }
-    match judge::over_of(h, near, start) {
-        Finding::First { constraint, .. } => { Judgement::Refused(last_rule(constraint, h.e)) }
-        Finding::Fine => Judgement::Is(judge::fine_verdict(h, near, start)),
-    }
 }
 
 // A constraint offered by the number held to the sheet in the arrays, and noted there last: its verdict, or the rule that refuses it. Whatever is

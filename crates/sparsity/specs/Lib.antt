@@ -2,4 +2,3 @@
 pub mod Freedoms
 pub mod Reach
 pub mod Answer
-pub mod Inside

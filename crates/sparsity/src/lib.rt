@@ -6,15 +6,13 @@ ghost use mathlib.Core.Logic.{_≢_};
 ghost use mathlib.Core.List.{List};
 ghost use Prim.Native.Nat.{ℕ, _+_, _≤_, _<_};
 ghost use lib.Count.{ones};
-ghost use lib.Bits.{bitAnd};
-ghost use lib.ListN.{length, take, getD};
+ghost use lib.ListN.{take, getD};
 ghost use Rattle.theory.specs.Constraints.{pair, Below};
 ghost use Rattle.theory.specs.Near.{Standing, Near};
 ghost use Rattle.theory.specs.Over.{overOf};
 ghost use Rattle.sparsity.specs.Freedoms.{entry, stored, same, free, Table, FreeBelow};
 ghost use Rattle.sparsity.specs.Reach.{Visit, Lent, Found, Gathered, Placed};
 ghost use Rattle.sparsity.specs.Answer.{Using, More, Took};
-ghost use Rattle.sparsity.specs.Inside.{Inside};
 ghost use Rattle.peeling.specs.Core.{Core};
 ghost use Rattle.peeling.specs.Hard.{Noted};
 use theory::Finding;
@@ -183,32 +181,39 @@ pub struct Spot {
     pub other: u8,
 }
 
-// One of two numbers: the first where two entries are the same.
-fn where_same(x: u8, y: u8, first: usize, second: usize) -> usize
-    ensures { λ r. ⌜ (x ≡ y → r ≡ first) × (x ≢ y → r ≡ second) ⌝ }
-{
-    if x == y { first } else { second }
-}
-
-// A free entry for the constraint between a and b: of a, whose entries are p and q, or of b, whose first is r. Which one it is can't be foretold, so the
-// way does not part there.
+// A free entry for the constraint between a and b: of a, whose entries are p and q, or of b, whose first is r.
 fn place(p: u8, q: u8, r: u8, a: u8, b: u8) -> Spot
     requires { ⌜ (a < 64) × (b < 64) ⌝ }
     ensures { λ k. ⌜ ((own : List (List ℕ)) → entry own a 0 ≡ p → entry own a 1 ≡ q → entry own b 0 ≡ r → 0 < free own a + free own b
         → Placed own a b (stored own (k .element) (k .entry) (k .other))) × (k .element < 64) × (k .entry < 2) ⌝ }
 {
     let i = peeling::wide(a);
+    if p == a {
+        return Spot {
+            element: i,
+            entry: 0,
+            other: b,
+        };
+    }
+    if q == a {
+        return Spot {
+            element: i,
+            entry: 1,
+            other: b,
+        };
+    }
     let j = peeling::wide(b);
-    let of_b = where_same(r, b, 0, 1);
-    let later = where_same(q, a, 1, of_b);
-    let entry = where_same(p, a, 0, later);
-    let end = where_same(q, a, i, j);
-    let element = where_same(p, a, i, end);
-    let other = (i + j - element) as u8;
+    if r == b {
+        return Spot {
+            element: j,
+            entry: 0,
+            other: a,
+        };
+    }
     Spot {
-        element,
-        entry,
-        other,
+        element: j,
+        entry: 1,
+        other: a,
     }
 }
 
@@ -238,29 +243,6 @@ pub fn take_pair(
     t
 }
 
-// One where a set lies within another, else none.
-fn one_within(set: u64, all: u64) -> usize
-    ensures { λ r. ⌜ (bitAnd set all ≡ set → r ≡ 1) × (bitAnd set all ≢ set → r ≡ 0) ⌝ }
-{
-    if set & all == set { 1 } else { 0 }
-}
-
-// The numbers of those of e constraints that lie within core, ascending, and how many they are. Which ones do can't be foretold, so the way does not
-// part there.
-fn list_inside(start: &[u64; 200], e: usize, core: u64, list: &mut [u8; 200]) -> usize
-    requires { ⌜ (e ≤ 200) × (length (now list) ≡ 200) ⌝ }
-    ensures { λ r. ⌜ Inside (now (start .entry)) e core (now (list .exit)) r × (r ≤ e) ⌝ }
-{
-    let mut count: usize = 0;
-    let mut c: usize = 0;
-    while c < e {
-        list[count] = c as u8;
-        count = count + one_within(start[c], core);
-        c = c + 1;
-    }
-    count
-}
-
 // The first of e constraints that makes those up to it over, with the smallest set, where the sets within core tell. Each needs as many free entries
 // on its ends as are noted: four, or one where it closes no over set.
 fn search(start: &[u64; 200], e: usize, core: u64, needs: &[u8; 200]) -> Finding
@@ -272,12 +254,13 @@ fn search(start: &[u64; 200], e: usize, core: u64, needs: &[u8; 200]) -> Finding
     let mut queue = [0u8; 64];
     let mut from = [0u8; 64];
     let mut over: u64 = 0;
-    let mut list = [0u8; 200];
-    let count = list_inside(start, e, core, &mut list);
-    let mut done: usize = 0;
-    while done < count {
-        let c = peeling::wide(list[done]);
+    let mut c: usize = 0;
+    while c < e {
         let pair = start[c];
+        if pair & core != pair {
+            c = c + 1;
+            continue;
+        }
         let a = sets::lowest(pair);
         let b = peeling::other_end(pair, a);
         let i = peeling::wide(a);
@@ -297,7 +280,7 @@ fn search(start: &[u64; 200], e: usize, core: u64, needs: &[u8; 200]) -> Finding
         let x = k.element;
         let s = k.entry;
         own[x][s] = k.other;
-        done = done + 1;
+        c = c + 1;
     }
     Finding::Fine
 }

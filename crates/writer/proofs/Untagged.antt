@@ -1,6 +1,6 @@
 -- A sheet's bytes without their tags, walked constraint by constraint: what is put so far, the piece that is passed and not put yet, and what is left
 -- make the whole. Assumes nothing.
-use Rattle.theory.specs.Prelude.{ℕ, zero, suc, _+_, _*_, _-_, _/_, _%_, _≤_, _<_, min, sub-zero, decLt, arith, _≡_, refl, sym, subst, _∙_, Bool, true}
+use Rattle.theory.specs.Prelude.{ℕ, zero, suc, _+_, _*_, _-_, _/_, _%_, _≤_, _<_, min, sub-zero, decLt, arith, _≡_, refl, sym, _∙_, Bool, true}
 use Rattle.theory.specs.Prelude.{false, List, [], _∷_, _++_, append-nil, append-assoc, eqb, length, take, drop, getD, length-append, length-take}
 use Rattle.theory.specs.Prelude.{length-drop, take-append-drop, drop-cons, drop-drop, take-all}
 use native.Mathlib.Nat.{sub-self}
@@ -14,7 +14,6 @@ use Rattle.sheet.specs.Field.{number, kindBytes}
 use Rattle.sheet.specs.WithoutTags.{sizeLength, tagLength, dropTags, openingIn, kindsIn, circlesAmong, beforeBy, before, listed, withoutTags}
 use Rattle.space.specs.Space.{Put}
 use Rattle.space.specs.Space.Laws.{put-none, put-as, _then_}
-use Rattle.writer.specs.Walk.{Walk}
 use Rattle.writer.proofs.Spread.{drop-least}
 
 -- ---- one constraint
@@ -127,6 +126,18 @@ before-some s = omega arith
 
 -- ---- the walk
 
+-- the constraints are walked one after another: i of e are gone through, up to the place `at`; what is put so far, the piece from `from` that is passed
+-- and not put yet, and what is left make the whole
+pub record Walk (space s : List ℕ) (e at from to i : ℕ) (out : List ℕ) : Type 0 where
+  pub turns : i ≤ e
+  pub done : List ℕ
+  pub put : Put space 0 done to out
+  pub passed : from ≤ at
+  pub from-in : from ≤ length s
+  pub to-in : to ≤ from
+  pub at-in : at ≤ length s + 1090
+  pub whole : withoutTags s ≡ done ++ take (at - from) (drop from s) ++ dropTags (e - i) (drop at s)
+
 pub walk-none : (space s : List ℕ) → getD s 4 0 < 256 → Walk space s (listed s) (before s) 0 0 0 space
 unfolding withoutTags
 walk-none space s b = record {
@@ -189,16 +200,6 @@ module _ {space s : List ℕ} {e at from to i : ℕ} {out : List ℕ} (w : Walk 
                 append-assoc,
               );
         }
-
-    -- one with a size, and one with none
-    walk-to : (k : ℕ) → bits / 2 % 2 ≡ 0 → at + 3 + 4 * (bits % 2) ≡ k → Walk space s e k from to (i + 1) out
-    walk-to k none on = subst (λ (k : ℕ). Walk space s e k from to (i + 1) out) on (walk-plain none)
-
-    pub walk-sized : bits ≡ 1 → Walk space s e (at + 7) from to (i + 1) out
-    walk-sized one = walk-to (at + 7) (omega arith) (omega arith)
-
-    pub walk-bare : bits ≡ 0 → Walk space s e (at + 3) from to (i + 1) out
-    walk-bare none = walk-to (at + 3) (omega arith) (omega arith)
 
     pub walk-tagged : {next : ℕ} {out′ : List ℕ} → bits / 2 % 2 ≡ 1
         → Put out to (take (at + 2 - from) (drop from s) ++ (bits - 2) ∷ take (4 * (bits % 2)) (drop (at + 3) s)) next out′

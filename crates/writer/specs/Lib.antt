@@ -1,4 +1,3 @@
 -- What the writer answers, and what it leaves in the lent space.
 pub mod Spread
-pub mod Walk
 pub mod Write

@@ -1,9 +1,9 @@
 // The writer of a sheet: document 01, "The sheet in bytes" and "Refused". Each function puts its bytes from a place on and answers the place after
 // them; a call over no space measures. Contracts cite the encoding of the crate `sheet`, `Put` of `space`, and specs/Write.antt.
 ghost use mathlib.Core.Path.{_≡_};
-ghost use mathlib.Core.List.{List, [], _∷_, _++_};
+ghost use mathlib.Core.List.{[], _∷_, _++_};
 ghost use mathlib.Core.Bool.{true};
-ghost use Prim.Native.Nat.{ℕ, _+_, _-_, _≤_, _<_, _^_, min};
+ghost use Prim.Native.Nat.{_+_, _-_, _≤_, _<_, _^_, min};
 ghost use lib.ListN.{length, take, drop, getD};
 ghost use Rattle.sheet.specs.Facts.{kindBase, kindDigit, kindsNumber, factsOf};
 ghost use Rattle.sheet.specs.Field.{digits, unsigned32, kindBytes as kindBytesOf, openingBytes as openingBytesOf};
@@ -14,7 +14,6 @@ ghost use Rattle.space.specs.Space.{Put, answer, after};
 ghost use Rattle.sheet.specs.Answer.{Answers};
 ghost use Rattle.writer.specs.Spread.{kindsInEight as kindsInEightOf, Spread};
 ghost use Rattle.writer.specs.Write.{writeField};
-ghost use Rattle.writer.specs.Walk.{Walk};
 use sheet::Constraint;
 use sheet::Element;
 use sheet::Kind;
@@ -346,49 +345,16 @@ fn put_tagged(out: &mut [u8], to: usize, s: &[u8], from: usize, at: usize, size:
     space::put_text(out, a2, &s[first..last])
 }
 
-// Constraints that were gone through, and the place after them.
-struct Passed {
-    count: usize,
-    at: usize,
-}
-
-// Goes through the first constraints, up to one with a tag or a contact. The way parts at the map, so that the next place does not wait for it.
-fn pass_untagged(s: &[u8], head: usize, e: usize) -> Passed
-    requires { ⌜ ((space : List ℕ) → Walk space (now s) e head 0 0 0 space) ⌝ }
-    ensures { λ r. ⌜ ((space : List ℕ) → Walk space (now (s .entry)) e (r .at) 0 0 (r .count) space) ⌝ }
-{
-    let mut at = head;
-    let mut i: usize = 0;
-    while i < e {
-        if s.len() < at + 3 {
-            return Passed { count: i, at };
-        }
-        let map = s[at + 2];
-        if map == 1 {
-            at += 7;
-            i += 1;
-            continue;
-        }
-        if map != 0 {
-            return Passed { count: i, at };
-        }
-        at += 3;
-        i += 1;
-    }
-    Passed { count: i, at }
-}
-
 // The bytes with bit 1 of each map clear and the tags gone: what stands between two tags in one piece. head bytes precede the constraints.
 fn put_untagged(out: &mut [u8], s: &[u8], head: usize) -> usize
     requires { ⌜ head ≡ bytesBefore (now s) ⌝ }
     ensures { λ r. ⌜ Put (now (out .entry)) 0 (withoutTags (now (s .entry))) r (now (out .exit)) ⌝ }
 {
     let e = byte_at(s, head - 1) as usize;
-    let passed = pass_untagged(s, head, e);
-    let mut at = passed.at;
+    let mut at = head;
     let mut from: usize = 0;
     let mut to: usize = 0;
-    let mut i = passed.count;
+    let mut i: usize = 0;
     while i < e {
         if s.len() < at + 3 {
             return space::put_text(out, to, &s[from..]);

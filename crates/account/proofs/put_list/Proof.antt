@@ -1,9 +1,8 @@
--- `account::put_list` meets its contract: what the arrays give is the list's own report, and no longer than its block; where the list leaves one
--- cluster, that is the last, and rests on all constraints. Assumes nothing.
-use Rattle.theory.specs.Prelude.{needs, ℕ, _+_, _*_, _≤_, arith, _≡_, refl, ap, _∙_, List, length}
+-- `account::put_list` meets its contract: what the arrays give is the list's own report, and no longer than its block. Assumes nothing.
+use Rattle.theory.specs.Prelude.{needs, ℕ, _*_, _≤_, arith, _≡_, refl, ap, _∙_, List, length}
 use Rattle.space.specs.Space.{answer, after}
 use Rattle.judge.specs.Judged.Laws.{arrays-long}
-use Rattle.account.specs.Account.Laws.{room, reported, all-small, not-long, one-reported, one-short}
+use Rattle.account.specs.Account.Laws.{room, reported, all-small, not-long}
 use Rattle.account.specs.Resting.Laws.{parts}
 use Rattle.account.proofs.put_list.Tie as tie
 
@@ -14,46 +13,9 @@ module _ (c : tie.Start) where
   slots-long : length (c .args .slots .now) ≡ 192
   slots-long = arrays-long _ (c .pre .0 .simple .pairs) (c .pre .3) (omega (arith, few, c .pre .1)) .1
 
--- ---- one cluster is left
-
-module _ (c : tie.After-all-high) where
-  abbrev low : tie.After-all-low
-  low = c .before
-
-  abbrev entry : tie.Start
-  entry = low .before .before .before .before .before
-
-  single : 2 * entry .args .count + 1 ≡ entry .args .h .e
-  single = low .before .before .if1 .taken
-
-write-one-requires : tie.Need-write-one-requires
-write-one-requires c κs =
-    let k = c .before .before in
-    let s = entry k in (
-      (
-        omega (arith, few s),
-        few s .1,
-        few s .3,
-        omega (arith, few s),
-        all-small _ _ _ (s .pre .0) (s .pre .1) (s .pre .2) (s .pre .3),
-      ),
-      one-short _ _ _ (s .pre .0) (s .pre .1) (s .pre .2) (s .pre .3) (single k) (low k .all-low .ensures) (k .all-high .ensures) (s .args .verdict),
-    )
-
-returns : tie.Need-returns
-returns c m =
-    let k = c .before .before .before .before .before in
-    let s = entry k in
-    let r =
-    one-reported _ _ _ (s .pre .0) (s .pre .1) (s .pre .2) m (single k) (low k .all-low .ensures) (k .all-high .ensures) (s .args .verdict) in
-    let w = c .before .before .write-one .ensures in
-    (w .0 ∙ ap (λ (l : List ℕ). answer l (s .args .out .now)) r, w .1 ∙ ap (λ (l : List ℕ). after l (s .args .out .now)) r)
-
--- ---- several are left
-
 carry-requires : tie.Need-carry-requires
 carry-requires c κs =
-    let s = c .before .before .before .before .before in (few s .1, few s .3, parts (s .pre .1) (s .pre .3) .listed, refl, refl)
+    let s = c .before .before .before in (few s .1, few s .3, parts (s .pre .1) (s .pre .3) .listed, refl, refl)
 
 -- the arrays when the report is written
 module _ (c : tie.After-high2) where
@@ -61,7 +23,7 @@ module _ (c : tie.After-high2) where
   made = c .before .before .before
 
   abbrev start : tie.Start
-  start = made .before .before .before .before .before .before
+  start = made .before .before .before .before
 
 write-report-requires : tie.Need-write-report-requires
 write-report-requires c κs =
@@ -82,8 +44,8 @@ write-report-requires c κs =
       not-long _ _ _ (s .pre .0) (s .pre .1) (s .pre .2) (s .pre .3) low high (s .args .verdict),
     )
 
-returns-2 : tie.Need-returns-2
-returns-2 c m =
+returns : tie.Need-returns
+returns c m =
     let k = c .before .before .before in
     let s = start k in
     let q = parts (s .pre .1) m in
@@ -94,9 +56,4 @@ returns-2 c m =
 
 pub put-list-spec : {M : Type 1} → Rattle.account.proofs.put_list.Statement.statement M
 put-list-spec =
-    tie.close
-    (tie.spec (λ c. omega (arith, few (c .before))) (λ c. omega (arith, few (c .before)))
-    (λ c. omega (arith, few (c .before .before .before .before))) (λ c. search needs) (λ c κs. search needs)
-    (λ c κs. omega (arith, few (c .before .before .before .before .before))) (λ c. omega (arith, few (entry (c .before))))
-    (λ c. omega (arith, few (entry (c .before)))) write-one-requires (λ c. search needs) returns carry-requires write-report-requires
-    (λ c. search needs) returns-2)
+    tie.close (tie.spec carry-requires write-report-requires (λ c. search needs) returns)

@@ -1,8 +1,6 @@
 -- The report of a list of merges, from the arrays that hold the graph and the list. Assumes nothing.
-use Rattle.theory.specs.Prelude.{ℕ, _+_, _-_, _*_, _^_, _≤_, _<_, arith, _≡_, refl, sym, ap, ap₂, _∙_, subst, _≢_, List, ℤ, length, getD, take}
+use Rattle.theory.specs.Prelude.{ℕ, _+_, _*_, _^_, _≤_, _<_, arith, _≡_, refl, sym, ap, ap₂, _∙_, subst, _≢_, List, ℤ, length, getD, take}
 use Rattle.theory.specs.Prelude.{length-take, getD-take}
-use Rattle.theory.specs.Block.Laws.{getD-block}
-use Rattle.theory.specs.Set.{full}
 use Rattle.theory.specs.Merge.{slot, final}
 use Rattle.theory.specs.Merge.Numbered.{alive-lt}
 use Rattle.theory.specs.Constraints.{NotOver}
@@ -19,15 +17,13 @@ use Rattle.engine.specs.Steps.{stepsIn}
 use Rattle.engine.specs.Steps.Laws.{steps-in-are}
 use Rattle.rests.specs.Rests.{aloneFrom, restsOn}
 use Rattle.rests.specs.Rests.Laws.{length-alone, rests-below}
-use Rattle.rests.specs.Rests.One.{others-dead, rests-on-all}
-use Rattle.rests.specs.Words.{word, Told}
+use Rattle.rests.specs.Words.{Told}
 use Rattle.rests.specs.Words.Laws.{words-are}
 use Rattle.judge.specs.Judged.Laws.{steps-few, listed-verdict, finals-are, Settled}
 use Rattle.report.specs.Report.{clusterLines, report}
 use Rattle.report.specs.Report.Laws.{clusters-same, length-wide, wide-at}
-use Rattle.report.specs.Pieces.{wide, oneReport, AllSmall}
+use Rattle.report.specs.Pieces.{wide, AllSmall}
 use Rattle.report.specs.Report.Bound.{report-most, small-steps}
-use Rattle.report.specs.Report.One.{one-left}
 use Rattle.account.specs.Account.{reportWith, listReport}
 
 module _ (h : Head) (start : List ℕ) (sizes : List ℤ) (sound : Sound (h .n) (take (h .e) start)) (count : length (take (h .e) start) ≡ h .e)
@@ -109,42 +105,6 @@ module _ (h : Head) (start : List ℕ) (sizes : List ℤ) (sound : Sound (h .n) 
 
     pub not-long : (v : Verdict) → length (report (h .n) (h .e) v steps finals rests) ≤ 4667
     not-long v = rw (reported v) (short v)
-
-  -- the same where one cluster is left, which rests on all constraints
-  module _ (one : 2 * run .steps + 1 ≡ h .e) {low high : ℕ} (lows : low ≡ word 0 (full (h .e))) (highs : high ≡ word 1 (full (h .e))) where
-    abbrev last : ℕ
-    last = h .e + run .steps - 1
-
-    only : 2 * length (m .p) + 1 ≡ length (g .clusters)
-    only = omega (arith, one, count, steps-are)
-
-    same-last : length (g .clusters) + length (m .p) - 1 ≡ last
-    same-last = omega (arith, count, steps-are)
-
-    slot-is : getD (run .slots) last 0 ≡ slot (final (g .clusters) (m .p)) last
-    unfolding runOf
-    slot-is = ap (λ (r : Run). getD (r .slots) last 0) (m .is) ∙ getD-block 192 0 (final (g .clusters) (m .p)) last
-
-    rest-is : high * 2 ^ 64 + low ≡ slot (restsOn (length (g .clusters)) (m .p)) last
-    rest-is =
-        let r = slot (restsOn (length (g .clusters)) (m .p)) last in
-        let all : full (h .e) ≡ r =
-        ap full (sym count) ∙ sym (rests-on-all (g .clusters) (sound .simple .pairs) (m .p) (m .valid) only)
-        ∙ ap (slot (restsOn (length (g .clusters)) (m .p))) same-last in
-        ap₂ (λ (x y : ℕ). x * 2 ^ 64 + y) (highs ∙ ap (word 1) all) (lows ∙ ap (word 0) all) ∙ words-are r (few-rests last)
-
-    pub one-reported : (v : Verdict)
-        → oneReport (h .n) (h .e) v steps last (getD (run .slots) last 0) (high * 2 ^ 64 + low) ≡ reportWith g v (m .p)
-    one-reported v =
-        let s = final (g .clusters) (m .p) in
-        let r = restsOn (length (g .clusters)) (m .p) in
-        rw (steps-list, slot-is, rest-is)
-        (ap (λ (e : ℕ). oneReport (h .n) e v (stepsOf g (m .p)) last (slot s last) (slot r last)) (sym count)
-        ∙ sym (one-left (h .n) (length (g .clusters)) v (stepsOf g (m .p)) last s r (omega (arith, used, one)) rests-long
-        (λ n ne. others-dead (g .clusters) (sound .simple .pairs) (m .p) (m .valid) only n (λ q. ne (q ∙ same-last)))))
-
-    pub one-short : (v : Verdict) → length (oneReport (h .n) (h .e) v steps last (getD (run .slots) last 0) (high * 2 ^ 64 + low)) ≤ 4667
-    one-short v = rw (one-reported v) (short v)
 
   -- with the verdict of the arrays
   pub settled-report : {v : Verdict} → Settled h run v → reportWith g v (m .p) ≡ listReport g (m .p)

@@ -1,7 +1,7 @@
 -- `engine::round` meets its contract: one cluster makes no ring, and the part of the slots that is looked at are the final clusters. Assumes nothing.
 use Rattle.theory.specs.Prelude.{_≡_, ap, _∙_, ℕ, _+_, _-_, take, arith, needs}
 use Rattle.theory.specs.Ring.{ringed}
-use Rattle.rings.specs.Rows.Laws.{lone-ringed}
+use Rattle.rings.specs.Turns.Laws.{lone-ringed}
 use Rattle.engine.proofs.round.Tie as tie
 
 returns : tie.Need-returns

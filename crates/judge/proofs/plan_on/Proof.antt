@@ -1,8 +1,10 @@
--- `judge::plan_on` meets its contract: more than 2n-3 constraints are over, and each other way is one function's. Assumes nothing.
-use Rattle.theory.specs.Prelude.{needs, arith, sym, _∙_}
+-- `judge::plan_on` meets its contract: more than 2n-3 constraints are over, and else the judgement decides. Assumes nothing.
+use Rattle.theory.specs.Prelude.{needs, arith, sym, ap, _∙_, []}
 use Rattle.graph.specs.Lent.{graphIn}
 use Rattle.graph.specs.Lent.Sheets.{counted}
-use Rattle.judge.specs.Judged.Short.{run-first, run-more}
+use Rattle.judge.specs.declared.Judged.{Judged}
+use Rattle.judge.specs.Judged.Laws.{laid}
+use Rattle.judge.specs.Judged.Short.{run-more}
 use Rattle.judge.proofs.plan_on.Tie as tie
 
 returns : tie.Need-returns
@@ -11,21 +13,21 @@ returns c = λ z.
     let (d, blank) = s .pre in
     run-more (graphIn (s .args .h) (s .args .start .now) z) (d .sound) (omega (arith, c .if1 .taken, counted d)) blank
 
-fine-plan-requires : tie.Need-fine-plan-requires
-fine-plan-requires c κs =
-    let o = c .before .before .before .before .before in
-    let (d, blank) = o .before .before .before .before .before .before .pre in
-    (d, o .before .if2 .left, λ z. sym (o .over-of .ensures z) ∙ c .before .before .before .enum-told2 .given .1, blank)
+returns-2 : tie.Need-returns-2
+returns-2 c = λ z.
+    ap (λ (j : Judged). j .run)
+    (c .before .before .judge-on .ensures z .plan (λ v. c .if2 .taken (c .before .number .ensures ∙ v)))
 
 returns-3 : tie.Need-returns-3
 returns-3 c = λ z.
-    let s = c .before .before .before .before .before .before .before .before in
-    let (d, blank) = s .pre in
-    run-first (graphIn (s .args .h) (s .args .start .now) z) (d .sound)
-    (sym (c .before .before .over-of .ensures z) ∙ c .enum-told .given .1) blank
+    let b = c .blank .ensures in
+    let k = c .before .before .before .before in
+    laid [] b (b .slots-blank)
+    ∙ ap (λ (j : Judged). j .run)
+    (k .before .before .judge-on .ensures z .over (sym (k .before .number .ensures) ∙ omega (arith, k .if2 .left)))
 
 pub plan-on-spec : {M : Type 1} → Rattle.judge.proofs.plan_on.Statement.statement M
 plan-on-spec =
     tie.close
-    (tie.spec (λ c. search needs) (λ c. search needs) returns (λ c. search needs) (λ c κs. search needs) (λ c. search needs)
-    (λ c κs. search needs) (λ c. search needs) (λ c. search needs) fine-plan-requires returns-3 (λ c. search needs))
+    (tie.spec (λ c. search needs) (λ c. search needs) returns (λ c κs. search needs) (λ c κs. search needs) returns-2
+    (λ c κs. search needs) returns-3)

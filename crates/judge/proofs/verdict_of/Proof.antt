@@ -1,14 +1,13 @@
--- `judge::verdict_of` meets its contract: five points have their entry on the card. Assumes nothing.
-use borrow.Author.Needs.{needs}
+-- `judge::verdict_of` meets its contract: more than 2n-3 constraints are over, and else it is the verdict told. Assumes nothing.
+use Rattle.theory.specs.Prelude.{needs, arith, sym}
+use Rattle.graph.specs.Lent.Sheets.{counted}
+use Rattle.judge.specs.Judged.Short.{more-is}
 use Rattle.judge.proofs.verdict_of.Tie as tie
 
-returns-3 : tie.Need-returns-3
-returns-3 c = λ z.
-    let k = c .before .before .before in
-    let s = k .before .before in
-    c .verdict .ensures (s .args .h) (s .args .start .now) z (s .pre) (k .if1 .left) (c .before .if2 .left)
+returns : tie.Need-returns
+returns c = let d = c .before .before .before .pre in λ z. sym (more-is _ (d .sound) (omega (arith, c .if1 .taken, counted d)))
 
 pub verdict-of-spec : {M : Type 1} → Rattle.judge.proofs.verdict_of.Statement.statement M
 verdict-of-spec =
     tie.close
-    (tie.spec (λ c κs. search needs) (λ c. search needs) (λ c κs. search needs) (λ c. search needs) (λ c κs. search needs) returns-3)
+    (tie.spec (λ c. search needs) (λ c. search needs) returns (λ c κs. search needs) (λ c. λ z. c .tell .ensures z .verdict-is))

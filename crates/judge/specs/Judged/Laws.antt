@@ -2,7 +2,7 @@
 use Rattle.theory.specs.Prelude.{ℕ, _+_, _*_, _≤_, arith, _≡_, sym, ap, _∙_, List, [], length, take}
 use Rattle.theory.specs.Block.{block}
 use Rattle.theory.specs.Block.Laws.{length-block, take-block}
-use Rattle.theory.specs.Constraints.{Pairs}
+use Rattle.theory.specs.Constraints.{Pairs, NotOver}
 use Rattle.theory.specs.Merge.{final, joints, left}
 use Rattle.theory.specs.Merge.Count.{steps-left}
 use Rattle.theory.specs.Verdict.{judged}
@@ -13,11 +13,14 @@ use Rattle.merges.specs.Run.{flat, runOf, runIn, Blank, Start, Merged}
 use Rattle.merges.specs.Run.Laws.{length-joints, length-final}
 use Rattle.merges.specs.declared.Run.{Run}
 use Rattle.graph.specs.Lent.{Drawn}
-use Rattle.graph.specs.Lent.Sheets.{counted}
+use Rattle.graph.specs.Lent.Sheets.{counted, fine-few}
 
 -- where the merging begins
 pub starts : {h : Head} {near start : List ℕ} → Drawn h near start → h .e ≤ 125 → Start start (h .e)
 starts d few = record { few = few; count = counted d; pairs = d .sound .simple .pairs }
+
+pub fine-starts : {h : Head} {near start : List ℕ} → Drawn h near start → NotOver (take (h .e) start) → Start start (h .e)
+fine-starts d fine = starts d (omega (arith, fine-few (d .sound) fine, counted d))
 
 -- no merge: the constraints stand in the slots, and all else is blank
 pub laid : (cs : List ℕ) {slots₀ parts held slots : List ℕ} → Blank slots₀ parts held → slots ≡ block 192 0 cs → runIn 0 parts held slots ≡ runOf cs []
@@ -50,14 +53,6 @@ module _ (cs : List ℕ) (paired : Pairs cs) {run : Run} (m : Merged cs run) whe
       let steps-is = ap (λ (r : Run). r .steps) (m .is) in
       ap (λ (r : Run). take (e + run .steps) (r .slots)) (m .is)
       ∙ take-block 192 0 (final cs (m .p)) (e + run .steps) (omega (arith, length-final (m .p) cs, count, steps-is))
-
--- all of these, of a sheet's arrays
-pub run-room : {h : Head} {near start : List ℕ} (d : Drawn h near start) → h .e ≤ 125 → {run : Run} (m : Merged (take (h .e) start) run)
-    → (h .n ≤ 64) × (h .e ≤ 125) × (2 * run .steps ≤ h .e) × (length (run .joints) ≡ 64) × (length (run .slots) ≡ 192)
-run-room d few m =
-    let pairs = d .sound .simple .pairs in
-    let long = arrays-long _ pairs m (omega (arith, few, counted d)) in
-    (d .sound .most, few, omega (arith, steps-few _ pairs m, counted d), long .0, long .1)
 
 -- the verdict is that of the joints and final clusters in a run's arrays
 abbrev pub Settled : Head → Run → Verdict → Type 0

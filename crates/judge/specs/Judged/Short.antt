@@ -1,23 +1,22 @@
 -- What counts and peeling decide of a graph without a plan, and what the judgement says of the verdict. Assumes nothing.
-use Rattle.theory.specs.Prelude.{ℕ, _+_, _*_, _≤_, _<_, arith, _≡_, refl, sym, ap, _∙_, subst, _≢_, Bool, true, false, List, [], ones, length}
+use Rattle.theory.specs.Prelude.{ℕ, _+_, _*_, _≤_, _<_, arith, _≡_, refl, sym, ap, _∙_, subst, _≢_, List, [], ones, length}
 use Rattle.theory.specs.Constraints.{NotOver}
-use Rattle.theory.specs.Merge.{final, joints, left}
+use Rattle.theory.specs.Merge.{final, left}
 use Rattle.theory.specs.Merge.One.{one-fine}
 use Rattle.theory.specs.Merge.Count.{steps-left}
 use Rattle.theory.specs.Plan.{planOf}
 use Rattle.theory.specs.Plan.Laws.{plan-of-maximal}
-use Rattle.theory.specs.Verdict.{angled}
 use Rattle.theory.specs.declared.Finding.{Finding}
 use Rattle.theory.specs.declared.Finding.the-variants.{Fine, First}
-use Rattle.theory.specs.declared.Verdict.the-variants.{Over, Angle, Well, Under}
+use Rattle.theory.specs.declared.Verdict.the-variants.{Over, Well, Under}
 use Rattle.theory.specs.Graph.{Graph, findingOf, verdictOf}
-use Rattle.theory.specs.Graph.Laws.{fine-finding, fine-not-over}
+use Rattle.theory.specs.Graph.Laws.{first-verdict, fine-finding, fine-not-over}
 use Rattle.sheet.specs.Graph.{overFault}
 use Rattle.sheet.specs.Graph.Laws.{fine-fault, first-fault}
 use Rattle.theory.specs.declared.Verdict.{Verdict}
-use Rattle.theory.specs.Graph.Short.{not-angled, verdict-more, verdict-angle, verdict-fewer, verdict-one}
+use Rattle.theory.specs.Graph.Short.{not-angled, verdict-more, verdict-fewer, verdict-one}
 use Rattle.graph.specs.Lent.{Sound}
-use Rattle.peeling.specs.Core.{Core, Told}
+use Rattle.peeling.specs.Core.{Core}
 use Rattle.peeling.specs.Core.Peeling.{core-none}
 use Rattle.theory.specs.Over.Laws.{overOf-fine}
 use Rattle.theory.specs.Ring.Laws.{few-ringed, one-ringed}
@@ -46,11 +45,6 @@ module _ (g : Graph) (sound : Sound (g .n) (g .clusters)) where
   fine-judged p fine =
       ap (listed g) (p .plan fine) ∙ sym (ap (judgedBy g) (fine-finding g (sound .simple .pairs) (sound .below) fine))
 
-  -- the plan of it
-  pub run-planned : {run : Run} → Planned cs run → NotOver cs → run ≡ judgedOf g .run
-  unfolding listed
-  run-planned p fine = p .merged .is ∙ ap (λ (j : Judged). j .run) (fine-judged p fine)
-
   -- of an over sheet blank arrays
   pub run-first : {c x : ℕ} → findingOf g ≡ First c x → {slots parts held : List ℕ} → Blank slots parts held → runIn 0 parts held slots ≡ judgedOf g .run
   run-first q blank = laid [] blank (blank .slots-blank) ∙ sym (ap (λ (j : Judged). j .run) (first-judged q))
@@ -78,8 +72,12 @@ module _ (g : Graph) (sound : Sound (g .n) (g .clusters)) where
     first-is = λ c x q. ap (λ (j : Judged). j .first) (e ∙ first-judged q);
   }
 
+  -- over
+  pub first-tells : {c x : ℕ} → findingOf g ≡ First c x → Tells g Over c
+  first-tells q = record { verdict-is = sym (first-verdict g q); first-is = λ k y o. cc }
+
   -- of a sheet that is not over any number
-  fine-tells : {v : Verdict} {first : ℕ} → findingOf g ≡ Fine → v ≡ verdictOf g → Tells g v first
+  pub fine-tells : {v : Verdict} {first : ℕ} → findingOf g ≡ Fine → v ≡ verdictOf g → Tells g v first
   fine-tells q v = record { verdict-is = v; first-is = λ c x o. let z : _≡_ {A = ℕ} 0 1 = cc (q, o) in absurd (omega (arith, z)) }
 
   -- ---- verdicts without a plan
@@ -117,25 +115,12 @@ module _ (g : Graph) (sound : Sound (g .n) (g .clusters)) where
     none-found : findingOf g ≡ Fine
     none-found = fine-finding g (sound .simple .pairs) (sound .below) none-over
 
-    well-by : angled (g .lines) (joints cs (planOf cs)) ≡ false → {first : ℕ} → Tells g Well first
-    well-by e =
+    -- with too few lines for an angle
+    pub few-peeled : ones (g .lines) ≤ 2 → {first : ℕ} → Tells g Well first
+    few-peeled few =
         let m = plan-of-maximal cs (sound .simple .pairs) in
         let one =
         loose-one (g .n) cs (sound .two) (sound .most) (sound .simple .pairs) (sound .below) none-over (core .loose none) full (planOf cs) m in
         fine-tells none-found
-        (sym (verdict-one g none-found e (one-ringed cs (sound .simple .pairs) none-over (planOf cs) m (g .lines) one) full one))
-
-    pub few-peeled : ones (g .lines) ≤ 2 → {first : ℕ} → Tells g Well first
-    few-peeled few = well-by (not-angled (g .lines) few cs (planOf cs) (plan-of-maximal cs (sound .simple .pairs) .valid))
-
-  module _ (full : length cs + 3 ≡ 2 * g .n) {left : ℕ} {angle : Bool} (t : Told cs (g .lines) left angle) (none : left ≡ 0) where
-    angle-is : angle ≡ angled (g .lines) (joints cs (planOf cs))
-    angle-is = t .angle-is none (g .n) (sound .two) (sound .most) (sound .below) full
-
-    pub angle-peeled : angle ≡ true → {first : ℕ} → Tells g Angle first
-    angle-peeled e =
-        let q = none-found full (t .core) none in
-        fine-tells q (sym (verdict-angle g q (sym angle-is ∙ e)))
-
-    pub well-peeled : angle ≡ false → {first : ℕ} → Tells g Well first
-    well-peeled e = well-by full (t .core) none (sym angle-is ∙ e)
+        (sym (verdict-one g none-found (not-angled (g .lines) few cs (planOf cs) (m .valid))
+        (one-ringed cs (sound .simple .pairs) none-over (planOf cs) m (g .lines) one) full one))

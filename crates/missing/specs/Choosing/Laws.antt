@@ -14,7 +14,7 @@ use Rattle.greedy.specs.Completion.Laws.{exact-kept, next-carried}
 use Rattle.greedy.specs.Choice.{choose}
 use Rattle.sparsity.specs.Answer.{Using, More, Took}
 use Rattle.missing.specs.Missing.{number}
-use Rattle.missing.specs.Choosing.{pairAt, chooseNumbers, Numbered, Rigid, Tied, Held, Tried}
+use Rattle.missing.specs.Choosing.{pairAt, chooseNumbers, Numbered, Tied, Held, Tried}
 
 -- ---- one pair more among all 64 elements
 
@@ -40,7 +40,7 @@ pub fewer : (a : ℕ) → bitAnd a (a - 1) ⊑ a
 unfolding _∩_
 fewer a = a∩b⊑a a (a - 1)
 
-pub tied-more : (cs tied : List ℕ) (s x : ℕ) → x ∈ s → Rigid cs s → Tied cs tied → Tied cs (set tied x (getD tied x 0 ∪ s))
+pub tied-more : (cs tied : List ℕ) (s x : ℕ) → x ∈ s → Exact cs s → Tied cs tied → Tied cs (set tied x (getD tied x 0 ∪ s))
 tied-more cs tied s x xs e t = record { places = length-set tied x (getD tied x 0 ∪ s) ∙ t .places; tight = λ y z l i. go y z l i (ℕ-discrete y x) }
   where
     go : (y z : ℕ) → y < 64 → z ∈ getD (set tied x (getD tied x 0 ∪ s)) y 0 → Dec (y ≡ x) → (r : ℕ) × (y ∈ r) × (z ∈ r) × Exact cs r
@@ -49,7 +49,7 @@ tied-more cs tied s x xs e t = record { places = length-set tied x (getD tied x 
         let small : x < length tied = omega (arith, t .places) in
         let j : z ∈ getD tied x 0 ∪ s =
         ap (at z) (sym (ap (λ (w : ℕ). getD (set tied x (getD tied x 0 ∪ s)) w 0) q ∙ getD-set-same tied x (getD tied x 0 ∪ s) 0 small)) ∙ i in
-        ⊎-elim (λ k. t .tight y z l (ap (λ (w : ℕ). at z (getD tied w 0)) q ∙ k)) (e .each y z (ap (λ (w : ℕ). at w s) q ∙ xs))
+        ⊎-elim (λ k. t .tight y z l (ap (λ (w : ℕ). at z (getD tied w 0)) q ∙ k)) (λ k. (s, ap (λ (w : ℕ). at w s) q ∙ xs, k, e))
         (∈-∪⁻ z (getD tied x 0) s j)
 
 tied-kept : (cs tied : List ℕ) (m : ℕ) → NotOver (m ∷ cs) → Tied cs tied → Tied (m ∷ cs) tied

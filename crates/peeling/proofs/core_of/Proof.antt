@@ -4,8 +4,7 @@ use Rattle.theory.specs.Set.{_∩_, full}
 use Rattle.theory.specs.Set.Laws.{a∩b⊑b}
 use Rattle.peeling.specs.Core.{Light, Heavy, Mutual, Peeled}
 use Rattle.peeling.specs.Core.Neighbours.{heavy-start}
-use Rattle.peeling.specs.Core.Peeling.{heavy-none, light-room, round, core-peeled, peeled-largest}
-use Rattle.peeling.specs.Core.Angle.{taken-start}
+use Rattle.peeling.specs.Core.Peeling.{peeled-start, heavy-none, light-room, round, core-peeled, peeled-largest}
 use Rattle.peeling.proofs.core_of.Tie as tie
 
 abbrev Inv-loop : tie.InvT-loop
@@ -20,7 +19,7 @@ loop-holds c =
     let n = c .before .before .before .used in
     let low = c .light-all in
     rw (c .before .below .ensures ∙ ap full (c .before .before .wide .ensures)) (
-      taken-start near 0 (n .result) (n .ensures .1) (n .ensures .2) .peeled,
+      peeled-start near (n .result) (n .ensures .1) (n .ensures .2),
       low .ensures .0,
       λ m. heavy-start near (n .result) (low .result) (n .ensures .1) (n .ensures .2) m (low .ensures .1),
     )

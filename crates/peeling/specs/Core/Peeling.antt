@@ -2,17 +2,43 @@
 -- none loses any. Assumes nothing.
 use Rattle.theory.specs.Prelude.{_≡_, sym, ap, subst, _⊎_, inl, inr, List, ℕ, _+_, _*_, _-_, _^_, _≤_, _<_, decLe, arith, bitAnd, bitOr, ones, length}
 use Rattle.theory.specs.Prelude.{refl, _∙_, zero, suc, sub-zero, and-le-r, take, getD, take-length, pow-pos}
+use native.Mathlib.Nat.{pow-suc}
 use Rattle.theory.specs.Set.{_∈_, _∩_, _∪_, _⊑_, at, full}
 use Rattle.theory.specs.Set.Laws.{at-∩, at-le, bit, size-zero, ⊑⇒size≤, ⊑-trans, a∩b⊑a, a∩b⊑b, ∩-comm, out, below-full}
-use Rattle.theory.specs.Set.Laws.{at-zero, size-none, some, ⊑-refl, ⊑⇒∩≡}
+use Rattle.theory.specs.Set.Laws.{at-zero, size-none, some, ⊑⇒∩≡}
 use Rattle.theory.specs.Set.Less.{at-below, at-room, less-same, less-in, less-sub, less-and, less-out, size-less, sub-less}
 use Rattle.theory.specs.Constraints.{pair, Below, carried, NotOver, NotOverIn}
 use Rattle.theory.specs.Constraints.Laws.{carried-cut, not-over-in, at-end, pair-comm}
 use Rattle.theory.specs.Over.Laws.{pairs-take, below-take}
 use Rattle.theory.specs.Near.{Simple, Near}
 use Rattle.theory.specs.Near.Laws.{simple-take, near-counts-take, near-counts, carried-one}
-use Rattle.peeling.specs.Core.{Few, Loose, Core, Dense, Largest, Light, Heavy, Mutual, Peeled, whole, less}
-use Rattle.peeling.specs.Core.Neighbours.{near-sub, light-or, light-rest, heavy-but, heavy-with, heavy-less}
+use Rattle.peeling.specs.Core.{Few, Loose, Core, Dense, Largest, Beyond, Light, Heavy, Mutual, Peeled, whole, less}
+use Rattle.peeling.specs.Core.Neighbours.{full-at, near-sub, light-or, light-rest, heavy-but, heavy-with, heavy-less}
+
+-- ---- those without a neighbour are gone at the start
+
+pub all-below : (n top : ℕ) → 1 ≤ n → top ≡ 2 ^ (n - 1) → top - 1 + top ≡ full n
+unfolding full
+all-below zero top h e = absurd (omega arith)
+all-below (suc n) top h e =
+    let low : suc n - 1 ≡ n = omega arith in
+    omega (arith, e ∙ ap (λ (k : ℕ). 2 ^ k) low, pow-suc 2 n, pow-pos n)
+
+full-less : (k : ℕ) → full (suc k) - 2 ^ k ≡ full k
+unfolding full
+full-less k = omega (arith, pow-pos k)
+
+peeled-from : (near : List ℕ) (d n : ℕ) → d + n ≡ 64 → Beyond near n → Peeled near (full n)
+peeled-from near zero n e b = let same : 64 ≡ n = omega arith in subst (λ (k : ℕ). Peeled near (full k)) same whole
+peeled-from near (suc d) n e b =
+    let around = getD near n 0 ∩ full (suc n) in
+    let none : ones around ≤ 2 =
+    omega (arith, ⊑⇒size≤ (getD near n 0) around (a∩b⊑a (getD near n 0) (full (suc n))), ap ones (b .none n (omega arith) (omega arith)), size-zero) in
+    subst (Peeled near) (full-less n)
+    (less n (peeled-from near d (suc n) (omega arith) (record { none = λ x l m. b .none x (omega arith) m })) (full-at (suc n) n (omega arith)) none)
+
+pub peeled-start : (near : List ℕ) (n : ℕ) → n ≤ 64 → Beyond near n → Peeled near (full n)
+peeled-start near n most b = peeled-from near (64 - n) n (omega arith) b
 
 -- ---- one element taken away
 
@@ -39,16 +65,6 @@ module _ (near : List ℕ) (left todo x s : ℕ) (t : Light near left todo) (e :
   light-next r g =
       light-or near (left - s) (todo - s) r
       (subst (λ (z : ℕ). Light near (left - z) (todo - z)) (sym es) (light-rest near left todo x t in-left e)) g
-
-  pub heavy-left : left < 2 ^ 64 → (r i : ℕ) → i ≡ x → (Mutual near → Heavy near left left todo) → Heavy near (left - s) (bitAnd (getD near i 0)
-      (left - s)) r
-      → Mutual near → Heavy near (left - s) (left - s) (bitOr (todo - s) r)
-  unfolding _∪_ _∩_
-  heavy-left small r i ei h g m =
-      let around = getD near x 0 in
-      rw es
-      (heavy-with near (left - 2 ^ x) (todo - 2 ^ x) around r
-      (heavy-less near left todo around x small m in-left e (⊑-refl around) (heavy-but near left todo around (h m))) (rw (es, ei) at g))
 
 -- none is left to be taken away
 pub heavy-none : {near : List ℕ} {u todo : ℕ} → todo ≡ 0 → (Mutual near → Heavy near u u todo) → Mutual near → Dense near u

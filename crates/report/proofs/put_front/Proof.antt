@@ -3,7 +3,7 @@ use Rattle.theory.specs.Prelude.{needs, arith}
 use Rattle.engine.specs.Steps.{stepsIn}
 use Rattle.report.specs.Block.Laws.{_then_}
 use Rattle.report.specs.Pieces.{front}
-use Rattle.report.specs.Report.One.{front-length}
+use Rattle.report.specs.Report.Front.{front-length}
 use Rattle.report.proofs.put_front.Tie as tie
 
 put-steps-requires : tie.Need-put-steps-requires

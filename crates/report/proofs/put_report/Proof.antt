@@ -5,7 +5,7 @@ use Rattle.engine.specs.Steps.{stepsIn}
 use Rattle.report.specs.Block.Laws.{stands-as, _then_}
 use Rattle.report.specs.Report.{clusterLines, report}
 use Rattle.report.specs.Pieces.{wide, front}
-use Rattle.report.specs.Report.One.{front-clusters, clusters-long}
+use Rattle.report.specs.Report.Front.{front-clusters, clusters-long}
 use Rattle.report.proofs.put_report.Tie as tie
 
 -- the parts, and how long they are

@@ -2,12 +2,11 @@
 -- and not more than 64. Assumes nothing.
 use Rattle.theory.specs.Prelude.{ℕ, zero, suc, _+_, _-_, _*_, _/_, _%_, _^_, _≤_, _<_, arith, _≡_, refl, sym, ap, ap₂, _∙_, _≢_, List, [], _∷_, _++_}
 use Rattle.theory.specs.Prelude.{map, append-nil, bitAnd, and-step, and-self, ones, ones-step, trailingZeros, under, length, length-map}
-use Rattle.theory.specs.Prelude.{pow-lt, pow-pos}
 use lib.Bits.{block-half, block-odd}
-use Rattle.theory.specs.Set.{at, full}
-use Rattle.theory.specs.Set.Laws.{at-zero, at-le, at-same, out, below-full}
+use Rattle.theory.specs.Set.{at}
+use Rattle.theory.specs.Set.Laws.{at-zero, at-le, out}
 use Rattle.theory.specs.Set.Less.{at-below}
-use Rattle.report.specs.Elements.{member, among, consecutive, elements, constraintsOf}
+use Rattle.report.specs.Elements.{member, among, elements, constraintsOf}
 
 -- ---- one digit after another
 
@@ -167,39 +166,3 @@ constraints-words l h a b =
     let rest = among-split 64 72 136 0 64 h refl refl ∙ ap (λ (xs : List ℕ). among 64 0 h ++ xs) (none-from 72 64 h beyond) ∙ append-nil (among 64 0 h) in
     among-split 64 136 200 0 64 r refl refl
     ∙ ap₂ (λ (xs ys : List ℕ). xs ++ ys) low (high ∙ ap (map (λ (x : ℕ). 64 + x)) rest)
-
--- ---- numbers without a gap
-
-pub consecutive-split : (k j n x y : ℕ) → n ≡ k + j → y ≡ x + k → consecutive x n ≡ consecutive x k ++ consecutive y j
-unfolding consecutive
-consecutive-split zero j n x y e f =
-    let g : n ≡ j = omega arith in
-    let h : x ≡ y = omega arith in
-    ap₂ consecutive h g
-consecutive-split (suc k) j zero x y e f = absurd (omega arith)
-consecutive-split (suc k) j (suc n) x y e f = ap (λ (xs : List ℕ). x ∷ xs) (consecutive-split k j n (suc x) y (omega arith) (omega arith))
-
-pub consecutive-above : (f x k : ℕ) → map (λ (y : ℕ). f + y) (consecutive x k) ≡ consecutive (f + x) k
-unfolding consecutive
-consecutive-above f x zero = refl
-consecutive-above f x (suc k) =
-    ap (λ (xs : List ℕ). (f + x) ∷ xs)
-    (consecutive-above f (suc x) k ∙ ap (λ (z : ℕ). consecutive z k) {x = f + suc x} {y = suc (f + x)} (omega arith))
-
--- every digit is 1
-among-all : (k x a : ℕ) → ((y : ℕ) → x ≤ y → y < x + k → at y a ≡ 1) → among k x a ≡ consecutive x k
-unfolding among consecutive
-among-all zero x a h = refl
-among-all (suc k) x a h =
-    ap₂ (λ (d : ℕ) (xs : List ℕ). member d x xs) (h x (omega arith) (omega arith)) (among-all k (suc x) a (λ y l m. h y (omega arith) (omega arith)))
-
--- the numbers below m
-pub elements-full : (m : ℕ) → m ≤ 64 → elements (full m) ≡ consecutive 0 m
-unfolding elements full
-elements-full m l =
-    let few : full m < 2 ^ m = omega (arith, pow-pos m) in
-    let has : (y : ℕ) → y < m → at y (full m) ≡ 1 = λ y h. omega (arith, below-full m (2 ^ y) (pow-lt h) .le y, at-same y, at-le y (full m)) in
-    let beyond : (y : ℕ) → m ≤ y → at y (full m) ≡ 0 = λ y h. out y (full m) (λ i. omega (arith, at-below m y (full m) few i)) in
-    among-split m (64 - m) 64 0 m (full m) (omega arith) (omega arith)
-    ∙ ap₂ (λ (xs ys : List ℕ). xs ++ ys) (among-all m 0 (full m) (λ y a b. has y (omega arith))) (none-from (64 - m) m (full m) beyond)
-    ∙ append-nil (consecutive 0 m)

@@ -1,12 +1,12 @@
 -- The words of what clusters rest on, merge after merge. Assumes nothing.
 use Rattle.theory.specs.Prelude.{_≡_, refl, sym, ap, ap₂, _∙_, subst, _≢_, List, [], _∷_, map, ℕ, zero, suc, _+_, _-_, _*_, _/_, _%_, _^_, _≤_, _<_}
-use Rattle.theory.specs.Prelude.{arith, add-one, decLt, pow-lt, pow-pos, pow-add, mod-eq-of-lt, length, getD, set, take, length-set, length-take}
+use Rattle.theory.specs.Prelude.{arith, add-one, decLt, pow-lt, pow-add, length, getD, set, take, length-set, length-take}
 use Rattle.theory.specs.Prelude.{length-map, List·getD-map, getD-set-same, getD-set-other, take-suc, take-all}
 use lib.Bits.{or-shr, or-mod}
 use lib.Pow.{shl-shr, recompose}
 use Rattle.theory.specs.Block.{block}
 use Rattle.theory.specs.Block.Laws.{getD-block}
-use Rattle.theory.specs.Set.{_∪_, full}
+use Rattle.theory.specs.Set.{_∪_}
 use Rattle.theory.specs.Merge.{Merge, merge, slot, union, OpenAt, put, Valid, final}
 use Rattle.theory.specs.Merge.Numbered.{alive-lt}
 use Rattle.theory.specs.Plan.{ascending}
@@ -65,32 +65,6 @@ alone-high words e few a n l = elim (decLt n 64) [
   | yes h ↦ a .less n h ∙ high-low n h
   | no h ↦ a .each n (omega arith) l l ∙ high-high n (omega arith) (omega arith)
 ]
-
--- ---- the words of all numbers below one
-
-pub all-low-few : (e : ℕ) → e < 64 → full e ≡ word 0 (full e)
-unfolding word full
-all-low-few e h = omega (arith, pow-lt {i = e} {j = 64} h)
-
-pub all-low-many : (e : ℕ) → 64 ≤ e → 18446744073709551615 ≡ word 0 (full e)
-unfolding word full
-all-low-many e h = omega (arith, split-pow e h, pow-pos (e - 64))
-
-pub all-high-few : (e : ℕ) → e < 64 → 0 ≡ word 1 (full e)
-unfolding word full
-all-high-few e h = omega (arith, pow-lt {i = e} {j = 64} h)
-
-one-less : (q : ℕ) → 0 < q → (q * 2 ^ 64 - 1) / 2 ^ 64 ≡ q - 1
-one-less zero h = absurd (omega arith)
-one-less (suc q) h = omega arith
-
-pub all-high-many : (e : ℕ) → 64 ≤ e → e < 128 → full (e - 64) ≡ word 1 (full e)
-unfolding word full
-all-high-many e h l =
-    let k = e - 64 in
-    let small : 2 ^ k - 1 < 2 ^ 64 = omega (arith, pow-lt {i = k} {j = 64} (omega arith)) in
-    let rest : (2 ^ e - 1) / 2 ^ 64 ≡ 2 ^ k - 1 = ap (λ (x : ℕ). (x - 1) / 2 ^ 64) (split-pow e h) ∙ one-less (2 ^ k) (pow-pos k) in
-    sym (ap (λ (x : ℕ). x % 2 ^ 64) rest ∙ mod-eq-of-lt small)
 
 -- ---- the merges of an array
 

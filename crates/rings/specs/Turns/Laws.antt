@@ -1,10 +1,12 @@
 -- One turn of each loop. Assumes nothing.
-use Rattle.theory.specs.Prelude.{_≡_, refl, sym, ap, ap₂, _∙_, subst, _≢_, Bool, true, false, cond, List, _∷_, ℕ, zero, suc, _-_, _≤_, _<_, arith}
-use Rattle.theory.specs.Prelude.{decLe, bitAnd, bitOr, ones, T, leb, leb→le, le→leb, length, drop, getD, drop-cons, drop-length}
-use Rattle.theory.specs.Set.{_∩_, _∪_}
-use Rattle.theory.specs.Set.Laws.{⊑-size-≡, size-none, size-zero}
-use Rattle.theory.specs.Ring.{linked, once, strip}
-use Rattle.theory.specs.Ring.Strip.{strip-sub}
+use Rattle.theory.specs.Prelude.{_≡_, refl, sym, ap, ap₂, _∙_, subst, _≢_, Bool, true, false, not, cond, List, [], _∷_, ℕ, zero, suc, _-_, _*_, _≤_}
+use Rattle.theory.specs.Prelude.{_<_, arith, decLe, bitAnd, bitOr, ones, T, eqb, leb, leb→le, le→leb, length, drop, getD, drop-cons, drop-length}
+use Rattle.theory.specs.Prelude.{ne-eqb}
+use Rattle.theory.specs.Set.{_∩_, _∪_, at}
+use Rattle.theory.specs.Set.Laws.{⊑-size-≡, ⊑⇒size≤, size-none, size-zero, at-le, at-zero, at-∩, at-∪, ext, a∩b⊑a}
+use Rattle.theory.specs.Merge.{living, total, left}
+use Rattle.theory.specs.Ring.{linked, once, strip, stripped, ringed}
+use Rattle.theory.specs.Ring.Strip.{strip-sub, stripped-same, stripped-ends}
 use Rattle.rings.specs.Turns.{Swept}
 
 -- ---- a cluster that holds two lines or more, and one that does not
@@ -76,3 +78,61 @@ strip-fewer s l ne = by (decLe (ones l) (ones (strip l s)))
     by : Dec (ones l ≤ ones (strip l s)) → ones (strip l s) < ones l
     by (yes h) = absurd (ne (⊑-size-≡ l (strip l s) (strip-sub l s) h))
     by (no n) = omega arith
+
+-- stripped once more at the end, or at the start
+strip-last : (k : ℕ) (s : List ℕ) (l : ℕ) → strip (stripped k s l) s ≡ stripped k s (strip l s)
+unfolding stripped
+strip-last zero s l = refl
+strip-last (suc k) s l = strip-last k s (strip l s)
+
+-- as often as there are lines is enough
+enough : (k : ℕ) (s : List ℕ) (l : ℕ) → ones l ≤ k → stripped k s l ≡ stripped (ones l) s l
+unfolding stripped
+enough zero s l h = ap (λ (n : ℕ). stripped n s l) {x = 0} {y = ones l} (omega arith)
+enough (suc k) s l h = elim (decLe (ones l) k) [
+  | yes m ↦ sym (strip-last k s l) ∙ stripped-ends k s l m ∙ enough k s l m
+  | no n ↦ ap (λ (m : ℕ). stripped m s l) {x = suc k} {y = ones l} (omega arith)
+]
+
+-- ---- the answer
+
+-- a turn does not change it
+pub ringed-strip : (l : ℕ) (s : List ℕ) → ringed (strip l s) s ≡ ringed l s
+unfolding ringed
+ringed-strip l s =
+    ap (λ (z : ℕ). not (eqb z 0))
+    (sym (enough (ones l) s (strip l s) (⊑⇒size≤ l (strip l s) (strip-sub l s))) ∙ sym (strip-last (ones l) s l)
+    ∙ stripped-ends (ones l) s l (omega arith))
+
+-- lines that a turn leaves as they are
+pub ringed-same : (l : ℕ) (s : List ℕ) → l ≢ 0 → strip l s ≡ l → true ≡ ringed l s
+unfolding ringed
+ringed-same l s some e = sym (ap not (ap (λ (z : ℕ). eqb z 0) (stripped-same (ones l) s l e) ∙ ne-eqb l 0 some))
+
+-- no line
+pub ringed-none : (l : ℕ) (s : List ℕ) → l ≡ 0 → false ≡ ringed l s
+unfolding ringed stripped
+ringed-none l s none = sym (ap (λ (z : ℕ). not (eqb z 0)) (sym (enough 0 s l (omega (arith, ap ones none, size-zero))) ∙ none))
+
+-- ---- one cluster
+
+linked-lives : (l c x : ℕ) → at x (linked l c) ≤ living c
+unfolding _∩_
+linked-lives l zero x = omega (arith, ap (at x) (few l 0 (omega (arith, ⊑⇒size≤ 0 (0 ∩ l) (a∩b⊑a 0 l), size-zero))), at-zero x)
+linked-lives l (suc c) x = at-le x (linked l (suc c))
+
+-- a line that lies in some, or in two, takes as many living clusters
+held : (l x : ℕ) (s : List ℕ) → (at x (once l s) ≤ left s) × (2 * at x (strip l s) ≤ left s)
+unfolding once strip left total
+held l x [] = (omega (arith, at-zero x), omega (arith, at-zero x))
+held l x (c ∷ s) =
+    let here = linked-lives l c x in
+    let (some, two) = held l x s in (
+      omega (arith, at-∪ x (linked l c) (once l s)),
+      omega (arith, at-∪ x (linked l c ∩ once l s) (strip l s), at-∩ x (linked l c) (once l s), at-le x (once l s), at-le x (strip l s)),
+    )
+
+-- so one cluster makes no ring
+pub lone-ringed : (lines : ℕ) (s : List ℕ) → left s ≡ 1 → false ≡ ringed lines s
+lone-ringed lines s one =
+    ringed-none (strip lines s) s (ext (strip lines s) 0 (λ x. omega (arith, held lines x s .1, at-zero x))) ∙ ringed-strip lines s

@@ -1,20 +1,12 @@
--- `search::call_up` meets its contract: three stores, and three more where a holder does not wait yet. Assumes nothing.
+-- `search::call_up` meets its contract: three stores. Assumes nothing.
 use borrow.Author.Needs.{needs}
-use Rattle.search.proofs.Calling.{calls-kept, calls-all}
+use Rattle.search.proofs.Calling.{calls-all}
 use Rattle.search.proofs.call_up.Tie as tie
 
 returns : tie.Need-returns
 returns c =
-    let h = c .before .before .before .before .before .before .before .before .before .before .before .holders .ensures in
-    let s = c .before .before .before .before .before .before .before .before .before .before .before .before .before .before .before in
-    let a = s .args in
-    calls-kept (a .todo .now) (a .dead .a) (a .dead .b) (a .dead .c) (a .made .a) (a .made .b) (a .made .c) (s .pre) (h .0) (h .1) (h .2)
-    (c .before .same-words .ensures (c .if1 .taken))
-
-returns-2 : tie.Need-returns-2
-returns-2 c =
-    let h = c .before .before .before .before .before .before .before .before .before .before .before .holders .ensures in
-    let s = c .before .before .before .before .before .before .before .before .before .before .before .before .before .before .before in
+    let h = c .before .before .before .before .before .before .before .before .before .holders .ensures in
+    let s = c .before .before .before .before .before .before .before .before .before .before .before .before .before in
     let a = s .args in
     calls-all (a .todo .now) (a .dead .a) (a .dead .b) (a .dead .c) (a .made .a) (a .made .b) (a .made .c) (s .pre) (h .0) (h .1) (h .2)
 
@@ -22,4 +14,4 @@ pub call-up-spec : {M : Type 1} → Rattle.search.proofs.call_up.Statem
 call-up-spec =
     tie.close
     (tie.spec (λ c. search needs) (λ c. search needs) (λ c. search needs) (λ c κs. search needs) (λ c. search needs) (λ c. search needs)
-    (λ c. search needs) (λ c κs. search needs) returns (λ c. search needs) (λ c. search needs) (λ c. search needs) returns-2)
+    (λ c. search needs) returns)

@@ -174,20 +174,6 @@ module _ {s : List ℕ} {used rim : ℕ} {links hold todo : List ℕ} (ready : R
     q-slot : (h .q ∈ slot s i) × (h .q ∈ rim)
     q-slot = ∈-∩⁻ (h .q) (slot s i) rim (h .q-in)
 
-    -- of a cluster of two elements, whichever they are
-    pub two-pair : (a b : ℕ) → ((r : ℕ) → r ∈ slot s i → (r ≡ a) ⊎ (r ≡ b)) → (v : ℕ) → Met hold a b z v → Pair s i z (v / 256) (v % 256)
-    two-pair a b all v m = two-pair-case (all (h .p) (p-slot .0)) (all (h .q) (q-slot .0))
-      where
-        two-pair-case : (h .p ≡ a) ⊎ (h .p ≡ b) → (h .q ≡ a) ⊎ (h .q ≡ b) → Pair s i z (v / 256) (v % 256)
-        two-pair-case (inl x) (inl y) = absurd (h .differ (x ∙ sym y))
-        two-pair-case (inr x) (inr y) = absurd (h .differ (x ∙ sym y))
-        two-pair-case (inl x) (inr y) =
-            met-pair i z (h .p) (h .q) v (h .differ) (h .p-in) (h .q-in) (h .by-p) (h .by-q) (h .out)
-            (subst (λ (y : ℕ). Met hold (h .p) y z v) (sym y) (subst (λ (y : ℕ). Met hold y b z v) (sym x) m))
-        two-pair-case (inr x) (inl y) =
-            met-pair i z (h .q) (h .p) v (Ne·symm (h .differ)) (h .q-in) (h .p-in) (h .by-q) (h .by-p) (h .out)
-            (subst (λ (y : ℕ). Met hold (h .q) y z v) (sym x) (subst (λ (y : ℕ). Met hold y b z v) (sym y) m))
-
     -- of any cluster, by the links of z
     pub joined-pair : (v : ℕ) → Joined hold (linked links z ∩ slot s i) z v → Pair s i z (v / 256) (v % 256)
     unfolding Joined

@@ -5,14 +5,8 @@ use Rattle.sheet.proofs.size_allowed.Tie as tie
 
 missing : tie.Need-returns-2
 missing c =
-    let a = c .before .before .before .before .before .before .args in
-    rw (
-      ap (sizeAllowed (a .j) (a .k)) (c .before .before .before .before .enum-told2 .given .1),
-      c .size-optional .ensures,
-      c .before .pair-by .ensures,
-      c .before .before .is-line2 .ensures,
-      c .before .before .before .is-line .ensures,
-    )
+    let a = c .before .before .before .before .args in
+    rw (ap (sizeAllowed (a .j) (a .k)) (c .before .before .enum-told2 .given .1), c .size-optional .ensures, c .before .pair-of .ensures)
 
 tangent : tie.Need-returns-3
 tangent c =
@@ -36,6 +30,5 @@ no-circle c =
 pub size-allowed-spec : {M : Type 1} → Rattle.sheet.proofs.size_allowed.Statement.statement M
 size-allowed-spec =
     tie.close
-    (tie.spec (λ c. search needs) (λ c. search needs) (λ c κs. search needs) (λ c κs. search needs) (λ c κs. search needs)
-    (λ c κs. search needs) (λ c. search needs) (λ c κs. search needs) (λ c. search needs) (λ c κs. search needs) (λ c κs. search needs)
+    (tie.spec (λ c. search needs) (λ c. search needs) (λ c κs. search needs) (λ c κs. search needs) (λ c. search needs) (λ c κs. search needs) (λ c. search needs) (λ c κs. search needs) (λ c κs. search needs)
     (λ c. search needs) (λ c. search needs) missing tangent other no-circle (λ c. search needs))

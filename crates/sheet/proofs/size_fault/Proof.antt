@@ -20,16 +20,12 @@ unfolding sizeFault
 returns-3 c =
     c .range-fault .ensures
     ∙ rw (
-      c .before .pair-by .ensures,
-      c .before .before .is-line2 .ensures,
-      c .before .before .before .is-line .ensures,
-      sym (c .before .before .before .before .before .before .before .size-allowed .ensures)
-          ∙ not-false _ (c .before .before .before .before .before .before .if1 .left),
-      sym (c .before .before .before .before .before .radii-differ .ensures) ∙ not-false _ (c .before .before .before .before .if2 .left),
+      c .before .pair-of .ensures,
+      sym (c .before .before .before .before .before .size-allowed .ensures) ∙ not-false _ (c .before .before .before .before .if1 .left),
+      sym (c .before .before .before .radii-differ .ensures) ∙ not-false _ (c .before .before .if2 .left),
     )
 
 pub size-fault-spec : {M : Type 1} → Rattle.sheet.proofs.size_fault.Statement.statement M
 size-fault-spec =
     tie.close
-    (tie.spec (λ c κs. search needs) returns (λ c κs. search needs) returns-2 (λ c κs. search needs) (λ c κs. search needs)
-    (λ c κs. search needs) (λ c κs. search needs) returns-3)
+    (tie.spec (λ c κs. search needs) returns (λ c κs. search needs) returns-2 (λ c κs. search needs) (λ c κs. search needs) returns-3)

@@ -1,26 +1,48 @@
--- `sheet::size_in_range` meets its contract: 0 apart, one range is the rule's two. Assumes nothing.
-use Rattle.theory.specs.Prelude.{_≡_, sym, ap, _∙_, needs, pos}
+-- `sheet::size_in_range` meets its contract: the ranges of each kind of pair. Assumes nothing.
+use Rattle.theory.specs.Prelude.{sym, ap, _∙_, needs, ℤ, Bool}
 use mir.Facts.{toZ-ofZ}
-use mir.Val.{toZ, ofZ}
-use mir.Syntax.{w32}
-use Rattle.sheet.specs.Range.Laws.{range-without-zero, no-zero}
+use Rattle.sheet.specs.declared.PairKind.{PairKind}
 use Rattle.sheet.specs.Rules.{sizeInRange}
 use Rattle.sheet.proofs.size_in_range.Tie as tie
 
-returns : tie.Need-returns
-returns c =
-    let g = c .before .args in
-    let zero : g .z ≡ pos 0 = sym (toZ-ofZ (c .before .fits .z)) ∙ ap (toZ w32) (c .if1 .taken) in
-    sym (ap (sizeInRange (g .p)) zero ∙ no-zero (g .p))
+abbrev by : ℤ → PairKind → Bool
+by z p = sizeInRange p z
 
-returns-2 : tie.Need-returns-2
-returns-2 c =
-    let g = c .before .before .before .before .args in
-    let l = toZ-ofZ {w = w32} {z = c .before .before .lowest-size .result} (search needs) in
-    let h = toZ-ofZ {w = w32} {z = c .before .highest-size .result} (search needs) in
-    rw (l, h, toZ-ofZ (c .before .before .before .before .fits .z), c .before .before .lowest-size .ensures, c .before .highest-size .ensures) at
-    (c .within .ensures)
-    ∙ sym (range-without-zero (g .p) (g .z) (λ e. c .before .before .before .if1 .left (ap (ofZ w32) e)))
+points : tie.Need-returns
+points c =
+    let s = c .before .before .before in
+    (rw (toZ-ofZ (s .fits .z)) at (c .within .ensures)) ∙ sym (ap (by (s .args .z)) (c .before .enum-told .given .1))
+
+below-line : tie.Need-returns-2
+below-line c =
+    let s = c .before .before .before .before in
+    rw (ap (by (s .args .z)) (c .before .before .enum-told2 .given .1), sym (rw (toZ-ofZ (s .fits .z)) at (c .before .within2 .ensures)) ∙ c .if1 .taken)
+
+above-line : tie.Need-returns-3
+above-line c =
+    let s = c .before .before .before .before .before in
+    rw (
+      ap (by (s .args .z)) (c .before .before .before .enum-told2 .given .1),
+      sym (rw (toZ-ofZ (s .fits .z)) at (c .before .before .within2 .ensures)) ∙ c .before .if1 .left,
+    )
+    (rw (toZ-ofZ (s .fits .z)) at (c .within3 .ensures))
+
+below-angle : tie.Need-returns-4
+below-angle c =
+    let s = c .before .before .before .before in
+    rw (ap (by (s .args .z)) (c .before .before .enum-told3 .given .1), sym (rw (toZ-ofZ (s .fits .z)) at (c .before .within4 .ensures)) ∙ c .if2 .taken)
+
+above-angle : tie.Need-returns-5
+above-angle c =
+    let s = c .before .before .before .before .before in
+    rw (
+      ap (by (s .args .z)) (c .before .before .before .enum-told3 .given .1),
+      sym (rw (toZ-ofZ (s .fits .z)) at (c .before .before .within4 .ensures)) ∙ c .before .if2 .left,
+    )
+    (rw (toZ-ofZ (s .fits .z)) at (c .within5 .ensures))
 
 pub size-in-range-spec : {M : Type 1} → Rattle.sheet.proofs.size_in_range.Statement.statement M
-size-in-range-spec = tie.close (tie.spec returns (λ c κs. search needs) (λ c κs. search needs) (λ c κs. search needs) returns-2)
+size-in-range-spec =
+    tie.close
+    (tie.spec (λ c. search needs) (λ c κs. search needs) (λ c. search needs) (λ c κs. search needs) (λ c κs. search needs) (λ c. search needs)
+    (λ c κs. search needs) (λ c κs. search needs) points below-line above-line below-angle above-angle)

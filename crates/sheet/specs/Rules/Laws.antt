@@ -1,15 +1,11 @@
 -- Laws of the rules on facts: what a rule that refuses nothing says. Assumes nothing.
-use Rattle.theory.specs.Prelude.{ℕ, zero, suc, _+_, _<_, _≤_, add-one, arith, _≡_, refl, ap₂, Bool, true, false, _&&_, _||_, or-false, or-assoc, List}
+use Rattle.theory.specs.Prelude.{ℕ, zero, suc, _+_, _<_, _≤_, add-one, arith, _≡_, refl, Bool, true, false, _&&_, _||_, or-false, or-assoc, List}
 use Rattle.theory.specs.Prelude.{[], _∷_, _++_, ltb-true, leb-true, eqb, ltb, leb, length, getD, take, drop, take-suc}
-use Rattle.theory.specs.Set.{at}
 use Rattle.sheet.specs.declared.Opening.{Opening}
-use Rattle.sheet.specs.declared.Kinds.{Kinds}
 use Rattle.sheet.specs.declared.Element.{Element}
 use Rattle.sheet.specs.declared.Constraint.{Constraint}
-use Rattle.sheet.specs.Facts.{isLine, kindAt}
-use Rattle.sheet.specs.Facts.Kinds.{KindsIn}
-use Rattle.sheet.specs.Facts.Laws.{and-true, set-bit, turn, spent}
-use Rattle.sheet.specs.Rules.{elementsInRange, constraintsInRange, endsAscend, stands, pairBy, pairOf, faultUnless, or-else}
+use Rattle.sheet.specs.Facts.Laws.{and-true, turn, spent}
+use Rattle.sheet.specs.Rules.{elementsInRange, constraintsInRange, endsAscend, stands, faultUnless, or-else}
 use Rattle.sheet.specs.Rules.{kindsAllowed, radiiInRange, constraintFault, constraintsFault, elementsFault}
 
 pub elements-range : (n : ℕ) → elementsInRange n ≡ true → (2 ≤ n) × (n ≤ 64)
@@ -59,12 +55,6 @@ module _ (es : List Element) (cs : List Constraint) (e i : ℕ) (room : e ≤ le
   pub faults-spent : (done : List Constraint) → e ≤ i → constraintsFault es done (drop i (take e cs)) ≡ 0
   unfolding constraintsFault
   faults-spent done all = rw (spent cs e i all room)
-
--- ---- the pair's kinds by the set of lines
-
-pub pair-lines : {es : List Element} {k : Kinds} {radii : List ℕ} → KindsIn es k radii → (a b : ℕ)
-    → pairBy (eqb (at a (k .lines)) 1) (eqb (at b (k .lines)) 1) ≡ pairOf (kindAt es a) (kindAt es b)
-pair-lines {es} h a b = rw (h .lines-are) (ap₂ pairBy (set-bit isLine refl es a) (set-bit isLine refl es b))
 
 -- ---- the elements
 

@@ -115,10 +115,7 @@ module _ (c : tie.After-note) where
         (a .arrays))
 
 judge-last-requires : tie.Need-judge-last-requires
-judge-last-requires c κs =
-    let n = c .before .before in
-    let k = took n in
-    (drawn-in (more-in n (start k .pre .1)), omega (arith, n .before .before .before .before .before .if4 .left, k .before .before .before .before .if1 .left))
+judge-last-requires c κs = let n = c .before .before in drawn-in (more-in n (start (took n) .pre .1))
 
 returns-5 : tie.Need-returns-5
 returns-5 c = λ f a.

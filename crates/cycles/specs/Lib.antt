@@ -1,2 +1,0 @@
--- The definitions and laws of the crate `cycles`.
-pub mod Cycle

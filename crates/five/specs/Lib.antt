@@ -1,2 +1,0 @@
--- Sheets of five points: the number of a set of pairs.
-pub mod Number
