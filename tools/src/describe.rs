@@ -1,6 +1,7 @@
 //! A finding in words and as JSON.
 
 mod advice;
+pub mod views;
 
 use pattern::Verdict;
 
@@ -85,6 +86,7 @@ pub fn json(document: &Document, finding: &Finding, position: Option<&Position>)
         ("steps", Json::List(finding.steps.iter().map(|step| step_json(document, step)).collect())),
         ("clusters", Json::List(finding.clusters.iter().map(|cluster| cluster_json(document, cluster)).collect())),
         ("warnings", Json::list(warnings(document, finding, position))),
+        ("words", Json::list(lines(document, finding, position))),
         ("advice", finding.advice.as_ref().map_or(Json::Null, |advice| advice::json(document, finding, advice))),
     ]
 }

@@ -1,8 +1,6 @@
 //! A sheet from a file: bytes or text, told apart by what the file holds.
 
 use std::ffi::OsStr;
-use std::fs::File;
-use std::io::{self, Read};
 
 use pattern::Rule;
 
@@ -10,7 +8,7 @@ use crate::describe::counted;
 use crate::fault::{Fault, Refusal, Spot};
 use crate::near::did_you_mean;
 use crate::sheet::{Kind, Opening, Part, Sheet, members};
-use crate::{encoding, engine, fields, hint, text};
+use crate::{disk, encoding, engine, fields, hint, text};
 
 /// The most bytes that are read of a file.
 const MOST: u64 = 1 << 20;
@@ -118,14 +116,7 @@ pub fn read_all(path: &OsStr) -> Result<Vec<u8>, Fault> {
 
 /// The first bytes of a file, or of standard input.
 fn read_up_to(path: &OsStr, most: u64) -> Result<Vec<u8>, Fault> {
-    let mut content = Vec::new();
-    let done = if path == "-" {
-        io::stdin().lock().take(most).read_to_end(&mut content)
-    } else {
-        File::open(path).and_then(|file| file.take(most).read_to_end(&mut content))
-    };
-    done.map_err(|error| Fault::File { path: shown(path), error })?;
-    Ok(content)
+    disk::read(path, most).map_err(|error| Fault::File { path: shown(path), error })
 }
 
 /// The bytes of what a text says, or every complaint about it: those of the text, and what the proved writer refuses.

@@ -55,17 +55,38 @@ pub struct Refusal {
     pub constraint: Option<usize>,
     /// What would be accepted, or what was meant; empty where nothing is known.
     pub hint: String,
+    /// The part that cannot take a constraint, where one is refused for it.
+    pub fixed: Option<Fixed>,
+}
+
+/// A part that is fixed already, and the constraints by number that fix it.
+#[derive(Clone, PartialEq, Eq, Debug)]
+pub struct Fixed {
+    pub part: Vec<String>,
+    pub by: Vec<usize>,
 }
 
 impl Refusal {
     /// A text form that cannot be understood.
     pub fn text(line: usize, column: usize, words: String) -> Refusal {
-        Refusal { spot: Spot::Text { line, column }, rule: None, words, constraint: None, hint: String::new() }
+        Refusal {
+            spot: Spot::Text { line, column },
+            rule: None,
+            words,
+            constraint: None,
+            hint: String::new(),
+            fixed: None,
+        }
     }
 
     /// A rule that refuses what some words name, at a place.
     pub fn rule(spot: Spot, rule: Rule, words: impl Into<String>) -> Refusal {
-        Refusal { spot, rule: Some(rule), words: words.into(), constraint: None, hint: String::new() }
+        Refusal { spot, rule: Some(rule), words: words.into(), constraint: None, hint: String::new(), fixed: None }
+    }
+
+    /// The same at another place of a text.
+    pub fn at(self, line: usize, column: usize) -> Refusal {
+        Refusal { spot: Spot::Text { line, column }, ..self }
     }
 
     /// A rule that refuses a call as a whole.
@@ -75,7 +96,14 @@ impl Refusal {
 
     /// A file that is no sheet, plan or list, by no rule.
     pub fn file(words: impl Into<String>) -> Refusal {
-        Refusal { spot: Spot::Whole, rule: None, words: words.into(), constraint: None, hint: String::new() }
+        Refusal {
+            spot: Spot::Whole,
+            rule: None,
+            words: words.into(),
+            constraint: None,
+            hint: String::new(),
+            fixed: None,
+        }
     }
 
     /// The complaint with a way out.
@@ -212,7 +240,13 @@ fn error_json(path: Option<&str>, status: &'static str, message: &str, refusal: 
         ("constraint", Json::maybe(refusal.and_then(|refusal| refusal.constraint))),
         ("message", message.into()),
         ("hint", Json::maybe(hint)),
+        ("over", Json::maybe(refusal.and_then(|refusal| refusal.fixed.as_ref()).map(fixed))),
     ])
+}
+
+/// A part that is fixed already, for a program.
+fn fixed(fixed: &Fixed) -> Json {
+    Json::Object(vec![("part", Json::list(&fixed.part)), ("fixed_by", Json::list(fixed.by.iter().copied()))])
 }
 
 /// The system's words for an error, without its number.

@@ -6,8 +6,8 @@ use std::io::{Error, ErrorKind};
 use std::path::{Path, PathBuf};
 
 use crate::cli::{Call, LIST};
-use crate::document;
 use crate::fault::Fault;
+use crate::{disk, document};
 
 /// How the names of sheets end, by which they are found in a folder: in text, in bytes.
 const ENDINGS: [&str; 2] = ["txt", "sheet"];
@@ -29,7 +29,7 @@ pub fn of(call: &Call) -> Result<Vec<Found>, Fault> {
     };
     let mut found = Vec::new();
     for path in call.operands.iter().chain(&listed) {
-        if path != "-" && Path::new(path).is_dir() {
+        if path != "-" && disk::is_folder(Path::new(path)) {
             let before = found.len();
             gather(Path::new(path), Path::new(""), &mut found)?;
             if found.len() == before {
@@ -49,14 +49,11 @@ pub fn of(call: &Call) -> Result<Vec<Found>, Fault> {
 /// folders.
 fn gather(folder: &Path, within: &Path, found: &mut Vec<Found>) -> Result<(), Fault> {
     let fault = |error| Fault::File { path: folder.display().to_string(), error };
-    let mut entries = std::fs::read_dir(folder).and_then(Iterator::collect::<Result<Vec<_>, _>>).map_err(fault)?;
-    entries.sort_by_key(std::fs::DirEntry::file_name);
-    for entry in entries {
-        let (path, name) = (entry.path(), within.join(entry.file_name()));
-        let kind = entry.file_type().map_err(fault)?;
-        if entry.file_name().to_string_lossy().starts_with('.') {
+    for entry in disk::list(folder).map_err(fault)? {
+        let (path, name) = (folder.join(&entry.name), within.join(&entry.name));
+        if entry.name.to_string_lossy().starts_with('.') {
             continue;
-        } else if kind.is_dir() {
+        } else if entry.folder {
             gather(&path, &name, found)?;
         } else if path.extension().map_or(false, |ending| ENDINGS.iter().any(|known| ending == *known)) {
             found.push(Found { path: path.into_os_string(), name });

@@ -46,6 +46,13 @@ impl Finding {
         Ok(Finding { advice, agreements, ..Finding::of(document, prices)? })
     }
 
+    /// What there is to say of a text that has too few elements for a sheet: nothing.
+    pub fn none() -> Finding {
+        let (steps, clusters, agreements) = (Vec::new(), Vec::new(), Vec::new());
+        let (verdict, missing) = (Verdict::Under, Err(Rule(3)));
+        Finding { verdict, freedoms: 0, missing, over: None, angle: 0, steps, clusters, advice: None, agreements }
+    }
+
     /// What the proved library says; prices of pairs in dictionary order.
     pub fn of(document: &Document, prices: &[u16]) -> Result<Finding, Rule> {
         let (bytes, sheet) = (&document.bytes, &document.sheet);

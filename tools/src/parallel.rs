@@ -69,7 +69,6 @@ impl Progress {
 }
 
 /// Whether standard error is a terminal. Windows' C library has an underscore before the name.
-#[cfg(any(unix, windows))]
 fn at_terminal() -> bool {
     extern "C" {
         #[cfg_attr(windows, link_name = "_isatty")]
@@ -78,10 +77,4 @@ fn at_terminal() -> bool {
     const STANDARD_ERROR: i32 = 2;
     // SAFETY: the call looks at the number of a file alone.
     unsafe { isatty(STANDARD_ERROR) != 0 }
-}
-
-/// A page has no terminal.
-#[cfg(not(any(unix, windows)))]
-fn at_terminal() -> bool {
-    false
 }

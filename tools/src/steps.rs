@@ -8,20 +8,31 @@ use crate::engine;
 use crate::sheet::{Constraint, Dimension, members};
 use crate::text::{degrees, millimetres};
 
-/// A line for each step, and one for what is left where that is not one part.
-pub fn words(document: &Document, steps: &[Step]) -> Vec<String> {
+/// The words of each step.
+pub fn each(document: &Document, steps: &[Step]) -> Vec<String> {
     let mut built = 0;
     let mut lines = Vec::new();
-    for (k, step) in steps.iter().enumerate() {
-        lines.push(format!("{}. {}; {}", k + 1, construction(document, step, built), placements(step)));
+    for step in steps {
+        lines.push(format!("{}; {}", construction(document, step, built), placements(step)));
         built |= elements(document, steps, step.made);
     }
+    lines
+}
+
+/// A line for each step, and one for what is left where that is not one part.
+pub fn words(document: &Document, steps: &[Step]) -> Vec<String> {
+    let mut lines = numbered(&each(document, steps));
     let left = engine::clusters(&document.bytes, document.sheet.constraints.len(), steps).unwrap_or_default();
     if left.len() > 1 {
         let parts: Vec<_> = left.iter().map(|cluster| document.named(cluster.elements).join(" ")).collect();
         lines.push(format!("left: {}: {}", counted(parts.len(), "part"), parts.join("; ")));
     }
     lines
+}
+
+/// Lines behind their numbers, from 1.
+pub fn numbered(lines: &[String]) -> Vec<String> {
+    lines.iter().enumerate().map(|(k, line)| format!("{}. {line}", k + 1)).collect()
 }
 
 /// The elements of a cluster by its number: element i as bit i.

@@ -1,7 +1,9 @@
 //! File names with `*` and `?`, which Windows leaves to the program.
 
 use std::ffi::OsString;
-use std::fs;
+use std::path::Path;
+
+use crate::disk;
 
 /// The files that an argument stands for, by name; itself where it has no wildcard in its last part, or no file has such a name.
 pub fn expand(argument: OsString) -> Vec<OsString> {
@@ -16,8 +18,8 @@ fn files(pattern: &str) -> Vec<OsString> {
     if !wanted.contains(|c| c == '*' || c == '?') {
         return Vec::new();
     }
-    let entries = fs::read_dir(if folder.is_empty() { "." } else { folder }).into_iter().flatten().flatten();
-    let names = entries.filter_map(|entry| entry.file_name().into_string().ok());
+    let entries = disk::list(Path::new(if folder.is_empty() { "." } else { folder })).unwrap_or_default();
+    let names = entries.into_iter().filter_map(|entry| entry.name.into_string().ok());
     let mut found: Vec<String> = names.filter(|name| matches(&wanted.to_lowercase(), &name.to_lowercase())).collect();
     found.sort();
     found.into_iter().map(|name| OsString::from(folder.to_string() + &name)).collect()

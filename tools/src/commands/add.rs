@@ -12,12 +12,12 @@ use crate::describe;
 use crate::document::Document;
 use crate::draw::{self, Agreement};
 use crate::engine::{self, Cluster};
-use crate::fault::{Fault, Refusal, Spot, Status};
+use crate::fault::{Fault, Fixed, Refusal, Spot, Status};
 use crate::finding::{Finding, verdict_name};
 use crate::json::Json;
 use crate::prices::Prices;
 use crate::sheet::{Constraint, Part};
-use crate::{hint, text};
+use crate::{disk, hint, text};
 
 /// Runs the command.
 pub fn run(call: &Call) -> Result<Answer, Fault> {
@@ -78,7 +78,7 @@ pub fn run(call: &Call) -> Result<Answer, Fault> {
 
 /// Saves the sheet beside an answer.
 fn save(to: &Path, sheet: &[u8]) -> Result<(), Fault> {
-    std::fs::write(to, sheet).map_err(|error| Fault::File { path: to.display().to_string(), error })
+    disk::write(to, sheet).map_err(|error| Fault::File { path: to.display().to_string(), error })
 }
 
 /// Why the last of more constraints is refused; where a part cannot take it, which part, and whether it agrees there.
@@ -87,16 +87,20 @@ fn refused(document: &Document, more: &[Constraint], statement: &str, rule: Rule
     sheet.constraints.extend(more);
     let last = Part::Constraint(sheet.constraints.len() - 1);
     let mut hint = hint::of(&sheet, &document.names, rule, last);
+    let mut fixed = None;
     if let Some(extra) = advice::fixed_without_last(&sheet).filter(|_| rule == Rule(11)) {
         let by: Vec<_> =
             extra.fixed_by.iter().map(|&k| text::constraint(&sheet, &document.names, &sheet.constraints[k])).collect();
-        hint = format!("the part {} is fixed already, by {}", document.named(extra.part).join(" "), by.join(", "));
+        let part = document.named(extra.part);
+        hint = format!("the part {} is fixed already, by {}", part.join(" "), by.join(", "));
+        fixed = Some(Fixed { part: part.into_iter().map(str::to_string).collect(), by: extra.fixed_by.clone() });
         let grown = Document { sheet: sheet.clone(), ..document.clone() };
         if let Some(Some(agreement)) = Agreement::of(&grown, &[extra.clone()]).first() {
             hint += &format!("; numeric, not proved: {}", agreement.words(&sheet, extra.constraint));
         }
     }
-    Fault::refused(&format!("statement {}", more.len()), Refusal::rule(Spot::Whole, rule, statement).hint(hint))
+    let refusal = Refusal { fixed, ..Refusal::rule(Spot::Whole, rule, statement).hint(hint) };
+    Fault::refused(&format!("statement {}", more.len()), refusal)
 }
 
 /// The parts that hold more than they did, each with the old parts in it.

@@ -2,12 +2,14 @@
 
 use pattern::Verdict;
 
+use super::SHEET;
 use crate::cli::{Answer, Call, JSON};
 use crate::engine;
 use crate::fault::{Fault, Status};
 use crate::finding::verdict_name;
 use crate::json::Json;
 use crate::sheet::{Constraint, Dimension, Kind, Opening, Sheet};
+use crate::text::{self, Rough};
 
 /// The points of the card.
 const POINTS: usize = 5;
@@ -42,6 +44,24 @@ fn counts(points: usize) -> [(&'static str, usize); 4] {
     COUNTED.map(|(word, wanted)| (word, verdicts.iter().filter(|verdict| **verdict == wanted).count()))
 }
 
+/// Where the points are in pictures and sheets of the card, in millimetres: no three in a row, no two pairs equally far.
+const PLACES: [[f64; 2]; POINTS] = [[0.0, 0.0], [520.0, 0.0], [690.0, 450.0], [240.0, 740.0], [-190.0, 430.0]];
+
+/// A set of distances among the five points as a sheet in text, its sizes taken from their places.
+fn text_of(entry: usize) -> String {
+    let chosen = pairs(POINTS).into_iter().enumerate().filter(|(i, _)| entry >> i & 1 == 1);
+    let distance = |(_, (first, second)): (usize, (usize, usize))| {
+        let [[a, b], [c, d]] = [PLACES[first], PLACES[second]];
+        let size = (10.0 * (a - c).hypot(b - d)).round() as i32;
+        Constraint { first, second, dimension: Dimension::Size(size) }
+    };
+    let constraints = chosen.map(distance).collect();
+    let sheet = Sheet { opening: Opening::Pf01, elements: vec![Kind::Point; POINTS], constraints };
+    let names = text::default_names(&sheet.elements);
+    let places = PLACES.map(|place| Some(Rough::At(place)));
+    format!("# Set {entry} of the card of five points.\n{}", text::print_placed(&sheet, &names, &places))
+}
+
 /// The entry that operands name: its number, or its pairs.
 fn entry(call: &Call) -> Result<usize, Fault> {
     let usage = |text: &str| {
@@ -68,10 +88,17 @@ pub fn run(call: &Call) -> Result<Answer, Fault> {
         let entry = entry(call)?;
         let name = verdict_name(verdict(POINTS, entry));
         if call.has(&JSON) {
-            let fields = vec![("entry", entry.into()), ("verdict", name.into())];
+            let mut fields = vec![("entry", entry.into()), ("verdict", name.into())];
+            fields.extend(call.has(&SHEET).then(|| ("text", text_of(entry).into())));
             return Ok(Answer::json(call, Json::Object(fields), Status::Well));
         }
+        if call.has(&SHEET) {
+            return Ok(Answer::print(text_of(entry), Status::Well));
+        }
         return Ok(Answer::print(format!("{name}\n"), Status::Well));
+    }
+    if call.has(&SHEET) {
+        return Err(Fault::Usage("--sheet prints one set: name an entry, or its pairs".to_string()));
     }
     let rows: Vec<_> = (2..=POINTS).map(|points| (points, counts(points))).collect();
     if call.has(&JSON) {
@@ -80,8 +107,12 @@ pub fn run(call: &Call) -> Result<Answer, Fault> {
             Json::Object([("points", Json::from(*points))].into_iter().chain(counts).collect())
         };
         let verdicts = (0..ENTRIES).map(|entry| verdict_name(pattern::card(entry)));
-        let fields =
-            vec![("counts", Json::List(rows.iter().map(object).collect())), ("verdicts", Json::list(verdicts))];
+        let fields = vec![
+            ("counts", Json::List(rows.iter().map(object).collect())),
+            ("points", Json::List(PLACES.iter().map(|&place| Json::list(place)).collect())),
+            ("pairs", Json::List(pairs(POINTS).iter().map(|&(a, b)| Json::list([a, b])).collect())),
+            ("verdicts", Json::list(verdicts)),
+        ];
         return Ok(Answer::json(call, Json::Object(fields), Status::Well));
     }
     let line = |(points, counts): &(usize, [(&str, usize); 4])| {

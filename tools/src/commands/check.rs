@@ -5,7 +5,7 @@ use std::ffi::OsStr;
 
 use pattern::{Step, Verdict};
 
-use super::{CSV, FAILED, PRICES, QUIET, SHORT, STRICT};
+use super::{CSV, FAILED, PRICES, QUIET, SHORT, STRICT, VERDICT};
 use crate::cli::{Answer, Call, JSON};
 use crate::document::{self, Document};
 use crate::draw::{self, Position};
@@ -18,11 +18,13 @@ use crate::{csv, describe, files, parallel};
 /// What is found of one file.
 type Checked = Result<(Document, Finding, Option<Position>), Fault>;
 
-/// Checks one file.
-fn check(path: &OsStr, prices: &Prices) -> Checked {
+/// Checks one file: what the proved library says of it, and, where more than the verdict is wanted, what to change and
+/// what its sizes are like.
+fn check(path: &OsStr, prices: &Prices, more: bool) -> Checked {
     let document = Document::load(path)?;
-    let finding = Finding::advised(&document, &prices.of(&document)?).map_err(|rule| document.refused(rule))?;
-    let position = draw::examine(&document, &finding);
+    let found = if more { Finding::advised } else { Finding::of };
+    let finding = found(&document, &prices.of(&document)?).map_err(|rule| document.refused(rule))?;
+    let position = if more { draw::examine(&document, &finding) } else { None };
     Ok((document, finding, position))
 }
 
@@ -159,7 +161,7 @@ pub fn run(call: &Call) -> Result<Answer, Fault> {
         None => Prices::default(),
     };
     let files = files::of(call)?;
-    let results = parallel::map(&files, |found| check(&found.path, &prices));
+    let results = parallel::map(&files, |found| check(&found.path, &prices, !call.has(&VERDICT)));
     let warned = call.has(&STRICT) && results.iter().any(|checked| !warnings(checked).is_empty());
     let least = if warned { Status::Other } else { Status::Well };
     let status = results.iter().map(status).fold(least, Status::max);

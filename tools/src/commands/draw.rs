@@ -11,10 +11,10 @@ use crate::fault::{Fault, Status};
 use crate::finding::Finding;
 use crate::json::Json;
 use crate::prices::Prices;
-use crate::{files, parallel};
+use crate::{disk, files, parallel};
 
 /// What is asked of the picture.
-fn options(call: &Call) -> Result<Options, Fault> {
+pub fn options(call: &Call) -> Result<Options, Fault> {
     let mut options = Options::default();
     if let Some(size) = call.value(&SIZE) {
         options.size = self::size(size)?;
@@ -84,7 +84,7 @@ pub fn run(call: &Call) -> Result<Answer, Fault> {
     }
     let files = files::of(call)?;
     let output = call.value(&OUTPUT).map(Path::new);
-    let single = files.len() == 1 && !output.map_or(false, Path::is_dir);
+    let single = files.len() == 1 && !output.map_or(false, disk::is_folder);
     if call.has(&STEP) || call.has(&STEPS) {
         return match single {
             true => steps(&files[0].path, call, options),
@@ -151,7 +151,7 @@ fn object(path: &OsStr, picture: Option<String>, content: Option<String>, fault:
 /// The picture of a step, or those of all steps in a folder.
 fn steps(path: &OsStr, call: &Call, options: Options) -> Result<Answer, Fault> {
     let (document, finding, layout) = load(path)?;
-    let views = draw::views(&document, &finding);
+    let views = draw::views(&document, &finding.steps);
     let picture = |view: &View| draw::step_picture(&document, &finding, &layout, view, options);
     if let Some(step) = call.value(&STEP) {
         return one(call, path, picture(chosen(&document, &views, step)?));
@@ -176,6 +176,6 @@ fn write(path: &Path, picture: &str) -> Result<(), Fault> {
         let path = path.display().to_string();
         move |error| Fault::File { path, error }
     };
-    std::fs::create_dir_all(folder).map_err(fault(folder))?;
-    std::fs::write(path, picture).map_err(fault(path))
+    disk::make_folder(folder).map_err(fault(folder))?;
+    disk::write(path, picture.as_bytes()).map_err(fault(path))
 }

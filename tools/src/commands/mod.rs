@@ -6,12 +6,17 @@ mod chain;
 mod check;
 mod completion;
 mod diff;
+mod drag;
 mod draw;
+mod edit;
 mod longest;
+mod measure;
 mod part;
 mod place;
 mod plan;
 mod report;
+mod scene;
+mod shared;
 mod show;
 
 use crate::cli::{Command, Flag, JSON, LIST, OUTPUT};
@@ -25,6 +30,8 @@ const PRICES: Flag = Flag {
 const QUIET: Flag = Flag { name: "quiet", short: Some('q'), value: None, says: "print the table at the end alone" };
 const CSV: Flag = Flag { name: "csv", short: None, value: None, says: "print a table, commas between" };
 const SHORT: Flag = Flag { name: "short", short: Some('s'), value: None, says: "print a line a file" };
+const VERDICT: Flag =
+    Flag { name: "verdict", short: None, value: None, says: "the verdict alone, at once: no advice, no look at sizes" };
 const FAILED: Flag =
     Flag { name: "failed", short: None, value: None, says: "leave out files that are well and have no warning" };
 const STRICT: Flag = Flag { name: "strict", short: None, value: None, says: "end with status 1 for every warning too" };
@@ -38,18 +45,26 @@ const STEPS: Flag =
 const SIZE: Flag =
     Flag { name: "size", short: None, value: Some("WxH"), says: "the most that the picture takes, in pixels" };
 const LABELS: Flag = Flag { name: "labels", short: None, value: Some("WHICH"), says: "all, names, sizes or none" };
+const SHEET: Flag =
+    Flag { name: "sheet", short: None, value: None, says: "print the set as a sheet in text, with rough places" };
+const WINDOW: Flag = Flag {
+    name: "window",
+    short: None,
+    value: Some("X,Y,S"),
+    says: "what is seen: the upper left corner in mm, and pixels a mm",
+};
 const DXF: Flag = Flag { name: "dxf", short: None, value: None, says: "print a drawing for CAD programs (release 12)" };
 
 /// The most operands of a command that takes any number.
 const ANY: usize = usize::MAX;
 
 /// Every command, in the order of the help.
-pub const COMMANDS: [Command; 15] = [
+pub const COMMANDS: [Command; 20] = [
     Command {
         name: "check",
         operands: "FILE..",
         count: (1, ANY),
-        flags: &[&JSON, &CSV, &SHORT, &FAILED, &LIST, &PRICES, &STRICT, &QUIET],
+        flags: &[&JSON, &CSV, &SHORT, &VERDICT, &FAILED, &LIST, &PRICES, &STRICT, &QUIET],
         summary: "say whether sheets are fully dimensioned, and what is wrong",
         about: "
 Each file gets its verdict (well, under, stuck, angle, over) with what to change, which was
@@ -114,11 +129,12 @@ byte first; words and JSON are saved as they are. A sheet that is over has no pl
         name: "verify",
         operands: "SHEET PLAN",
         count: (2, 2),
-        flags: &[&JSON],
+        flags: &[&JSON, &WORDS],
         summary: "check a saved plan, and print the report for it",
         about: "
 PLAN is a saved plan: 16-bit numbers, or the text that plan prints. It may take the merges in
-another order. A plan that is refused gives the rule, and the step at fault.",
+another order. A plan that is refused gives the rule, and the step at fault; with --words the
+steps before it are told.",
         run: plan::verify,
     },
     Command {
@@ -136,15 +152,43 @@ never changed: -o writes the new sheet, as text where FILE is text, else in byte
         run: add::run,
     },
     Command {
+        name: "edit",
+        operands: "FILE CHANGE..",
+        count: (1, ANY),
+        flags: &[&OUTPUT, &JSON],
+        summary: "change a text in place: draw, remove, rename, move, resize",
+        about: "
+Each change is in quotation marks, and they are made one after another:
+  a statement of the text form       an element behind the others, a constraint at the end
+  \"remove A\"     \"remove A B\"       an element with all that holds it; what holds A and B
+  \"rename A corner\"                 wherever it stands
+  \"move A at 0 0\"                   its rough place; \"move sill from 0 0 to 600 0\"
+  \"resize A B 600\"  \"radius c 45\"  another size
+Comments and spaces stay. The new text is printed, whatever its verdict; FILE is not changed.",
+        run: edit::run,
+    },
+    Command {
         name: "part",
         operands: "FILE CLUSTER",
         count: (2, 2),
-        flags: &[&JSON],
+        flags: &[&JSON, &WORDS],
         summary: "print the steps of one cluster of the plan",
         about: "
 CLUSTER is the number of any cluster of the plan. Each part's steps come before the step that
-uses them; a constraint is a cluster too and has none.",
+uses them; a constraint is a cluster too and has none. With --words they are told by names, with
+their places in the plan.",
         run: part::run,
+    },
+    Command {
+        name: "shared",
+        operands: "FILE CLUSTER CLUSTER",
+        count: (3, 3),
+        flags: &[&JSON],
+        summary: "print the elements that two parts share",
+        about: "
+The two are numbers of any clusters of the plan. Where they share nothing it prints none and ends
+with status 1.",
+        run: shared::run,
     },
     Command {
         name: "chain",
@@ -201,6 +245,44 @@ points on them. Ends with status 1 where no layout meets every size.",
         run: place::run,
     },
     Command {
+        name: "scene",
+        operands: "FILE",
+        count: (1, 1),
+        flags: &[&OUTPUT, &SIZE, &LABELS, &WINDOW, &JSON],
+        summary: "print what draw draws as data, for a program that draws it: JSON",
+        about: "
+Elements with their places and constraints with their shapes, in millimetres, x to the right
+and y up; colours, and where labels stand so that they do not cover each other, at the scale
+of --window, in a canvas of --size. A text of no element or of one is drawn too.",
+        run: scene::run,
+    },
+    Command {
+        name: "drag",
+        operands: "FILE PULL",
+        count: (2, 2),
+        flags: &[&OUTPUT, &SIZE, &LABELS, &WINDOW, &JSON],
+        summary: "print where everything is when some elements are pulled",
+        about: "
+PULL is the names of the elements, and by how much they are pulled, in millimetres:
+  pattern drag frame.txt \"C D from 0 0 to 120 40\"
+The dimensions are held: what is under racks, a rigid part moves as one, and what nothing holds
+to the elements stays. The text is printed with the new rough places, all else in it as it is;
+--json adds what scene gives. The layout is tested, not proved. Ends with status 1 where it
+does not meet every size.",
+        run: drag::run,
+    },
+    Command {
+        name: "measure",
+        operands: "FILE A B",
+        count: (3, 3),
+        flags: &[&JSON],
+        summary: "print what may hold two elements, sizes taken from the drawing",
+        about: "
+A statement a line, for pattern add: the distance or the angle that the layout has between
+the two, and the contacts that they may have. What the drawing shows already comes first.",
+        run: measure::run,
+    },
+    Command {
         name: "longest",
         operands: "N",
         count: (1, 1),
@@ -215,12 +297,12 @@ that is not over has a longer one. It is printed as text; with -o it is saved in
         name: "card",
         operands: "[ENTRY | PAIR..]",
         count: (0, 10),
-        flags: &[&JSON],
+        flags: &[&SHEET, &JSON],
         summary: "print how many sets of distances among five points are over, well, ..",
         about: "
 A line each for two to five points. ENTRY is a number of the card, 0 to 1023: pair 0-1 is its
 lowest bit, then in dictionary order. Or name the PAIRs, like 0-1 0-2 1-2: the verdict of five
-points with these distances is printed. --json gives the whole card.",
+points with these distances is printed. --json gives the whole card, with places to draw it at.",
         run: card::run,
     },
     Command {

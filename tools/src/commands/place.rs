@@ -4,7 +4,7 @@ use super::show::place_json;
 use super::{CSV, DXF};
 use crate::cli::{Answer, Call, JSON};
 use crate::document::Document;
-use crate::draw::{self, How, Layout, dxf};
+use crate::draw::{self, Layout, dxf};
 use crate::fault::{Fault, Status};
 use crate::json::Json;
 use crate::sheet::Kind;
@@ -54,14 +54,8 @@ fn json(document: &Document, layout: &Layout, places: &[Rough]) -> Json {
         }
         Json::Object(fields)
     });
-    let how = match layout.how {
-        How::Near => "near",
-        How::Plan => "plan",
-        How::Search => "search",
-        How::GaveUp => "gave up",
-    };
     Json::Object(vec![
-        ("how", how.into()),
+        ("how", layout.how.name().into()),
         ("unmet", Json::list(layout.unmet.iter().map(|&k| document.statement(k)))),
         ("elements", Json::List(elements.collect())),
     ])

@@ -40,13 +40,8 @@ pub fn json(document: &Document) -> Json {
     });
     let constraints = sheet.constraints.iter().enumerate().map(|(k, constraint)| {
         let ends = [constraint.first, constraint.second].map(|end| document.names[end].as_str());
-        let (what, size) = match constraint.dimension {
-            Dimension::Size(size) => ("size", size.into()),
-            Dimension::On => ("on", Json::Null),
-            Dimension::Tangent => ("tangent", Json::Null),
-            Dimension::OtherTangent => ("tangent other", Json::Null),
-        };
-        let fields = [("ends", Json::list(ends)), ("demand", what.into()), ("size", size)];
+        let (what, size) = demand(constraint.dimension);
+        let fields = [("ends", Json::list(ends)), ("demand", what.into()), ("size", Json::maybe(size))];
         let text = ("text", document.statement(k).into());
         Json::Object(fields.into_iter().chain([text]).collect())
     });
@@ -55,6 +50,16 @@ pub fn json(document: &Document) -> Json {
         ("elements", Json::List(elements.collect())),
         ("constraints", Json::List(constraints.collect())),
     ])
+}
+
+/// What a constraint demands for a program, and its size.
+pub fn demand(dimension: Dimension) -> (&'static str, Option<i32>) {
+    match dimension {
+        Dimension::Size(size) => ("size", Some(size)),
+        Dimension::On => ("on", None),
+        Dimension::Tangent => ("tangent", None),
+        Dimension::OtherTangent => ("tangent other", None),
+    }
 }
 
 /// A rough place for a program, in millimetres.

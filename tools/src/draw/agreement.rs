@@ -4,7 +4,7 @@
 use pattern::Step;
 
 use super::construct::{Part, placements, start};
-use super::layout::{How, layout};
+use super::layout::{How, any_layout};
 use super::linear;
 use super::place::{Place, between, distance, length, wrapped};
 use super::system::System;
@@ -40,7 +40,7 @@ fn near(document: &Document, out: &[usize]) -> Option<Vec<Place>> {
         return None;
     }
     let sheet = without(&document.sheet, out);
-    let found = layout(&Document { bytes: engine::write(&sheet).ok()?, sheet, ..document.clone() });
+    let found = any_layout(&Document { bytes: engine::write(&sheet).ok()?, sheet, ..document.clone() });
     (found.how == How::Near && found.unmet.is_empty()).then(|| found.places)
 }
 

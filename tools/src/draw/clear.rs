@@ -3,6 +3,7 @@
 use std::cmp::Ordering;
 
 use super::construct::Part;
+use super::math::ln;
 use super::place::{Place, between, direction, dot, length};
 use crate::sheet::{Dimension, Sheet};
 
@@ -24,7 +25,7 @@ pub fn sort(sheet: &Sheet, found: &mut Vec<(usize, Part)>, parts: [u64; 3], thor
     let mut looks: Vec<(Look, (usize, Part))> = found
         .drain(..)
         .map(|(number, part)| {
-            let spread = (spread(sheet, &part).max(1e-9).ln() * 1e6).round();
+            let spread = (ln(spread(sheet, &part).max(1e-9)) * 1e6).round();
             let look = if thorough {
                 let crossed = crossings(&spans(sheet, &part, base));
                 Look { doubled: doubled(sheet, &part, base), beyond: beyond(sheet, &part), crossed, spread }

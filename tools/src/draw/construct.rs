@@ -8,6 +8,7 @@ use pattern::Step;
 
 use super::clear;
 use super::fit::fit;
+use super::math;
 use super::place::{Motion, Place, between, distance, length, wrapped};
 use super::system::wanted;
 use crate::sheet::{Constraint, Sheet, members};
@@ -337,9 +338,9 @@ fn triangles(lines: [bool; 3], [a, b, c]: [f64; 3]) -> Triangles {
         }
         [false, true, true] => {
             // between parallel lines the point may stand anywhere: here, or to one side
-            let parallel = c.sin().abs() < NEAR;
+            let parallel = math::sin(c).abs() < NEAR;
             let asides = if parallel { vec![0.0, a.abs() + b.abs()] } else { vec![0.0] };
-            let found = asides.into_iter().map(|x| [[x, a], [0.0, 0.0], [c, c.cos() * a - b]]).collect();
+            let found = asides.into_iter().map(|x| [[x, a], [0.0, 0.0], [c, math::cos(c) * a - b]]).collect();
             Triangles { found, lacking: f64::NEG_INFINITY, sampled: parallel }
         }
         _ => Triangles { found: Vec::new(), lacking: f64::INFINITY, sampled: false },

@@ -17,7 +17,8 @@ fn group(out: &mut String, code: u16, value: impl std::fmt::Display) {
 /// A place: x, y and z under three codes ten apart.
 fn place(out: &mut String, code: u16, [x, y]: [f64; 2]) {
     for (i, value) in [x, y, 0.0].iter().enumerate() {
-        group(out, code + 10 * i as u16, format!("{value:.6}"));
+        // no zero has a sign
+        group(out, code + 10 * i as u16, format!("{:.6}", (value * 1e6).round() / 1e6 + 0.0));
     }
 }
 

@@ -1,5 +1,6 @@
 //! The motion that brings places nearest to others.
 
+use super::math::angle;
 use super::place::{Motion, Place, Vector, along, direction, distance, dot, length, normal};
 
 /// The motion that brings some places nearest to where they are wanted, and how far they are from there in squares. A
@@ -23,7 +24,7 @@ pub fn fit(lines: &[bool], from: &[Option<Place>], to: &[Option<Place>], scale: 
         [turn[0] * scale * scale, turn[1] * scale * scale]
     });
     let turns = arms.chain(ways).fold([0.0; 2], |sum, turn| along(sum, 1.0, turn));
-    let turned = Motion { turn: turns[1].atan2(turns[0]), shift: [0.0; 2] };
+    let turned = Motion { turn: angle(turns), shift: [0.0; 2] };
     // the shift: two equations for each point, one across each line
     let mut square = [[1e-9, 0.0], [0.0, 1e-9]];
     let mut right = [0.0; 2];
@@ -63,7 +64,7 @@ pub fn fit(lines: &[bool], from: &[Option<Place>], to: &[Option<Place>], scale: 
 
 /// A line through two points, towards the second.
 pub fn line_through([a, b]: [Place; 2]) -> Place {
-    let angle = (b[1] - a[1]).atan2(b[0] - a[0]);
+    let angle = angle([b[0] - a[0], b[1] - a[1]]);
     [angle, distance(a, [angle, 0.0])]
 }
 

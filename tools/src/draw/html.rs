@@ -34,7 +34,7 @@ pub fn page(
     let parts: String = (0..finding.clusters.len()).map(|p| part(&scene, p)).collect();
     let constraints: String = (0..document.sheet.constraints.len()).map(|k| constraint(&scene, k)).collect();
     let report = escaped(&engine::report(&document.bytes).unwrap_or_default());
-    let views = views(document, finding);
+    let views = views(document, &finding.steps);
     let steps =
         Json::List(views.iter().map(|view| step(document, view)).collect()).laid_out(1, 0).replace('<', "\\u003c");
     let slider = match views.len() {

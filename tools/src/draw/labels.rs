@@ -1,5 +1,6 @@
 //! Where labels stand, so that they cover neither each other nor what they name.
 
+use super::math::{angle, length, sin_cos};
 use super::place::Place;
 
 /// A rectangle on the canvas: its middle, and half its width and height.
@@ -65,17 +66,46 @@ impl Shelf {
 
     /// The best of some places for a label, and whether it covers nothing there. The first ones are preferred.
     pub fn find(&self, places: &[Place], half: [f64; 2]) -> Option<(Place, bool)> {
-        let cost = |(k, &middle): (usize, &Place)| {
+        let (taken, strokes) = self.near(places, half);
+        let mut best: Option<(f64, Place, bool)> = None;
+        for (k, &middle) in places.iter().enumerate() {
             let frame = Frame { middle, half };
-            let covered: f64 = self.taken.iter().map(|other| frame.shared(other)).sum();
+            let dearer = |cost: f64| best.map_or(false, |(least, _, _)| cost >= least);
+            // a later place costs more than its number at least
+            if dearer(k as f64) {
+                break;
+            }
+            let covered: f64 = taken.iter().map(|other| frame.shared(other)).sum();
             let beyond = [0, 1]
                 .map(|axis| (half[axis] - middle[axis]).max(middle[axis] + half[axis] - self.size[axis]).max(0.0));
-            let crossed = self.strokes.iter().filter(|stroke| frame.met_by(**stroke)).count();
             let hidden = covered + 30.0 * (beyond[0] + beyond[1]);
-            (20.0 * hidden + 6.0 * crossed as f64 + k as f64, hidden < 0.5, middle)
+            if dearer(20.0 * hidden + k as f64) {
+                continue;
+            }
+            let crossed = strokes.iter().filter(|stroke| frame.met_by(**stroke)).count();
+            let cost = 20.0 * hidden + 6.0 * crossed as f64 + k as f64;
+            if !dearer(cost) {
+                best = Some((cost, middle, hidden < 0.5));
+            }
+        }
+        best.map(|(_, middle, free)| (middle, free))
+    }
+
+    /// What stands where a label of a size may touch it that has one of some places.
+    fn near(&self, places: &[Place], half: [f64; 2]) -> (Vec<Frame>, Vec<[Place; 2]>) {
+        let bound = |axis: usize| {
+            let along = || places.iter().map(move |place| place[axis]);
+            let (low, high) = (along().fold(f64::INFINITY, f64::min), along().fold(f64::NEG_INFINITY, f64::max));
+            [low - half[axis], high + half[axis]]
         };
-        let best = places.iter().enumerate().map(cost).min_by(|a, b| a.0.total_cmp(&b.0));
-        best.map(|(_, free, middle)| (middle, free))
+        let bounds = [bound(0), bound(1)];
+        let touches = |axis: usize, low: f64, high: f64| low <= bounds[axis][1] && high >= bounds[axis][0];
+        let frame = |frame: &&Frame| {
+            [0, 1].iter().all(|&i| touches(i, frame.middle[i] - frame.half[i], frame.middle[i] + frame.half[i]))
+        };
+        let stroke = |[a, b]: &&[Place; 2]| [0, 1].iter().all(|&i| touches(i, a[i].min(b[i]), a[i].max(b[i])));
+        let taken = self.taken.iter().filter(frame).copied().collect();
+        (taken, self.strokes.iter().filter(stroke).copied().collect())
     }
 
     /// Puts a label on the canvas.
@@ -91,12 +121,12 @@ pub fn half(text: &str, font: f64) -> [f64; 2] {
 
 /// Places for a name around a point of the canvas, from a direction on (y down).
 pub fn around(at: Place, way: Place, near: f64, half: [f64; 2]) -> Vec<Place> {
-    let first = way[1].atan2(way[0]);
+    let first = angle(way);
     let turns = (0..16).map(|k: i32| f64::from((k + 1) / 2) * if k % 2 == 0 { 1.0 } else { -1.0 });
     let angles: Vec<f64> = turns.map(|turn| first + turn * std::f64::consts::TAU / 16.0).collect();
     let rings = [near, near + 6.0, near + 14.0, near + 26.0];
     let place = |far: f64, angle: f64| {
-        let [x, y] = [angle.cos(), angle.sin()];
+        let (y, x) = sin_cos(angle);
         [at[0] + far * x + half[0] * x, at[1] + far * y + half[1] * y]
     };
     rings.iter().flat_map(|&far| angles.iter().map(move |&angle| place(far, angle))).collect()
@@ -105,7 +135,7 @@ pub fn around(at: Place, way: Place, near: f64, half: [f64; 2]) -> Vec<Place> {
 /// Places for a label along a stroke of the canvas: on it, then beside it.
 pub fn beside([a, b]: [Place; 2], half: [f64; 2]) -> Vec<Place> {
     let way = [b[0] - a[0], b[1] - a[1]];
-    let long = way[0].hypot(way[1]).max(1e-9);
+    let long = length(way).max(1e-9);
     let across = [-way[1] / long, way[0] / long];
     let clear = half[0] * across[0].abs() + half[1] * across[1].abs() + 3.0;
     let parts = [0.5, 0.42, 0.58, 0.34, 0.66, 0.26, 0.74, 0.18, 0.82];

@@ -8,6 +8,7 @@ use pattern::Step;
 use super::clear;
 use super::construct::{self, Outcome, Part, Taste};
 use super::fit::{fit, line_through};
+use super::math::{angle, cos, ln, sin};
 use super::place::{Motion, Place, along, between, direction, dot, length, meeting, normal, wrapped};
 use super::system::System;
 use crate::document::Document;
@@ -17,6 +18,8 @@ use crate::text::Rough;
 
 /// How many times a search begins again a little aside of rough places.
 const MOST_ASIDE: u32 = 40;
+/// The most elements of a sheet for which no search is too long.
+const MOST_SMALL: usize = 24;
 
 /// How places were found.
 #[derive(Clone, Copy, PartialEq, Eq, Debug)]
@@ -29,6 +32,18 @@ pub enum How {
     Search,
     /// Not at all: these are the nearest that were seen, and do not meet every size.
     GaveUp,
+}
+
+impl How {
+    /// The word for a program.
+    pub fn name(self) -> &'static str {
+        match self {
+            How::Near => "near",
+            How::Plan => "plan",
+            How::Search => "search",
+            How::GaveUp => "gave up",
+        }
+    }
 }
 
 /// Why no places were found, with the step of the plan at which it was seen: the number of the cluster that it makes.
@@ -52,15 +67,15 @@ pub struct Layout {
 }
 
 /// A sheet that is to be laid out, without the constraints that are too many.
-struct Plan {
-    sheet: Sheet,
+pub struct Plan {
+    pub sheet: Sheet,
     steps: Vec<Step>,
-    clusters: Vec<Cluster>,
+    pub clusters: Vec<Cluster>,
 }
 
 impl Plan {
     /// The plan of a document.
-    fn of(document: &Document) -> Plan {
+    pub fn of(document: &Document) -> Plan {
         let (mut sheet, mut bytes) = (document.sheet.clone(), document.bytes.clone());
         while let Ok(Some(over)) = pattern::over(&bytes) {
             sheet.constraints.remove(over.first);
@@ -123,7 +138,7 @@ fn lay_out(document: &Document, taste: Taste) -> Layout {
     };
     let rough: Vec<Option<Place>> = document.places.iter().map(place).collect();
     let (mut places, how, stop) =
-        if rough.iter().any(Option::is_some) { near(&plan, &rough) } else { free(&plan, taste) };
+        if rough.iter().any(Option::is_some) { near(&plan, &rough, taste) } else { free(&plan, taste) };
     let system = System::of(&document.sheet);
     let mut unmet = system.unmet(&places);
     if plan.sheet.constraints.len() < document.sheet.constraints.len() && !unmet.is_empty() {
@@ -147,7 +162,7 @@ fn free(plan: &Plan, taste: Taste) -> (Vec<Place>, How, Option<Stop>) {
             return (upright(sheet, places), How::Plan, None);
         }
     }
-    let turns = if sheet.elements.len() > 24 { 3 } else { 9 };
+    let turns = if sheet.elements.len() > MOST_SMALL { 3 } else { 9 };
     let circles = (0..turns).map(|turn| circle(sheet, system.scale(), f64::from(turn)));
     let starts = [joined(sheet, &parts, system.scale())].into_iter().chain(circles);
     let settled: Vec<Vec<Place>> = starts.map(|start| system.settle(start)).collect();
@@ -162,8 +177,9 @@ fn free(plan: &Plan, taste: Taste) -> (Vec<Place>, How, Option<Stop>) {
     }
 }
 
-/// A layout of a sheet from rough places of some of its elements.
-fn near(plan: &Plan, rough: &[Option<Place>]) -> (Vec<Place>, How, Option<Stop>) {
+/// A layout of a sheet from rough places of some of its elements. To look whether a large one closes, places aside of
+/// them are not tried.
+fn near(plan: &Plan, rough: &[Option<Place>], taste: Taste) -> (Vec<Place>, How, Option<Stop>) {
     let sheet = &plan.sheet;
     let system = System::of(sheet);
     let lines: Vec<bool> = sheet.elements.iter().map(|kind| kind.is_line()).collect();
@@ -183,7 +199,8 @@ fn near(plan: &Plan, rough: &[Option<Place>]) -> (Vec<Place>, How, Option<Stop>)
     let start = begun(sheet, rough, &base);
     let first = if whole { vec![start.clone(), base] } else { vec![start.clone()] };
     let mut nearest: Option<(f64, Vec<Place>)> = None;
-    for start in first.into_iter().chain((1..=MOST_ASIDE).map(|turn| aside(&system, &start, turn))) {
+    let turns = if matches!(taste, Taste::Soon) && sheet.elements.len() > MOST_SMALL { 0 } else { MOST_ASIDE };
+    for start in first.into_iter().chain((1..=turns).map(|turn| aside(&system, &start, turn))) {
         let places = system.settle(start);
         if system.met(&places) {
             return (home(places), How::Near, None);
@@ -218,7 +235,7 @@ fn based(rough: &[Option<Place>], base: &[Place], element: usize) -> Part {
 /// Places moved a little aside, farther with each turn, the same in every run.
 fn aside(system: &System, places: &[Place], turn: u32) -> Vec<Place> {
     let far = system.scale() * 0.01 * f64::from(1 + turn % 10);
-    let by = |k: usize| far * ((k * k) as f64 * 0.7 + f64::from(turn) * (1.3 + k as f64)).sin();
+    let by = |k: usize| far * sin((k * k) as f64 * 0.7 + f64::from(turn) * (1.3 + k as f64));
     system.moved(places, &(0..2 * places.len()).map(by).collect::<Vec<f64>>())
 }
 
@@ -231,18 +248,18 @@ fn clearness(sheet: &Sheet, places: &[Place]) -> f64 {
     let spots: Vec<Place> = (0..places.len()).filter(|&i| !is_line(i)).map(|i| places[i]).chain(meetings).collect();
     let pairs = spots.iter().enumerate().flat_map(|(i, a)| spots[..i].iter().map(|b| length(between(*a, *b))));
     let (apart, widest) =
-        pairs.fold((0.0, 1e-9), |(sum, widest): (f64, f64), far| (sum + far.max(1e-9).ln(), widest.max(far)));
+        pairs.fold((0.0, 1e-9), |(sum, widest): (f64, f64), far| (sum + ln(far.max(1e-9)), widest.max(far)));
     let count = (spots.len() * spots.len().saturating_sub(1) / 2).max(1) as f64;
     let part: Part = places.iter().copied().map(Some).collect();
-    apart / count - widest.ln() - 0.5 * clear::crossings(&clear::spans(sheet, &part, 0)) as f64
+    apart / count - ln(widest) - 0.5 * clear::crossings(&clear::spans(sheet, &part, 0)) as f64
 }
 
 /// Places on a circle: points on it, lines across it there. A turn other than 0 moves them about.
 fn circle(sheet: &Sheet, radius: f64, turn: f64) -> Vec<Place> {
     let n = sheet.elements.len() as f64;
     let place = |(i, kind): (usize, &Kind)| {
-        let angle = PI / 2.0 - TAU * i as f64 / n + turn * (1.0 + (i * i) as f64).sin();
-        let far = radius * (1.0 + 0.3 * turn.sin() * (i as f64 * 2.4).cos());
+        let angle = PI / 2.0 - TAU * i as f64 / n + turn * sin(1.0 + (i * i) as f64);
+        let far = radius * (1.0 + 0.3 * sin(turn) * cos(i as f64 * 2.4));
         let at = along([0.0; 2], far, direction(angle));
         if kind.is_line() { [angle - PI / 2.0, dot(normal(angle - PI / 2.0), at)] } else { at }
     };
@@ -327,7 +344,7 @@ fn upright(sheet: &Sheet, places: Vec<Place>) -> Vec<Place> {
     let level = line.or_else(|| {
         let pair = sheet.constraints.first()?;
         let apart = between(places[pair.first], places[pair.second]);
-        Some(apart[1].atan2(apart[0]))
+        Some(angle(apart))
     });
     let turned = Motion { turn: -level.unwrap_or(0.0), shift: [0.0; 2] };
     let mut places = centred(sheet, moved(sheet, places, turned));
@@ -365,6 +382,6 @@ pub fn centred(sheet: &Sheet, places: Vec<Place>) -> Vec<Place> {
 }
 
 /// All places after a motion.
-fn moved(sheet: &Sheet, places: Vec<Place>, motion: Motion) -> Vec<Place> {
+pub fn moved(sheet: &Sheet, places: Vec<Place>, motion: Motion) -> Vec<Place> {
     places.into_iter().enumerate().map(|(i, place)| motion.apply(place, sheet.elements[i].is_line())).collect()
 }

@@ -3,6 +3,8 @@
 mod agreement;
 mod clear;
 mod construct;
+mod data;
+mod drag;
 pub mod dxf;
 mod firmness;
 mod fit;
@@ -11,9 +13,11 @@ mod labels;
 mod layout;
 mod legend;
 mod linear;
+mod math;
 mod place;
 mod scene;
 mod solve;
+mod spots;
 mod steps;
 mod svg;
 mod system;
@@ -22,15 +26,18 @@ use pattern::Verdict;
 
 use crate::document::Document;
 use crate::finding::Finding;
+use crate::sheet::Sheet;
 use crate::text::Rough;
 use system::System;
 
 pub use agreement::Agreement;
+pub use data::{data, fields};
+pub use drag::drag;
 pub use firmness::Weak;
 pub use html::page;
 pub use layout::{How, Layout, Stop, layout};
-pub use scene::{Labels, Options, SIZES};
-pub use steps::{View, views};
+pub use scene::{Labels, Options, SIZES, Window};
+pub use steps::{Piece, View, first_pieces, joined, joint, open_first, pieces, saved_views, views};
 pub use svg::{picture, step_picture};
 
 /// What a layout shows of a sheet that is "well" by its count.
@@ -95,9 +102,7 @@ pub fn error(document: &Document, layout: &Layout) -> f64 {
 /// The places of a layout as the text form has them: a line between the outermost points on it. Where the text says
 /// nothing of places the first point is at 0 0.
 pub fn rough(document: &Document, layout: &Layout) -> Vec<Rough> {
-    let is_line = |i: usize| document.sheet.elements[i].is_line();
-    let given = document.places.iter().any(Option::is_some);
-    let first = (0..layout.places.len()).find(|&i| !given && !is_line(i)).map_or([0.0; 2], |i| layout.places[i]);
+    let first = origin(document, layout);
     let shifted = |place: place::Place| place::between(first, place);
     let ends = scene::line_ends(document, &layout.places);
     let place = |i: usize| match ends[i] {
@@ -105,6 +110,31 @@ pub fn rough(document: &Document, layout: &Layout) -> Vec<Rough> {
         None => Rough::At(shifted(layout.places[i])),
     };
     (0..layout.places.len()).map(place).collect()
+}
+
+/// What two elements measure in the layout of a sheet: millimetres, or degrees between two lines.
+pub fn measured(document: &Document, first: usize, second: usize) -> f64 {
+    let places = layout(document).places;
+    let lines = [first, second].map(|end| document.sheet.elements[end].is_line());
+    place::measured(lines, [places[first], places[second]])
+}
+
+/// The layout of an element alone, where the text says.
+pub fn alone(sheet: &Sheet, places: &[Option<Rough>]) -> Layout {
+    let place = |place: &Option<Rough>| match *place {
+        Some(Rough::At(at)) => at,
+        Some(Rough::Along(ends)) => fit::line_through(ends),
+        None => [0.0; 2],
+    };
+    let places = places.iter().map(place).take(sheet.elements.len()).collect();
+    Layout { places, how: How::Near, stop: None, unmet: Vec::new() }
+}
+
+/// What stands at 0 0: where the text says nothing of places the first point.
+fn origin(document: &Document, layout: &Layout) -> place::Place {
+    let is_line = |i: usize| document.sheet.elements[i].is_line();
+    let given = document.places.iter().any(Option::is_some);
+    (0..layout.places.len()).find(|&i| !given && !is_line(i)).map_or([0.0; 2], |i| layout.places[i])
 }
 
 /// A sentence on how a layout was found.

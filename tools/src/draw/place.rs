@@ -2,6 +2,8 @@
 
 use std::f64::consts::PI;
 
+use super::math;
+
 /// Where an element is: a point or a centre by its two coordinates; a line by the angle of its direction and its signed
 /// distance from the origin.
 pub type Place = [f64; 2];
@@ -11,12 +13,14 @@ pub type Vector = [f64; 2];
 
 /// The direction of an angle.
 pub fn direction(angle: f64) -> Vector {
-    [angle.cos(), angle.sin()]
+    let (sine, cosine) = math::sin_cos(angle);
+    [cosine, sine]
 }
 
 /// The direction a quarter turn further: the side of a line on which distances are positive.
 pub fn normal(angle: f64) -> Vector {
-    [-angle.sin(), angle.cos()]
+    let (sine, cosine) = math::sin_cos(angle);
+    [-sine, cosine]
 }
 
 /// The product of two vectors.
@@ -36,7 +40,7 @@ pub fn between(a: Vector, b: Vector) -> Vector {
 
 /// The length of a vector.
 pub fn length(a: Vector) -> f64 {
-    a[0].hypot(a[1])
+    math::length(a)
 }
 
 /// A turn by the same angle that is at most half a circle.
@@ -56,11 +60,22 @@ pub fn foot(point: Place, line: Place) -> Place {
 
 /// The point where two lines meet, unless they are nearly parallel.
 pub fn meeting(a: Place, b: Place) -> Option<Place> {
-    let sine = wrapped(b[0] - a[0]).sin();
+    let sine = math::sin(wrapped(b[0] - a[0]));
     (sine.abs() > 1e-9).then(|| {
         let (d, e) = (direction(a[0]), direction(b[0]));
         [(a[1] * e[0] - b[1] * d[0]) / sine, (a[1] * e[1] - b[1] * d[1]) / sine]
     })
+}
+
+/// What two elements measure: the distance of points, of a point from a line with its sign, or the angle that turns the
+/// first line into the second, in degrees.
+pub fn measured(lines: [bool; 2], [a, b]: [Place; 2]) -> f64 {
+    match lines {
+        [false, false] => length(between(a, b)),
+        [false, true] => distance(a, b),
+        [true, false] => distance(b, a),
+        [true, true] => wrapped(b[0] - a[0]).to_degrees(),
+    }
 }
 
 /// A motion of the plane: a turn, then a shift.
@@ -100,7 +115,7 @@ impl Motion {
                     to[1][0] - from[1][0]
                 } else {
                     let [before, after] = [from, to].map(|ends| between(ends[0], ends[1]));
-                    after[1].atan2(after[0]) - before[1].atan2(before[0])
+                    math::angle(after) - math::angle(before)
                 };
                 let turned = Motion { turn: wrapped(turn), shift: [0.0; 2] };
                 Motion { shift: between(turned.apply(from[0], false), to[0]), ..turned }

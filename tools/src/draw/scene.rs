@@ -6,14 +6,17 @@ use pattern::Verdict;
 
 use super::clear;
 use super::layout::{How, Layout};
-use super::place::{Place, along, between, direction, distance, dot, foot, length, meeting, normal, wrapped};
+use super::place::{Place, along, between, direction, dot, foot, length, measured, meeting, normal, wrapped};
 use super::steps::{Role, View};
 use crate::document::Document;
 use crate::finding::Finding;
 use crate::sheet::{Constraint, Kind};
+use crate::text::Rough;
 
 /// The room around a drawing, in pixels.
 pub const MARGIN: f64 = 80.0;
+/// The radius of the arc of an angle, in pixels.
+pub const ARC: f64 = 30.0;
 /// The sizes that may be asked for, in pixels.
 pub const SIZES: Range<f64> = 300.0..20_001.0;
 
@@ -26,17 +29,26 @@ pub enum Labels {
     None,
 }
 
+/// A window on the plane: its upper left corner in millimetres, and how many pixels a millimetre has.
+#[derive(Clone, Copy, PartialEq, Debug)]
+pub struct Window {
+    pub corner: Place,
+    pub scale: f64,
+}
+
 /// What is asked of a picture.
 #[derive(Clone, Copy, PartialEq, Debug)]
 pub struct Options {
     /// The width and height of the picture without its legend, in pixels: the most that it takes.
     pub size: [f64; 2],
     pub labels: Labels,
+    /// What is seen; all where it is not said.
+    pub window: Option<Window>,
 }
 
 impl Default for Options {
     fn default() -> Options {
-        Options { size: [800.0, 600.0], labels: Labels::All }
+        Options { size: [800.0, 600.0], labels: Labels::All, window: None }
     }
 }
 
@@ -79,6 +91,8 @@ pub struct Scene<'a> {
     segments: Vec<Option<[Place; 2]>>,
     scale: f64,
     corner: Place,
+    /// The least and the greatest coordinates of what is drawn.
+    pub frame: [Place; 2],
 }
 
 impl<'a> Scene<'a> {
@@ -97,7 +111,19 @@ impl<'a> Scene<'a> {
         let size = [0, 1].map(|axis| (extent[axis] * scale).max(120.0));
         let slack = [0, 1].map(|axis| (size[axis] - extent[axis] * scale) / 2.0 / scale);
         let corner = [low[0] - slack[0], high[1] + slack[1]];
-        Scene { document, finding, how, unmet, options, step: None, size, places, segments, scale, corner }
+        let frame = [low, high];
+        let mut scene =
+            Scene { document, finding, how, unmet, options, step: None, size, places, segments, scale, corner, frame };
+        if let Some(Window { corner, scale }) = options.window {
+            let aside = MARGIN / scale;
+            (scene.size, scene.scale, scene.corner) = (room, scale, [corner[0] + aside, corner[1] - aside]);
+        }
+        scene
+    }
+
+    /// The place in the plane of a place on the canvas.
+    pub fn under(&self, [x, y]: Place) -> Place {
+        [self.corner[0] + (x - MARGIN) / self.scale, self.corner[1] - (y - MARGIN) / self.scale]
     }
 
     /// A place on the canvas.
@@ -136,13 +162,8 @@ impl<'a> Scene<'a> {
     /// What a constraint measures as it is drawn: millimetres, or degrees.
     pub fn drawn(&self, c: &Constraint) -> String {
         let lines = [c.first, c.second].map(|end| self.document.sheet.elements[end].is_line());
-        let (a, b) = (self.places[c.first], self.places[c.second]);
-        match lines {
-            [false, false] => format!("{:.1}", length(between(a, b))),
-            [false, true] => format!("{:.1}", distance(a, b)),
-            [true, false] => format!("{:.1}", distance(b, a)),
-            [true, true] => format!("{:.2}°", wrapped(b[0] - a[0]).to_degrees()),
-        }
+        let measured = measured(lines, [self.places[c.first], self.places[c.second]]);
+        if lines == [true, true] { format!("{measured:.2}°") } else { format!("{measured:.1}") }
     }
 
     /// The final clusters that an element is in, by place in the list of them.
@@ -226,6 +247,50 @@ impl<'a> Scene<'a> {
         (inside(x, self.size[0]) && inside(y, self.size[1])).then(|| at)
     }
 
+    /// The constraints of an element.
+    pub fn constraints_of(&self, element: usize) -> Vec<usize> {
+        let all = self.document.sheet.constraints.iter().enumerate();
+        all.filter(|(_, c)| c.first == element || c.second == element).map(|(k, _)| k).collect()
+    }
+
+    /// The direction from which an angle turns, and by how much.
+    pub fn angle_of(&self, constraint: &Constraint) -> (f64, f64) {
+        let from = self.places[constraint.first][0];
+        (from, wrapped(self.places[constraint.second][0] - from))
+    }
+
+    /// Places along the arc of an angle about a place.
+    pub fn arc(&self, constraint: &Constraint, meeting: Place) -> Vec<Place> {
+        let ((from, turn), radius) = (self.angle_of(constraint), ARC / self.scale);
+        (0..=16).map(|i| along(meeting, radius, direction(from + turn * f64::from(i) / 16.0))).collect()
+    }
+
+    /// Two small strokes across the lines of an angle that meet nowhere near.
+    pub fn marks(&self, constraint: &Constraint) -> [[Place; 2]; 2] {
+        [constraint.first, constraint.second].map(|line| {
+            let across = 7.0 / self.scale;
+            let (at, way) = (self.anchor(line), direction(self.places[line][0] + 1.2));
+            [along(at, -across, way), along(at, across, way)]
+        })
+    }
+
+    /// Where the two elements of a contact touch.
+    pub fn touching(&self, c: &Constraint) -> Place {
+        let kinds = [c.first, c.second].map(|end| self.document.sheet.elements[end]);
+        let (a, b) = (self.places[c.first], self.places[c.second]);
+        if kinds[0].is_line() {
+            return foot(b, a);
+        }
+        if kinds[1].is_line() {
+            return foot(a, b);
+        }
+        // on the edge of the larger circle, on the side of the other centre
+        let radii = kinds.map(|kind| f64::from(kind.radius()) / 10.0);
+        let (large, other, radius) = if radii[0] >= radii[1] { (a, b, radii[0]) } else { (b, a, radii[1]) };
+        let apart = between(large, other);
+        along(large, radius / length(apart).max(1e-9), apart)
+    }
+
     /// The direction in which the label of an element leaves the middle.
     pub fn outward(&self, place: Place) -> Place {
         let middle = along(self.corner, 0.5 / self.scale, [self.size[0], -self.size[1]]);
@@ -269,20 +334,29 @@ fn seen(document: &Document, places: &[Place]) -> Vec<Place> {
     let meetings: Vec<Place> = angles.filter_map(|c| meeting(places[c.first], places[c.second])).collect();
     seen.extend(meetings.into_iter().filter(|&place| reach == 0.0 || length(place) < 1.6 * reach));
     if seen.is_empty() {
-        seen.extend((0..places.len()).map(|i| along([0.0; 2], places[i][1], normal(places[i][0]))));
+        // lines alone: where the text says, or else near the middle
+        seen.extend((0..places.len()).flat_map(|i| match document.places[i] {
+            Some(Rough::Along(ends)) => ends.map(|end| foot(end, places[i])).to_vec(),
+            _ => vec![along([0.0; 2], places[i][1], normal(places[i][0]))],
+        }));
     }
     seen
 }
 
 /// The ends of each line: the outermost points on it, or else what is drawn of it.
 pub fn line_ends(document: &Document, places: &[Place]) -> Vec<Option<[Place; 2]>> {
-    let part: Vec<Option<Place>> = places.iter().copied().map(Some).collect();
     let drawn = segments(document, places, &seen(document, places));
+    let stretched = stretches(document, places);
+    drawn.into_iter().zip(stretched).map(|(drawn, on)| drawn.map(|drawn| on.unwrap_or(drawn))).collect()
+}
+
+/// The outermost points on each line, where there are two apart.
+fn stretches(document: &Document, places: &[Place]) -> Vec<Option<[Place; 2]>> {
+    let part: Vec<Option<Place>> = places.iter().copied().map(Some).collect();
     let apart = |ends: &[Place; 2]| length(between(ends[0], ends[1])) > 1e-3;
-    let ends = |(i, drawn): (usize, Option<[Place; 2]>)| {
-        drawn.map(|drawn| clear::stretch(&document.sheet, &part, i).filter(apart).unwrap_or(drawn))
-    };
-    drawn.into_iter().enumerate().map(ends).collect()
+    let is_line = |i: &usize| document.sheet.elements[*i].is_line();
+    let stretch = |i: usize| Some(i).filter(is_line).and_then(|i| clear::stretch(&document.sheet, &part, i));
+    (0..places.len()).map(|i| stretch(i).filter(apart)).collect()
 }
 
 /// What is drawn of each line: from the first to the last place that matters on it, and a little more.
@@ -294,6 +368,7 @@ fn segments(document: &Document, places: &[Place], seen: &[Place]) -> Vec<Option
             - seen.iter().map(|p| p[axis]).fold(f64::INFINITY, f64::min)
     });
     let span = spans[0].max(spans[1]).max(1.0);
+    let stretched = stretches(document, places);
     let segment = |i: usize| {
         let (way, line) = (direction(places[i][0]), places[i]);
         let nearest = along([0.0; 2], line[1], normal(line[0]));
@@ -309,9 +384,19 @@ fn segments(document: &Document, places: &[Place], seen: &[Place]) -> Vec<Option
         let at: Vec<f64> = on.map(|place| dot(way, place)).collect();
         let (low, high) =
             (at.iter().copied().fold(f64::INFINITY, f64::min), at.iter().copied().fold(f64::NEG_INFINITY, f64::max));
-        let (low, high) = if low <= high { (low, high) } else { (0.0, 0.0) };
-        let more = span * if high - low < 0.2 * span { 0.22 } else { 0.1 };
-        [along(nearest, low - more, way), along(nearest, high + more, way)]
+        let said = match document.places[i] {
+            Some(Rough::Along(ends)) if stretched[i].is_none() => Some(ends.map(|end| dot(way, end))),
+            _ => None,
+        };
+        let reach = if low <= high {
+            let more = span * if high - low < 0.2 * span { 0.22 } else { 0.1 };
+            [low - more, high + more]
+        } else {
+            said.unwrap_or([-0.22 * span, 0.22 * span])
+        };
+        // where no two points on it say how far it reaches, the text does
+        let [a, b] = said.unwrap_or(reach);
+        [along(nearest, reach[0].min(a), way), along(nearest, reach[1].max(b), way)]
     };
     (0..places.len()).map(|i| is_line(i).then(|| segment(i))).collect()
 }

@@ -44,26 +44,28 @@ impl System<'_> {
 
     /// The step of the search: the least squares of the linear equations, damped.
     fn step(&self, places: &[Place], damping: f64) -> Option<Vec<f64>> {
+        let (mut square, right) = self.squared(places);
+        (0..right.len()).for_each(|i| square.add(i, i, damping));
+        square.solve(right)
+    }
+
+    /// The least squares of the linear equations: a matrix and the right side.
+    pub fn squared(&self, places: &[Place]) -> (Square, Vec<f64>) {
         let mut square = Square::of(2 * places.len());
         let mut right = vec![0.0; 2 * places.len()];
         for constraint in self.constraints() {
             let (error, row) = self.equation(constraint, places);
             let [(a, x), (b, y)] = row;
             let entries = [(2 * a, x[0]), (2 * a + 1, x[1]), (2 * b, y[0]), (2 * b + 1, y[1])];
-            for (i, x) in entries {
-                right[i] -= x * error;
-                for (j, y) in entries {
-                    square.add(i, j, x * y);
-                }
-            }
+            entries.iter().for_each(|(i, x)| right[*i] -= x * error);
+            square.add_row(&entries, 1.0);
         }
-        (0..right.len()).for_each(|i| square.add(i, i, damping));
-        square.solve(right)
+        (square, right)
     }
 }
 
 /// A symmetric matrix by its lower half, each row from its first entry on.
-struct Square {
+pub struct Square {
     width: usize,
     entries: Vec<f64>,
     first: Vec<usize>,
@@ -75,8 +77,15 @@ impl Square {
         Square { width, entries: vec![0.0; width * width], first: (0..width).collect() }
     }
 
+    /// Adds the square of a row of an equation.
+    pub fn add_row(&mut self, entries: &[(usize, f64)], weight: f64) {
+        for (i, x) in entries {
+            entries.iter().for_each(|(j, y)| self.add(*i, *j, weight * x * y));
+        }
+    }
+
     /// Adds to an entry of the lower half.
-    fn add(&mut self, i: usize, j: usize, by: f64) {
+    pub fn add(&mut self, i: usize, j: usize, by: f64) {
         if j <= i {
             self.entries[i * self.width + j] += by;
             self.first[i] = self.first[i].min(j);
@@ -84,7 +93,7 @@ impl Square {
     }
 
     /// Solves equations of a positive matrix (Cholesky).
-    fn solve(mut self, mut right: Vec<f64>) -> Option<Vec<f64>> {
+    pub fn solve(mut self, mut right: Vec<f64>) -> Option<Vec<f64>> {
         let width = self.width;
         for i in 0..width {
             let (above, rest) = self.entries.split_at_mut(i * width);

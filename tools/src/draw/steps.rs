@@ -3,9 +3,8 @@
 use pattern::Step;
 
 use crate::document::Document;
-use crate::finding::Finding;
-use crate::sheet::members;
-use crate::steps;
+use crate::sheet::{Constraint, members};
+use crate::{merges, steps};
 
 /// A part of a plan: its elements and its constraints, each as a set of bits.
 #[derive(Clone, Copy, PartialEq, Eq, Debug)]
@@ -88,36 +87,81 @@ pub fn piece_words(document: &Document, piece: &Piece) -> String {
     format!("part {}: {}", piece.number, names.join(" "))
 }
 
-/// The steps of a plan.
-pub fn views(document: &Document, finding: &Finding) -> Vec<View> {
-    let ends = |k: usize| {
-        let c = &document.sheet.constraints[k];
-        1 << c.first | 1 << c.second
+/// The steps of the engine's plan.
+pub fn views(document: &Document, steps: &[Step]) -> Vec<View> {
+    views_by(document, steps, steps.len(), |k, _| open_after(document, k))
+}
+
+/// The merges that are open after so many steps of the engine's plan.
+fn open_after(document: &Document, steps: usize) -> Vec<[usize; 3]> {
+    let mut space = [0; pattern::MOST_OPEN];
+    let open = pattern::open(&document.bytes, steps, &mut space).unwrap_or(&[]);
+    open.chunks_exact(3).map(|merge| [0, 1, 2].map(|i| usize::from(merge[i]))).collect()
+}
+
+/// The merges that are open before any step.
+pub fn open_first(document: &Document) -> Vec<[Piece; 3]> {
+    let pieces = first_pieces(document);
+    open_after(document, 0).into_iter().map(|merge| merge.map(|part| pieces[part])).collect()
+}
+
+/// The first steps of a plan of so many that was saved.
+pub fn saved_views(document: &Document, steps: &[Step], of: usize) -> Vec<View> {
+    views_by(document, steps, of, |_, living| merges::open(living))
+}
+
+/// The parts that a plan starts from: the constraints.
+pub fn first_pieces(document: &Document) -> Vec<Piece> {
+    let constraints = document.sheet.constraints.iter().enumerate();
+    let piece = |(k, c): (usize, &Constraint)| Piece {
+        number: k,
+        elements: 1 << c.first | 1 << c.second,
+        constraints: 1u128.checked_shl(k as u32).unwrap_or(0),
     };
-    let bit = |k: usize| 1u128.checked_shl(k as u32).unwrap_or(0);
-    let count = document.sheet.constraints.len();
-    let mut pieces: Vec<Piece> =
-        (0..count).map(|k| Piece { number: k, elements: ends(k), constraints: bit(k) }).collect();
+    constraints.map(piece).collect()
+}
+
+/// Three parts as one.
+pub fn joined(parts: [Piece; 3], number: usize) -> Piece {
+    let none = Piece { number, elements: 0, constraints: 0 };
+    parts.iter().fold(none, |all, piece| Piece {
+        number,
+        elements: all.elements | piece.elements,
+        constraints: all.constraints | piece.constraints,
+    })
+}
+
+/// Every part of a plan by its number: the constraints, and what each step makes.
+pub fn pieces(document: &Document, steps: &[Step]) -> Vec<Piece> {
+    let mut pieces = first_pieces(document);
+    for step in steps {
+        pieces.push(joined(step.parts.map(|part| pieces[part]), step.made));
+    }
+    pieces
+}
+
+/// The steps of a plan of so many, where it is known which merges are open after how many steps, among which parts.
+fn views_by(
+    document: &Document,
+    steps: &[Step],
+    of: usize,
+    open: impl Fn(usize, &[Piece]) -> Vec<[usize; 3]>,
+) -> Vec<View> {
+    let mut pieces = first_pieces(document);
+    let mut used = vec![false; pieces.len()];
     let mut views: Vec<View> = Vec::new();
-    let joined = |pieces: [Piece; 3], number: usize| {
-        let none = Piece { number, elements: 0, constraints: 0 };
-        pieces.iter().fold(none, |all, piece| Piece {
-            number,
-            elements: all.elements | piece.elements,
-            constraints: all.constraints | piece.constraints,
-        })
-    };
     let mut built = Piece { number: 0, elements: 0, constraints: 0 };
-    let words = steps::words(document, &finding.steps);
-    for (i, (&step, words)) in finding.steps.iter().zip(words).enumerate() {
+    let words = steps::each(document, steps);
+    for (i, (&step, words)) in steps.iter().zip(words).enumerate() {
         let parts = step.parts.map(|part| pieces[part]);
         let made = joined(parts, step.made);
         pieces.push(made);
-        let mut space = [0; pattern::MOST_OPEN];
-        let open = pattern::open(&document.bytes, i + 1, &mut space).unwrap_or(&[]);
-        let next = open.chunks_exact(3).map(|merge| [0, 1, 2].map(|k| pieces[usize::from(merge[k])])).collect();
-        let count = format!(" of {}:", finding.steps.len());
-        let words = format!("step {}", words.replacen('.', &count, 1));
+        used.push(false);
+        step.parts.iter().for_each(|&part| used[part] = true);
+        let living: Vec<Piece> =
+            pieces.iter().zip(&used).filter(|(_, used)| !**used).map(|(piece, _)| *piece).collect();
+        let next = open(i + 1, &living).into_iter().map(|merge| merge.map(|part| pieces[part])).collect();
+        let words = format!("step {} of {of}: {words}", i + 1);
         views.push(View { step, words, parts, built, next });
         built = joined([built, made, made], 0);
     }

@@ -2,24 +2,22 @@
 
 use std::fmt::Write;
 
-use super::labels::{self, Shelf};
+use super::labels::Frame;
 use super::layout::Layout;
 use super::legend;
-use super::place::{Place, along, between, direction, foot, length, wrapped};
-use super::scene::{Labels, MARGIN, Options, Paint, Scene};
+use super::place::{Place, along, direction};
+use super::scene::{ARC, MARGIN, Options, Paint, Scene};
+use super::spots::{self, Spots};
 use super::steps::View;
 use crate::document::Document;
 use crate::draw::Position;
 use crate::finding::{Finding, verdict_name};
 use crate::sheet::{Constraint, Dimension, members};
-use crate::text::{degrees, millimetres};
 
 /// The height of a line of the legend.
 const LINE: f64 = 18.0;
 /// The least width of a picture, so that the legend fits.
 const LEAST: f64 = 720.0;
-/// The radius of the arc of an angle.
-const ARC: f64 = 30.0;
 /// The red of what does not fit.
 const RED: &str = "#d00000";
 
@@ -76,22 +74,14 @@ impl Drawing {
         content.extend(lines.iter().map(|&i| grouped_element(scene, i, element(scene, i))));
         content.extend((0..e).map(|k| grouped_constraint(scene, k, constraint(scene, k))));
         content.extend(points.iter().map(|&i| grouped_element(scene, i, element(scene, i))));
-        let mut shelf = shelf(scene);
+        let spots = Spots::of(scene);
         for i in points.into_iter().chain(lines) {
-            content += &grouped_element(scene, i, name(scene, &mut shelf, i));
+            content += &grouped_element(scene, i, name(scene, &spots, i));
         }
-        // the shortest first: they have the least choice
-        let mut order: Vec<usize> = (0..e).collect();
-        let long =
-            |k: usize| length(between(scene.span(&sheet.constraints[k])[0], scene.span(&sheet.constraints[k])[1]));
-        order.sort_by(|&a, &b| long(a).total_cmp(&long(b)));
-        let mut left_out = 0;
-        for k in order {
-            match size_label(scene, &mut shelf, k) {
-                Some(label) => content += &grouped_constraint(scene, k, label),
-                None => left_out += 1,
-            }
+        for &k in &spots.order {
+            content += &grouped_constraint(scene, k, size_label(scene, &spots, k));
         }
+        let left_out = spots.left_out;
         Drawing { content, left_out }
     }
 
@@ -135,12 +125,6 @@ pub fn escaped(text: &str) -> String {
     out
 }
 
-/// The constraints of an element.
-pub fn constraints_of(document: &Document, element: usize) -> Vec<usize> {
-    let all = document.sheet.constraints.iter().enumerate();
-    all.filter(|(_, c)| c.first == element || c.second == element).map(|(k, _)| k).collect()
-}
-
 /// The stroke of a paint.
 fn stroke(paint: Paint, width: f64) -> String {
     let dash = if paint.dashed { " stroke-dasharray=\"6 4\"" } else { "" };
@@ -160,7 +144,7 @@ fn group(class: &str, title: &str, key: &str, lit: &str, content: String) -> Str
 /// What is drawn of an element, as a group.
 fn grouped_element(scene: &Scene, i: usize, content: String) -> String {
     let document = scene.document;
-    let lit = [vec![format!("e{i}")], keyed('p', scene.parts_of(i)), keyed('k', constraints_of(document, i))];
+    let lit = [vec![format!("e{i}")], keyed('p', scene.parts_of(i)), keyed('k', scene.constraints_of(i))];
     let title = format!("{} {}, element {i}", document.sheet.elements[i].name(), document.names[i]);
     group(class("element", scene.element_paint(i)), &title, &format!("e{i}"), &lit.concat().join(" "), content)
 }
@@ -196,41 +180,6 @@ fn arrow([x, y]: Place, way: Place, colour: &str) -> String {
     format!("<path d=\"M{x:.1} {y:.1}L{}L{}z\" fill=\"{colour}\"/>", tip(11.0, 4.0), tip(11.0, -4.0))
 }
 
-/// The font size of names, and that of sizes.
-fn fonts(scene: &Scene) -> [f64; 2] {
-    if scene.dense() { [10.0, 9.0] } else { [13.0, 11.0] }
-}
-
-/// The canvas with its points and strokes, before labels are put on it.
-fn shelf(scene: &Scene) -> Shelf {
-    let sheet = &scene.document.sheet;
-    let mut shelf = Shelf::of([scene.size[0] + 2.0 * MARGIN, scene.size[1] + 2.0 * MARGIN]);
-    for i in 0..sheet.elements.len() {
-        match scene.segment(i) {
-            Some([a, b]) => {
-                shelf.stroke([scene.at(a), scene.at(b)]);
-                shelf.take(scene.at(b), 5.0);
-            }
-            None => shelf.take(scene.at(scene.place(i)), if scene.dense() { 3.5 } else { 5.0 }),
-        }
-    }
-    for c in &sheet.constraints {
-        let lines = [c.first, c.second].map(|end| sheet.elements[end].is_line());
-        if lines == [true, true] {
-            if let Some(meeting) = scene.meeting(c) {
-                let (from, turn) = angle_of(scene, c);
-                let at = |part: f64| scene.at(along(meeting, ARC / scene.long(1.0), direction(from + turn * part)));
-                shelf.take(at(1.0), 6.0);
-                [0.0, 0.25, 0.5, 0.75].iter().for_each(|&part| shelf.stroke([at(part), at(part + 0.25)]));
-            }
-        } else if matches!(c.dimension, Dimension::Size(_)) {
-            let [a, b] = scene.span(c);
-            shelf.stroke([scene.at(a), scene.at(b)]);
-        }
-    }
-    shelf
-}
-
 /// A text of the canvas, its middle at a place.
 fn label([x, y]: Place, class: &str, font: f64, colour: &str, text: &str) -> String {
     let y = y + 0.35 * font;
@@ -241,74 +190,24 @@ fn label([x, y]: Place, class: &str, font: f64, colour: &str, text: &str) -> Str
     )
 }
 
-/// The name of an element.
-fn name(scene: &Scene, shelf: &mut Shelf, i: usize) -> String {
-    if !matches!(scene.options.labels, Labels::All | Labels::Names) {
-        return String::new();
-    }
-    let (text, [font, _]) = (&scene.document.names[i], fonts(scene));
-    let half = labels::half(text, font);
-    let places = match scene.segment(i) {
-        Some([a, b]) => {
-            let [x, y] = direction(scene.place(i)[0]);
-            let (a, b) = (scene.at(a), scene.at(b));
-            let ends = [labels::around(b, [x, -y], 4.0, half), labels::around(a, [-x, y], 4.0, half)].concat();
-            ends.into_iter().chain(labels::beside([a, b], half).into_iter().skip(9)).collect()
-        }
-        None => {
-            let [x, y] = scene.outward(scene.place(i));
-            let ringed = constraints_of(scene.document, i);
-            let ringed = ringed.iter().any(|&k| scene.document.sheet.constraints[k].dimension == Dimension::On);
-            let near = if scene.dense() { 4.0 } else { 6.0 } + if ringed { 3.0 } else { 0.0 };
-            labels::around(scene.at(scene.place(i)), [x, -y], near, half)
-        }
+/// The name of an element, where it stands.
+fn name(scene: &Scene, spots: &Spots, i: usize) -> String {
+    let middle = match spots.names[i] {
+        Some(middle) => middle,
+        None => return String::new(),
     };
-    match shelf.find(&places, half) {
-        Some((middle, _)) => {
-            shelf.put(middle, half);
-            label(middle, "name", font, scene.element_paint(i).colour, text)
-        }
-        None => String::new(),
-    }
+    let [font, _] = spots::fonts(scene);
+    label(middle, "name", font, scene.element_paint(i).colour, &scene.document.names[i])
 }
 
-/// The size of a constraint, where there is room for it; nothing to say where it has none.
-fn size_label(scene: &Scene, shelf: &mut Shelf, k: usize) -> Option<String> {
-    let sheet = &scene.document.sheet;
-    let c = &sheet.constraints[k];
-    let unmet = scene.unmet.contains(&k);
-    let sized = matches!(c.dimension, Dimension::Size(_)) || unmet;
-    if !sized || !matches!(scene.options.labels, Labels::All | Labels::Sizes) {
-        return Some(String::new());
-    }
-    let lines = [c.first, c.second].map(|end| sheet.elements[end].is_line());
-    let [_, font] = fonts(scene);
-    let (mut text, mut colour) = (size(scene, c), scene.constraint_paint(k).colour);
-    if unmet {
-        text = format!("{text} \u{2260} {}", scene.drawn(c));
-        colour = RED;
-    }
-    let half = labels::half(&text, font);
-    let places = match (lines, scene.meeting(c)) {
-        ([true, true], Some(meeting)) => {
-            let (from, turn) = angle_of(scene, c);
-            let at =
-                |far: f64, part: f64| scene.at(along(meeting, far / scene.long(1.0), direction(from + turn * part)));
-            let parts = [0.5, 0.3, 0.7];
-            let near = [40.0, 50.0, 62.0, 78.0].iter().flat_map(|&far| parts.iter().map(move |&part| at(far, part)));
-            near.collect()
-        }
-        _ => {
-            let [a, b] = scene.span(c).map(|end| scene.at(end));
-            labels::beside([a, b], half)
-        }
+/// The size of a constraint, where it stands.
+fn size_label(scene: &Scene, spots: &Spots, k: usize) -> String {
+    let Frame { middle, half } = match spots.sizes[k] {
+        Some(spot) => spot,
+        None => return String::new(),
     };
-    let (middle, free) = shelf.find(&places, half)?;
-    if !free && !unmet {
-        return None;
-    }
-    shelf.put(middle, half);
-    let ([x, y], [w, h]) = (middle, half);
+    let colour = if scene.unmet.contains(&k) { RED } else { scene.constraint_paint(k).colour };
+    let ([x, y], [w, h], [_, font]) = (middle, half, spots::fonts(scene));
     let ground = format!(
         "<rect x=\"{:.1}\" y=\"{:.1}\" width=\"{:.1}\" height=\"{:.1}\" fill=\"#fff\" fill-opacity=\".85\"/>",
         x - w,
@@ -316,7 +215,7 @@ fn size_label(scene: &Scene, shelf: &mut Shelf, k: usize) -> Option<String> {
         2.0 * w,
         2.0 * h
     );
-    Some(ground + &label(middle, "size", font, colour, &text))
+    ground + &label(middle, "size", font, colour, &spots::size_words(scene, k))
 }
 
 /// A ring about an element of a joint, or a band along it.
@@ -387,20 +286,6 @@ fn constraint(scene: &Scene, k: usize) -> String {
     }
 }
 
-/// The size of a constraint in a word.
-fn size(scene: &Scene, c: &Constraint) -> String {
-    let sheet = &scene.document.sheet;
-    match c.dimension {
-        Dimension::Size(size) if sheet.elements[c.first].is_line() && sheet.elements[c.second].is_line() => {
-            degrees(size.into()).replace(" deg", "°")
-        }
-        Dimension::Size(size) => millimetres(size.into()).replace(" mm", ""),
-        Dimension::On => "on".to_string(),
-        Dimension::Tangent => "tangent".to_string(),
-        Dimension::OtherTangent => "tangent other".to_string(),
-    }
-}
-
 /// A point on a line: a ring about it.
 fn marked(scene: &Scene, point: usize, paint: Paint) -> String {
     let radius = if scene.dense() { 5.0 } else { 8.0 };
@@ -409,28 +294,9 @@ fn marked(scene: &Scene, point: usize, paint: Paint) -> String {
 
 /// A contact: a square where the two touch.
 fn contact(scene: &Scene, c: &Constraint, paint: Paint) -> String {
-    let kinds = [c.first, c.second].map(|end| scene.document.sheet.elements[end]);
-    let (a, b) = (scene.place(c.first), scene.place(c.second));
-    let touching = if kinds[0].is_line() {
-        foot(b, a)
-    } else if kinds[1].is_line() {
-        foot(a, b)
-    } else {
-        // on the edge of the larger circle, on the side of the other centre
-        let radii = kinds.map(|kind| f64::from(kind.radius()) / 10.0);
-        let (large, other, radius) = if radii[0] >= radii[1] { (a, b, radii[0]) } else { (b, a, radii[1]) };
-        let apart = between(large, other);
-        along(large, radius / length(apart).max(1e-9), apart)
-    };
-    let [x, y] = scene.at(touching);
+    let [x, y] = scene.at(scene.touching(c));
     let turned = format!("transform=\"rotate(45 {x:.1} {y:.1})\"");
     format!("<path d=\"M{:.1} {:.1}h9v9h-9z\" fill=\"{}\" {turned}/>", x - 4.5, y - 4.5, paint.colour)
-}
-
-/// The direction from which an angle turns, and by how much.
-fn angle_of(scene: &Scene, c: &Constraint) -> (f64, f64) {
-    let from = scene.place(c.first)[0];
-    (from, wrapped(scene.place(c.second)[0] - from))
 }
 
 /// An angle: an arc with an arrow where the lines meet. Lines that meet nowhere near have their size alone.
@@ -440,9 +306,9 @@ fn angle(scene: &Scene, k: usize, paint: Paint) -> String {
         Some(meeting) => meeting,
         None => return marks(scene, c, paint),
     };
-    let (from, turn) = angle_of(scene, c);
+    let (from, turn) = scene.angle_of(c);
     let radius = ARC / scene.long(1.0);
-    let arc = (0..=16).map(|i| scene.at(along(meeting, radius, direction(from + turn * f64::from(i) / 16.0))));
+    let arc = scene.arc(c, meeting).into_iter().map(|place| scene.at(place));
     let path: String =
         arc.enumerate().map(|(i, [x, y])| format!("{}{x:.1} {y:.1}", if i == 0 { 'M' } else { 'L' })).collect();
     let end = scene.at(along(meeting, radius, direction(from + turn)));
@@ -454,10 +320,6 @@ fn angle(scene: &Scene, k: usize, paint: Paint) -> String {
 
 /// Two small strokes across lines that are held by an angle and meet nowhere near.
 fn marks(scene: &Scene, c: &Constraint, paint: Paint) -> String {
-    let mark = |line: usize| {
-        let across = 7.0 / scene.long(1.0);
-        let (at, way) = (scene.anchor(line), direction(scene.place(line)[0] + 1.2));
-        straight(scene, along(at, -across, way), along(at, across, way), &stroke(paint, 1.2))
-    };
-    mark(c.first) + &mark(c.second)
+    let [a, b] = scene.marks(c);
+    straight(scene, a[0], a[1], &stroke(paint, 1.2)) + &straight(scene, b[0], b[1], &stroke(paint, 1.2))
 }

@@ -59,7 +59,7 @@ impl System<'_> {
     }
 
     /// How a point's distance from a line changes with the line.
-    fn line_row(&self, point: Place, line: Place) -> [f64; 2] {
+    pub fn line_row(&self, point: Place, line: Place) -> [f64; 2] {
         [-dot(direction(line[0]), point) / self.scale, -1.0]
     }
 

@@ -80,6 +80,11 @@ impl<'a> Line<'a> {
         word.ok_or_else(|| self.refuse(self.end, &format!("expected {expected}, found the end of the line")))
     }
 
+    /// How many words have been passed.
+    pub fn passed(&self) -> usize {
+        self.at.min(self.words.len())
+    }
+
     /// Whether words are left.
     pub fn more(&self) -> bool {
         self.at < self.words.len()
@@ -94,7 +99,7 @@ impl<'a> Line<'a> {
     }
 
     /// Whether a rough place begins here.
-    fn at_place(&self) -> bool {
+    pub fn at_place(&self) -> bool {
         let word = |i: usize| self.words.get(i).map(|word| word.text);
         word(self.at).map_or(false, |first| places::begins(first, word(self.at + 1)))
     }

@@ -14,15 +14,17 @@
 //! line ridge from 0 400 to 600 400
 //! ```
 
+mod edit;
 mod line;
 mod number;
 mod parse;
 pub mod places;
 mod print;
 
+pub use edit::{change, placed};
 pub use line::{Line, quoted};
 pub use number::{degrees, millimetres};
-pub use parse::{Text, parse, statement};
+pub use parse::{Text, parse, pull, statement};
 pub use places::Rough;
 pub use print::{constraint, default_names, print, print_placed};
 

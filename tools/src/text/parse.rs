@@ -13,9 +13,9 @@ use crate::near::did_you_mean;
 use crate::sheet::{Constraint, Dimension, Kind, Opening, Sheet};
 
 /// The words that statements begin with: those that name elements, those of constraints, and the opening.
-const NAMING: [&str; 3] = ["point", "line", "circle"];
-const HOLDING: [&str; 4] = ["distance", "angle", "on", "tangent"];
-const OPENING: &str = "opening";
+pub const NAMING: [&str; 3] = ["point", "line", "circle"];
+pub const HOLDING: [&str; 4] = ["distance", "angle", "on", "tangent"];
+pub const OPENING: &str = "opening";
 
 /// The statements of a text form.
 const STATEMENTS: &str = "point, line, circle, distance, angle, on, tangent or opening";
@@ -230,6 +230,25 @@ pub fn parse(text: &str) -> (Text, Vec<Refusal>) {
     let circles = reader.text.sheet.elements.iter().any(|kind| matches!(kind, Kind::Circle(_)));
     reader.text.sheet.opening = reader.opening.unwrap_or(if circles { Opening::Pf02 } else { Opening::Pf01 });
     (reader.text, complaints)
+}
+
+/// Reads one statement more of a text.
+pub fn known(text: &Text, statement: &str) -> Result<(), Refusal> {
+    let mut reader = Reader::knowing(&text.sheet.elements, &text.names);
+    reader.statement(&mut Line::of(1, statement))
+}
+
+/// Reads a pull: the names of some elements, and a way `from X Y to X Y`. Element i as bit i, and how far.
+pub fn pull(text: &str, elements: &[Kind], names: &[String]) -> Result<(u64, [f64; 2]), Refusal> {
+    let reader = Reader::knowing(elements, names);
+    let mut line = Line::of(1, text);
+    let mut pulled = 0;
+    while pulled == 0 || !line.at_place() && line.more() {
+        pulled |= 1 << reader.end(&mut line)?.0;
+    }
+    let [a, b] = places::way(&mut line)?;
+    line.finish()?;
+    Ok((pulled, [b[0] - a[0], b[1] - a[1]]))
 }
 
 /// Reads one statement of a constraint between elements that are known.

@@ -6,7 +6,7 @@ use crate::fault::Refusal;
 use crate::sheet::Kind;
 
 /// The words that begin a place.
-const AT: &str = "at";
+pub const AT: &str = "at";
 const FROM: &str = "from";
 const TO: &str = "to";
 /// The farthest coordinate, in millimetres.
@@ -72,6 +72,29 @@ pub fn read(line: &mut Line, kind: Kind) -> Result<Option<Rough>, Refusal> {
         }
         (false, _) => Err(line.unexpected("at X Y (a line is placed by from X Y to X Y)", word)),
         (true, _) => Err(line.unexpected("from X Y to X Y (a point or circle is placed by at X Y)", word)),
+    }
+}
+
+/// A way from one place to another: `from X Y to X Y`.
+pub fn way(line: &mut Line) -> Result<[[f64; 2]; 2], Refusal> {
+    let from = line.word("from X Y to X Y")?;
+    if from.text != FROM {
+        return Err(line.unexpected("from X Y to X Y", from));
+    }
+    let a = pair(line)?;
+    let to = line.word("to X Y")?;
+    if to.text != TO {
+        return Err(line.unexpected("to X Y", to));
+    }
+    Ok([a, pair(line)?])
+}
+
+/// Whether a place may be written.
+pub fn within(place: &Rough) -> bool {
+    let near = |[x, y]: [f64; 2]| x.abs() <= FARTHEST && y.abs() <= FARTHEST;
+    match *place {
+        Rough::At(at) => near(at),
+        Rough::Along([a, b]) => near(a) && near(b),
     }
 }
 
