@@ -62,6 +62,10 @@ try: all
 targets: $(PROVED)
 	targets/build
 
+# The sketch page, one file: target/page/pattern.html.
+page: $(PROVED)
+	page/build
+
 # The packages of a release, in target/dist, over what `make targets` built; packages/README.md says more.
 dist: all
 	packages/build
@@ -99,4 +103,4 @@ book:
 clean:
 	rm -rf $(OUT)
 
-.PHONY: all need command try targets dist book install uninstall clean
+.PHONY: all need command try targets page dist book install uninstall clean

@@ -11,6 +11,7 @@ CHAPTERS = [
     "README.md",
     "docs/GUIDE.md",
     "docs/FORMAT.md",
+    "docs/EMBEDDING.md",
     "docs/PROMISES.md",
     "docs/TRUST.md",
     "docs/ARCHITECTURE.md",

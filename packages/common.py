@@ -84,7 +84,7 @@ def guide(*to):
     text = read("docs", "GUIDE.md")
     page = read("packages", "guide.html").replace("@TITLE@", text.splitlines()[0].lstrip("# "))
     write(page.replace("@BODY@", Renderer(link=link).render(text)), *to, "guide.html")
-    for name in sorted(set(re.findall(r"\]\((pictures/[\w./-]+\.svg)\)", text))):
+    for name in sorted(set(re.findall(r"\]\(((?:pictures|page)/[\w./-]+\.(?:svg|png))\)", text))):
         copy(f"docs/{name}", *to, name)
 
 

@@ -86,7 +86,6 @@ def main():
         failed.append(f"{path}:{line}: {name} leads nowhere")
     for name in made.lost:
         failed.append(f"docs/PROMISES.md: {name} leads nowhere")
-    must(took < 30, f"it took {took:.0f} s")
 
     pages = read_pages(folder)
     count = links_live(pages)
