@@ -24,12 +24,15 @@ NO_KIT = the Rattle kit is missing (no command rt), and no proved objects for $(
 
 # What is needed is looked for before minutes of proving.
 need:
-	@tools/cargo --version >/dev/null
+	@rust/cargo --version >/dev/null
+	@command -v $(firstword $(CC)) >/dev/null || { echo "make: a C compiler is missing (no command $(firstword $(CC)))" >&2; exit 1; }
 	@[ -n "$(KIT)" ] || [ -f objects/$(HOST)/libpattern_c.a ] || { echo "make: $(NO_KIT)" >&2; exit 1; }
 
 # The proved library: proved and compiled by the kit where a crate changed; without the kit the proved objects of the source archive.
+proved: $(PROVED)
+
 ifneq ($(KIT),)
-$(PROVED): crates.txt $(shell find crates -name must-fail -prune -o -type f -print) | need
+$(PROVED): crates.txt $(shell find crates -name must-fail -prune -o -print) | need
 	rt staticlib pattern_c
 else
 $(PROVED): $(wildcard objects/$(HOST)/libpattern_c.a objects/SHA256SUMS) | need
@@ -52,7 +55,7 @@ $(SHARED): $(STATIC) c/exports.map
 		-Wl,--whole-archive $(STATIC) -Wl,--no-whole-archive -o $@
 
 command: $(PROVED)
-	cd tools && ./cargo build --release --quiet
+	cd rust && ./cargo build --release --quiet
 
 # The first verdict.
 try: all
@@ -86,9 +89,9 @@ install: all
 	$(COMMAND) completion fish >$(TO)/share/fish/vendor_completions.d/pattern.fish
 	install -d $(TO)/share/pattern/rust/src
 	install -m 644 python/pattern.py docs/pattern.schema.json $(TO)/share/pattern
-	install -m 644 examples/rust/build.rs $(TO)/share/pattern/rust
-	install -m 644 examples/rust/src/*.rs $(TO)/share/pattern/rust/src
-	sed '/^# the version/d; s|^version = .*|version = "$(VERSION)"|' examples/rust/Cargo.toml >$(TO)/share/pattern/rust/Cargo.toml
+	install -m 644 rust/pattern/build.rs $(TO)/share/pattern/rust
+	install -m 644 rust/pattern/src/*.rs $(TO)/share/pattern/rust/src
+	sed '/^# the version/d; s|^version = .*|version = "$(VERSION)"|' rust/pattern/Cargo.toml >$(TO)/share/pattern/rust/Cargo.toml
 
 uninstall:
 	rm -f $(TO)/bin/pattern $(HEADERS:include/%=$(TO)/include/%) $(TO)/lib/libpattern.a $(TO)/lib/libpattern.so*
@@ -103,4 +106,4 @@ book:
 clean:
 	rm -rf $(OUT)
 
-.PHONY: all need command try targets page dist book install uninstall clean
+.PHONY: all need proved command try targets page dist book install uninstall clean

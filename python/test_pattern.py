@@ -244,11 +244,11 @@ class Calls(unittest.TestCase):
     def test_texts(self):
         with open(os.path.join(ROOT, "include", "pattern_text.h")) as file:
             self.assertIn(f'#define PATTERN_VERSION       "{pattern.version()}"', file.read())
-        with open(os.path.join(ROOT, "examples", "rust", "src", "lib.rs")) as file:
-            rust = dict(re.findall(r'(\d+) => "(.*)",', file.read()))
-        self.assertGreater(len(rust), 20)
+        with open(os.path.join(ROOT, "c", "pattern_text.c")) as file:
+            texts = dict(re.findall(r'\[(\d+)\] = "(.*)",', file.read()))
+        self.assertGreater(len(texts), 20)
         for rule in range(-2, 40):
-            self.assertEqual(pattern.rule_text(rule), rust.get(str(abs(rule)), "no rule of this library"), rule)
+            self.assertEqual(pattern.rule_text(rule), texts.get(str(abs(rule)), "no rule of this library"), rule)
 
 
 if __name__ == "__main__":
