@@ -22,10 +22,12 @@ all: $(STATIC) $(SHARED) command
 NO_KIT = the Rattle kit is missing (no command rt), and no proved objects for $(HOST) are here; \
 	the source archive pattern-$(VERSION)-source.tar.gz has some
 
+NO_COMPILER = a C compiler is missing (no command $(firstword $(CC)))
+
 # What is needed is looked for before minutes of proving.
 need:
 	@rust/cargo --version >/dev/null
-	@command -v $(firstword $(CC)) >/dev/null || { echo "make: a C compiler is missing (no command $(firstword $(CC)))" >&2; exit 1; }
+	@command -v $(firstword $(CC)) >/dev/null || { echo "make: $(NO_COMPILER)" >&2; exit 1; }
 	@[ -n "$(KIT)" ] || [ -f objects/$(HOST)/libpattern_c.a ] || { echo "make: $(NO_KIT)" >&2; exit 1; }
 
 # The proved library: proved and compiled by the kit where a crate changed; without the kit the proved objects of the source archive.

@@ -13,7 +13,9 @@ FILES = """
 bin/pattern include/pattern.h include/pattern_text.h lib/libpattern.a lib/libpattern.so lib/libpattern.so.1 lib/libpattern.so.1.0.0
 lib/pkgconfig/pattern.pc share/bash-completion/completions/pattern share/fish/vendor_completions.d/pattern.fish share/man/man1/pattern.1
 share/pattern/pattern.py share/pattern/pattern.schema.json share/pattern/rust/Cargo.toml share/pattern/rust/build.rs
-share/pattern/rust/src/c.rs share/pattern/rust/src/lib.rs share/zsh/site-functions/_pattern
+share/pattern/rust/src/answer.rs share/pattern/rust/src/c.rs share/pattern/rust/src/facts.rs share/pattern/rust/src/lib.rs
+share/pattern/rust/src/limits.rs share/pattern/rust/src/plan.rs share/pattern/rust/src/report.rs share/pattern/rust/src/rule.rs
+share/pattern/rust/src/sheet.rs share/pattern/rust/src/sketch.rs share/pattern/rust/src/verdict.rs share/zsh/site-functions/_pattern
 """.split()
 EXAMPLE = os.path.join(ROOT, "tests", "programs", "report", "example.sheet")
 
