@@ -5,7 +5,7 @@ use mathlib.Core.List.{List, []}
 use lib.ListN.{length}
 use Rattle.theory.specs.Merge.{Merge, final}
 use Rattle.theory.specs.Plan.{planOf}
-use Rattle.theory.specs.Graph.{Graph, findingOf, listVerdict, stepsOf}
+use Rattle.theory.specs.Graph.{Graph, SizedGraph, findingOf, listVerdict, stepsOf}
 use Rattle.theory.specs.declared.Finding.{Finding}
 use Rattle.theory.specs.declared.Finding.the-variants.{Fine, First}
 use Rattle.theory.specs.declared.Verdict.{Verdict}
@@ -14,7 +14,7 @@ use Rattle.sheet.specs.Rules.{or-else}
 use Rattle.sheet.specs.Answer.{byRule}
 use Rattle.sheet.specs.Graph.{overFault}
 use Rattle.plans.specs.Check.{savedSteps, planFault}
-use Rattle.rests.specs.Rests.{restsOn}
+use Rattle.theory.specs.Rests.{restsOn}
 use Rattle.report.specs.Report.{report, overReport}
 pub mod Laws
 pub mod Answers
@@ -22,20 +22,21 @@ pub mod Room
 
 -- the report of a list of merges of the constraints under a verdict, with the list's own steps and final clusters, and what these rest on (document
 -- 02, 2026-04)
-abbrev pub reportWith : Graph → Verdict → List Merge → List ℕ
-reportWith g v p = report (g .n) (length (g .clusters)) v (stepsOf g p) (final (g .clusters) p) (restsOn (length (g .clusters)) p)
+abbrev pub reportWith : SizedGraph → Verdict → List Merge → List ℕ
+reportWith s v p = report (s .graph .n) (length (s .graph .clusters)) v (stepsOf s p) (final (s .graph .clusters) p)
+    (restsOn (length (s .graph .clusters)) p)
 
 -- with its own verdict
-unfoldable pub listReport : Graph → List Merge → List ℕ
-listReport g p = reportWith g (listVerdict g p) p
+unfoldable pub listReport : SizedGraph → List Merge → List ℕ
+listReport s p = reportWith s (listVerdict (s .graph) p) p
 
 -- of a sheet that is not over, the report of the engine's plan; else the first constraint and the smallest set
-abbrev pub reportBy : Graph → Finding → List ℕ
-reportBy g Fine = listReport g (planOf (g .clusters))
-reportBy g (First c x) = overReport (g .n) (length (g .clusters)) c x
+abbrev pub reportBy : SizedGraph → Finding → List ℕ
+reportBy s Fine = listReport s (planOf (s .graph .clusters))
+reportBy s (First c x) = overReport (s .graph .n) (length (s .graph .clusters)) c x
 
-unfoldable pub reportOf : Graph → List ℕ
-reportOf g = reportBy g (findingOf g)
+unfoldable pub reportOf : SizedGraph → List ℕ
+reportOf s = reportBy s (findingOf (s .graph))
 
 -- ---- a saved plan, a list of numbers
 
@@ -44,5 +45,5 @@ unfoldable pub savedFault : Graph → List ℕ → ℕ
 savedFault g l = or-else (overFault g) (planFault (g .clusters) l)
 
 -- the report for it, or the rule of the plan check that refuses it
-abbrev pub savedField : Graph → List ℕ → Field (List ℕ)
-savedField g l = byRule (planFault (g .clusters) l) (value (listReport g (savedSteps l)) [])
+abbrev pub savedField : SizedGraph → List ℕ → Field (List ℕ)
+savedField s l = byRule (planFault (s .graph .clusters) l) (value (listReport s (savedSteps l)) [])

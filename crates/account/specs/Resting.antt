@@ -7,7 +7,7 @@ use Rattle.theory.specs.Plan.{planOf}
 use Rattle.theory.specs.Graph.{Graph, findingOf}
 use Rattle.theory.specs.declared.Finding.{Finding}
 use Rattle.theory.specs.declared.Finding.the-variants.{Fine, First}
-use Rattle.rests.specs.Rests.{restsOn}
+use Rattle.theory.specs.Rests.{restsOn}
 use Rattle.rests.specs.Words.{word}
 pub mod Pairs
 pub mod Laws

@@ -7,7 +7,7 @@ use Rattle.sheet.specs.declared.Size.the-variants.{Given, Missing}
 use Rattle.sheet.specs.declared.Constraint.{Constraint}
 use Rattle.sheet.specs.Facts.{Facts, sheetOf, blankElement}
 use Rattle.sheet.specs.Rules.{sheetFault}
-use Rattle.sheet.specs.Graph.{graphOf}
+use Rattle.sheet.specs.Graph.{sizedOf}
 use Rattle.account.specs.Account.{reportOf}
 pub mod Proof
 
@@ -108,4 +108,4 @@ table =
 -- no rule refuses any of them, and each prints its report
 pub record Printed : Type 0 where
   pub accepted : map (λ (r : Row). sheetFault (sheetOf (r .facts))) table ≡ map (λ (r : Row). 0) table
-  pub prints : map (λ (r : Row). reportOf (graphOf (r .facts))) table ≡ map (λ (r : Row). r .prints) table
+  pub prints : map (λ (r : Row). reportOf (sizedOf (r .facts))) table ≡ map (λ (r : Row). r .prints) table

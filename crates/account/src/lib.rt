@@ -1,23 +1,22 @@
 // The report of a constraint graph in lent arrays: for the engine's plan, and for a saved plan that is accepted; its final clusters, and what they rest
 // on. Contracts cite specs/Account.antt and specs/Resting.antt.
 ghost use mathlib.Core.Path.{_≡_};
-ghost use mathlib.Core.List.{List, [], _∷_};
+ghost use mathlib.Core.List.{[], _∷_};
 ghost use Prim.Native.Nat.{_+_, _≤_, _<_, _^_};
-ghost use lib.IntN.{ℤ};
 ghost use lib.ListN.{length, take};
 ghost use Rattle.theory.specs.Constraints.{NotOver};
-ghost use Rattle.graph.specs.Lent.{graphIn, Sound, Drawn};
-ghost use Rattle.merges.specs.Run.{runIn, Merged};
+ghost use Rattle.graph.specs.Lent.{graphIn, sizedIn, Sound, Drawn};
+ghost use Rattle.merges.specs.Run.{runIn, Blank, Merged};
 ghost use Rattle.space.specs.Space.{Put, answer, after};
 ghost use Rattle.sheet.specs.Answer.{byRule, Answers};
 ghost use Rattle.sheet.specs.Graph.{overFault};
 ghost use Rattle.judge.specs.Judged.{finalClusters};
 ghost use Rattle.account.specs.Resting.{restNumbers};
 ghost use Rattle.account.specs.Resting.Pairs.{pairsIn};
-ghost use Rattle.account.specs.Account.{reportWith, listReport, reportOf, savedField};
+ghost use Rattle.account.specs.Account.{reportWith, reportOf, savedField};
+ghost use Rattle.account.specs.Saved.{SavedIn};
 use graph::Head;
-use merges::Run;
-use plans::Outcome;
+use plans::Checked;
 use space::Written;
 use space::put_number64;
 use theory::Verdict;
@@ -37,8 +36,8 @@ fn put_list(
     requires { ⌜ Sound (h .n) (take (h .e) (now start)) × (length (take (h .e) (now start)) ≡ h .e) × NotOver (take (h .e) (now start))
         × Merged (take (h .e) (now start)) (runIn count (now parts) (now joints) (now slots)) ⌝ }
     ensures { λ r. ⌜ ((m : Merged (take (h .e) (now (start .entry))) (runIn count (now (parts .entry)) (now (joints .entry)) (now (slots .entry))))
-        → (r ≡ answer (reportWith (graphIn h (now (start .entry)) (now (sizes .entry))) (verdict) (m .p)) (now (out .entry)))
-        × (now (out .exit) ≡ after (reportWith (graphIn h (now (start .entry)) (now (sizes .entry))) (verdict) (m .p)) (now (out .entry)))) ⌝ }
+        → (r ≡ answer (reportWith (sizedIn h (now (start .entry)) (now (sizes .entry))) (verdict) (m .p)) (now (out .entry)))
+        × (now (out .exit) ≡ after (reportWith (sizedIn h (now (start .entry)) (now (sizes .entry))) (verdict) (m .p)) (now (out .entry)))) ⌝ }
 {
     let mut low = [0u64; 192];
     let mut high = [0u64; 192];
@@ -60,31 +59,6 @@ fn put_list(
     )
 }
 
-// The same with the list's own verdict.
-fn put_settled(h: Head, start: &[u64; 200], sizes: &[i32; 200], run: Run, out: &mut [u8]) -> Written
-    requires { ⌜ Sound (h .n) (take (h .e) (now start)) × (length (take (h .e) (now start)) ≡ h .e) × NotOver (take (h .e) (now start))
-        × Merged (take (h .e) (now start)) run ⌝ }
-    ensures { λ r. ⌜ ((m : Merged (take (h .e) (now (start .entry))) run)
-        → (r ≡ answer (listReport (graphIn h (now (start .entry)) (now (sizes .entry))) (m .p)) (now (out .entry)))
-        × (now (out .exit) ≡ after (listReport (graphIn h (now (start .entry)) (now (sizes .entry))) (m .p)) (now (out .entry)))) ⌝ }
-{
-    let parts = run.parts;
-    let joints = run.joints;
-    let slots = run.slots;
-    let verdict = engine::settle(&joints, &slots, run.steps, h.n, h.e, h.lines);
-    put_list(
-        h,
-        start,
-        sizes,
-        verdict,
-        run.steps,
-        &parts,
-        &joints,
-        &slots,
-        out,
-    )
-}
-
 // The report of a sheet: the engine's plan, or of an over sheet the first constraint and the smallest set.
 pub fn report(
     h: Head,
@@ -94,8 +68,8 @@ pub fn report(
     out: &mut [u8],
 ) -> Written
     requires { ⌜ Drawn h (now near) (now start) ⌝ }
-    ensures { λ r. ⌜ (r ≡ answer (reportOf (graphIn h (now (start .entry)) (now (sizes .entry)))) (now (out .entry)))
-        × (now (out .exit) ≡ after (reportOf (graphIn h (now (start .entry)) (now (sizes .entry)))) (now (out .entry))) ⌝ }
+    ensures { λ r. ⌜ (r ≡ answer (reportOf (sizedIn h (now (start .entry)) (now (sizes .entry)))) (now (out .entry)))
+        × (now (out .exit) ≡ after (reportOf (sizedIn h (now (start .entry)) (now (sizes .entry)))) (now (out .entry))) ⌝ }
 {
     let mut slots = [0u64; 192];
     let mut parts = [0u16; 192];
@@ -119,6 +93,37 @@ pub fn report(
     )
 }
 
+// ---- a saved plan
+
+// The check of a saved plan, its merges made in blank arrays that the caller lends: 11, then 12 to 16.
+pub fn check_saved(
+    h: Head,
+    near: &[u64; 64],
+    start: &[u64; 200],
+    plan: &[u16],
+    slots: &mut [u64; 192],
+    parts: &mut [u16; 192],
+    joints: &mut [u64; 64],
+) -> Checked
+    requires drawn { ⌜ Drawn h (now near) (now start) ⌝ }
+    requires lent { ⌜ Blank (now slots) (now parts) (now joints) ⌝ }
+    ensures { λ r. ⌜ SavedIn (graphIn h (now (start .entry))) (now (plan .entry)) r (now (parts .exit)) (now (joints .exit))
+        (now (slots .exit)) ⌝ }
+{
+    if 2 * h.n < h.e + 3 {
+        return Checked { rule: 11, steps: 0 };
+    }
+    let checked = plans::check_plan(start, h.e, plan, slots, parts, joints);
+    let over = judge::over_after(h, near, start, checked.steps);
+    if over != 0 {
+        return Checked {
+            rule: over,
+            steps: 0,
+        };
+    }
+    checked
+}
+
 // The check of a saved plan, and the report for it: 11, then 12 to 16, then 17.
 pub fn check_plan(
     h: Head,
@@ -129,23 +134,30 @@ pub fn check_plan(
     out: &mut [u8],
 ) -> Written
     requires { ⌜ Drawn h (now near) (now start) ⌝ }
-    ensures { λ r. ⌜ Answers (byRule (overFault (graphIn h (now (start .entry)) (now (sizes .entry))))
-        (savedField (graphIn h (now (start .entry)) (now (sizes .entry))) (now (plan .entry)))) (now (out .entry)) r (now (out .exit)) ⌝ }
+    ensures { λ r. ⌜ Answers (byRule (overFault (graphIn h (now (start .entry))))
+        (savedField (sizedIn h (now (start .entry)) (now (sizes .entry))) (now (plan .entry)))) (now (out .entry)) r (now (out .exit)) ⌝ }
 {
-    if 2 * h.n < h.e + 3 {
-        return Written::Refused(11);
+    let mut slots = [0u64; 192];
+    let mut parts = [0u16; 192];
+    let mut joints = [0u64; 64];
+    let checked = check_saved(h, near, start, plan, &mut slots, &mut parts, &mut joints);
+    let rule = checked.rule;
+    if rule != 0 {
+        return Written::Refused(rule);
     }
-    let checked = plans::check_plan(start, h.e, plan);
-    let outcome = checked.outcome;
-    let run = checked.run;
-    let over = judge::over_after(h, near, start, run.steps);
-    if over != 0 {
-        return Written::Refused(over);
-    }
-    match outcome {
-        Outcome::Refused(rule) => Written::Refused(rule),
-        Outcome::Accepted => put_settled(h, start, sizes, run, out),
-    }
+    let count = checked.steps;
+    let verdict = engine::settle(&joints, &slots, count, h.n, h.e, h.lines);
+    put_list(
+        h,
+        start,
+        sizes,
+        verdict,
+        count,
+        &parts,
+        &joints,
+        &slots,
+        out,
+    )
 }
 
 // ---- the final clusters
@@ -153,8 +165,8 @@ pub fn check_plan(
 // The final clusters of a sheet as sets, by number; none of an over sheet.
 pub fn clusters(h: Head, near: &[u64; 64], start: &[u64; 200], out: &mut [u64]) -> Written
     requires { ⌜ Drawn h (now near) (now start) ⌝ }
-    ensures { λ r. ⌜ ((z : List ℤ) → (r ≡ answer (finalClusters (graphIn h (now (start .entry)) z)) (now (out .entry)))
-        × (now (out .exit) ≡ after (finalClusters (graphIn h (now (start .entry)) z)) (now (out .entry)))) ⌝ }
+    ensures { λ r. ⌜ (r ≡ answer (finalClusters (graphIn h (now (start .entry)))) (now (out .entry)))
+        × (now (out .exit) ≡ after (finalClusters (graphIn h (now (start .entry)))) (now (out .entry))) ⌝ }
 {
     let mut slots = [0u64; 192];
     let mut parts = [0u16; 192];
@@ -224,18 +236,18 @@ fn put_rests(
 // What the final clusters of a sheet rest on, two words each, by number; none of an over sheet.
 pub fn rests(h: Head, near: &[u64; 64], start: &[u64; 200], out: &mut [u64]) -> Written
     requires { ⌜ Drawn h (now near) (now start) ⌝ }
-    ensures { λ r. ⌜ ((z : List ℤ) → (r ≡ answer (restNumbers (graphIn h (now (start .entry)) z)) (now (out .entry)))
-        × (now (out .exit) ≡ after (restNumbers (graphIn h (now (start .entry)) z)) (now (out .entry)))) ⌝ }
+    ensures { λ r. ⌜ (r ≡ answer (restNumbers (graphIn h (now (start .entry)))) (now (out .entry)))
+        × (now (out .exit) ≡ after (restNumbers (graphIn h (now (start .entry)))) (now (out .entry))) ⌝ }
 {
-    let judged = judge::judge(h, near, start);
-    let name = judged.verdict;
+    let mut slots = [0u64; 192];
+    let mut parts = [0u16; 192];
+    let mut joints = [0u64; 64];
+    let found = judge::judge_on(h, near, start, &mut slots, &mut parts, &mut joints);
+    let name = found.verdict;
     if name.number() == 0 {
         return Written::Done(0);
     }
-    let run = judged.run;
-    let steps = run.steps;
-    let parts = run.parts;
-    let slots = run.slots;
+    let steps = found.steps;
     let mut low = [0u64; 192];
     let mut high = [0u64; 192];
     rests::carry(&parts, h.e, steps, &mut low, &mut high);

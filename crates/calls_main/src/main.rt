@@ -1,140 +1,87 @@
-// Calls the entry points on inputs given as text on standard input, a call to a line, and prints what each answers: "done" and the count or "refused"
-// and the rule, then the lent space, a report's as text and else bytes in hexadecimal. A line has the letter of an entry point, the room lent, then
-// lists of bytes in hexadecimal, with one space between. Where the text starts with the line "2", the answers go to standard error.
-mod asked;
+// Calls the entry points on inputs given as text on standard input, a call to a line, and prints what each answers, then
+// the lent space: a report's as text, other bytes in hexadecimal. A line has the letter of an entry point, the room lent,
+// a list of 16-bit numbers and a list of bytes, in hexadecimal, lowest byte first, with one space between. Where the text
+// starts with the line "2", the answers go to standard error.
 mod lent;
 mod said;
 mod text;
 
-use crate::asked::by_value;
-use crate::asked::in_list;
-use crate::asked::plan_steps;
-use crate::asked::saved_in_list;
-use crate::lent::card;
-use crate::lent::counts;
+use crate::lent::by_value;
 use crate::lent::lend_bytes;
 use crate::lent::lend_columns;
 use crate::lent::lend_longs;
 use crate::lent::lend_shorts;
+use crate::lent::part;
 use crate::lent::record;
-use crate::lent::refuse;
-use crate::lent::shared;
 use crate::said::say;
+use crate::said::say_bytes;
+use crate::said::say_number;
 use crate::said::say_reading;
 use crate::said::say_signed;
-use crate::text::after;
+use crate::said::say_written;
 use crate::text::byte;
 use crate::text::list;
 use crate::text::number;
+use crate::text::short;
 use libc::STDERR_FILENO;
 use libc::STDIN_FILENO;
 use libc::STDOUT_FILENO;
+use space::Written;
 
 // A call, by its letter.
-fn call(to: i32, entry: u8, room: usize, first: &[u8], second: &[u8]) {
+fn call(to: i32, entry: u8, room: usize, numbers: &[u16], bytes: &[u8]) {
     match entry {
-        b'd' => say_reading(to, pattern::read(first)),
-        b'h' => say_reading(to, pattern::hold(first)),
-        b'v' => say_signed(to, b"answer ", pattern_c::pattern_verdict(first)),
-        b'K' => card(to, first),
-        b'N' => counts(to),
-        b'S' => shared(to, first, second),
-        b'R' => refuse(to, room, first),
-        b's' => by_value(to, room, first, second),
-        b'a' => record(to, room, first, second),
-        b't' => in_list(to, room, plan_steps(first)),
-        b'B' => saved_in_list(to, room, first, second),
-        b'w' | b'r' | b'C' | b'k' | b'H' | b'L' | b'P' => lend_bytes(
+        b'd' => say_reading(to, pattern::read(bytes)),
+        b'h' => say_reading(to, pattern::hold(bytes)),
+        b'v' => say_signed(to, pattern_c::pattern_verdict(bytes)),
+        b'K' => say_signed(to, pattern_c::pattern_card(number(numbers, 0))),
+        b'e' => say_written(to, pattern::held_count_in(bytes)),
+        b'N' => {
+            let lines = card_counts::lines();
+            say_bytes(to, true, &lines);
+        }
+        b'R' => {
+            console::print(Written::Refused((room % 256) as u8), bytes);
+            say(to, b"printed");
+        }
+        b'S' => {
+            let a = number(numbers, 0);
+            let b = number(numbers, 1);
+            say_number(to, b"shared ", pattern::shared(a as u64, b as u64));
+        }
+        b's' => by_value(to, room, numbers, bytes),
+        b'a' => record(to, room, numbers, bytes),
+        b'f' => lend_columns(to, room, numbers, bytes),
+        b'P' => part(to, room, numbers, bytes),
+        b'r' | b'k' => lend_bytes(to, true, entry, room, numbers, bytes),
+        b'w' | b'H' | b'L' => lend_bytes(to, false, entry, room, numbers, bytes),
+        b'p' | b'M' | b'g' | b'O' => lend_shorts(to, entry, room, numbers, bytes),
+        b'o' | b'c' | b'i' | b'q' | b'E' | b'T' | b't' => lend_longs(
             to,
             entry,
             room,
-            first,
-            second,
+            numbers,
+            bytes,
         ),
-        b'p' | b'M' | b'g' | b'O' | b'n' => lend_shorts(to, entry, room, first, second),
-        b'o' | b'c' | b'i' | b'q' | b'T' | b'E' => lend_longs(to, entry, room, first),
         _ => say(to, b"no such entry"),
     }
 }
 
-// The last three lists of the writer's call.
-fn last_three(
-    to: i32,
-    room: usize,
-    text: &[u8],
-    at: usize,
-    facts: &[u8],
-    firsts: &[u8],
-    seconds: &[u8],
-) -> usize {
-    let mut maps = io::buffer();
-    let mut sizes = io::buffer();
-    let mut radii = io::buffer();
-    let fourth = list(text, at, &mut maps);
-    let fifth = list(text, fourth.next, &mut sizes);
-    let sixth = list(text, fifth.next, &mut radii);
-    let i = fourth.count;
-    let j = fifth.count;
-    let k = sixth.count;
-    lend_columns(
-        to,
-        room,
-        facts,
-        firsts,
-        seconds,
-        &maps[..i],
-        &sizes[..j],
-        &radii[..k],
-    );
-    sixth.next
-}
-
-// The writer's call, which takes six.
-fn six(to: i32, room: usize, text: &[u8], at: usize) -> usize {
-    let mut facts = io::buffer();
-    let mut firsts = io::buffer();
-    let mut seconds = io::buffer();
-    let first = list(text, at, &mut facts);
-    let second = list(text, first.next, &mut firsts);
-    let third = list(text, second.next, &mut seconds);
-    let i = first.count;
-    let j = second.count;
-    let k = third.count;
-    last_three(
-        to,
-        room,
-        text,
-        third.next,
-        &facts[..i],
-        &firsts[..j],
-        &seconds[..k],
-    )
-}
-
-// A call that takes two.
-fn two(to: i32, entry: u8, room: usize, text: &[u8], at: usize) -> usize {
-    let mut a = io::buffer();
-    let mut b = io::buffer();
-    let first = list(text, at, &mut a);
-    let second = list(text, first.next, &mut b);
-    let i = first.count;
-    let j = second.count;
-    call(to, entry, room, &a[..i], &b[..j]);
-    second.next
-}
-
 // The call that stands here; answers where the next line starts.
 fn line(to: i32, text: &[u8], at: usize) -> usize {
-    let entry = byte(text, at);
-    let room = number(text, after(after(at)));
-    if entry == b'f' {
-        let end = six(to, room.count, text, room.next);
-        say(to, b"\n");
-        return after(end);
-    }
-    let end = two(to, entry, room.count, text, room.next);
+    let mut lent = [0u8; 2];
+    let mut pairs = io::buffer();
+    let mut bytes = io::buffer();
+    let mut numbers = [0u16; 2048];
+    let room = list(text, std::num::wrapping_add_usize(at, 2), &mut lent);
+    let second = list(text, room.next, &mut pairs);
+    let third = list(text, second.next, &mut bytes);
+    let i = second.count;
+    let j = third.count;
+    let k = console::numbers(&pairs[..i], &mut numbers);
+    call(to, byte(text, at), short(&lent), &numbers[..k], &bytes[..j]);
     say(to, b"\n");
-    after(end)
+    third.next
 }
 
 // Each line in turn, while the text goes on.
@@ -159,10 +106,6 @@ fn start(text: &[u8]) {
 
 fn main() {
     let mut text = io::large_buffer();
-    let input = console::read(STDIN_FILENO, b"standard input", &mut text);
-    if !input.whole {
-        return;
-    }
-    let n = input.count;
+    let n = io::read_full(STDIN_FILENO, &mut text);
     start(&text[..n]);
 }

@@ -1,12 +1,11 @@
--- What a call for the chain answers over lent space, one place a cluster. Document 02, 2026-08; document 01, "Refused", rule 17: "none" is another
--- answer than the empty run, and neither needs space.
+-- What a call for the chain answers over lent space, one place a cluster. Document 02, 2026-08; document 01, "Refused",
+-- rule 17: "none" is another answer than the empty run, and neither needs space.
 use mathlib.Core.Path.{_≡_}
 use mathlib.Core.Bool.{_&&_, cond}
 use mathlib.Core.List.{List, []}
 use mathlib.Core.Option.{Option, none, some}
-use Prim.Native.Nat.{ℕ, zero, suc, _≤_}
+use Prim.Native.Nat.{ℕ}
 use lib.Dec.{ltb}
-use lib.ListN.{length}
 use Rattle.theory.specs.Merge.{final}
 use Rattle.theory.specs.Plan.{planOf}
 use Rattle.theory.specs.Graph.{Graph}
@@ -15,11 +14,11 @@ use Rattle.space.specs.declared.Written.the-variants.{Done, Refused as Not}
 use Rattle.space.specs.Space.{answer, after}
 use Rattle.sheet.specs.Field.{Field, value, refused}
 use Rattle.sheet.specs.Answer.{byRule}
-use Rattle.chain.specs.Chain.{Chain}
+use Rattle.chain.specs.Layers.{chainOf}
 use Rattle.chain.specs.declared.Answer.{Answer}
 use Rattle.chain.specs.declared.Answer.the-variants.{Run, None, Refused}
 pub mod Laws
-pub mod Merged
+pub mod Finals
 
 abbrev pub asRun : Written → Answer
 asRun (Done n) = Run n
@@ -34,14 +33,6 @@ abbrev pub chainAfter : Option (List ℕ) → List ℕ → List ℕ
 chainAfter none space = space
 chainAfter (some r) space = after r space
 
--- a call for the chain of these clusters answers r and leaves this in the space; among 64 elements a chain has at most 63 clusters
-pub record Answered (s : List ℕ) (start end : ℕ) (space : List ℕ) (r : Answer) (left : List ℕ) : Type 0 where
-  pub chain : Option (List ℕ)
-  pub is : Chain s start end chain
-  pub few : (r : List ℕ) → chain ≡ some r → length r ≤ 63
-  pub answer-is : r ≡ chainAnswer chain space
-  pub left-is : left ≡ chainAfter chain space
-
 -- ---- of a constraint graph
 
 -- the final clusters of the engine's plan, by number, a dead one 0
@@ -52,16 +43,20 @@ finalsOf g = final (g .clusters) (planOf (g .clusters))
 abbrev pub endsFault : ℕ → ℕ → ℕ → ℕ
 endsFault n start end = cond (ltb start n && ltb end n) 0 25
 
--- the graph whose chain is asked for
-abbrev pub asked : Graph → ℕ → ℕ → Field Graph
-asked g start end = byRule (endsFault (g .n) start end) (value g [])
+-- the chain of its final clusters
+abbrev pub asked : Graph → ℕ → ℕ → Field (Option (List ℕ))
+asked g start end = byRule (endsFault (g .n) start end) (value (chainOf (finalsOf g) start end) [])
 
--- the chain of its final clusters, or the rule that refuses it
-abbrev pub ChainAnswers : Field Graph → ℕ → ℕ → List ℕ → Answer → List ℕ → Type 0
-ChainAnswers (value g rest) start end space r left = Answered (finalsOf g) start end space r left
-ChainAnswers (refused k) start end space r left = (r ≡ Refused k) × (left ≡ space)
+abbrev pub chainTo : Field (Option (List ℕ)) → List ℕ → Answer
+chainTo (value c rest) space = chainAnswer c space
+chainTo (refused k) space = Refused k
 
--- the same by the number of the rule, 0 where none refuses
-abbrev pub ByFault : ℕ → List ℕ → ℕ → ℕ → List ℕ → Answer → List ℕ → Type 0
-ByFault zero s start end space r left = Answered s start end space r left
-ByFault (suc k) s start end space r left = (r ≡ Refused (suc k)) × (left ≡ space)
+-- the space after that call
+abbrev pub chainLeft : Field (Option (List ℕ)) → List ℕ → List ℕ
+chainLeft (value c rest) space = chainAfter c space
+chainLeft (refused k) space = space
+
+-- a call that gives the chain, or the rule that refuses, answers r and leaves this in the space
+pub record ChainAnswers (x : Field (Option (List ℕ))) (space : List ℕ) (r : Answer) (left : List ℕ) : Type 0 where
+  pub answer-is : r ≡ chainTo x space
+  pub left-is : left ≡ chainLeft x space

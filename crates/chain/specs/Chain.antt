@@ -1,5 +1,6 @@
--- The chain from one element to another. Document 02, 2026-08: "the shortest run of final clusters from one element to another, each sharing an
--- element with the next". Clusters are named by number, s lists them; a dead one is the empty set, which shares no element with any. Assumes nothing.
+-- The chain from one element to another. Document 02, 2026-08: "the shortest run of final clusters from one element to
+-- another, each sharing an element with the next". Clusters are named by number, s lists them; a dead one is the empty
+-- set, which shares no element with any. Assumes nothing.
 use mathlib.Core.Path.{_≡_}
 use mathlib.Core.Logic.{_≢_}
 use mathlib.Core.List.{List, [], _∷_}
@@ -9,13 +10,13 @@ use lib.ListN.{length}
 use Rattle.theory.specs.Set.{_∈_, _∩_}
 use Rattle.theory.specs.Merge.{slot}
 pub mod Laws
-pub mod Lead
 
 -- two sets share an element: the set of what they share (2026-09) is not empty
 pub record Share (a b : ℕ) : Type 0 where
   pub some : a ∩ b ≢ 0
 
--- clusters that go on from the set a: it shares an element with the first, each with the next, and the last holds the end
+-- clusters that go on from the set a: it shares an element with the first, each with the next, and the last holds the
+-- end
 abbrev pub From : List ℕ → ℕ → ℕ → List ℕ → Type 0
 From s end a [] = end ∈ a
 From s end a (k ∷ r) = Share a (slot s k) × From s end (slot s k) r

@@ -6,8 +6,8 @@ use Rattle.sheet.specs.Facts.{kindsOf, bitOf, isCircle, radiusOf, kindAt}
 use Rattle.sheet.specs.Field.{Field, value, refused, number}
 use Rattle.sheet.specs.Rules.{kindsKnown}
 use Rattle.sheet.specs.Decode.{readElements}
-use Rattle.fields.specs.declared.PlaceRead.{PlaceRead}
-use Rattle.fields.specs.declared.PlaceRead.the-variants as place
+use Rattle.elements.specs.declared.fields.PlaceRead.{PlaceRead}
+use Rattle.elements.specs.declared.fields.PlaceRead.the-variants as place
 pub mod Laws
 pub mod Elements
 

@@ -1,5 +1,5 @@
 // The elements of a sheet, read: their kinds, one field, and the radii of circles. Document 01, "The sheet in bytes"; document 02, 2026-01. Contracts
-// cite the decoding of the crate `sheet` and, for what an answer says, specs/Answers.antt.
+// cite the decoding of the crate `sheet` and, for what an answer says, specs/Answers.antt. The module `fields` reads one field.
 ghost use mathlib.Core.Path.{_≡_};
 ghost use mathlib.Core.Bool.{_&&_};
 ghost use mathlib.Core.List.{List};
@@ -13,6 +13,9 @@ ghost use Rattle.sheet.specs.Rules.{kindBitsUsed};
 ghost use Rattle.sheet.specs.Decode.{element};
 ghost use Rattle.elements.specs.Answers.{elementsField, ElementsRead, kindsRule};
 ghost use Rattle.elements.specs.Round.{roundNumber, roundKinds, SetsOf, ElementRead, RadiiRead};
+
+pub mod fields;
+
 use fields::Cursor;
 use fields::NumberRead;
 use fields::PlaceRead;

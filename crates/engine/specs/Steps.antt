@@ -13,7 +13,6 @@ use Rattle.theory.specs.declared.JointKind.the-variants.{Ppp}
 use Rattle.theory.specs.declared.Ways.{Ways}
 use Rattle.theory.specs.declared.Ways.the-variants.{Unknown}
 use Rattle.theory.specs.declared.Step.{Step}
-use Rattle.merges.specs.declared.Run.{Run}
 pub mod Laws
 
 -- the placements of a step m of the given kind, from the initial clusters
@@ -53,8 +52,8 @@ stepsIn lines e sizes cs parts joints count = stepsFor (stepAt lines e sizes cs 
 abbrev pub blankStep : Step
 blankStep = record { made = 0; i = 0; j = 0; k = 0; joint = 0; kind = Ppp; ways = Unknown }
 
--- the steps of a run, blank beyond them
-pub record Stepped (lines e : ℕ) (sizes : List ℤ) (cs : List ℕ) (run : Run) (steps : List Step) : Type 0 where
+-- the steps in the arrays, blank beyond them
+pub record Stepped (lines e : ℕ) (sizes : List ℤ) (cs parts joints : List ℕ) (count : ℕ) (steps : List Step) : Type 0 where
   pub long : length steps ≡ 62
-  pub each : (t : ℕ) → t < run .steps → getD steps t blankStep ≡ stepAt lines e sizes cs (run .parts) (run .joints) t
-  pub blank : (t : ℕ) → run .steps ≤ t → getD steps t blankStep ≡ blankStep
+  pub each : (t : ℕ) → t < count → getD steps t blankStep ≡ stepAt lines e sizes cs parts joints t
+  pub blank : (t : ℕ) → count ≤ t → getD steps t blankStep ≡ blankStep

@@ -1,5 +1,7 @@
 // The engine: the verdict of a list of merges, and its steps with their kinds and placements. Contracts cite theory's definitions and this crate's
 // specs.
+mod rings;
+
 ghost use mathlib.Core.Path.{_≡_};
 ghost use mathlib.Core.List.{List, [], _∷_};
 ghost use Prim.Native.Nat.{ℕ, _+_, _*_, _≤_, _<_, _^_};
@@ -8,16 +10,13 @@ ghost use lib.IntN.{natAbs, _-ℤ_};
 ghost use Rattle.theory.specs.Verdict.{angled as someLines, judged};
 ghost use Rattle.theory.specs.Placement.{jointKind, against as comparison, triangle as triangleWays, stripOf, placed};
 ghost use Rattle.theory.specs.Merge.{left, merge as numbers};
-ghost use Rattle.theory.specs.Ring.{ringed};
 ghost use Rattle.merges.specs.Run.{places};
 ghost use Rattle.engine.specs.Steps.{waysBy, stepAt, blankStep, Stepped};
 ghost use Rattle.space.specs.Space.{Put, answer, after};
 ghost use Rattle.engine.specs.Lists.{livingOf};
 use merges::ELEMENTS;
 use merges::PLACES;
-use merges::Run;
 use space::Written;
-use space::put_number16;
 use space::put_number64;
 use theory::JointKind;
 use theory::Step;
@@ -40,19 +39,6 @@ pub fn angled(joints: &[u64; ELEMENTS], steps: usize, lines: u64) -> bool
     false
 }
 
-// Do the final clusters, of which e less two a step are left, make a ring of lines? One cluster makes none.
-pub fn round(slots: &[u64; PLACES], steps: usize, e: usize, lines: u64) -> bool
-    requires { ⌜ (steps ≤ 64) × (e + steps ≤ 192) × (length (now slots) ≡ 192) ⌝ }
-    ensures { λ r. ⌜ ((finals : List ℕ) → take (e + steps) (now (slots .entry)) ≡ finals → left finals + 2 * steps ≡ e → r ≡ ringed lines finals) ⌝ }
-{
-    if 2 * steps + 1 == e {
-        return false;
-    }
-    let all = &slots[..];
-    let used = e + steps;
-    rings::ringed(&all[0..used], lines)
-}
-
 // The verdict of a list of merges, after "over", by its joints and its final clusters, of which e less two a step are left.
 pub fn settle(
     joints: &[u64; ELEMENTS],
@@ -69,13 +55,15 @@ pub fn settle(
     if angled(joints, steps, lines) {
         return Verdict::Angle;
     }
-    if round(slots, steps, e, lines) {
+    let all = &slots[..];
+    let used = e + steps;
+    if rings::ringed(&all[0..used], lines) {
         return Verdict::Angle;
     }
     if e + 3 != 2 * n {
         return Verdict::Under;
     }
-    if e - 2 * steps == 1 {
+    if merges::one_left(e, steps) {
         Verdict::Well
     } else {
         Verdict::Stuck
@@ -234,7 +222,8 @@ pub fn step_at(
     }
 }
 
-fn no_steps() -> [Step; 62]
+// Blank records.
+pub fn no_steps() -> [Step; 62]
     ensures { λ r. ⌜ r ≡ replicate 62 blankStep ⌝ }
 {
     let blank = Step {
@@ -249,44 +238,26 @@ fn no_steps() -> [Step; 62]
     [blank; 62]
 }
 
-// The steps of a list of merges of the constraints whose sets are the first e of `start`, 0 for the size of one without. Blank beyond.
+// The first `count` steps of a list of merges of the constraints whose sets are the first e of `start`, 0 for the size of one without. Blank beyond.
 pub fn steps_of(
-    run: Run,
+    parts: &[u16; PLACES],
+    joints: &[u64; ELEMENTS],
+    count: usize,
     start: &[u64; 200],
     sizes: &[i32; 200],
     lines: u64,
     e: usize,
 ) -> [Step; 62]
-    requires { ⌜ (e ≤ 125) × (run .steps ≤ 62) ⌝ }
-    ensures { λ r. ⌜ Stepped lines e (now (sizes .entry)) (now (start .entry)) run r ⌝ }
+    requires { ⌜ (e ≤ 125) × (count ≤ 62) ⌝ }
+    ensures { λ r. ⌜ Stepped lines e (now (sizes .entry)) (now (start .entry)) (now (parts .entry)) (now (joints .entry)) count r ⌝ }
 {
-    let count = run.steps;
-    let parts = run.parts;
-    let joints = run.joints;
     let mut steps = no_steps();
     let mut t: usize = 0;
     while t < count {
-        steps[t] = step_at(&parts, &joints, start, sizes, lines, e, t);
+        steps[t] = step_at(parts, joints, start, sizes, lines, e, t);
         t += 1;
     }
     steps
-}
-
-// The numbers of a list of merges, three a step, into lent space, or 17.
-pub fn put_plan(parts: &[u16; PLACES], steps: usize, out: &mut [u16]) -> Written
-    requires { ⌜ (steps ≤ 62) × (length (now parts) ≡ 192) ⌝ }
-    ensures { λ r. ⌜ (r ≡ answer (take (3 * steps) (now (parts .entry))) (now (out .entry)))
-        × (now (out .exit) ≡ after (take (3 * steps) (now (parts .entry))) (now (out .entry))) ⌝ }
-{
-    let count = 3 * steps;
-    if out.len() < count {
-        return Written::Refused(17);
-    }
-    let mut i: usize = 0;
-    while i < count {
-        i = put_number16(out, i, parts[i]);
-    }
-    Written::Done(count)
 }
 
 // A cluster, unless it is dead.

@@ -6,11 +6,11 @@ use Rattle.sheet.specs.declared.Size.{Size}
 use Rattle.sheet.specs.declared.Size.the-variants.{Given, Missing, Tangent, OtherTangent, Unfit}
 use Rattle.theory.specs.Block.{block}
 use Rattle.theory.specs.Constraints.{Below}
-use Rattle.theory.specs.Graph.{Graph}
+use Rattle.theory.specs.Graph.{Graph, SizedGraph}
 use Rattle.theory.specs.Near.{Simple, Near}
 use Rattle.sheet.specs.Facts.{Facts, linesOf}
 use Rattle.sheet.specs.Facts.Kinds.{KindsIn}
-use Rattle.sheet.specs.Graph.{clusterOf, graphOf}
+use Rattle.sheet.specs.Graph.{clusterOf, sizedOf}
 use Rattle.sheet.specs.Accepted.{Accepted}
 use Rattle.sheet.specs.Noted.{Noted}
 use Rattle.graph.specs.declared.Head.{Head}
@@ -20,8 +20,12 @@ pub mod Sheets
 pub mod Plain
 
 -- the graph that a head and the arrays hold
-abbrev pub graphIn : Head → List ℕ → List ℤ → Graph
-graphIn h start sizes = record { n = h .n; lines = h .lines; clusters = take (h .e) start; sizes = take (h .e) sizes }
+abbrev pub graphIn : Head → List ℕ → Graph
+graphIn h start = record { n = h .n; lines = h .lines; clusters = take (h .e) start }
+
+-- with the sizes
+abbrev pub sizedIn : Head → List ℕ → List ℤ → SizedGraph
+sizedIn h start sizes = record { graph = graphIn h start; sizes = take (h .e) sizes }
 
 abbrev pub headOf : Facts → Head
 headOf f = record { n = length (f .elements); e = length (f .constraints); lines = linesOf (f .elements) }
@@ -76,9 +80,9 @@ pub record Stands (f : Facts) (h : Head) (near start : List ℕ) : Type 0 where
   pub noted : Noted near (f .constraints)
   pub start-is : start ≡ block 200 0 (map clusterOf (f .constraints))
 
--- the sizes of a sheet's graph, 0 beyond them
+-- the sizes of a sheet's constraints, 0 beyond them
 abbrev pub sizesOf : Facts → List ℤ
-sizesOf f = block 200 (pos 0) (graphOf f .sizes)
+sizesOf f = block 200 (pos 0) (sizedOf f .sizes)
 
 -- ---- what judging asks of a graph and of the arrays that hold it: that no rule of 3 and 5 to 7 refuses it
 

@@ -7,13 +7,20 @@ use Rattle.theory.specs.Plan.{planOf, ascending}
 use Rattle.theory.specs.Graph.{Graph, findingOf, listVerdict}
 use Rattle.theory.specs.declared.Finding.{Finding}
 use Rattle.theory.specs.declared.Finding.the-variants.{Fine, First}
+use Rattle.theory.specs.declared.Verdict.{Verdict}
 use Rattle.theory.specs.declared.Verdict.the-variants.{Over}
-use Rattle.merges.specs.Run.{flat, runOf}
+use Rattle.merges.specs.Run.{Run, flat, runOf}
 use Rattle.engine.specs.Lists.{livingOf}
-use Rattle.judge.specs.declared.Judged.{Judged}
 pub mod Laws
 pub mod Lists
 pub mod Short
+
+-- a verdict; of an over sheet the first constraint and the smallest set, and no merge; else the engine's plan
+pub record Judged : Type 0 where
+  pub verdict : Verdict
+  pub first : ℕ
+  pub set : ℕ
+  pub run : Run
 
 -- a list of merges of the constraints, with its own verdict
 unfoldable pub listed : Graph → List Merge → Judged

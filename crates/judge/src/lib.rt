@@ -1,9 +1,8 @@
-// The judgement of a constraint graph in lent arrays. Contracts cite theory's definitions; a judgement does not look at the sizes z.
+// The judgement of a constraint graph in lent arrays. Contracts cite theory's definitions.
 ghost use mathlib.Core.Path.{_≡_};
 ghost use mathlib.Core.List.{List};
 ghost use Prim.Native.Nat.{ℕ, _+_, _*_, _≤_};
 ghost use lib.Count.{ones};
-ghost use lib.IntN.{ℤ};
 ghost use lib.ListN.{take};
 ghost use Rattle.theory.specs.Graph.{Graph, findingOf, verdictOf};
 ghost use Rattle.theory.specs.declared.Finding.the-variants.{First};
@@ -16,14 +15,13 @@ ghost use Rattle.judge.specs.Telling.{Tells, Reached};
 use graph::Head;
 use merges::ELEMENTS;
 use merges::PLACES;
-use merges::Run;
 use theory::Finding;
 use theory::Verdict;
 
 // The first constraint that makes the sheet over, with the smallest set; Fine where it is not over.
 pub fn over_of(h: Head, near: &[u64; 64], start: &[u64; 200]) -> Finding
     requires { ⌜ Drawn h (now near) (now start) ⌝ }
-    ensures { λ r. ⌜ ((z : List ℤ) → r ≡ findingOf (graphIn h (now (start .entry)) z)) ⌝ }
+    ensures { λ r. ⌜ r ≡ findingOf (graphIn h (now (start .entry))) ⌝ }
 {
     sparsity::find_over(near, start, h.e)
 }
@@ -31,10 +29,21 @@ pub fn over_of(h: Head, near: &[u64; 64], start: &[u64; 200]) -> Finding
 // Rule 11: 11 of an over sheet, else 0.
 pub fn over_fault(h: Head, near: &[u64; 64], start: &[u64; 200]) -> u8
     requires { ⌜ Drawn h (now near) (now start) ⌝ }
-    ensures { λ r. ⌜ ((z : List ℤ) → r ≡ overFault (graphIn h (now (start .entry)) z)) ⌝ }
+    ensures { λ r. ⌜ r ≡ overFault (graphIn h (now (start .entry))) ⌝ }
+{
+    over_after(h, near, start, 0)
+}
+
+// The same where so many merges were made one after another: those that leave one cluster show that the sheet is not over.
+pub fn over_after(h: Head, near: &[u64; 64], start: &[u64; 200], steps: usize) -> u8
+    requires { ⌜ Drawn h (now near) (now start) × Reached (take (h .e) (now start)) steps ⌝ }
+    ensures { λ r. ⌜ r ≡ overFault (graphIn h (now (start .entry))) ⌝ }
 {
     if 2 * h.n < h.e + 3 {
         return 11;
+    }
+    if merges::one_left(h.e, steps) {
+        return 0;
     }
     match over_of(h, near, start) {
         Finding::First { .. } => 11,
@@ -42,31 +51,14 @@ pub fn over_fault(h: Head, near: &[u64; 64], start: &[u64; 200]) -> u8
     }
 }
 
-// The same where so many merges were made one after another: those that leave one cluster show that the sheet is not over.
-pub fn over_after(h: Head, near: &[u64; 64], start: &[u64; 200], steps: usize) -> u8
-    requires { ⌜ Drawn h (now near) (now start) × Reached (take (h .e) (now start)) steps ⌝ }
-    ensures { λ r. ⌜ ((z : List ℤ) → r ≡ overFault (graphIn h (now (start .entry)) z)) ⌝ }
-{
-    if h.e == 2 * steps + 1 {
-        return 0;
-    }
-    over_fault(h, near, start)
-}
-
-// What is judged of a sheet: its verdict; of an over sheet the first constraint and the smallest set, and no merge; else the engine's plan.
-pub struct Judged {
-    pub verdict: Verdict,
-    pub first: usize,
-    pub set: u64,
-    pub run: Run,
-}
-
-// The same of a sheet whose plan stands in lent arrays: how many steps it has. What they hold of an over sheet is no plan.
+// The same of a sheet whose plan stands in lent arrays: how many steps it has, and whether these leave one cluster. What the arrays hold of an over
+// sheet is no plan.
 pub struct Found {
     pub verdict: Verdict,
     pub first: usize,
     pub set: u64,
     pub steps: usize,
+    pub whole: bool,
 }
 
 // An over sheet: the first constraint and the smallest set.
@@ -78,6 +70,7 @@ fn over_found(first: usize, set: u64) -> Found
         first,
         set,
         steps: 0,
+        whole: false,
     }
 }
 
@@ -99,6 +92,7 @@ fn merged(
         first: 0,
         set: 0,
         steps,
+        whole: merges::one_left(h.e, steps),
     }
 }
 
@@ -112,11 +106,10 @@ fn judge_full(
     joints: &mut [u64; ELEMENTS],
 ) -> Found
     requires { ⌜ Drawn h (now near) (now start) × (h .e + 3 ≡ 2 * h .n) × Blank (now slots) (now parts) (now joints) ⌝ }
-    ensures { λ r. ⌜ ((z : List ℤ)
-        → JudgedIn (graphIn h (now (start .entry)) z) r (now (parts .exit)) (now (joints .exit)) (now (slots .exit))) ⌝ }
+    ensures { λ r. ⌜ JudgedIn (graphIn h (now (start .entry))) r (now (parts .exit)) (now (joints .exit)) (now (slots .exit)) ⌝ }
 {
     let found = merged(h, start, slots, parts, joints);
-    if 2 * found.steps + 1 == h.e {
+    if found.whole {
         return found;
     }
     match over_of(h, near, start) {
@@ -135,8 +128,7 @@ pub fn judge_on(
     joints: &mut [u64; ELEMENTS],
 ) -> Found
     requires { ⌜ Drawn h (now near) (now start) × Blank (now slots) (now parts) (now joints) ⌝ }
-    ensures { λ r. ⌜ ((z : List ℤ)
-        → JudgedIn (graphIn h (now (start .entry)) z) r (now (parts .exit)) (now (joints .exit)) (now (slots .exit))) ⌝ }
+    ensures { λ r. ⌜ JudgedIn (graphIn h (now (start .entry))) r (now (parts .exit)) (now (joints .exit)) (now (slots .exit)) ⌝ }
 {
     if h.e + 3 == 2 * h.n {
         return judge_full(h, near, start, slots, parts, joints);
@@ -144,39 +136,6 @@ pub fn judge_on(
     match over_of(h, near, start) {
         Finding::First { constraint, set } => over_found(constraint, set),
         Finding::Fine => merged(h, start, slots, parts, joints),
-    }
-}
-
-// The same by value.
-pub fn judge(h: Head, near: &[u64; 64], start: &[u64; 200]) -> Judged
-    requires { ⌜ Drawn h (now near) (now start) ⌝ }
-    ensures { λ r. ⌜ ((z : List ℤ) → r ≡ judgedOf (graphIn h (now (start .entry)) z)) ⌝ }
-{
-    let mut slots = [0u64; PLACES];
-    let mut parts = [0u16; PLACES];
-    let mut joints = [0u64; ELEMENTS];
-    let found = judge_on(h, near, start, &mut slots, &mut parts, &mut joints);
-    let verdict = found.verdict;
-    if verdict.number() == 0 {
-        let run = merges::no_run();
-        return Judged {
-            verdict,
-            first: found.first,
-            set: found.set,
-            run,
-        };
-    }
-    let run = Run {
-        steps: found.steps,
-        parts,
-        joints,
-        slots,
-    };
-    Judged {
-        verdict,
-        first: found.first,
-        set: found.set,
-        run,
     }
 }
 
@@ -201,8 +160,8 @@ pub fn plan_on(
     joints: &mut [u64; ELEMENTS],
 ) -> usize
     requires { ⌜ Drawn h (now near) (now start) × Blank (now slots) (now parts) (now joints) ⌝ }
-    ensures { λ r. ⌜ ((z : List ℤ) → runIn r (now (parts .exit)) (now (joints .exit)) (now (slots .exit))
-        ≡ judgedOf (graphIn h (now (start .entry)) z) .run) ⌝ }
+    ensures { λ r. ⌜ runIn r (now (parts .exit)) (now (joints .exit)) (now (slots .exit))
+        ≡ judgedOf (graphIn h (now (start .entry))) .run ⌝ }
 {
     let held = h.e + 3;
     if 2 * h.n < held {
@@ -228,7 +187,7 @@ pub struct Told {
 // What the judgement tells of a sheet, its plan left behind.
 fn judged_told(h: Head, near: &[u64; 64], start: &[u64; 200]) -> Told
     requires { ⌜ Drawn h (now near) (now start) ⌝ }
-    ensures { λ r. ⌜ ((z : List ℤ) → Tells (graphIn h (now (start .entry)) z) (r .verdict) (r .first)) ⌝ }
+    ensures { λ r. ⌜ Tells (graphIn h (now (start .entry))) (r .verdict) (r .first) ⌝ }
 {
     let mut slots = [0u64; PLACES];
     let mut parts = [0u16; PLACES];
@@ -243,7 +202,7 @@ fn judged_told(h: Head, near: &[u64; 64], start: &[u64; 200]) -> Told
 // fewer it is over or under.
 fn few_told(h: Head, near: &[u64; 64], start: &[u64; 200]) -> Told
     requires { ⌜ Drawn h (now near) (now start) × (ones (h .lines) ≤ 2) ⌝ }
-    ensures { λ r. ⌜ ((z : List ℤ) → Tells (graphIn h (now (start .entry)) z) (r .verdict) (r .first)) ⌝ }
+    ensures { λ r. ⌜ Tells (graphIn h (now (start .entry))) (r .verdict) (r .first) ⌝ }
 {
     if h.e + 3 == 2 * h.n {
         if peeling::core_of(near) != 0 {
@@ -269,7 +228,7 @@ fn few_told(h: Head, near: &[u64; 64], start: &[u64; 200]) -> Told
 // What is told of a sheet: its verdict, and of an over one the first constraint that makes it so.
 pub fn tell(h: Head, near: &[u64; 64], start: &[u64; 200]) -> Told
     requires { ⌜ Drawn h (now near) (now start) ⌝ }
-    ensures { λ r. ⌜ ((z : List ℤ) → Tells (graphIn h (now (start .entry)) z) (r .verdict) (r .first)) ⌝ }
+    ensures { λ r. ⌜ Tells (graphIn h (now (start .entry))) (r .verdict) (r .first) ⌝ }
 {
     if u64::count_ones(h.lines) <= 2 {
         return few_told(h, near, start);
@@ -280,7 +239,7 @@ pub fn tell(h: Head, near: &[u64; 64], start: &[u64; 200]) -> Told
 // The verdict of a sheet. More than 2n-3 constraints are over.
 pub fn verdict_of(h: Head, near: &[u64; 64], start: &[u64; 200]) -> Verdict
     requires { ⌜ Drawn h (now near) (now start) ⌝ }
-    ensures { λ r. ⌜ ((z : List ℤ) → r ≡ verdictOf (graphIn h (now (start .entry)) z)) ⌝ }
+    ensures { λ r. ⌜ r ≡ verdictOf (graphIn h (now (start .entry))) ⌝ }
 {
     let used = h.e + 3;
     if 2 * h.n < used {

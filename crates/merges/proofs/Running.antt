@@ -9,8 +9,7 @@ use Rattle.theory.specs.Plan.Laws.{ascending-same, first-one, some-first, none-
 use Rattle.search.specs.State.{waits, Kept, Ready, Begun, Renewed, Fine}
 use Rattle.search.specs.State.Choice.{kept-todo}
 use Rattle.search.specs.State.Sheet.{all-low, fine-of, fine-same, ready-start, ready-put, ready-same, open-same}
-use Rattle.merges.specs.Run.{places, mostSteps, Start, Planned}
-use Rattle.merges.specs.declared.Run.{Run}
+use Rattle.merges.specs.Run.{Run, places, mostSteps, Start, Planned}
 use Rattle.merges.specs.Run.Laws.{final-snoc, valid-snoc, begin-same}
 use Rattle.merges.specs.Going.{Slots, Going, Made}
 use Rattle.merges.specs.Going.Laws.{slots-same, used-is, used-few, steps-are, steps-few, going-start, going-fewer, going-next, going-run}

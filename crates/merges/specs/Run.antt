@@ -1,13 +1,14 @@
 -- A list of merges in arrays, and what a run of merges begins from and answers. Assumes nothing.
 use mathlib.Core.Path.{_≡_}
+use mathlib.Core.Bool.{Bool}
 use mathlib.Core.List.{List, [], _∷_, map}
-use Prim.Native.Nat.{ℕ, _≤_}
+use Prim.Native.Nat.{ℕ, _+_, _*_, _≤_}
+use lib.Dec.{eqb}
 use lib.ListN.{length, take, replicate}
 use Rattle.theory.specs.Block.{block}
 use Rattle.theory.specs.Constraints.{Pairs, NotOver}
 use Rattle.theory.specs.Merge.{Merge, Valid, final, joints}
 use Rattle.theory.specs.Plan.{ascending, planOf}
-use Rattle.merges.specs.declared.Run.{Run}
 pub mod Laws
 
 -- 2n-3 constraints on 64 elements, half as many merges, and room for the clusters of both
@@ -25,7 +26,18 @@ unfoldable pub flat : List Merge → List ℕ
 flat [] = []
 flat (m ∷ p) = m .i ∷ m .j ∷ m .k ∷ flat p
 
--- the list of merges p of the constraints cs in arrays, the parts of each ascending
+-- one cluster is left of e: each merge takes two away
+abbrev pub oneLeft : ℕ → ℕ → Bool
+oneLeft e steps = eqb (2 * steps + 1) e
+
+-- a list of merges in arrays: the parts of each, ascending, their joints, and the clusters at the end, a dead one 0; places beyond are 0
+pub record Run : Type 0 where
+  pub steps : ℕ
+  pub parts : List ℕ
+  pub joints : List ℕ
+  pub slots : List ℕ
+
+-- the list of merges p of the constraints cs
 unfoldable pub runOf : List ℕ → List Merge → Run
 runOf cs p = record {
   steps = length p;

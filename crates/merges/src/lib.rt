@@ -1,7 +1,7 @@
 // Merges of three clusters, masks by number in arrays: the engine's plan of a start, and merges made one by one on arrays that a caller lends.
 // Contracts cite specs/Run.antt and specs/Going.antt. The crate `search` finds the first open merge; its arrays stay in here (specs/Search.antt).
 ghost use mathlib.Core.Path.{_≡_};
-ghost use mathlib.Core.List.{List, []};
+ghost use mathlib.Core.List.{List};
 ghost use Prim.Native.Nat.{ℕ, _≤_, _<_};
 ghost use lib.ListN.{length, take, replicate};
 ghost use Rattle.theory.specs.Block.{block};
@@ -9,41 +9,18 @@ ghost use Rattle.theory.specs.Constraints.{NotOver};
 ghost use Rattle.theory.specs.Set.{_∩_};
 ghost use Rattle.theory.specs.Merge.{Merge, merge as numbers, Three, joint, final};
 ghost use Rattle.theory.specs.Plan.{openTest, firstOf, isSome};
-ghost use Rattle.merges.specs.Run.{mostConstraints, mostSteps, places, runOf, runIn, Blank, Start, Planned};
+ghost use Rattle.merges.specs.Run.{mostConstraints, mostSteps, places, runIn, Blank, Start, Planned, oneLeft};
 ghost use Rattle.merges.specs.Going.{Slots, Made};
 ghost use Rattle.merges.specs.Search.{hitOf, Tested, Running, Stopped, Begins, Ran, RanTo};
 ghost use Rattle.search.specs.State.{Ready, Kept};
+use sets::FULL;
 
 // Places for the clusters of 125 constraints and 62 steps, and for three parts a step.
-pub const PLACES: usize = 192;
+pub const PLACES: usize = search::PLACES;
 // Places for an element or a step each.
-pub const ELEMENTS: usize = 64;
-// More than the steps of any plan, and the rim before any merge: every element.
+pub const ELEMENTS: usize = sets::ELEMENTS;
+// More than the steps of any plan.
 const NO_LIMIT: usize = 64;
-
-const FULL: u64 = 18446744073709551615;
-
-// ---- a list of merges
-
-// A list of merges: the parts of each, ascending, their joints, and the clusters at the end, a dead one 0. Places beyond are 0.
-pub struct Run {
-    pub steps: usize,
-    pub parts: [u16; PLACES],
-    pub joints: [u64; ELEMENTS],
-    pub slots: [u64; PLACES],
-}
-
-// No merge of no constraint.
-pub fn no_run() -> Run
-    ensures { λ r. ⌜ r ≡ runOf [] [] ⌝ }
-{
-    Run {
-        steps: 0,
-        parts: [0u16; PLACES],
-        joints: [0u64; ELEMENTS],
-        slots: [0u64; PLACES],
-    }
-}
 
 // ---- what each two of three clusters share
 
@@ -95,16 +72,6 @@ pub fn lay(slots: &mut [u64; PLACES], start: &[u64; 200], e: usize)
         slots[i] = start[i];
         i += 1;
     }
-}
-
-// The same by value.
-pub fn begin(start: &[u64; 200], e: usize) -> [u64; PLACES]
-    requires { ⌜ Start (now start) e ⌝ }
-    ensures { λ r. ⌜ r ≡ block places 0 (take e (now (start .entry))) ⌝ }
-{
-    let mut slots = [0u64; PLACES];
-    lay(&mut slots, start, e);
-    slots
 }
 
 // Merges clusters i, j and k, which ascend, as step `steps`: its parts and its joint are noted, the three die, and their union, which is answered, is
@@ -188,26 +155,31 @@ fn first_open(
     }
 }
 
-// Is a merge open among the clusters below `used`, which merges of constraints that are not over have left? One is, where a cluster reaches an element.
+// Is a merge open among the clusters below `used`, which merges of constraints that are not over have left? One is if the search finds it.
 pub fn some_open(slots: &[u64; PLACES], used: usize) -> bool
-    requires { ⌜ (used ≤ places) × (length (now slots) ≡ places) ⌝ }
-    ensures { λ r. ⌜ ((cs : List ℕ) (p : List Merge) → NotOver cs → Slots cs p (now (slots .entry)) used → r ≡ isSome (firstOf 0 (final cs p))) ⌝ }
+    requires { ⌜ used ≤ places ⌝ }
+    ensures { λ r. ⌜ ((cs : List ℕ) (p : List Merge) → NotOver cs → Slots cs p (now (slots .entry)) used
+        → r ≡ isSome (firstOf 0 (final cs p))) ⌝ }
 {
     let mut links = [0u64; ELEMENTS];
     let mut hold = [0u64; PLACES];
     search::join_all(slots, used, &mut links, &mut hold);
-    let mut c: usize = 0;
-    while c < used {
-        let x = slots[c];
-        if search::outs(&links, x, x & FULL) != 0 {
-            return true;
-        }
-        c += 1;
+    let mut todo = search::todo_all(used);
+    match first_open(slots, &links, &hold, &mut todo, FULL, used) {
+        Hit::At(..) => true,
+        Hit::Nothing => false,
     }
-    false
 }
 
 // ---- merge after merge
+
+// Is one cluster left of e after so many merges?
+pub fn one_left(e: usize, steps: usize) -> bool
+    requires { ⌜ steps ≤ 64 ⌝ }
+    ensures { λ r. ⌜ r ≡ oneLeft e steps ⌝ }
+{
+    2 * steps + 1 == e
+}
 
 // How many merges were made, and the rim that they leave.
 pub struct Halt {
@@ -312,21 +284,4 @@ pub fn merge_into(
     let mut hold = [0u64; PLACES];
     let halt = merge_on(slots, parts, joints, &mut links, &mut hold, e);
     halt.steps
-}
-
-// The same by value.
-pub fn merge_all(start: &[u64; 200], e: usize) -> Run
-    requires { ⌜ Start (now start) e ⌝ }
-    ensures { λ r. ⌜ Planned (take e (now (start .entry))) r ⌝ }
-{
-    let mut slots = [0u64; PLACES];
-    let mut parts = [0u16; PLACES];
-    let mut joints = [0u64; ELEMENTS];
-    let steps = merge_into(start, e, &mut slots, &mut parts, &mut joints);
-    Run {
-        steps,
-        parts,
-        joints,
-        slots,
-    }
 }

@@ -3,7 +3,7 @@ use Rattle.theory.specs.Prelude.{_≡_, _≢_, true, false, List, [], _∷_, �
 use Rattle.theory.specs.Set.{_∈_, full}
 use Rattle.theory.specs.Constraints.{pair, Among, Pairs, Below}
 use Rattle.theory.specs.Over.{IsOver, isOver}
-use Rattle.greedy.specs.Completion.Rank.{Exact}
+use Rattle.theory.specs.Completion.Rank.{Exact}
 use Rattle.sparsity.specs.Answer.{Using}
 pub mod Laws
 

@@ -9,8 +9,8 @@ use lib.Dec.{eqb}
 use lib.ListN.{length}
 use Rattle.theory.specs.Graph.{Graph}
 use Rattle.sheet.specs.Field.{Field, value, refused, demand}
-use Rattle.greedy.specs.Completion.{Offer, Completion, Cheapest}
-use Rattle.greedy.specs.Choice.{pricesAllowed, cheapest}
+use Rattle.theory.specs.Completion.{Offer, Completion, Cheapest}
+use Rattle.theory.specs.Choice.{pricesAllowed, cheapest}
 pub mod Laws
 
 -- a pair as one number: its first end times 256 plus its second

@@ -6,7 +6,7 @@ use mathlib.Core.Bool.{true, false, cond}
 use mathlib.Core.List.{List, [], _∷_, _++_}
 use lib.Dec.{ltb}
 use lib.ListN.{length, getD}
-use Rattle.theory.specs.Graph.{Graph, stepsOf}
+use Rattle.theory.specs.Graph.{Graph, SizedGraph, stepsOf}
 use Rattle.theory.specs.Plan.{planOf}
 use Rattle.theory.specs.declared.Step.{Step}
 use Rattle.sheet.specs.Field.{Field, value, next}
@@ -34,22 +34,22 @@ unfoldable pub partSteps : ℕ → (ℕ → Step) → ℕ → List Step
 partSteps e step c = under (suc c) e step c
 
 -- step t of a graph's plan
-abbrev pub planStep : Graph → ℕ → Step
-planStep g t = getD (stepsOf g (planOf (g .clusters))) t blankStep
+abbrev pub planStep : SizedGraph → ℕ → Step
+planStep g t = getD (stepsOf g (planOf (g .graph .clusters))) t blankStep
 
-unfoldable pub clusterSteps : Graph → ℕ → List Step
-clusterSteps g c = partSteps (length (g .clusters)) (planStep g) c
+unfoldable pub clusterSteps : SizedGraph → ℕ → List Step
+clusterSteps g c = partSteps (length (g .graph .clusters)) (planStep g) c
 
 -- the rule that refuses the number c, 0 if none
 abbrev pub numberFault : Graph → ℕ → ℕ
 numberFault g c = cond (ltb c (length (g .clusters) + length (planOf (g .clusters)))) 0 26
 
-abbrev pub clusterField : Graph → ℕ → Field (List Step)
-clusterField g c = byRule (numberFault g c) (value (clusterSteps g c) [])
+abbrev pub clusterField : SizedGraph → ℕ → Field (List Step)
+clusterField g c = byRule (numberFault (g .graph) c) (value (clusterSteps g c) [])
 
 -- 11 comes before
-abbrev pub heldField : Graph → ℕ → Field (List Step)
-heldField g c = byRule (overFault g) (clusterField g c)
+abbrev pub heldField : SizedGraph → ℕ → Field (List Step)
+heldField g c = byRule (overFault (g .graph)) (clusterField g c)
 
 -- the report's lines of the steps
 abbrev pub linesField : Field (List Step) → Field (List ℕ)

@@ -2,7 +2,7 @@
 -- each part's steps stand before the step that uses it.
 use Rattle.theory.specs.Prelude.{ℕ, _+_, _-_, _≤_, _<_, _≡_, _≢_, _↔_, _⊎_, List, [], _∷_, eqb, ones, length}
 use Rattle.theory.specs.Constraints.{Among, Perm, one-if}
-use Rattle.theory.specs.Graph.{Graph, stepsOf}
+use Rattle.theory.specs.Graph.{SizedGraph, stepsOf}
 use Rattle.theory.specs.Merge.{slot, final, left}
 use Rattle.theory.specs.Plan.{planOf}
 use Rattle.theory.specs.declared.Step.{Step}
@@ -35,14 +35,14 @@ Ordered e done [] = Unit {0}
 Ordered e done (s ∷ l) = Ready e done (s .i) × Ready e done (s .j) × Ready e done (s .k) × Ordered e (s .made ∷ done) l
 
 -- of the number c of a cluster
-pub record Shown (g : Graph) (c : ℕ) : Type 0 where
+pub record Shown (g : SizedGraph) (c : ℕ) : Type 0 where
   pub exactly : (s : Step)
       → In s (clusterSteps g c)
-      ↔ ((d : ℕ) × MadeFrom (length (g .clusters)) (planStep g) d c × (s ≡ planStep g (d - length (g .clusters))))
+      ↔ ((d : ℕ) × MadeFrom (length (g .graph .clusters)) (planStep g) d c × (s ≡ planStep g (d - length (g .graph .clusters))))
   pub once : (d : ℕ) → times d (clusterSteps g c) ≤ 1
-  pub ordered : Ordered (length (g .clusters)) [] (clusterSteps g c)
+  pub ordered : Ordered (length (g .graph .clusters)) [] (clusterSteps g c)
   -- in a plan that ends with c alone, the whole plan's steps in another order; of a final cluster of m elements m - 2
-  pub whole : left (final (g .clusters) (planOf (g .clusters))) ≡ 1 → slot (final (g .clusters) (planOf (g .clusters))) c ≢ 0
-      → Perm (clusterSteps g c) (stepsOf g (planOf (g .clusters)))
-  pub steps-elements : slot (final (g .clusters) (planOf (g .clusters))) c ≢ 0
-      → length (clusterSteps g c) + 2 ≡ ones (slot (final (g .clusters) (planOf (g .clusters))) c)
+  pub whole : left (final (g .graph .clusters) (planOf (g .graph .clusters))) ≡ 1 → slot (final (g .graph .clusters) (planOf (g .graph .clusters))) c ≢ 0
+      → Perm (clusterSteps g c) (stepsOf g (planOf (g .graph .clusters)))
+  pub steps-elements : slot (final (g .graph .clusters) (planOf (g .graph .clusters))) c ≢ 0
+      → length (clusterSteps g c) + 2 ≡ ones (slot (final (g .graph .clusters) (planOf (g .graph .clusters))) c)

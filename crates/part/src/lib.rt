@@ -3,12 +3,14 @@
 ghost use mathlib.Core.Path.{_≡_};
 ghost use Prim.Native.Nat.{_+_, _≤_, _<_};
 ghost use Rattle.sheet.specs.Answer.{Answers};
-ghost use Rattle.graph.specs.Lent.{graphIn, Drawn};
+ghost use Rattle.graph.specs.Lent.{sizedIn, Drawn};
 ghost use Rattle.engine.specs.Steps.{stepAt};
 ghost use Rattle.report.specs.Block.{Numerals};
 ghost use Rattle.part.specs.Part.{partSteps, heldField, linesField};
 ghost use Rattle.part.specs.Tallies.{Lower, Listed, Room, measureOf, Tallied};
 use graph::Head;
+use merges::ELEMENTS;
+use merges::PLACES;
 use report::BLOCK;
 use report::TEXT;
 use space::Written;
@@ -25,13 +27,14 @@ pub enum Measured {
     Refused(u8),
 }
 
-// The lines of the steps of cluster c, from the place `t.bytes` on, counted; none where it is initial.
+// The lines of the steps of cluster c, from the place `t.bytes` on, counted: none where it is initial, else those of its parts, lowest first, then
+// that of its own step.
 fn put_part(
     out: &mut [u8; BLOCK],
     t: Tally,
     text: &[u8; TEXT],
-    parts: &[u16; 192],
-    joints: &[u64; 64],
+    parts: &[u16; PLACES],
+    joints: &[u64; ELEMENTS],
     start: &[u64; 200],
     sizes: &[i32; 200],
     lines: u64,
@@ -47,28 +50,6 @@ fn put_part(
     if c < e {
         return t;
     }
-    put_made(out, t, text, parts, joints, start, sizes, lines, e, c)
-}
-
-// The same of a cluster that a step makes: the lines of its parts, lowest first, then that of its own step.
-fn put_made(
-    out: &mut [u8; BLOCK],
-    t: Tally,
-    text: &[u8; TEXT],
-    parts: &[u16; 192],
-    joints: &[u64; 64],
-    start: &[u64; 200],
-    sizes: &[i32; 200],
-    lines: u64,
-    e: usize,
-    c: usize,
-) -> Tally
-    requires { ⌜ (e ≤ 125) × (c < e + 62) × Lower e (stepAt lines e (now sizes) (now start) (now parts) (now joints)) c × (e ≤ c) ⌝ }
-    requires { ⌜ Room t (partSteps e (stepAt lines e (now sizes) (now start) (now parts) (now joints)) c) ⌝ }
-    requires { ⌜ Numerals (now text) ⌝ }
-    ensures { λ r. ⌜ Listed (now (out .entry)) t
-        (partSteps e (stepAt lines e (now (sizes .entry)) (now (start .entry)) (now (parts .entry)) (now (joints .entry))) c) r (now (out .exit)) ⌝ }
-{
     let own = c - e;
     let s = engine::step_at(parts, joints, start, sizes, lines, e, own);
     let a = put_part(out, t, text, parts, joints, start, sizes, lines, e, s.i);
@@ -103,19 +84,19 @@ fn put_cluster(
     out: &mut [u8; BLOCK],
 ) -> Measured
     requires { ⌜ Drawn h (now near) (now start) ⌝ }
-    ensures { λ r. ⌜ Tallied (heldField (graphIn h (now (start .entry)) (now (sizes .entry))) c) (now (out .entry)) r (now (out .exit)) ⌝ }
+    ensures { λ r. ⌜ Tallied (heldField (sizedIn h (now (start .entry)) (now (sizes .entry))) c) (now (out .entry)) r (now (out .exit)) ⌝ }
 {
-    let judged = judge::judge(h, near, start);
-    let verdict = judged.verdict;
+    let mut slots = [0u64; PLACES];
+    let mut parts = [0u16; PLACES];
+    let mut joints = [0u64; ELEMENTS];
+    let found = judge::judge_on(h, near, start, &mut slots, &mut parts, &mut joints);
+    let verdict = found.verdict;
     if verdict.number() == 0 {
         return Measured::Refused(11);
     }
-    let run = judged.run;
-    if h.e + run.steps <= c {
+    if h.e + found.steps <= c {
         return Measured::Refused(26);
     }
-    let parts = run.parts;
-    let joints = run.joints;
     let text = report::numerals();
     let none = Tally { steps: 0, bytes: 0 };
     let all = put_part(
@@ -142,7 +123,7 @@ pub fn measure(
     c: usize,
 ) -> Measured
     requires { ⌜ Drawn h (now near) (now start) ⌝ }
-    ensures { λ r. ⌜ r ≡ measureOf (heldField (graphIn h (now (start .entry)) (now (sizes .entry))) c) ⌝ }
+    ensures { λ r. ⌜ r ≡ measureOf (heldField (sizedIn h (now (start .entry)) (now (sizes .entry))) c) ⌝ }
 {
     let mut lines: [u8; BLOCK] = [0; BLOCK];
     put_cluster(h, near, start, sizes, c, &mut lines)
@@ -158,7 +139,7 @@ pub fn list(
     out: &mut [u8],
 ) -> Written
     requires { ⌜ Drawn h (now near) (now start) ⌝ }
-    ensures { λ r. ⌜ Answers (linesField (heldField (graphIn h (now (start .entry)) (now (sizes .entry))) c)) (now (out .entry)) r
+    ensures { λ r. ⌜ Answers (linesField (heldField (sizedIn h (now (start .entry)) (now (sizes .entry))) c)) (now (out .entry)) r
         (now (out .exit)) ⌝ }
 {
     let mut whole: [u8; BLOCK] = [0; BLOCK];
@@ -166,7 +147,7 @@ pub fn list(
     match got {
         Measured::Is(t) => {
             let m = t.bytes;
-            report::put_whole(out, &whole[0..m])
+            space::put_all8(out, &whole[0..m])
         }
         Measured::Refused(k) => Written::Refused(k),
     }

@@ -1,5 +1,5 @@
 -- What is promised of circles of known radius (document 02, 2026-01): "A round light must get the verdict and plan of the sketch of its centres", and
--- PF01 sheets stay what document 01 alone says. `round` Centres and First say what these are.
+-- PF01 sheets stay what document 01 alone says. `sheet` Centres and First say what these are.
 use Rattle.theory.specs.Prelude.{ℕ, _≤_, _<_, _≡_, true, false, List, [], map, natAbs, length, getD}
 use Rattle.theory.specs.Graph.{Graph, verdictOf}
 use Rattle.sheet.specs.declared.Opening.the-variants.{Pf01, Pf02}
@@ -12,11 +12,11 @@ use Rattle.sheet.specs.Decode.{readSheet}
 use Rattle.sheet.specs.Encode.{sheetBytes}
 use Rattle.sheet.specs.Accepted.{Accepted}
 use Rattle.sheet.specs.Answer.{byRule}
-use Rattle.sheet.specs.Graph.{sizeIn, graphOf, overFault}
+use Rattle.sheet.specs.Graph.{sizeIn, graphOf, sizedOf, overFault}
 use Rattle.sheet.specs.Refusals.{Rule}
-use Rattle.round.specs.Centres.{centreConstraint, centres, Contacts, isContact, Derived}
-use Rattle.round.specs.First.{readFirst, sizeGiven, firstBytes}
-use Rattle.account.specs.Account.{savedField}
+use Rattle.sheet.specs.Centres.{centreConstraint, centres, Contacts, isContact, Derived}
+use Rattle.sheet.specs.First.{readFirst, sizeGiven, firstBytes}
+use Rattle.account.specs.Account.{reportOf, savedField}
 use Rattle.part.specs.Part.{clusterField, linesField}
 use Rattle.steps.specs.Records.{planSteps, savedRecords}
 use Rattle.chain.specs.Answer.{asked}
@@ -27,17 +27,18 @@ use Rattle.sketch.specs.Sketch.{extended, asJudged, askAnswer, placeAnswer}
 use Rattle.sketch.specs.Runs.{Held}
 use Rattle.records.specs.Record.{asJudgement, askField}
 use Rattle.records.specs.Runs.{SameFacts}
-use Rattle.pattern.specs.Entries.{itemsField, verdictField, checkField, stepsField, savedStepsField, partOf}
+use Rattle.pattern.specs.Entries.{itemsField, reportField, verdictField, checkField, stepsField, savedStepsField, partOf}
 use Rattle.pattern.specs.Entries.{partField, chainField, missingField, openMergesField}
 pub mod Proof
 
 -- ---- a round light and the sketch of its centres
 
--- two sheets with one graph: the verdict; over, plan, initial and final clusters, what these rest on, report; saved
+-- two sheets with one sized graph: the verdict; over, plan, initial and final clusters, what these rest on; report; saved
 -- plans and step records; the steps of one cluster; the chain, the missing dimensions, the open merges
 pub record SameGraph (a b : List ℕ) : Type 0 where
   pub verdict : verdictField a ≡ verdictField b
   pub items : (what : Graph → List ℕ) → itemsField what a ≡ itemsField what b
+  pub report : reportField a ≡ reportField b
   pub check : (plan : List ℕ) → checkField a plan ≡ checkField b plan
   pub steps : stepsField a ≡ stepsField b
   pub saved-steps : (plan : List ℕ) → savedStepsField a plan ≡ savedStepsField b plan
@@ -59,17 +60,18 @@ abbrev pub unlessOver : {A : Type 0} → Graph → Field A → Field A
 unlessOver g x = byRule (overFault g) x
 
 pub record Round (bytes : List ℕ) (f : Facts) : Type 0 where
-  -- the answers are those of the graph of its centres
+  -- the answers are those of the sized graph of its centres
   pub verdict : verdictField bytes ≡ value (verdictOf (graphOf (centres f))) []
   pub items : (what : Graph → List ℕ) → itemsField what bytes ≡ value (what (graphOf (centres f))) []
+  pub report : reportField bytes ≡ value (reportOf (sizedOf (centres f))) []
   pub check : (plan : List ℕ)
-      → checkField bytes plan ≡ unlessOver (graphOf (centres f)) (savedField (graphOf (centres f)) plan)
-  pub steps : stepsField bytes ≡ unlessOver (graphOf (centres f)) (value (planSteps (graphOf (centres f))) [])
+      → checkField bytes plan ≡ unlessOver (graphOf (centres f)) (savedField (sizedOf (centres f)) plan)
+  pub steps : stepsField bytes ≡ unlessOver (graphOf (centres f)) (value (planSteps (sizedOf (centres f))) [])
   pub saved-steps : (plan : List ℕ)
-      → savedStepsField bytes plan ≡ unlessOver (graphOf (centres f)) (savedRecords (graphOf (centres f)) plan)
+      → savedStepsField bytes plan ≡ unlessOver (graphOf (centres f)) (savedRecords (sizedOf (centres f)) plan)
   pub part : (c : ℕ) → partField bytes c
-      ≡ linesField (unlessOver (graphOf (centres f)) (clusterField (graphOf (centres f)) c))
-  pub part-steps : (c : ℕ) → partOf bytes c ≡ unlessOver (graphOf (centres f)) (clusterField (graphOf (centres f)) c)
+      ≡ linesField (unlessOver (graphOf (centres f)) (clusterField (sizedOf (centres f)) c))
+  pub part-steps : (c : ℕ) → partOf bytes c ≡ unlessOver (graphOf (centres f)) (clusterField (sizedOf (centres f)) c)
   pub chain : (start end : ℕ)
       → chainField bytes start end ≡ unlessOver (graphOf (centres f)) (asked (graphOf (centres f)) start end)
   pub missing : (prices : List ℕ) → missingField bytes prices
@@ -113,4 +115,4 @@ pub record Circles : Type 0 where
       → length bytes ≤ 1814
   -- PF01 facts are written as document 01 alone writes them, in at most 1,414 bytes, and a missing size is 0
   pub first-written : (f : Facts) → Accepted f → f .opening ≡ Pf01 → (sheetBytes f ≡ firstBytes f) × (length (sheetBytes f) ≤ 1414)
-      × (graphOf f .sizes ≡ map (λ c. sizeGiven (c .size)) (f .constraints))
+      × (sizedOf f .sizes ≡ map (λ c. sizeGiven (c .size)) (f .constraints))

@@ -1,20 +1,19 @@
 -- How many items a call answers at most, whatever the bytes: a report, a sheet and a list are short, so that no count for C is cut (`asCount` of
 -- `pattern_c` Numbers). Document 01, "Refused", rule 17, asks for space of that length. Shown by `counts` of Counts/Proof.antt.
-use Rattle.theory.specs.Prelude.{ℕ, _≤_, _≡_, List, length}
+use Rattle.theory.specs.Prelude.{ℕ, _≤_, _≡_, List, some, length}
 use Rattle.sheet.specs.declared.Constraint.{Constraint}
 use Rattle.sheet.specs.declared.Sheet.{Sheet}
 use Rattle.sheet.specs.Field.{Field, value, Bytes}
 use Rattle.judge.specs.Judged.{planNumbers, finalClusters}
 use Rattle.writer.specs.Write.{writeField}
-use Rattle.account.specs.Account.{reportOf}
 use Rattle.account.specs.Resting.{restNumbers}
 use Rattle.longest.specs.Longest.{longestField}
 use Rattle.steps.specs.Records.{numbersField}
 use Rattle.space.specs.declared.Written.the-variants.{Done}
 use Rattle.records.specs.Record.{placeField, writtenField, heldRecord, sheetField}
 use Rattle.held.specs.Held.{heldCount, heldItems}
-use Rattle.pattern.specs.Entries.{itemsField, rewriteField, overNumbers, initialClusters, checkField, stepsField, savedStepsField, holdField}
-use Rattle.pattern.specs.Entries.{partOf, partField, missingField}
+use Rattle.pattern.specs.Entries.{itemsField, reportField, rewriteField, overNumbers, initialClusters, checkField, stepsField, savedStepsField, holdField}
+use Rattle.pattern.specs.Entries.{partOf, partField, chainField, missingField}
 use Rattle.pattern.specs.Entries.{openMergesField}
 pub mod Proof
 
@@ -22,7 +21,7 @@ abbrev pub AtMost : {A : Type 0} → ℕ → Field (List A) → Type 0
 AtMost {A} most x = (items : List A) (rest : List ℕ) → x ≡ value items rest → length items ≤ most
 
 pub record Counts : Type 0 where
-  pub report : (bytes : List ℕ) → Bytes bytes → AtMost 4667 (itemsField reportOf bytes)
+  pub report : (bytes : List ℕ) → Bytes bytes → AtMost 4667 (reportField bytes)
   pub missing : (bytes prices : List ℕ) → Bytes bytes → AtMost 125 (missingField bytes prices)
   pub check : (bytes plan : List ℕ) → Bytes bytes → AtMost 4667 (checkField bytes plan)
   pub plan : (bytes : List ℕ) → Bytes bytes → AtMost 186 (itemsField planNumbers bytes)
@@ -43,5 +42,6 @@ pub record Counts : Type 0 where
   pub held-rests : (lent : List ℕ) → Bytes lent → AtMost 250 (heldItems restNumbers (heldRecord lent))
   pub part : (bytes : List ℕ) (c : ℕ) → Bytes bytes → AtMost 3534 (partField bytes c)
   pub part-steps : (bytes : List ℕ) (c : ℕ) → Bytes bytes → AtMost 62 (partOf bytes c)
+  pub chain : (bytes : List ℕ) (start end : ℕ) (run rest : List ℕ) → chainField bytes start end ≡ value (some run) rest → length run ≤ 63
   pub open-merges : (bytes : List ℕ) (steps : ℕ) → Bytes bytes → AtMost 186 (openMergesField bytes steps)
   pub longest : (n : ℕ) → AtMost 889 (longestField n)

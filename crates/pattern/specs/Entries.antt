@@ -2,6 +2,7 @@
 -- over lent space.
 use Prim.Native.Nat.{ℕ}
 use mathlib.Core.List.{List, [], _∷_}
+use mathlib.Core.Option.{Option}
 use lib.ListN.{length}
 use Rattle.theory.specs.Graph.{Graph, findingOf, verdictOf}
 use Rattle.theory.specs.declared.Finding.{Finding}
@@ -14,10 +15,10 @@ use Rattle.sheet.specs.Facts.{Facts}
 use Rattle.sheet.specs.Field.{Field, value, refused, next}
 use Rattle.sheet.specs.Decode.{readSheet}
 use Rattle.sheet.specs.WithoutTags.{withoutTags}
-use Rattle.sheet.specs.Graph.{graphOf, overFault}
+use Rattle.sheet.specs.Graph.{graphOf, sizedOf, overFault}
 use Rattle.sheet.specs.Answer.{byRule}
 use Rattle.missing.specs.Missing.{cheapestField}
-use Rattle.account.specs.Account.{savedField}
+use Rattle.account.specs.Account.{reportOf, savedField}
 use Rattle.part.specs.Part.{clusterField, linesField}
 use Rattle.steps.specs.Records.{planSteps, savedRecords}
 use Rattle.chain.specs.Answer.{asked}
@@ -35,6 +36,10 @@ pub mod Chains
 -- the items that its graph gives
 abbrev pub itemsField : (Graph → List ℕ) → List ℕ → Field (List ℕ)
 itemsField what bytes = next (readSheet bytes) (λ f rest. value (what (graphOf f)) [])
+
+-- its report (document 01, "The report")
+abbrev pub reportField : List ℕ → Field (List ℕ)
+reportField bytes = next (readSheet bytes) (λ f rest. value (reportOf (sizedOf f)) [])
 
 -- reading and writing again gives the same sheet with bit 1 clear and the tag bytes gone (document 02, 2026-11)
 abbrev pub rewriteField : List ℕ → Field (List ℕ)
@@ -66,7 +71,7 @@ heldSheet bytes = next (readSheet bytes) held
 
 -- the steps of one cluster of its plan, by number (document 02, 2026-14), and their lines: 26 of a number that no cluster has
 abbrev pub partOf : List ℕ → ℕ → Field (List Step)
-partOf bytes c = next (heldSheet bytes) (λ f rest. clusterField (graphOf f) c)
+partOf bytes c = next (heldSheet bytes) (λ f rest. clusterField (sizedOf f) c)
 
 abbrev pub partField : List ℕ → ℕ → Field (List ℕ)
 partField bytes c = linesField (partOf bytes c)
@@ -78,21 +83,21 @@ countOf (refused k) = Not k
 
 -- a saved plan checked against it: 12 to 16 of the plan
 abbrev pub checkField : List ℕ → List ℕ → Field (List ℕ)
-checkField bytes plan = next (heldSheet bytes) (λ f rest. savedField (graphOf f) plan)
+checkField bytes plan = next (heldSheet bytes) (λ f rest. savedField (sizedOf f) plan)
 
 -- the steps of the engine's plan, a record each, and those of a saved plan (document 02, 2026-04)
 abbrev pub stepsField : List ℕ → Field (List Step)
-stepsField bytes = next (heldSheet bytes) (λ f rest. value (planSteps (graphOf f)) [])
+stepsField bytes = next (heldSheet bytes) (λ f rest. value (planSteps (sizedOf f)) [])
 
 abbrev pub savedStepsField : List ℕ → List ℕ → Field (List Step)
-savedStepsField bytes plan = next (heldSheet bytes) (λ f rest. savedRecords (graphOf f) plan)
+savedStepsField bytes plan = next (heldSheet bytes) (λ f rest. savedRecords (sizedOf f) plan)
 
 -- the sketch held from it, in the record that its owner lends (document 02, 2026-05); what is asked of the record and placed in it, `records` Record says
 abbrev pub holdField : List ℕ → Field (List ℕ)
 holdField bytes = writtenField (heldSheet bytes)
 
--- its graph, of which the chain from one element to another is asked (document 02, 2026-08): 25 after 11
-abbrev pub chainField : List ℕ → ℕ → ℕ → Field Graph
+-- the chain of its final clusters from one element to another, or none (document 02, 2026-08): 25 after 11
+abbrev pub chainField : List ℕ → ℕ → ℕ → Field (Option (List ℕ))
 chainField bytes start end = next (heldSheet bytes) (λ f rest. asked (graphOf f) start end)
 
 -- its cheapest missing dimensions (document 02, 2026-02): 21 to 23

@@ -11,7 +11,7 @@ use Rattle.sheet.specs.Facts.{Facts, sheetOf, factsOf}
 use Rattle.sheet.specs.Field.{Field, value}
 use Rattle.sheet.specs.Answer.{afterTo}
 use Rattle.sheet.specs.Graph.{graphOf}
-use Rattle.rests.specs.Rests.{restsOn, Rests}
+use Rattle.theory.specs.Rests.{restsOn, Rests}
 use Rattle.judge.specs.Judged.{finalClusters}
 use Rattle.account.specs.Resting.{wordsOf, restNumbers}
 use Rattle.sketch.specs.Runs.{Event, answersTo, afterAll, placedIn}

@@ -18,9 +18,8 @@ use Rattle.sketch.specs.declared.Judgement.the-variants.{Refused as Not}
 use Rattle.sketch.specs.Sketch.{extended, askAnswer, placeAnswer}
 use Rattle.records.specs.Record.{askField, placeField, placedIn}
 use Rattle.records.specs.Runs.{SameFacts}
-use Rattle.account.specs.Account.{reportOf}
 use Rattle.account.specs.Resting.{restNumbers}
-use Rattle.pattern.specs.Entries.{itemsField, verdictField, overNumbers, heldSheet, checkField, holdField}
+use Rattle.pattern.specs.Entries.{itemsField, reportField, verdictField, overNumbers, heldSheet, checkField, holdField}
 use Rattle.pattern.specs.Entries.{missingField}
 use Rattle.pattern.specs.Entries.{stepsField, savedStepsField, partOf, partField, countOf, chainField}
 use Rattle.pattern.specs.Entries.{openMergesField}
@@ -38,14 +37,14 @@ pub record OverTold (bytes : List ℕ) (g : Graph) : Type 0 where
   pub verdict : IsOver (g .clusters) ↔ (verdictField bytes ≡ value Over [])
   -- the report is the over report
   pub report : IsOver (g .clusters)
-      ↔ ((c x : ℕ) × (itemsField reportOf bytes ≡ value (overReport (g .n) (length (g .clusters)) c x) []))
+      ↔ ((c x : ℕ) × (reportField bytes ≡ value (overReport (g .n) (length (g .clusters)) c x) []))
   -- over answers two items
   pub items : IsOver (g .clusters) ↔ ((c x : ℕ) × (itemsField overNumbers bytes ≡ value (c ∷ x ∷ []) []))
   -- they are the first constraint that makes the listed ones up to it over and the smallest set, and the report names
   -- them
   pub first : (c x : ℕ) → itemsField overNumbers bytes ≡ value (c ∷ x ∷ []) []
       → FirstOver (g .clusters) c x
-      × (itemsField reportOf bytes ≡ value (overReport (g .n) (length (g .clusters)) c x) [])
+      × (reportField bytes ≡ value (overReport (g .n) (length (g .clusters)) c x) [])
   -- no plan, no final cluster, nothing that it rests on
   pub no-plan : IsOver (g .clusters) → itemsField planNumbers bytes ≡ value [] []
   pub no-cluster : IsOver (g .clusters) → itemsField finalClusters bytes ≡ value [] []

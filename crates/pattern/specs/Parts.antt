@@ -7,7 +7,7 @@ use Rattle.space.specs.declared.Written.the-variants.{Done, Refused}
 use Rattle.space.specs.Space.{after}
 use Rattle.sheet.specs.Facts.{Facts}
 use Rattle.sheet.specs.Field.{value, refused, Bytes}
-use Rattle.sheet.specs.Graph.{graphOf}
+use Rattle.sheet.specs.Graph.{graphOf, sizedOf}
 use Rattle.sheet.specs.Answer.{answerTo, afterTo}
 use Rattle.report.specs.Report.{stepLines}
 use Rattle.part.specs.Part.{clusterSteps}
@@ -38,6 +38,6 @@ pub record Parts : Type 0 where
       → (countOf (partField bytes c) ≡ Refused k) × (answerTo (partField bytes c) space ≡ Refused k)
   -- of a held sheet every number of a cluster is taken, and no other
   pub taken : (bytes rest : List ℕ) (f : Facts) (c : ℕ) → heldSheet bytes ≡ value f rest → c < clustersMade f
-      → partOf bytes c ≡ value (clusterSteps (graphOf f) c) []
+      → partOf bytes c ≡ value (clusterSteps (sizedOf f) c) []
   pub beyond : (bytes rest : List ℕ) (f : Facts) (c : ℕ) → heldSheet bytes ≡ value f rest → clustersMade f ≤ c → partOf bytes c ≡ refused 26
-  pub shown : (bytes rest : List ℕ) (f : Facts) (c : ℕ) → Bytes bytes → heldSheet bytes ≡ value f rest → c < clustersMade f → Shown (graphOf f) c
+  pub shown : (bytes rest : List ℕ) (f : Facts) (c : ℕ) → Bytes bytes → heldSheet bytes ≡ value f rest → c < clustersMade f → Shown (sizedOf f) c

@@ -1,13 +1,13 @@
 -- The page a buyer reads: what is promised of every list of bytes that `readSheet` accepts, with its facts f. Document 01, "Verdict names", "Every
--- order of merging", "Clusters and merges" and "The report"; document 02, 2026-04 and 2026-13. Shown by `promises` of Promises/Proof.antt; the
+-- order of merging", "Clusters and merges" and "The report"; document 02, 2026-04, 2026-08 and 2026-13. Shown by `promises` of Promises/Proof.antt; the
 -- contracts of the entry points cite the same fields (Entries).
-use Rattle.theory.specs.Prelude.{ℕ, _+_, _*_, _%_, _≤_, _<_, _≡_, _≢_, _↔_, true, List, [], map, length}
+use Rattle.theory.specs.Prelude.{ℕ, _+_, _*_, _%_, _≤_, _<_, _≡_, _≢_, _↔_, true, List, [], map, Option, length}
 use Rattle.theory.specs.Set.{_⊑_}
 use Rattle.theory.specs.Constraints.{Among}
 use Rattle.theory.specs.Merge.{Merge, Valid, Maximal, final, joints, live, left}
 use Rattle.theory.specs.Plan.{planOf, IsPlan}
 use Rattle.theory.specs.Verdict.{Meets}
-use Rattle.theory.specs.Graph.{Graph, listVerdict, verdictOf, stepsOf}
+use Rattle.theory.specs.Graph.{Graph, SizedGraph, listVerdict, verdictOf, stepsOf}
 use Rattle.theory.specs.declared.Step.{Step}
 use Rattle.theory.specs.declared.Verdict.the-variants.{Over, Stuck, Under}
 use Rattle.sheet.specs.declared.Constraint.{Constraint}
@@ -15,19 +15,21 @@ use Rattle.sheet.specs.Facts.{Facts, sheetOf, factsOf}
 use Rattle.sheet.specs.Field.{Bytes, value}
 use Rattle.sheet.specs.Decode.{readSheet}
 use Rattle.sheet.specs.Answer.{afterTo}
-use Rattle.sheet.specs.Graph.{graphOf}
+use Rattle.sheet.specs.Graph.{graphOf, sizedOf}
 use Rattle.judge.specs.Judged.{planNumbers, finalClusters}
 use Rattle.plans.specs.Check.{savedSteps}
-use Rattle.rests.specs.Rests.{restsOn, Rests}
+use Rattle.theory.specs.Rests.{restsOn, Rests}
 use Rattle.sketch.specs.Runs.{Event, answersTo, afterAll, Run}
 use Rattle.records.specs.Record.{recordSheet}
 use Rattle.records.specs.Runs.{answersIn, allIn, SameFacts}
-use Rattle.growth.specs.Sheets.{Grown, NeverSmaller}
-use Rattle.account.specs.Account.{listReport, reportOf}
+use Rattle.sheet.specs.Growth.{Grown, NeverSmaller}
+use Rattle.account.specs.Account.{listReport}
 use Rattle.account.specs.Resting.{wordsOf, restNumbers}
-use Rattle.greedy.specs.Choice.{pricesAllowed}
+use Rattle.theory.specs.Choice.{pricesAllowed}
 use Rattle.missing.specs.Missing.{pairsOf, Told}
-use Rattle.pattern.specs.Entries.{itemsField, verdictField, heldSheet, checkField, holdField, missingField}
+use Rattle.chain.specs.Chain.{Chain}
+use Rattle.chain.specs.Answer.{finalsOf}
+use Rattle.pattern.specs.Entries.{itemsField, reportField, verdictField, heldSheet, checkField, holdField, chainField, missingField}
 use Rattle.pattern.specs.Over.{OverTold, OverNext}
 use Rattle.pattern.specs.Orders.{InOrders}
 use Rattle.pattern.specs.Held.{HeldPage}
@@ -44,18 +46,18 @@ pub record NameSays (g : Graph) (p : List Merge) : Type 0 where
   pub below : listVerdict g p ≡ Under → length (g .clusters) + 3 < 2 * g .n
 
 -- the list p stands behind the plan's numbers and the report told
-pub record OwnList (bytes : List ℕ) (g : Graph) (p : List Merge) (plan told : List ℕ) : Type 0 where
-  pub maximal : Maximal (g .clusters) p
+pub record OwnList (bytes : List ℕ) (g : SizedGraph) (p : List Merge) (plan told : List ℕ) : Type 0 where
+  pub maximal : Maximal (g .graph .clusters) p
   pub numbers : savedSteps plan ≡ p
-  pub verdict : verdictField bytes ≡ value (listVerdict g p) []
-  pub name : NameSays g p
+  pub verdict : verdictField bytes ≡ value (listVerdict (g .graph) p) []
+  pub name : NameSays (g .graph) p
   -- the report is that of the list: its joints, its count of steps, and a line for each cluster that lives at its end
   pub report : told ≡ listReport g p
-  pub same-joints : map (λ (s : Step). s .joint) (stepsOf g p) ≡ joints (g .clusters) p
+  pub same-joints : map (λ (s : Step). s .joint) (stepsOf g p) ≡ joints (g .graph .clusters) p
   pub steps : length (stepsOf g p) ≡ length p
   -- what `clusters` answers are the sets that live at its end, each one as often as it lives
   pub clusters : (finals : List ℕ) × (itemsField finalClusters bytes ≡ value finals [])
-      × ((x : ℕ) → Among x finals ↔ live (final (g .clusters) p) x) × (length finals ≡ left (final (g .clusters) p))
+      × ((x : ℕ) → Among x finals ↔ live (final (g .graph .clusters) p) x) × (length finals ≡ left (final (g .graph .clusters) p))
 
 -- ---- a held sketch (document 02, 2026-05): asks and placings in any mix answer as a plain list of constraints would
 
@@ -83,6 +85,15 @@ pub record PlacedTold (bytes : List ℕ) (f : Facts) (events : List Event) : Typ
   pub lent : (space : List ℕ) → 1155 ≤ length space
       → (g : Facts) × (recordSheet (allIn (afterTo (holdField bytes) space) events) ≡ value g []) × NeverSmaller f g
 
+-- ---- the chain from one element to another (document 02, 2026-08)
+
+-- the call gives the shortest run of the final clusters, first place by place, or none where there is no run, and nothing else is that
+pub record ChainTold (bytes : List ℕ) (g : Graph) (start end : ℕ) : Type 0 where
+  pub chain : Option (List ℕ)
+  pub given : chainField bytes start end ≡ value chain []
+  pub is : Chain (finalsOf g) start end chain
+  pub only : (other : Option (List ℕ)) → Chain (finalsOf g) start end other → other ≡ chain
+
 -- ---- the page
 
 pub record Promises (bytes : List ℕ) (f : Facts) : Type 0 where
@@ -94,15 +105,16 @@ pub record Promises (bytes : List ℕ) (f : Facts) : Type 0 where
   pub orders : InOrders bytes f
   -- the engine's plan: at every step the open merge that comes first, compared place by place, until none is open
   pub engine : verdictOf (graphOf f) ≢ Over → (p : List Merge) × (plan told : List ℕ) × (itemsField planNumbers bytes ≡ value plan [])
-      × (itemsField reportOf bytes ≡ value told []) × IsPlan (graphOf f .clusters) p
-      × OwnList bytes (graphOf f) p plan told
+      × (reportField bytes ≡ value told []) × IsPlan (graphOf f .clusters) p
+      × OwnList bytes (sizedOf f) p plan told
   -- a saved plan is accepted if and only if it is a maximal list of merges
-  pub saved : (plan told : List ℕ) → checkField bytes plan ≡ value told [] → OwnList bytes (graphOf f) (savedSteps plan) plan told
+  pub saved : (plan told : List ℕ) → checkField bytes plan ≡ value told [] → OwnList bytes (sizedOf f) (savedSteps plan) plan told
   pub accepts : verdictOf (graphOf f) ≢ Over → (plan : List ℕ)
       → ((told : List ℕ) × (checkField bytes plan ≡ value told [])) ↔ ((length plan % 3 ≡ 0) × Maximal (graphOf f .clusters) (savedSteps plan))
   -- the cheapest missing dimensions, for a price list that neither 21 nor 22 refuses (document 02, 2026-02)
   pub missing : verdictOf (graphOf f) ≢ Over → (prices : List ℕ) → length prices ≡ pairsOf (graphOf f .n) → pricesAllowed prices ≡ true
       → Told (graphOf f) prices (missingField bytes prices)
+  pub chain : verdictOf (graphOf f) ≢ Over → (start end : ℕ) → start < graphOf f .n → end < graphOf f .n → ChainTold bytes (graphOf f) start end
   pub runs : verdictOf (graphOf f) ≢ Over → HeldRuns bytes f
   -- what clusters rest on, after any list of merges of a sheet that isn't over (document 02, 2026-04); `rests` answers it of the engine's plan, in words
   pub rests : verdictOf (graphOf f) ≢ Over → (p : List Merge) → Valid (graphOf f .clusters) p → Rests (graphOf f .clusters) p

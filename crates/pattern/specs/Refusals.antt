@@ -1,5 +1,5 @@
 -- Demand 1: nothing is refused except by a numbered rule. Which rules refuse a call of each entry point, for all bytes, plans and lent space.
-use Rattle.theory.specs.Prelude.{ℕ, _≤_, _<_, _≡_, _↔_, _⊎_, List, [], _∷_, length}
+use Rattle.theory.specs.Prelude.{ℕ, _≤_, _<_, _≡_, _↔_, _⊎_, List, [], _∷_, Option, some, length}
 use Rattle.theory.specs.Constraints.{Among}
 use Rattle.theory.specs.Graph.{Graph}
 use Rattle.space.specs.declared.Written.the-variants.{Refused}
@@ -15,14 +15,12 @@ use Rattle.sketch.specs.declared.Judgement.the-variants.{Refused as Not}
 use Rattle.sketch.specs.Sketch.{askAnswer, placeAnswer}
 use Rattle.records.specs.Record.{askField, placeField, writtenField, placedIn, heldRecord, sheetField}
 use Rattle.held.specs.Held.{heldValue, heldCount, heldItems}
-use Rattle.account.specs.Account.{reportOf}
 use Rattle.longest.specs.Longest.{longestField}
 use Rattle.chain.specs.declared.Answer.the-variants.{Refused as No}
-use Rattle.chain.specs.Chain.{Shortest}
-use Rattle.chain.specs.Answer.{finalsOf, ChainAnswers}
+use Rattle.chain.specs.Answer.{chainTo}
 use Rattle.theory.specs.declared.Step.{Step}
 use Rattle.steps.specs.Records.{filledTo}
-use Rattle.pattern.specs.Entries.{itemsField, rewriteField, verdictField, heldSheet, checkField, stepsField, savedStepsField, holdField}
+use Rattle.pattern.specs.Entries.{itemsField, reportField, rewriteField, verdictField, heldSheet, checkField, stepsField, savedStepsField, holdField}
 use Rattle.pattern.specs.Entries.{partOf, partField, missingField}
 use Rattle.pattern.specs.Entries.{chainField}
 use Rattle.pattern.specs.Entries.{openMergesField}
@@ -41,12 +39,10 @@ pub record ShortList (x : Field (List Step)) (list : List Step) : Type 0 where
   pub gives : x ≡ value steps rest
   pub longer : length list < length steps
 
-pub record ShortRun (x : Field Graph) (start end : ℕ) (space : List ℕ) : Type 0 where
-  pub graph : Graph
-  pub rest : List ℕ
+pub record ShortRun (x : Field (Option (List ℕ))) (space : List ℕ) : Type 0 where
   pub run : List ℕ
-  pub gives : x ≡ value graph rest
-  pub shortest : Shortest (finalsOf graph) start end run
+  pub rest : List ℕ
+  pub gives : x ≡ value (some run) rest
   pub longer : length space < length run
 
 -- the rules that refuse an ask
@@ -71,8 +67,9 @@ pub record Refusals : Type 0 where
   pub read : (bytes : List ℕ) → By OfSheet (readSheet bytes)
   pub verdict : (bytes : List ℕ) → By OfSheet (verdictField bytes)
   pub rewrite : (bytes : List ℕ) → By OfSheet (rewriteField bytes)
-  -- over, plan, initial and final clusters, what these rest on, report
+  -- over, plan, initial and final clusters, what these rest on
   pub items : (what : Graph → List ℕ) (bytes : List ℕ) → By OfSheet (itemsField what bytes)
+  pub report : (bytes : List ℕ) → By OfSheet (reportField bytes)
   -- the writer: no bytes, so not 4
   pub write : (s : Sheet) → By OfFacts (writeField s)
   -- the plan check
@@ -107,10 +104,9 @@ pub record Refusals : Type 0 where
   -- the chain from one element to another; over lent space it is refused by that rule too, or by 17 where the space is
   -- shorter
   pub chain : (bytes : List ℕ) (start end : ℕ) → By (λ k. Holding k ⊎ (k ≡ 25)) (chainField bytes start end)
-  pub run : (x : Field Graph) (start end : ℕ) (space left : List ℕ) (k : ℕ) → ChainAnswers x start end space (No k) left
-      → (x ≡ refused k) ⊎ ((k ≡ 17) × ShortRun x start end space)
+  pub run : (x : Field (Option (List ℕ))) (space : List ℕ) (k : ℕ) → chainTo x space ≡ No k → (x ≡ refused k) ⊎ ((k ≡ 17) × ShortRun x space)
   -- the merges that are open
   pub open-merges : (bytes : List ℕ) (steps : ℕ) → By Holding (openMergesField bytes steps)
   -- the report program lends 4,667 bytes, so it never prints "refused 17"
-  pub program : (bytes space : List ℕ) (k : ℕ) → Bytes bytes → 4667 ≤ length space → answerTo (itemsField reportOf bytes) space ≡ Refused k
+  pub program : (bytes space : List ℕ) (k : ℕ) → Bytes bytes → 4667 ≤ length space → answerTo (reportField bytes) space ≡ Refused k
       → OfSheet k

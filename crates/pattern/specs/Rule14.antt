@@ -6,7 +6,7 @@ use Rattle.theory.specs.Graph.{stepsOf}
 use Rattle.theory.specs.declared.Step.{Step}
 use Rattle.sheet.specs.Facts.{Facts}
 use Rattle.sheet.specs.Field.{Field, value, refused, next, Bytes}
-use Rattle.sheet.specs.Graph.{graphOf}
+use Rattle.sheet.specs.Graph.{graphOf, sizedOf}
 use Rattle.sheet.specs.Answer.{byRule}
 use Rattle.plans.specs.Check.{savedSteps}
 use Rattle.plans.specs.Rule14.{planFault14}
@@ -18,12 +18,12 @@ pub mod Proof
 abbrev pub checkField14 : List ℕ → List ℕ → Field (List ℕ)
 checkField14 bytes plan =
     next (heldSheet bytes) (λ f rest.
-    byRule (planFault14 (graphOf f .clusters) plan) (value (listReport (graphOf f) (savedSteps plan)) []))
+    byRule (planFault14 (graphOf f .clusters) plan) (value (listReport (sizedOf f) (savedSteps plan)) []))
 
 abbrev pub savedStepsField14 : List ℕ → List ℕ → Field (List Step)
 savedStepsField14 bytes plan =
     next (heldSheet bytes) (λ f rest.
-    byRule (planFault14 (graphOf f .clusters) plan) (value (stepsOf (graphOf f) (savedSteps plan)) []))
+    byRule (planFault14 (graphOf f .clusters) plan) (value (stepsOf (sizedOf f) (savedSteps plan)) []))
 
 pub record Rule14 : Type 0 where
   pub living : (bytes rest : List ℕ) (f : Facts) → Bytes bytes → heldSheet bytes ≡ value f rest → (p : List Merge)

@@ -5,7 +5,7 @@ use Rattle.sheet.specs.Facts.{Facts}
 use Rattle.sheet.specs.Field.{value, Bytes}
 use Rattle.sheet.specs.Decode.{readSheet}
 use Rattle.sheet.specs.WithoutTags.{withoutTags}
-use Rattle.pattern.specs.Entries.{itemsField, rewriteField, verdictField, heldSheet, checkField, stepsField, savedStepsField, holdField, missingField}
+use Rattle.pattern.specs.Entries.{itemsField, reportField, rewriteField, verdictField, heldSheet, checkField, stepsField, savedStepsField, holdField, missingField}
 use Rattle.pattern.specs.Entries.{openMergesField, chainField, partOf, partField}
 pub mod Proof
 
@@ -13,8 +13,9 @@ pub mod Proof
 pub record SameAnswers (a b : List ℕ) : Type 0 where
   pub read : readSheet a ≡ readSheet b
   pub verdict : verdictField a ≡ verdictField b
-  -- over, plan, clusters and report
+  -- over, plan and clusters
   pub items : (what : Graph → List ℕ) → itemsField what a ≡ itemsField what b
+  pub report : reportField a ≡ reportField b
   pub rewrite : rewriteField a ≡ rewriteField b
   pub check : (plan : List ℕ) → checkField a plan ≡ checkField b plan
   pub steps : stepsField a ≡ stepsField b

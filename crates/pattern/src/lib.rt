@@ -2,7 +2,6 @@
 ghost use mathlib.Core.Path.{_≡_};
 ghost use mathlib.Core.List.{[], _∷_};
 ghost use Prim.Native.Nat.{_+_, _*_, _%_, _≤_};
-ghost use lib.ListN.{length, take};
 ghost use Rattle.theory.specs.Set.{_∩_};
 ghost use Rattle.space.specs.Space.{answer, after};
 ghost use Rattle.sheet.specs.Answer.{Answers, afterTo};
@@ -13,14 +12,13 @@ ghost use Rattle.judge.specs.Judged.{planNumbers, finalClusters};
 ghost use Rattle.sketch.specs.Sketch.{askAnswer, placedOf};
 ghost use Rattle.records.specs.Record.{asJudgement, askField, placeField, writtenField, placedIn, heldRecord, sheetField};
 ghost use Rattle.held.specs.Held.{heldValue, heldCount, heldItems};
-ghost use Rattle.account.specs.Account.{reportOf};
 ghost use Rattle.account.specs.Resting.{restNumbers};
 ghost use Rattle.card.specs.Card.{setVerdict};
 ghost use Rattle.chain.specs.Answer.{ChainAnswers};
 ghost use Rattle.longest.specs.Longest.{longestField};
 ghost use Rattle.steps.specs.Records.{Fills, numbersField};
 ghost use Rattle.steps.specs.Listing.{Listed};
-ghost use Rattle.pattern.specs.Entries.{itemsField, rewriteField, verdictField, overNumbers, initialClusters};
+ghost use Rattle.pattern.specs.Entries.{itemsField, reportField, rewriteField, verdictField, overNumbers, initialClusters};
 ghost use Rattle.pattern.specs.Entries.{heldSheet, checkField, stepsField, savedStepsField, holdField, missingField};
 ghost use Rattle.part.specs.Tallies.{measureOf};
 ghost use Rattle.pattern.specs.Entries.{partOf, partField, countOf};
@@ -148,7 +146,8 @@ pub fn plan(bytes: &[u8], out: &mut [u16]) -> Written
     let mut parts = [0u16; 192];
     let mut joints = [0u64; 64];
     let steps = judge::plan_on(head, &near, &start, &mut slots, &mut parts, &mut joints);
-    engine::put_plan(&parts, steps, out)
+    let count = 3 * steps;
+    space::put_all16(out, &parts[..count])
 }
 
 // All that two sets of elements share.
@@ -156,22 +155,6 @@ pub fn shared(a: u64, b: u64) -> u64
     ensures { λ r. ⌜ r ≡ a ∩ b ⌝ }
 {
     sets::shared(a, b)
-}
-
-// The first e numbers of `start` into lent space, or 17.
-fn put_start(start: &[u64; 200], e: usize, out: &mut [u64]) -> Written
-    requires { ⌜ (e ≤ 200) × (length (now start) ≡ 200) ⌝ }
-    ensures { λ r. ⌜ (r ≡ answer (take e (now (start .entry))) (now (out .entry)))
-        × (now (out .exit) ≡ after (take e (now (start .entry))) (now (out .entry))) ⌝ }
-{
-    if out.len() < e {
-        return Written::Refused(17);
-    }
-    let mut i: usize = 0;
-    while i < e {
-        i = space::put_number64(out, i, start[i]);
-    }
-    Written::Done(e)
 }
 
 // The initial clusters as sets, by number: one a constraint, of an over sheet too.
@@ -185,7 +168,8 @@ pub fn initial(bytes: &[u8], out: &mut [u64]) -> Written
     let GraphRead::Value(head) = got else {
         return Written::Refused(got.refusal());
     };
-    put_start(&start, head.e, out)
+    let e = head.e;
+    space::put_all64(out, &start[..e])
 }
 
 // The final clusters as sets, by number; none of an over sheet.
@@ -218,7 +202,7 @@ pub fn rests(bytes: &[u8], out: &mut [u64]) -> Written
 
 // The report of a sheet, as bytes in lent space.
 pub fn report(bytes: &[u8], out: &mut [u8]) -> Written
-    ensures { λ r. ⌜ Answers (itemsField reportOf (now (bytes .entry))) (now (out .entry)) r (now (out .exit)) ⌝ }
+    ensures { λ r. ⌜ Answers (reportField (now (bytes .entry))) (now (out .entry)) r (now (out .exit)) ⌝ }
 {
     let mut near = [0u64; 64];
     let mut start = [0u64; 200];
@@ -295,7 +279,7 @@ pub fn step_numbers(bytes: &[u8], out: &mut [u64]) -> Written
     ensures { λ r. ⌜ Answers (numbersField (stepsField (now (bytes .entry)))) (now (out .entry)) r (now (out .exit)) ⌝ }
 {
     let l = plan_listing(bytes);
-    let list = steps::no_records();
+    let list = engine::no_steps();
     let filled = steps::fill_on(l, list);
     steps::put_numbers(filled, out)
 }
@@ -305,7 +289,7 @@ pub fn saved_step_numbers(bytes: &[u8], plan: &[u16], out: &mut [u64]) -> Writte
     ensures { λ r. ⌜ Answers (numbersField (savedStepsField (now (bytes .entry)) (now (plan .entry)))) (now (out .entry)) r (now (out .exit)) ⌝ }
 {
     let l = saved_listing(bytes, plan);
-    let list = steps::no_records();
+    let list = engine::no_steps();
     let filled = steps::fill_on(l, list);
     steps::put_numbers(filled, out)
 }
@@ -507,7 +491,7 @@ pub fn held_rests_in(lent: &[u8], out: &mut [u64]) -> Written
 // The numbers of the shortest run of final clusters from one element to another, into lent space; "none" where the two are not connected; or the rule of
 // 1 to 11, 17 to 20 and 25 that refuses.
 pub fn chain(bytes: &[u8], from: usize, to: usize, out: &mut [u16]) -> Answer
-    ensures { λ r. ⌜ ChainAnswers (chainField (now (bytes .entry)) from to) from to (now (out .entry)) r (now (out .exit)) ⌝ }
+    ensures { λ r. ⌜ ChainAnswers (chainField (now (bytes .entry)) from to) (now (out .entry)) r (now (out .exit)) ⌝ }
 {
     let mut near = [0u64; 64];
     let mut start = [0u64; 200];

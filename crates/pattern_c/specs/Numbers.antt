@@ -3,6 +3,7 @@ use Prim.Native.Nat.{ℕ}
 use mathlib.Core.Bool.{cond}
 use mathlib.Core.Path.{_≡_}
 use mathlib.Core.List.{List}
+use mathlib.Core.Option.{Option}
 use lib.Dec.{ltb}
 use lib.IntN.{ℤ, pos, negℤ}
 use Rattle.sheet.specs.Facts.{Facts}
@@ -11,8 +12,7 @@ use Rattle.sheet.specs.Answer.{answerTo, afterTo}
 use Rattle.theory.specs.Verdict.{verdictNumber}
 use Rattle.chain.specs.declared.Answer.{Answer}
 use Rattle.chain.specs.declared.Answer.the-variants.{Run, None, Refused as Not}
-use Rattle.chain.specs.Answer.{ChainAnswers}
-use Rattle.theory.specs.Graph.{Graph}
+use Rattle.chain.specs.Answer.{chainTo, chainLeft}
 use Rattle.sketch.specs.declared.Judgement.{Judgement}
 use Rattle.sketch.specs.declared.Judgement.the-variants.{Is, Refused as No}
 use Rattle.records.specs.Record.{writtenField, placedIn}
@@ -52,7 +52,6 @@ asItems (Run n) = Done n
 asItems None = Refused 100
 asItems (Not k) = Refused k
 
-pub record ChainCount (x : Field Graph) (start end : ℕ) (space : List ℕ) (r : ℤ) (left : List ℕ) : Type 0 where
-  pub answer : Answer
-  pub is : ChainAnswers x start end space answer left
-  pub number-is : r ≡ asCount (asItems answer)
+pub record ChainCount (x : Field (Option (List ℕ))) (space : List ℕ) (r : ℤ) (left : List ℕ) : Type 0 where
+  pub answer-is : r ≡ asCount (asItems (chainTo x space))
+  pub left-is : left ≡ chainLeft x space

@@ -8,17 +8,15 @@ use Rattle.sheet.specs.declared.Constraint.{Constraint}
 use Rattle.sheet.specs.Field.{Field, Bytes}
 use Rattle.sheet.specs.Answer.{answerTo}
 use Rattle.judge.specs.Judged.{planNumbers, finalClusters}
-use Rattle.account.specs.Account.{reportOf}
 use Rattle.account.specs.Resting.{restNumbers}
 use Rattle.card.specs.Card.{setVerdict}
-use Rattle.chain.specs.declared.Answer.{Answer}
-use Rattle.chain.specs.Answer.{ChainAnswers}
+use Rattle.chain.specs.Answer.{chainTo}
 use Rattle.longest.specs.Longest.{longestField}
 use Rattle.steps.specs.Records.{numbersField}
 use Rattle.sketch.specs.declared.Judgement.the-variants.{Is}
 use Rattle.records.specs.Record.{asJudgement, askField, placeField, placedIn, heldRecord, sheetField}
 use Rattle.held.specs.Held.{heldCount, heldItems}
-use Rattle.pattern.specs.Entries.{itemsField, rewriteField, verdictField, overNumbers, initialClusters, checkField}
+use Rattle.pattern.specs.Entries.{itemsField, reportField, rewriteField, verdictField, overNumbers, initialClusters, checkField}
 use Rattle.pattern.specs.Entries.{holdField}
 use Rattle.pattern.specs.Entries.{stepsField, savedStepsField, partOf, partField, countOf, chainField, missingField}
 use Rattle.pattern.specs.Entries.{openMergesField}
@@ -45,7 +43,7 @@ pub record NoneCut : Type 0 where
   pub initial : (bytes : List ℕ) → Bytes bytes → Uncut (itemsField initialClusters bytes)
   pub clusters : (bytes : List ℕ) → Bytes bytes → Uncut (itemsField finalClusters bytes)
   pub rests : (bytes : List ℕ) → Bytes bytes → Uncut (itemsField restNumbers bytes)
-  pub report : (bytes : List ℕ) → Bytes bytes → Uncut (itemsField reportOf bytes)
+  pub report : (bytes : List ℕ) → Bytes bytes → Uncut (reportField bytes)
   pub check-plan : (bytes plan : List ℕ) → Bytes bytes → Uncut (checkField bytes plan)
   pub steps : (bytes : List ℕ) → Bytes bytes → Uncut (numbersField (stepsField bytes))
   pub saved-steps : (bytes plan : List ℕ) → Bytes bytes → Uncut (numbersField (savedStepsField bytes plan))
@@ -59,8 +57,7 @@ pub record NoneCut : Type 0 where
   pub part-steps : (bytes : List ℕ) (c : ℕ) → Bytes bytes → Whole (countOf (partOf bytes c))
   pub part-bytes : (bytes : List ℕ) (c : ℕ) → Bytes bytes → Whole (countOf (partField bytes c))
   pub part : (bytes : List ℕ) (c : ℕ) → Bytes bytes → Uncut (partField bytes c)
-  pub chain : (bytes : List ℕ) (start end : ℕ) (space left : List ℕ) (a : Answer)
-      → ChainAnswers (chainField bytes start end) start end space a left → Whole (asItems a)
+  pub chain : (bytes : List ℕ) (start end : ℕ) (space : List ℕ) → Whole (asItems (chainTo (chainField bytes start end) space))
   pub missing : (bytes prices : List ℕ) → Bytes bytes → Uncut (missingField bytes prices)
   pub card : (number : ℕ) → Whole (asNumber (Is (setVerdict 5 (number % 1024))))
   pub longest : (n : ℕ) → Uncut (longestField n)

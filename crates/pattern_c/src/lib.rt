@@ -3,9 +3,8 @@
 ghost use mathlib.Core.Path.{_≡_};
 ghost use Rattle.theory.specs.Set.{_∩_};
 ghost use Rattle.judge.specs.Judged.{planNumbers, finalClusters};
-ghost use Rattle.account.specs.Account.{reportOf};
 ghost use Rattle.account.specs.Resting.{restNumbers};
-ghost use Rattle.pattern.specs.Entries.{itemsField, rewriteField, verdictField, overNumbers, initialClusters, checkField, holdField};
+ghost use Rattle.pattern.specs.Entries.{itemsField, reportField, rewriteField, verdictField, overNumbers, initialClusters, checkField, holdField};
 ghost use Rattle.records.specs.Record.{asJudgement, askField, placeField, heldRecord, sheetField};
 ghost use Rattle.held.specs.Held.{heldCount, heldItems};
 ghost use Rattle.pattern.specs.Entries.{stepsField, savedStepsField};
@@ -309,7 +308,7 @@ pub extern "C" fn pattern_rests(sheet: &[u8], out: &mut [u64]) -> i32
 // The report of a sheet, as bytes; or the rule of 1 to 10 and 17 to 20 that refuses it.
 #[no_mangle]
 pub extern "C" fn pattern_report(sheet: &[u8], out: &mut [u8]) -> i32
-    ensures { λ r. ⌜ AnswersCount (itemsField reportOf (now (sheet .entry))) (now (out .entry)) r (now (out .exit)) ⌝ }
+    ensures { λ r. ⌜ AnswersCount (reportField (now (sheet .entry))) (now (out .entry)) r (now (out .exit)) ⌝ }
 {
     count(pattern::report(sheet, out))
 }
@@ -448,7 +447,7 @@ fn chain_items(a: Answer) -> Written
 // 20 and 25 that refuses.
 #[no_mangle]
 pub extern "C" fn pattern_chain(sheet: &[u8], from: usize, to: usize, out: &mut [u16]) -> i32
-    ensures { λ r. ⌜ ChainCount (chainField (now (sheet .entry)) from to) from to (now (out .entry)) r (now (out .exit)) ⌝ }
+    ensures { λ r. ⌜ ChainCount (chainField (now (sheet .entry)) from to) (now (out .entry)) r (now (out .exit)) ⌝ }
 {
     count(chain_items(pattern::chain(sheet, from, to, out)))
 }

@@ -12,13 +12,6 @@ ghost use Rattle.theory.specs.Near.{Simple, Standing, Near};
 ghost use Rattle.peeling.specs.Core.{Core, Largest, Beyond, Light, Heavy, Peeled};
 ghost use Rattle.peeling.specs.Hard.{Shown, Linked, Left, Marks};
 
-// A byte as an index.
-pub fn wide(x: u8) -> usize
-    ensures { λ r. ⌜ r ≡ x ⌝ }
-{
-    x as usize
-}
-
 // The other element of a set of two.
 pub fn other_end(pair: u64, a: u8) -> u8
     requires { ⌜ (ones pair ≡ 2) × (a < 64) × (a ∈ pair) ⌝ }
@@ -27,22 +20,13 @@ pub fn other_end(pair: u64, a: u8) -> u8
     sets::lowest(pair - sets::single(a))
 }
 
-// The elements below n.
-fn below(n: usize) -> u64
-    requires { ⌜ (1 ≤ n) × (n ≤ 64) ⌝ }
-    ensures { λ r. ⌜ r ≡ full n ⌝ }
-{
-    let top = sets::single((n - 1) as u8);
-    top - 1 + top
-}
-
 // How many elements come before those, from the highest down, that have no neighbour; one at least.
 fn used(near: &[u64; 64]) -> u8
     ensures { λ r. ⌜ (1 ≤ r) × (r ≤ 64) × Beyond (now (near .entry)) r ⌝ }
 {
     let mut n: u8 = 64;
     while 1 < n {
-        let i = wide(n - 1);
+        let i = sets::wide(n - 1);
         if near[i] != 0 {
             return n;
         }
@@ -59,7 +43,7 @@ fn light_all(near: &[u64; 64], n: u8) -> u64
     let mut todo: u64 = 0;
     let mut x: u8 = 0;
     while x < n {
-        let i = wide(x);
+        let i = sets::wide(x);
         if sets::without_lowest(sets::without_lowest(near[i])) == 0 {
             todo = todo | sets::single(x);
         }
@@ -77,7 +61,7 @@ fn light_of(near: &[u64; 64], left: u64, who: u64) -> u64
     let mut m = who;
     while m != 0 {
         let x = sets::lowest(m);
-        let i = wide(x);
+        let i = sets::wide(x);
         let bit = sets::single(x);
         if sets::without_lowest(sets::without_lowest(near[i] & left)) == 0 {
             todo = todo | bit;
@@ -87,21 +71,6 @@ fn light_of(near: &[u64; 64], left: u64, who: u64) -> u64
     todo
 }
 
-// All neighbours of the elements of a set.
-fn neighbours(near: &[u64; 64], who: u64) -> u64
-    ensures { λ r. ⌜ ((x : ℕ) → x ∈ who → getD (now (near .entry)) x 0 ⊑ r) ⌝ }
-{
-    let mut all: u64 = 0;
-    let mut m = who;
-    while m != 0 {
-        let x = sets::lowest(m);
-        let i = wide(x);
-        all = all | near[i];
-        m = m - sets::single(x);
-    }
-    all
-}
-
 // The elements that an over set can have: the largest set whose elements have three neighbours each in it. Those with two at most are taken away all at
 // once, as often as there are any.
 pub fn core_of(near: &[u64; 64]) -> u64
@@ -109,11 +78,11 @@ pub fn core_of(near: &[u64; 64]) -> u64
         × ((cs : List ℕ) → Simple cs → Near cs (now (near .entry)) → Core cs r × Largest (now (near .entry)) r) ⌝ }
 {
     let n = used(near);
-    let mut left = below(wide(n));
+    let mut left = sets::below(sets::wide(n));
     let mut todo = light_all(near, n);
     while todo != 0 {
         left = left - todo;
-        todo = light_of(near, left, neighbours(near, todo) & left);
+        todo = light_of(near, left, sets::image(near, todo) & left);
     }
     left
 }
@@ -130,7 +99,7 @@ fn shrink(near: &[u64; 64], all: u64, low: u64) -> u64
     let mut todo = low;
     while todo != 0 {
         let x = sets::lowest(todo);
-        let i = wide(x);
+        let i = sets::wide(x);
         let bit = sets::single(x);
         left = left - bit;
         todo = (todo - bit) | light_of(near, left, near[i] & left);
@@ -146,8 +115,8 @@ fn drop_pair(near: &mut [u64; 64], left: u64, pair: u64) -> u64
 {
     let a = sets::lowest(pair);
     let b = other_end(pair, a);
-    let i = wide(a);
-    let j = wide(b);
+    let i = sets::wide(a);
+    let j = sets::wide(b);
     near[i] = near[i] - sets::single(b);
     near[j] = near[j] - sets::single(a);
     let low = light_of(near, left, pair);

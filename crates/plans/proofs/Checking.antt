@@ -1,18 +1,17 @@
 -- A saved plan, step after step. Assumes nothing.
-use Rattle.theory.specs.Prelude.{_≡_, refl, sym, ap, _∙_, _≢_, Bool, true, false, List, [], _∷_, _++_, append-assoc, append-nil, ℕ, zero, suc, _+_}
-use Rattle.theory.specs.Prelude.{_*_, _%_, _≤_, _<_, arith, eqb, length, getD, take, drop, replicate, drop-of-length-le, drop-cons, eq-eqb, ne-eqb}
+use Rattle.theory.specs.Prelude.{_≡_, refl, sym, ap, _∙_, _≢_, List, [], _∷_, _++_, append-assoc, append-nil, ℕ, zero, suc, _+_}
+use Rattle.theory.specs.Prelude.{_*_, _%_, _≤_, _<_, arith, eqb, length, getD, take, drop, drop-of-length-le, drop-cons, eq-eqb, ne-eqb}
 use Rattle.theory.specs.Block.{block}
 use Rattle.theory.specs.Tests.{yes-branch, no-branch}
+use Rattle.theory.specs.Constraints.{NotOver}
 use Rattle.theory.specs.Merge.{Merge, merge, OpenAt, put, final}
-use Rattle.theory.specs.Plan.{ascending, firstOf, isSome}
-use Rattle.merges.specs.Run.{Start, runOf}
+use Rattle.theory.specs.Plan.{ascending}
+use Rattle.merges.specs.Run.{Blank, Start}
 use Rattle.merges.specs.Run.Laws.{final-snoc}
 use Rattle.merges.specs.Going.{Going, Made}
 use Rattle.merges.specs.Going.Laws.{slots-same, going-start, going-next, going-run}
-use Rattle.plans.specs.Check.{faultOf, stepFault, savedSteps, stepsFault, planFault, answerOf, checkOf}
+use Rattle.plans.specs.Check.{faultOf, stepFault, savedSteps, stepsFault, planFault, Checks}
 use Rattle.plans.specs.Check.Laws.{fault-open}
-use Rattle.plans.specs.declared.Outcome.the-variants.{Accepted}
-use Rattle.plans.specs.declared.Checked.{Checked}
 
 -- ---- the numbers left
 
@@ -52,9 +51,16 @@ pub record Checking (cs : List ℕ) (e : ℕ) (l slots parts joints : List ℕ) 
   pub rest : savedSteps l ≡ p ++ savedSteps (drop at l)
   pub told : stepsFault cs (savedSteps l) ≡ stepsFault (final cs p) (savedSteps (drop at l))
 
-pub checking-start : {start slots l : List ℕ} {e : ℕ} → Start start e → slots ≡ block 192 0 (take e start)
-    → Checking (take e start) e l slots (replicate 192 0) (replicate 64 0) 0 0
-checking-start b h = record { p = []; going = going-start b h; at-is = refl; within = omega arith; rest = refl; told = refl }
+pub checking-start : {start slots₀ slots parts joints l : List ℕ} {e : ℕ} → Start start e → Blank slots₀ parts joints
+    → slots ≡ block 192 0 (take e start) → Checking (take e start) e l slots parts joints 0 0
+checking-start {start} {slots₀} {slots} {parts} {joints} {l} {e} b blank h = record {
+  p = [];
+  going = rw (blank .parts-blank, blank .joints-blank) (going-start b h);
+  at-is = refl;
+  within = omega arith;
+  rest = refl;
+  told = refl;
+}
 
 module _ {cs : List ℕ} {e : ℕ} {l slots parts joints : List ℕ} {steps at : ℕ} (w : Checking cs e l slots parts joints steps at) where
   -- three numbers are left, or none
@@ -115,28 +121,22 @@ module _ {cs : List ℕ} {e : ℕ} {l slots parts joints : List ℕ} {steps at :
     none-left : drop at l ≡ []
     none-left = drop-of-length-le l done
 
-    -- what is still open decides
-    last-fault : (b : Bool) → b ≡ isSome (firstOf 0 (final cs (w .p))) → _≡_ {A = ℕ} (elim b [ true ↦ 16 | false ↦ 0 ]) (planFault cs l)
-    unfolding stepsFault savedSteps
-    last-fault b f =
-        ap (λ (x : Bool). the-fault x) f
-        ∙ sym (w .told ∙ ap (λ (r : List ℕ). stepsFault (final cs (w .p)) (savedSteps r)) none-left) ∙ whole cs l mult
-      where
-        the-fault : Bool → ℕ
-        the-fault x = elim x [ true ↦ 16 | false ↦ 0 ]
-
-    pub still-open : true ≡ isSome (firstOf 0 (final cs (w .p))) → _≡_ {A = ℕ} 16 (planFault cs l)
-    still-open f = last-fault true f
+    -- the rule of the end decides
+    pub last-fault : stepsFault (final cs (w .p)) [] ≡ planFault cs l
+    unfolding savedSteps
+    last-fault =
+        sym (w .told ∙ ap (λ (r : List ℕ). stepsFault (final cs (w .p)) (savedSteps r)) none-left) ∙ whole cs l mult
 
     -- the list of merges is the saved one
-    saved : savedSteps l ≡ w .p
+    pub saved : w .p ≡ savedSteps l
     unfolding savedSteps
-    saved = w .rest ∙ ap (λ (r : List ℕ). w .p ++ savedSteps r) none-left ∙ append-nil (w .p)
+    saved = sym (w .rest ∙ ap (λ (r : List ℕ). w .p ++ savedSteps r) none-left ∙ append-nil (w .p))
 
-    pub accepts : false ≡ isSome (firstOf 0 (final cs (w .p)))
-        → _≡_ {A = Checked}
-        (record { outcome = Accepted; run = record { steps = steps; parts = parts; joints = joints; slots = slots } }) (checkOf cs l)
-    unfolding checkOf
-    accepts f =
-        (λ t. record { outcome = Accepted; run = (going-run (w .going) ∙ ap (runOf cs) (sym saved)) t })
-        ∙ ap (λ (k : ℕ). answerOf k (runOf cs (savedSteps l))) (last-fault false f)
+  -- what is answered, and what the arrays hold then
+  pub checks : {rule : ℕ} → (NotOver cs → rule ≡ planFault cs l) → (rule ≡ 0 → w .p ≡ savedSteps l)
+      → Checks cs l (record { rule = rule; steps = steps }) parts joints slots
+  checks is whole = record {
+    rule-is = is;
+    merged = record { p = w .p; valid = w .going .clusters .valid; is = going-run (w .going) };
+    saved = whole;
+  }

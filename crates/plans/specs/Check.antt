@@ -8,12 +8,10 @@ use Prim.Native.Nat.{ℕ, zero, suc, _%_}
 use lib.Dec.{eqb}
 use lib.ListN.{length}
 use Rattle.theory.specs.Constraints.{NotOver}
-use Rattle.theory.specs.Merge.{slot, Merge, merge, put, Valid}
+use Rattle.theory.specs.Merge.{slot, Merge, merge, put}
 use Rattle.theory.specs.Plan.{openTest, firstOf, isSome}
-use Rattle.merges.specs.Run.{runOf}
-use Rattle.merges.specs.declared.Run.{Run}
+use Rattle.merges.specs.Run.{runIn, Merged}
 use Rattle.plans.specs.declared.Parts.{Parts}
-use Rattle.plans.specs.declared.Outcome.the-variants.{Accepted, Refused}
 use Rattle.plans.specs.declared.Checked.{Checked}
 pub mod Laws
 
@@ -53,18 +51,9 @@ planFault cs l = elim (eqb (length l % 3) 0) [ true ↦ stepsFault cs (savedStep
 abbrev pub asMerge : Parts → Merge
 asMerge p = merge (p .i) (p .j) (p .k)
 
--- a plan that no rule refuses is accepted, with its list of merges in arrays; a refusal gives its number alone
-abbrev pub answerOf : ℕ → Run → Checked
-answerOf zero run = record { outcome = Accepted; run = run }
-answerOf (suc rule) run = record { outcome = Refused (suc rule); run = runOf [] [] }
-
--- the answer to the check of the saved plan l against the constraints cs
-unfoldable pub checkOf : List ℕ → List ℕ → Checked
-checkOf cs l = answerOf (planFault cs l) (runOf cs (savedSteps l))
-
--- what is checked: that answer where the constraints are not over, and merges that can be made in any case
-pub record Checks (cs l : List ℕ) (r : Checked) : Type 0 where
-  pub answers : NotOver cs → r ≡ checkOf cs l
-  pub merges : List Merge
-  pub valid : Valid cs merges
-  pub count : length merges ≡ r .run .steps
+-- what is checked: the rule, where the constraints are not over; the arrays hold merges that can be made in any case, and those of the plan where
+-- no rule refuses it
+pub record Checks (cs l : List ℕ) (r : Checked) (parts joints slots : List ℕ) : Type 0 where
+  pub rule-is : NotOver cs → r .rule ≡ planFault cs l
+  pub merged : Merged cs (runIn (r .steps) parts joints slots)
+  pub saved : r .rule ≡ 0 → merged .p ≡ savedSteps l

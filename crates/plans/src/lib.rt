@@ -1,17 +1,16 @@
 // The check of a saved plan. Document 01, "Refused", rules 12, 13, 15 and 16. Contracts cite specs/Check.antt.
 ghost use mathlib.Core.Path.{_≡_};
-ghost use mathlib.Core.List.{List};
-ghost use Prim.Native.Nat.{ℕ, _+_, _≤_, _<_, min, max};
+ghost use mathlib.Core.List.{List, []};
+ghost use Prim.Native.Nat.{ℕ, _+_, _≤_, min, max};
 ghost use lib.ListN.{length, take};
 ghost use Rattle.theory.specs.Constraints.{NotOver};
 ghost use Rattle.theory.specs.Merge.{Merge, slot, merge as numbers, final};
-ghost use Rattle.theory.specs.Plan.{ascending, firstOf, isSome};
-ghost use Rattle.merges.specs.Run.{places, Start};
+ghost use Rattle.theory.specs.Plan.{ascending};
+ghost use Rattle.merges.specs.Run.{mostSteps, places, Blank, Start};
 ghost use Rattle.merges.specs.Going.{Slots};
-ghost use Rattle.plans.specs.Check.{misnamed as isMisnamed, faultOf, stepFault, asMerge, answerOf, Checks};
+ghost use Rattle.plans.specs.Check.{misnamed as isMisnamed, faultOf, stepFault, stepsFault, asMerge, Checks};
 use merges::ELEMENTS;
 use merges::PLACES;
-use merges::Run;
 
 // A number of a saved plan as a place.
 fn wide(x: u16) -> usize
@@ -103,87 +102,61 @@ fn fault_at(slots: &[u64; PLACES], i: usize, j: usize, k: usize) -> u8
     step_fault(a, b, c, i, j, k)
 }
 
-pub enum Outcome {
-    Accepted,
-    Refused(u8),
-}
-
-// The answer to the check of a saved plan: a refusal has an empty run.
-pub struct Checked {
-    pub outcome: Outcome,
-    pub run: Run,
-}
-
-fn refused(rule: u8) -> Checked
-    requires { ⌜ 0 < rule ⌝ }
-    ensures { λ r. ⌜ ((run : Run) → r ≡ answerOf rule run) × (r .run .steps ≡ 0) ⌝ }
-{
-    let run = merges::no_run();
-    Checked {
-        outcome: Outcome::Refused(rule),
-        run,
-    }
-}
-
-// Is a merge open after so many steps on e constraints that are not over? Where one cluster is left none is.
-fn still_open(slots: &[u64; PLACES], e: usize, steps: usize) -> bool
-    requires { ⌜ (e + steps ≤ places) × (length (now slots) ≡ places) ⌝ }
+// The rule that refuses the end of a plan after so many steps on e constraints that are not over: 16 where a merge is still open, else 0.
+fn end_fault(slots: &[u64; PLACES], e: usize, steps: usize) -> u8
+    requires { ⌜ (steps ≤ mostSteps) × (e + steps ≤ places) ⌝ }
     ensures { λ r. ⌜ ((cs : List ℕ) (p : List Merge) → NotOver cs → length cs ≡ e → Slots cs p (now (slots .entry)) (e + steps)
-        → r ≡ isSome (firstOf 0 (final cs p))) ⌝ }
+        → r ≡ stepsFault (final cs p) []) ⌝ }
 {
-    if 2 * steps + 1 == e {
-        return false;
+    if merges::one_left(e, steps) {
+        return 0;
     }
-    merges::some_open(slots, e + steps)
+    if merges::some_open(slots, e + steps) {
+        16
+    } else {
+        0
+    }
 }
 
-// The check of a saved plan against the constraints that are the first e of `start`. Where these are over, its run is a list of merges all the same.
-pub fn check_plan(start: &[u64; 200], e: usize, plan: &[u16]) -> Checked
-    requires { ⌜ Start (now start) e ⌝ }
-    ensures { λ r. ⌜ Checks (take e (now (start .entry))) (now (plan .entry)) r ⌝ }
+// What the check of a saved plan answers: the rule that refuses it, 0 if none does, and how many of its merges were made.
+pub struct Checked {
+    pub rule: u8,
+    pub steps: usize,
+}
+
+// The check of a saved plan against the constraints that are the first e of `start`, its merges made in blank arrays that the caller lends.
+pub fn check_plan(
+    start: &[u64; 200],
+    e: usize,
+    plan: &[u16],
+    slots: &mut [u64; PLACES],
+    parts: &mut [u16; PLACES],
+    joints: &mut [u64; ELEMENTS],
+) -> Checked
+    requires starts { ⌜ Start (now start) e ⌝ }
+    requires lent { ⌜ Blank (now slots) (now parts) (now joints) ⌝ }
+    ensures { λ r. ⌜ Checks (take e (now (start .entry))) (now (plan .entry)) r (now (parts .exit)) (now (joints .exit))
+        (now (slots .exit)) ⌝ }
 {
-    if plan.len() % 3 != 0 {
-        return refused(12);
-    }
-    let mut slots = [0u64; PLACES];
-    merges::lay(&mut slots, start, e);
-    let mut parts = [0u16; PLACES];
-    let mut joints = [0u64; ELEMENTS];
+    merges::lay(slots, start, e);
     let mut steps: usize = 0;
+    if plan.len() % 3 != 0 {
+        return Checked { rule: 12, steps };
+    }
     let mut at: usize = 0;
     while at < plan.len() {
         let i = wide(plan[at]);
         let j = wide(plan[at + 1]);
         let k = wide(plan[at + 2]);
-        let fault = fault_at(&slots, i, j, k);
-        if fault != 0 {
-            return refused(fault);
+        let rule = fault_at(slots, i, j, k);
+        if rule != 0 {
+            return Checked { rule, steps };
         }
         let p = ascend(i, j, k);
-        merges::step(
-            &mut slots,
-            &mut parts,
-            &mut joints,
-            e + steps,
-            steps,
-            p.i,
-            p.j,
-            p.k,
-        );
+        merges::step(slots, parts, joints, e + steps, steps, p.i, p.j, p.k);
         steps += 1;
         at += 3;
     }
-    if still_open(&slots, e, steps) {
-        return refused(16);
-    }
-    let run = Run {
-        steps,
-        parts,
-        joints,
-        slots,
-    };
-    Checked {
-        outcome: Outcome::Accepted,
-        run,
-    }
+    let rule = end_fault(slots, e, steps);
+    Checked { rule, steps }
 }

@@ -10,7 +10,7 @@ use Rattle.elements.specs.Answers.{elementsField}
 use Rattle.sheet.specs.Field.Laws.{next-value, value-with, refused-value}
 use Rattle.sheet.specs.Decode.{opening, readKinds, readElements, constraint, constraints, readConstraints, readSheet}
 use Rattle.sheet.specs.RoundTrip.{written-read}
-use Rattle.fields.specs.declared.Cursor.{Cursor}
+use Rattle.elements.specs.declared.fields.Cursor.{Cursor}
 use Rattle.graph.specs.declared.Front.{Front}
 use Rattle.reader.specs.declared.CodesRead.the-variants as codes-read
 use Rattle.reader.specs.declared.Outcome.{Outcome}

@@ -18,7 +18,7 @@ use Rattle.sheet.specs.Facts.Kinds.{KindsIn}
 use Rattle.sheet.specs.Field.{Field, value, refused, next, demand}
 use Rattle.sheet.specs.Rules.{pairOf, sizeBy, mapAllowed, radiiDiffer}
 use Rattle.sheet.specs.Decode.{size, tag, dimension, constraints}
-use Rattle.fields.specs.declared.Cursor.{Cursor}
+use Rattle.elements.specs.declared.fields.Cursor.{Cursor}
 use Rattle.graph.specs.declared.Front.{Front}
 use Rattle.graph.specs.Lent.{codeOf, InArrays, SheetIn, Stands, sizesOf}
 use Rattle.reader.specs.declared.OpeningRead.{OpeningRead}

@@ -17,9 +17,9 @@ ghost use Rattle.graph.specs.Lent.{InArrays};
 ghost use Rattle.reader.specs.Answers.{openingRule, asOpening, asEnds, endsRule, Ascending, codeIn, sizeRule, asSize, tagged, dimensionBy};
 ghost use Rattle.reader.specs.Answers.{frontRule, Fronted, codesRule, SheetRead, graphRule, GraphIs, ListRead, asReading, outcomeNumber};
 use elements::KindsRead;
-use fields::ByteRead;
-use fields::Cursor;
-use fields::NumberRead;
+use elements::fields::ByteRead;
+use elements::fields::Cursor;
+use elements::fields::NumberRead;
 use graph::Front;
 use graph::Head;
 use sheet::Constraint;
@@ -208,11 +208,11 @@ fn read_ends(s: &[u8], c: Cursor, near: &[u64; 64], n: usize) -> EndsRead
         → asEnds es (now (s .entry)) r ≡ constraint es cs (drop (c .at) (now (s .entry)))) ⌝ }
     ensures { λ r. ⌜ Ascending n r ⌝ }
 {
-    let start = fields::read_byte(s, c);
+    let start = elements::fields::read_byte(s, c);
     let ByteRead::Value(a, c1) = start else {
         return EndsRead::Refused(start.refusal());
     };
-    let end = fields::read_byte(s, c1);
+    let end = elements::fields::read_byte(s, c1);
     let ByteRead::Value(b, c2) = end else {
         return EndsRead::Refused(end.refusal());
     };
@@ -229,7 +229,7 @@ fn read_ends(s: &[u8], c: Cursor, near: &[u64; 64], n: usize) -> EndsRead
 fn read_size(s: &[u8], c: Cursor, p: PairKind) -> SizeRead
     ensures { λ r. ⌜ asSize (now (s .entry)) r ≡ codeIn (size p (Given (pos 0)) (drop (c .at) (now (s .entry)))) ⌝ }
 {
-    let number = fields::read_number(s, c, 4);
+    let number = elements::fields::read_number(s, c, 4);
     let NumberRead::Value(u, after) = number else {
         return SizeRead::Refused(number.refusal());
     };
@@ -290,7 +290,7 @@ fn read_dimension(s: &[u8], c: Cursor, kinds: Kinds, radii: &[u32; 64], a: u8, b
     ensures { λ r. ⌜ ((es : List Element) → KindsIn es kinds (now (radii .entry))
         → asSize (now (s .entry)) r ≡ codeIn (dimension (kindAt es a) (kindAt es b) (drop (c .at) (now (s .entry))))) ⌝ }
 {
-    let third = fields::read_byte(s, c);
+    let third = elements::fields::read_byte(s, c);
     let ByteRead::Value(map, c1) = third else {
         return SizeRead::Refused(third.refusal());
     };
@@ -384,7 +384,7 @@ fn read_front(s: &[u8], radii: &mut [u32; 64]) -> FrontRead
     let OpeningRead::Value(opening, c1) = first else {
         return FrontRead::Refused(first.refusal());
     };
-    let count = fields::read_byte(s, c1);
+    let count = elements::fields::read_byte(s, c1);
     let ByteRead::Value(b, c2) = count else {
         return FrontRead::Refused(count.refusal());
     };
@@ -396,7 +396,7 @@ fn read_front(s: &[u8], radii: &mut [u32; 64]) -> FrontRead
     let KindsRead::Value(kinds, c3) = got else {
         return FrontRead::Refused(got.refusal());
     };
-    let listed = fields::read_byte(s, c3);
+    let listed = elements::fields::read_byte(s, c3);
     let ByteRead::Value(k, c4) = listed else {
         return FrontRead::Refused(listed.refusal());
     };

@@ -15,8 +15,8 @@ ghost use Rattle.report.specs.Block.{block, Numerals, Stands};
 use merges::ELEMENTS;
 use merges::PLACES;
 use space::Written;
+use space::put_all8;
 use space::put_decimal;
-use space::put_text;
 use theory::JointKind;
 use theory::Step;
 use theory::Verdict;
@@ -447,18 +447,6 @@ fn put_over_report(
     put_elements(out, a4, text, b"\nset", set)
 }
 
-// Lines into space that takes them whole or not at all.
-pub fn put_whole(out: &mut [u8], lines: &[u8]) -> Written
-    ensures answers { λ r. ⌜ r ≡ answer (now (lines .entry)) (now (out .entry)) ⌝ }
-    ensures leaves { λ r. ⌜ now (out .exit) ≡ after (now (lines .entry)) (now (out .entry)) ⌝ }
-{
-    if out.len() < lines.len() {
-        return Written::Refused(17);
-    }
-    put_text(out, 0, lines);
-    Written::Done(lines.len())
-}
-
 // The report of a sheet that is not over, into space that takes it whole or not at all.
 pub fn write_report(
     out: &mut [u8],
@@ -504,7 +492,7 @@ pub fn write_report(
         low,
         high,
     );
-    put_whole(out, &whole[0..length])
+    put_all8(out, &whole[0..length])
 }
 
 // The report of an over sheet, into space that takes it whole or not at all.
@@ -516,5 +504,5 @@ pub fn write_over_report(out: &mut [u8], n: usize, e: usize, first: usize, set: 
     let text = numerals();
     let mut lines: [u8; BLOCK] = [0; BLOCK];
     let end = put_over_report(&mut lines, &text, n, e, first, set);
-    put_whole(out, &lines[0..end])
+    put_all8(out, &lines[0..end])
 }

@@ -1,3 +1,2 @@
--- What clusters rest on. Read Rests, then Words.
-pub mod Rests
+-- What clusters rest on (`theory` Rests), as 64-bit words.
 pub mod Words

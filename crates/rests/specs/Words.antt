@@ -8,7 +8,7 @@ use Rattle.theory.specs.Block.{block}
 use Rattle.theory.specs.Merge.{Merge, slot, Valid, final}
 use Rattle.theory.specs.Plan.{ascending}
 use Rattle.merges.specs.Run.{places, flat}
-use Rattle.rests.specs.Rests.{restsOn}
+use Rattle.theory.specs.Rests.{restsOn}
 pub mod Laws
 
 -- word w of a set of constraint numbers: the numbers from 64w to 64w + 63

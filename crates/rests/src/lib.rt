@@ -1,20 +1,12 @@
-// What clusters rest on: the constraint numbers that they came from, carried along a list of merges. Document 02, 2026-04. Contracts cite specs/Rests.antt
-// and specs/Words.antt.
+// What clusters rest on: the constraint numbers that they came from, carried along a list of merges. Document 02, 2026-04. Contracts cite
+// `theory` Rests and specs/Words.antt.
 ghost use mathlib.Core.Path.{_≡_};
-ghost use Prim.Native.Nat.{_+_, _≤_, _<_, _^_};
+ghost use Prim.Native.Nat.{_+_, _≤_, _<_};
 ghost use lib.ListN.{getD, set, replicate};
 ghost use Rattle.theory.specs.Set.{_∪_};
 ghost use Rattle.merges.specs.Run.{mostConstraints, mostSteps, places};
 ghost use Rattle.rests.specs.Words.{Listed, Told, Alone};
 use merges::PLACES;
-
-// The set of one number below 64, as a word.
-fn single(n: usize) -> u64
-    requires { ⌜ n < 64 ⌝ }
-    ensures { λ r. ⌜ r ≡ 2 ^ n ⌝ }
-{
-    1u64 << (n as u32)
-}
 
 // The words of initial clusters, each of which rests on the constraint of its own number: those of the numbers from `first` to `last`, 64 at most.
 fn note_alone(words: &mut [u64; PLACES], first: usize, last: usize)
@@ -23,16 +15,9 @@ fn note_alone(words: &mut [u64; PLACES], first: usize, last: usize)
 {
     let mut i = first;
     while i < last {
-        words[i] = single(i - first);
+        words[i] = sets::single((i - first) as u8);
         i += 1;
     }
-}
-
-// A number of a cluster as a place.
-fn wide(x: u16) -> usize
-    ensures { λ r. ⌜ r ≡ x ⌝ }
-{
-    x as usize
 }
 
 // The word of cluster `made`: those of its three parts.
@@ -62,9 +47,9 @@ pub fn carry(
     note_alone(high, 64, e);
     let mut t: usize = 0;
     while t < steps {
-        let i = wide(parts[3 * t]);
-        let j = wide(parts[3 * t + 1]);
-        let k = wide(parts[3 * t + 2]);
+        let i = sets::place_of(parts[3 * t]);
+        let j = sets::place_of(parts[3 * t + 1]);
+        let k = sets::place_of(parts[3 * t + 2]);
         let made = e + t;
         join(low, made, i, j, k);
         join(high, made, i, j, k);

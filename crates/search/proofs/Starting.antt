@@ -1,20 +1,13 @@
 -- The links, the holders and the waiting clusters before the first merge. Assumes nothing.
-use Rattle.theory.specs.Prelude.{_≡_, refl, sym, ap, _∙_, subst, _≢_, ⊎-elim, List, ℕ, zero, suc, _+_, _-_, _*_, _/_, _%_, _^_, _≤_, _<_}
+use Rattle.theory.specs.Prelude.{_≡_, refl, sym, ap, _∙_, subst, _≢_, ⊎-elim, List, ℕ, zero, suc, _+_, _*_, _/_, _%_, _^_, _≤_, _<_}
 use Rattle.theory.specs.Prelude.{arith, ℕ-discrete, bitOr, length, getD, set, replicate}
 use Rattle.theory.specs.Block.Laws.{getD-blank}
-use Rattle.theory.specs.Set.{_∈_, _∪_, at, full}
+use Rattle.theory.specs.Set.{_∈_, _∪_, at}
 use Rattle.theory.specs.Set.Laws.{at-zero, at-same, at-other, at-∪, ∈-∪⁻, ∈-∪ˡ, ∈-∪ʳ, out}
 use Rattle.theory.specs.Merge.{slot}
 use Rattle.search.specs.State.{linked, holder, waits, Begun}
 use Rattle.search.specs.Words.{word, Entered}
-use Rattle.search.specs.State.Sheet.{in-full}
 use Rattle.search.proofs.Triple.{set-three}
-
-pub ahead-all : (w e r x : ℕ) → r ≡ full 64 → x < 64 → x ∈ r
-ahead-all w e r x is l = ap (at x) is ∙ in-full 64 x l
-
-pub ahead-some : (w e r k x : ℕ) → r ≡ full k → k ≡ e - 64 * w → 64 * w + x < e → x ∈ r
-ahead-some w e r k x is f l = ap (at x) is ∙ in-full k x (omega arith)
 
 -- ---- the three words
 

@@ -2,6 +2,7 @@
 -- that wait to be looked at. Clusters by number, a dead one 0, as in `theory`. Assumes nothing.
 use Rattle.theory.specs.Prelude.{_≡_, _≢_, _⊎_, List, ℕ, _+_, _*_, _/_, _%_, _≤_, _<_, min, max, bitAnd, bitXor, ones, length, getD}
 use Rattle.theory.specs.Set.{_∈_, _∩_, _∪_, at}
+use Rattle.sets.specs.Image.{Image}
 use Rattle.theory.specs.Merge.{slot, Merge, merge, Three, OpenAt, ShareOne, Part, three, union}
 pub mod Triangle
 pub mod Open
@@ -156,9 +157,8 @@ pub record Holding (hold : List ℕ) (edge : ℕ) (m : Merge) (n : ℕ) (hold′
   pub other : (p c : ℕ) → c < 192 → p ∈ edge → c ≢ n → (Part c m → ⊥) → holder hold′ p c ≡ holder hold p c
 
 -- near is the set of the elements linked to one of x
-pub record Nearby (links : List ℕ) (x near : ℕ) : Type 0 where
-  pub only : (r : ℕ) → r ∈ near → (p : ℕ) × (p ∈ x) × (r ∈ linked links p)
-  pub every : (p r : ℕ) → p ∈ x → r ∈ linked links p → r ∈ near
+abbrev pub Nearby : List ℕ → ℕ → ℕ → Type 0
+Nearby links x near = Image links x near
 
 -- cluster n waits, and each holder of an element of o; the three of m no more need to
 pub record Called (hold todo : List ℕ) (m : Merge) (n o : ℕ) (todo′ : List ℕ) : Type 0 where

@@ -7,13 +7,12 @@ ghost use Prim.Native.Nat.{ℕ, _+_, _*_, _≤_, _<_};
 ghost use lib.ListN.{length, replicate};
 ghost use Rattle.theory.specs.Set.{_∈_, _∩_};
 ghost use Rattle.theory.specs.Merge.{slot, Part, merge as numbers};
-ghost use Rattle.search.specs.State.{linked, waits, Outs, Nearby, Lowest, Joining, Met, Joined, Best, Wanted, Kept, Begun, Renewed, threeOf};
+ghost use Rattle.search.specs.State.{linked, waits, Outs, Lowest, Joining, Met, Joined, Best, Wanted, Kept, Begun, Renewed, threeOf};
 ghost use Rattle.search.specs.Words.{Member, Alone, Gathered, Inner, Passing, SetOf, Calls, Rejoined, Entered};
+use sets::ELEMENTS;
 
 // The clusters of 125 constraints and 62 steps: three words of 64.
 pub const PLACES: usize = 192;
-
-pub const ELEMENTS: usize = 64;
 
 // ---- what a cluster reaches
 
@@ -245,30 +244,13 @@ fn ahead(w: usize, e: usize) -> u64
     ensures { λ r. ⌜ ((x : ℕ) → x < 64 → 64 * w + x < e → x ∈ r) ⌝ }
 {
     if e <= 64 * w {
-        return 0;
+        0
+    } else {
+        sets::below(e - 64 * w)
     }
-    let k = e - 64 * w;
-    if 64 <= k {
-        return 18446744073709551615;
-    }
-    (1u64 << (k as u32)) - 1
 }
 
 // ---- what a merge changes
-
-// The elements linked to some element of x.
-fn near_of(links: &[u64; ELEMENTS], x: u64) -> u64
-    ensures { λ r. ⌜ Nearby (now (links .entry)) x r ⌝ }
-{
-    let mut all: u64 = 0;
-    let mut rest = x;
-    while rest != 0 {
-        let p = u64::trailing_zeros(rest) as usize;
-        all = all | links[p];
-        rest = rest & (rest - 1);
-    }
-    all
-}
 
 // The clusters that hold an element of o.
 fn holders(hold: &[u64; PLACES], o: u64) -> Words
@@ -430,7 +412,7 @@ pub fn renew(
 {
     let u = x | y | z;
     let edge = u & rim;
-    let n = near_of(links, edge ^ (edge & z));
+    let n = sets::image(links, edge ^ (edge & z));
     let dead = three_of(i, j, k);
     let made = alone(used);
     let found = rejoin(links, hold, edge, u, dead, made);

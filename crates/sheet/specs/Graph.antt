@@ -8,7 +8,7 @@ use lib.IntN.{ℤ, pos, negℤ}
 use lib.ListN.{length}
 use Rattle.theory.specs.Constraints.{pair, Perm}
 use Rattle.theory.specs.Merge.{Merge, Maximal}
-use Rattle.theory.specs.Graph.{Graph, findingOf, verdictOf}
+use Rattle.theory.specs.Graph.{Graph, SizedGraph, findingOf, verdictOf}
 use Rattle.theory.specs.Demand.{Agree, Demand3}
 use Rattle.theory.specs.declared.Finding.{Finding}
 use Rattle.theory.specs.declared.Finding.the-variants.{Fine, First}
@@ -39,12 +39,12 @@ abbrev pub sizeIn : List Element → Constraint → ℤ
 sizeIn elements c = sizeOf (kindAt elements (c .first)) (kindAt elements (c .second)) (c .size)
 
 abbrev pub graphOf : Facts → Graph
-graphOf f = record {
-  n = length (f .elements);
-  lines = linesOf (f .elements);
-  clusters = map clusterOf (f .constraints);
-  sizes = map (sizeIn (f .elements)) (f .constraints);
-}
+graphOf f =
+    record { n = length (f .elements); lines = linesOf (f .elements); clusters = map clusterOf (f .constraints) }
+
+-- with the sizes
+abbrev pub sizedOf : Facts → SizedGraph
+sizedOf f = record { graph = graphOf f; sizes = map (sizeIn (f .elements)) (f .constraints) }
 
 -- ---- rule 11 (document 01, "Refused"): the graph is over. Its number, 0 where it does not refuse
 

@@ -13,6 +13,7 @@ use Rattle.sketch.specs.declared.Judgement.{Judgement}
 use Rattle.sketch.specs.declared.Judgement.the-variants.{Is, Refused}
 use Rattle.sketch.specs.Sketch.{extended, nextFault, askAnswer, placeAnswer, placeAfter}
 pub mod Proof
+pub mod Growth
 
 pub data Event : Type 0 where
   asks : Constraint → Event

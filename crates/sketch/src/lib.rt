@@ -1,9 +1,7 @@
 // A held sketch: asking what one constraint more would do, and placing it. Document 01, "A held sketch"; document 02, 2026-05. specs/Sketch.antt says
 // which rule refuses, what is answered and what the sketch is then.
 ghost use mathlib.Core.Path.{_≡_};
-ghost use mathlib.Core.List.{List};
 ghost use Prim.Native.Nat.{_<_};
-ghost use lib.IntN.{ℤ};
 ghost use Rattle.sheet.specs.Facts.{Facts};
 ghost use Rattle.sheet.specs.Rules.{or-else};
 ghost use Rattle.sheet.specs.Graph.{overFault};
@@ -45,7 +43,7 @@ fn store(s: Sheet, c: Constraint) -> Sheet
 // 27 of a graph that is over, else the rule.
 fn unless_over(h: Head, near: &[u64; 64], start: &[u64; 200], rule: u8) -> u8
     requires { ⌜ Drawn h (now near) (now start) ⌝ }
-    ensures { λ r. ⌜ ((z : List ℤ) → r ≡ or-else (by27 (overFault (graphIn h (now (start .entry)) z))) rule) ⌝ }
+    ensures { λ r. ⌜ r ≡ or-else (by27 (overFault (graphIn h (now (start .entry))))) rule ⌝ }
 {
     let verdict = judge::verdict_of(h, near, start);
     if verdict.number() == 0 { 27 } else { rule }
@@ -62,7 +60,7 @@ fn last_rule(first: usize, e: usize) -> u8
 // What the last constraint of a graph is answered: what is told of it has the first that makes it over.
 fn judge_last(h: Head, near: &[u64; 64], start: &[u64; 200]) -> Judgement
     requires { ⌜ Drawn h (now near) (now start) ⌝ }
-    ensures { λ r. ⌜ ((z : List ℤ) → r ≡ lastAnswer (graphIn h (now (start .entry)) z)) ⌝ }
+    ensures { λ r. ⌜ r ≡ lastAnswer (graphIn h (now (start .entry))) ⌝ }
 {
     let told = judge::tell(h, near, start);
     let verdict = told.verdict;

@@ -4,7 +4,7 @@ ghost use mathlib.Core.Path.{_≡_};
 ghost use mathlib.Core.List.{[], _∷_};
 ghost use Prim.Native.Nat.{_+_, _<_, _^_};
 ghost use lib.ListN.{length};
-ghost use Rattle.space.specs.Space.{Put};
+ghost use Rattle.space.specs.Space.{Put, answer, after};
 ghost use Rattle.space.specs.Text.{digit as digitCode, decimal};
 
 // The answer to a call that writes: the count of items written, or the number of the rule that refuses.
@@ -58,6 +58,51 @@ pub fn put_text(out: &mut [u8], at: usize, text: &[u8]) -> usize
     }
     next
 }
+
+// ---- a whole answer, or 17
+
+pub fn put_all8(out: &mut [u8], text: &[u8]) -> Written
+    ensures answers { λ r. ⌜ r ≡ answer (now (text .entry)) (now (out .entry)) ⌝ }
+    ensures leaves { λ r. ⌜ now (out .exit) ≡ after (now (text .entry)) (now (out .entry)) ⌝ }
+{
+    if out.len() < text.len() {
+        return Written::Refused(17);
+    }
+    put_text(out, 0, text);
+    Written::Done(text.len())
+}
+
+pub fn put_all16(out: &mut [u16], numbers: &[u16]) -> Written
+    ensures answers { λ r. ⌜ r ≡ answer (now (numbers .entry)) (now (out .entry)) ⌝ }
+    ensures leaves { λ r. ⌜ now (out .exit) ≡ after (now (numbers .entry)) (now (out .entry)) ⌝ }
+{
+    if out.len() < numbers.len() {
+        return Written::Refused(17);
+    }
+    let mut i: usize = 0;
+    while i < numbers.len() {
+        out[i] = numbers[i];
+        i += 1;
+    }
+    Written::Done(i)
+}
+
+pub fn put_all64(out: &mut [u64], words: &[u64]) -> Written
+    ensures answers { λ r. ⌜ r ≡ answer (now (words .entry)) (now (out .entry)) ⌝ }
+    ensures leaves { λ r. ⌜ now (out .exit) ≡ after (now (words .entry)) (now (out .entry)) ⌝ }
+{
+    if out.len() < words.len() {
+        return Written::Refused(17);
+    }
+    let mut i: usize = 0;
+    while i < words.len() {
+        out[i] = words[i];
+        i += 1;
+    }
+    Written::Done(i)
+}
+
+// ---- numbers as text
 
 fn digit(d: usize) -> u8
     requires { ⌜ d < 10 ⌝ }

@@ -31,7 +31,7 @@ pub fn all_free() -> [[u8; 2]; 64]
     let mut own = [[0u8; 2]; 64];
     let mut x: u8 = 0;
     while x < 64 {
-        let i = peeling::wide(x);
+        let i = sets::wide(x);
         own[i] = [x; 2];
         x = x + 1;
     }
@@ -101,11 +101,11 @@ fn seek(own: [[u8; 2]; 64], queue: &mut [u8; 64], from: &mut [u8; 64], a: u8, b:
     let mut p: usize = 0;
     while p < f.count {
         let x = queue[p];
-        let i = peeling::wide(x);
+        let i = sets::wide(x);
         let y = own[i][0];
         let z = own[i][1];
         let g = visit(queue, from, f, y, p as u8);
-        let j = peeling::wide(y);
+        let j = sets::wide(y);
         if opens(own[j][0], own[j][1], y, f.count, g.count) != 0 {
             return Sought {
                 seen: g.seen,
@@ -114,7 +114,7 @@ fn seek(own: [[u8; 2]; 64], queue: &mut [u8; 64], from: &mut [u8; 64], a: u8, b:
             };
         }
         let h = visit(queue, from, g, z, p as u8);
-        let k = peeling::wide(z);
+        let k = sets::wide(z);
         if opens(own[k][0], own[k][1], z, g.count, h.count) != 0 {
             return Sought {
                 seen: h.seen,
@@ -147,8 +147,8 @@ fn gather(
     ensures { λ r. ⌜ Gathered own need a b r (now (over .exit)) × Lent (now (queue .exit)) (now (from .exit)) ⌝ }
 {
     let mut t = own;
-    let i = peeling::wide(a);
-    let j = peeling::wide(b);
+    let i = sets::wide(a);
+    let j = sets::wide(b);
     while free_of(t[i][0], t[i][1], a) + free_of(t[j][0], t[j][1], b) < need {
         let found = seek(t, queue, from, a, b);
         let p = found.place;
@@ -158,11 +158,11 @@ fn gather(
         }
         let mut to = p;
         while 2 <= to {
-            let back = peeling::wide(from[to]);
+            let back = sets::wide(from[to]);
             let bx = queue[back];
             let by = queue[to];
-            let x = peeling::wide(bx);
-            let y = peeling::wide(by);
+            let x = sets::wide(bx);
+            let y = sets::wide(by);
             let s = one_if_same(t[x][1], by);
             let r = one_if_same(t[y][1], by);
             t[x][s] = bx;
@@ -187,7 +187,7 @@ fn place(p: u8, q: u8, r: u8, a: u8, b: u8) -> Spot
     ensures { λ k. ⌜ ((own : List (List ℕ)) → entry own a 0 ≡ p → entry own a 1 ≡ q → entry own b 0 ≡ r → 0 < free own a + free own b
         → Placed own a b (stored own (k .element) (k .entry) (k .other))) × (k .element < 64) × (k .entry < 2) ⌝ }
 {
-    let i = peeling::wide(a);
+    let i = sets::wide(a);
     if p == a {
         return Spot {
             element: i,
@@ -202,7 +202,7 @@ fn place(p: u8, q: u8, r: u8, a: u8, b: u8) -> Spot
             other: b,
         };
     }
-    let j = peeling::wide(b);
+    let j = sets::wide(b);
     if r == b {
         return Spot {
             element: j,
@@ -234,8 +234,8 @@ pub fn take_pair(
     if *over != 0 {
         return t;
     }
-    let i = peeling::wide(a);
-    let j = peeling::wide(b);
+    let i = sets::wide(a);
+    let j = sets::wide(b);
     let k = place(t[i][0], t[i][1], t[j][0], a, b);
     let x = k.element;
     let s = k.entry;
@@ -263,9 +263,9 @@ fn search(start: &[u64; 200], e: usize, core: u64, needs: &[u8; 200]) -> Finding
         }
         let a = sets::lowest(pair);
         let b = peeling::other_end(pair, a);
-        let i = peeling::wide(a);
-        let j = peeling::wide(b);
-        let need = peeling::wide(needs[c]);
+        let i = sets::wide(a);
+        let j = sets::wide(b);
+        let need = sets::wide(needs[c]);
         if free_of(own[i][0], own[i][1], a) + free_of(own[j][0], own[j][1], b) < need {
             let t = gather(own, need, &mut queue, &mut from, a, b, &mut over);
             if over != 0 {

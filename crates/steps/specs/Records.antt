@@ -8,7 +8,7 @@ use mathlib.Core.List.{List, [], _∷_, _++_}
 use lib.Dec.{ltb}
 use lib.ListN.{length, drop}
 use Rattle.theory.specs.Plan.{planOf}
-use Rattle.theory.specs.Graph.{Graph, stepsOf}
+use Rattle.theory.specs.Graph.{SizedGraph, stepsOf}
 use Rattle.theory.specs.declared.JointKind.{JointKind}
 use Rattle.theory.specs.declared.JointKind.the-variants.{Ppp, Ppl, Pll, Lll}
 use Rattle.theory.specs.declared.Ways.{Ways}
@@ -25,12 +25,12 @@ pub mod Lines
 -- ---- the records: those that the report's step lines are written from
 
 -- of the engine's plan
-unfoldable pub planSteps : Graph → List Step
-planSteps g = stepsOf g (planOf (g .clusters))
+unfoldable pub planSteps : SizedGraph → List Step
+planSteps g = stepsOf g (planOf (g .graph .clusters))
 
 -- of a saved plan, in the saved order, or the rule of the plan check that refuses it
-abbrev pub savedRecords : Graph → List ℕ → Field (List Step)
-savedRecords g l = byRule (planFault (g .clusters) l) (value (stepsOf g (savedSteps l)) [])
+abbrev pub savedRecords : SizedGraph → List ℕ → Field (List Step)
+savedRecords g l = byRule (planFault (g .graph .clusters) l) (value (stepsOf g (savedSteps l)) [])
 
 -- ---- over a lent list of records; `sheet` Answer says the same of bytes and numbers
 

@@ -1,15 +1,10 @@
 // The plan as a list of step records that a caller lends (document 02, 2026-04): the steps by value from a graph in lent arrays, and one thin walk
-// that
-// fills the list. Contracts cite specs/Records.antt.
+// that fills the list. Contracts cite specs/Records.antt.
 ghost use mathlib.Core.Path.{_≡_};
 ghost use mathlib.Core.List.{[]};
 ghost use Prim.Native.Nat.{_+_, _<_, _≤_, _^_, min};
-ghost use lib.ListN.{length, take, replicate};
-ghost use Rattle.theory.specs.Constraints.{NotOver};
-ghost use Rattle.theory.specs.Graph.{stepsOf};
-ghost use Rattle.graph.specs.Lent.{graphIn, Sound, Drawn};
-ghost use Rattle.merges.specs.Run.{Merged};
-ghost use Rattle.engine.specs.Steps.{blankStep};
+ghost use lib.ListN.{length, take};
+ghost use Rattle.graph.specs.Lent.{graphIn, sizedIn, Drawn};
 ghost use Rattle.space.specs.Space.{Put};
 ghost use Rattle.sheet.specs.Field.{value, refused as byNumber};
 ghost use Rattle.sheet.specs.Answer.{byRule, Answers};
@@ -19,8 +14,6 @@ ghost use Rattle.steps.specs.Listing.{listingOf, Listed, recordAt, taken
 ghost use Rattle.steps.specs.Records.{kindNumber, waysNumber, numbersOf, stepNumbers};
 ghost use Rattle.steps.specs.Listing.{numbersFrom};
 use graph::Head;
-use merges::Run;
-use plans::Outcome;
 use space::Written;
 use space::put_number64;
 use theory::JointKind;
@@ -36,27 +29,11 @@ pub struct Listing {
     pub steps: [Step; 62],
 }
 
-// Blank records.
-pub fn no_records() -> [Step; 62]
-    ensures { λ r. ⌜ r ≡ replicate 62 blankStep ⌝ }
-{
-    let blank = Step {
-        made: 0,
-        i: 0,
-        j: 0,
-        k: 0,
-        joint: 0,
-        kind: JointKind::Ppp,
-        ways: Ways::Unknown,
-    };
-    [blank; 62]
-}
-
 // No step, and the rule that refuses them.
 pub fn refused(rule: u8) -> Listing
     ensures { λ r. ⌜ r ≡ listingOf (byNumber rule) ⌝ }
 {
-    let steps = no_records();
+    let steps = engine::no_steps();
     Listing {
         rule,
         count: 0,
@@ -64,35 +41,27 @@ pub fn refused(rule: u8) -> Listing
     }
 }
 
-// The steps of a list of merges of the constraints.
-fn listed(h: Head, start: &[u64; 200], sizes: &[i32; 200], run: Run) -> Listing
-    requires { ⌜ Sound (h .n) (take (h .e) (now start)) × (length (take (h .e) (now start)) ≡ h .e) × NotOver (take (h .e) (now start))
-        × Merged (take (h .e) (now start)) run ⌝ }
-    ensures { λ r. ⌜ ((m : Merged (take (h .e) (now (start .entry))) run)
-        → Listed (value (stepsOf (graphIn h (now (start .entry)) (now (sizes .entry))) (m .p)) []) r) ⌝ }
+// The steps of the engine's plan, or 11.
+pub fn plan_steps(h: Head, near: &[u64; 64], start: &[u64; 200], sizes: &[i32; 200]) -> Listing
+    requires { ⌜ Drawn h (now near) (now start) ⌝ }
+    ensures { λ r. ⌜ Listed (byRule (overFault (graphIn h (now (start .entry))))
+        (value (planSteps (sizedIn h (now (start .entry)) (now (sizes .entry)))) [])) r ⌝ }
 {
-    let count = run.steps;
-    let steps = engine::steps_of(run, start, sizes, h.lines, h.e);
+    let mut slots = [0u64; 192];
+    let mut parts = [0u16; 192];
+    let mut joints = [0u64; 64];
+    let found = judge::judge_on(h, near, start, &mut slots, &mut parts, &mut joints);
+    let verdict = found.verdict;
+    if verdict.number() == 0 {
+        return refused(11);
+    }
+    let count = found.steps;
+    let steps = engine::steps_of(&parts, &joints, count, start, sizes, h.lines, h.e);
     Listing {
         rule: 0,
         count,
         steps,
     }
-}
-
-// The steps of the engine's plan, or 11.
-pub fn plan_steps(h: Head, near: &[u64; 64], start: &[u64; 200], sizes: &[i32; 200]) -> Listing
-    requires { ⌜ Drawn h (now near) (now start) ⌝ }
-    ensures { λ r. ⌜ Listed (byRule (overFault (graphIn h (now (start .entry)) (now (sizes .entry))))
-        (value (planSteps (graphIn h (now (start .entry)) (now (sizes .entry)))) [])) r ⌝ }
-{
-    let judged = judge::judge(h, near, start);
-    let verdict = judged.verdict;
-    if verdict.number() == 0 {
-        return refused(11);
-    }
-    let run = judged.run;
-    listed(h, start, sizes, run)
 }
 
 // The steps of a saved plan, or the rule of 11 to 16 that refuses it.
@@ -104,22 +73,23 @@ pub fn saved_steps(
     plan: &[u16],
 ) -> Listing
     requires { ⌜ Drawn h (now near) (now start) ⌝ }
-    ensures { λ r. ⌜ Listed (byRule (overFault (graphIn h (now (start .entry)) (now (sizes .entry))))
-        (savedRecords (graphIn h (now (start .entry)) (now (sizes .entry))) (now (plan .entry)))) r ⌝ }
+    ensures { λ r. ⌜ Listed (byRule (overFault (graphIn h (now (start .entry))))
+        (savedRecords (sizedIn h (now (start .entry)) (now (sizes .entry))) (now (plan .entry)))) r ⌝ }
 {
-    if 2 * h.n < h.e + 3 {
-        return refused(11);
+    let mut slots = [0u64; 192];
+    let mut parts = [0u16; 192];
+    let mut joints = [0u64; 64];
+    let checked = account::check_saved(h, near, start, plan, &mut slots, &mut parts, &mut joints);
+    let rule = checked.rule;
+    if rule != 0 {
+        return refused(rule);
     }
-    let checked = plans::check_plan(start, h.e, plan);
-    let outcome = checked.outcome;
-    let run = checked.run;
-    let over = judge::over_after(h, near, start, run.steps);
-    if over != 0 {
-        return refused(over);
-    }
-    match outcome {
-        Outcome::Refused(rule) => refused(rule),
-        Outcome::Accepted => listed(h, start, sizes, run),
+    let count = checked.steps;
+    let steps = engine::steps_of(&parts, &joints, count, start, sizes, h.lines, h.e);
+    Listing {
+        rule: 0,
+        count,
+        steps,
     }
 }
 

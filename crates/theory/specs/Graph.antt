@@ -20,9 +20,8 @@ pub record Graph : Type 0 where
   -- the count of elements, and the set of those that are lines
   pub n : ℕ
   pub lines : ℕ
-  -- the initial clusters in the order of the constraints, and the constraints' sizes, 0 for a missing one
+  -- the initial clusters in the order of the constraints
   pub clusters : List ℕ
-  pub sizes : List ℤ
 
 -- ---- the verdict
 
@@ -42,23 +41,28 @@ verdictBy g (First c x) = Over
 unfoldable pub verdictOf : Graph → Verdict
 verdictOf g = verdictBy g (findingOf g)
 
--- ---- the steps of a list of merges
+-- ---- the steps of a list of merges, which alone look at sizes
+
+-- a graph with its constraints' sizes, 0 for a missing one
+pub record SizedGraph : Type 0 where
+  pub graph : Graph
+  pub sizes : List ℤ
 
 -- the step m among the clusters s: its parts ascend, and it makes the next number
-unfoldable pub stepOf : Graph → List ℕ → Merge → Step
+unfoldable pub stepOf : SizedGraph → List ℕ → Merge → Step
 stepOf g s m = record {
   made = length s;
   i = ascending m .i;
   j = ascending m .j;
   k = ascending m .k;
   joint = joint (three s (ascending m));
-  kind = jointKind (g .lines) (joint (three s (ascending m)));
-  ways = ways (g .lines) (length (g .clusters)) (g .sizes) s (ascending m);
+  kind = jointKind (g .graph .lines) (joint (three s (ascending m)));
+  ways = ways (g .graph .lines) (length (g .graph .clusters)) (g .sizes) s (ascending m);
 }
 
-unfoldable pub stepsFrom : Graph → List ℕ → List Merge → List Step
+unfoldable pub stepsFrom : SizedGraph → List ℕ → List Merge → List Step
 stepsFrom g s [] = []
 stepsFrom g s (m ∷ p) = stepOf g s m ∷ stepsFrom g (put s m) p
 
-abbrev pub stepsOf : Graph → List Merge → List Step
-stepsOf g p = stepsFrom g (g .clusters) p
+abbrev pub stepsOf : SizedGraph → List Merge → List Step
+stepsOf g p = stepsFrom g (g .graph .clusters) p

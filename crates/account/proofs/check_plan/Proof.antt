@@ -1,78 +1,66 @@
--- `account::check_plan` meets its contract: 11 of an over graph, else what the check of the plan answers. Assumes nothing.
-use Rattle.theory.specs.Prelude.{needs, arith, _≡_, sym, _∙_, take}
-use Rattle.theory.specs.Constraints.{NotOver}
-use Rattle.theory.specs.Graph.{Graph}
-use Rattle.sheet.specs.Graph.Laws.{fault-none}
+-- `account::check_plan` meets its contract: the rule that refuses the plan, else the report of its merges with their own verdict. Assumes nothing.
+use Rattle.theory.specs.Prelude.{needs, arith, sym, ap, _∙_, List, [], ℕ}
+use Rattle.theory.specs.Merge.{Merge}
+use Rattle.theory.specs.Graph.{SizedGraph}
+use Rattle.space.specs.Space.{answer, after}
+use Rattle.sheet.specs.Field.{value}
 use Rattle.sheet.specs.Answer.Laws.{rule-none, rule-some, answers-refused, answers-items}
-use Rattle.graph.specs.Lent.{graphIn}
-use Rattle.graph.specs.Lent.Sheets.{counted, found-fine}
-use Rattle.judge.specs.Judged.Laws.{starts}
-use Rattle.judge.specs.Judged.Short.{more-fault}
-use Rattle.plans.specs.Check.{checkOf}
-use Rattle.account.specs.Account.Answers.{saved-refused, Took, saved-taken}
+use Rattle.graph.specs.Lent.{sizedIn}
+use Rattle.graph.specs.Lent.Sheets.{counted}
+use Rattle.judge.specs.Judged.Laws.{arrays-long}
+use Rattle.account.specs.Account.{listReport}
+use Rattle.account.specs.Account.Laws.{room, settled-report}
+use Rattle.account.specs.Saved.Laws.{saved-rule}
 use Rattle.account.proofs.check_plan.Tie as tie
+
+-- the plan is checked
+module _ (c : tie.After-check-saved) where
+  abbrev start : tie.Start
+  start = c .before .before .before .before .before .before
+
+  abbrev graph : SizedGraph
+  graph = sizedIn (start .args .h) (start .args .start .now) (start .args .sizes .now)
 
 returns : tie.Need-returns
 returns c =
-    let d = c .before .before .before .before .before .pre in
-    answers-refused (rule-some _ _ (sym (more-fault _ (d .sound) (omega (arith, c .if1 .taken, counted d)))) (omega arith))
+    let k = c .before .check-saved .ensures in
+    answers-refused (saved-rule (graph (c .before) .graph) _ _ ∙ rule-some _ _ (k .rule-is) (c .if1 .taken))
 
--- no more than 2n-3 constraints
-module _ (c : tie.Else1) where
-  abbrev start : tie.Start
-  start = c .before .before .before .before .before
+settle-requires : tie.Need-settle-requires
+settle-requires c κs =
+    let asked = c .before .before .before in
+    let s = start asked in
+    let none = c .before .before .if1 .left in
+    let k = asked .check-saved .ensures in
+    let d = s .pre in
+    let few = room (s .args .h) (s .args .start .now) (d .sound) (counted d) (k .notOver none) (k .merged none) in
+    let long = arrays-long (graph asked .graph .clusters) (d .sound .simple .pairs) (k .merged none) (omega (arith, few, counted d)) in
+    (omega (arith, few), few .2, few .0, omega (arith, few), long .0, long .1)
 
-  abbrev graph : Graph
-  graph = graphIn (start .args .h) (start .args .start .now) (start .args .sizes .now)
+put-list-requires : tie.Need-put-list-requires
+put-list-requires c κs =
+    let asked = c .before .before .before .before .before .before .before .before in
+    let s = start asked in
+    let none = c .before .before .before .before .before .before .before .if1 .left in
+    let k = asked .check-saved .ensures in
+    (s .pre .sound, counted (s .pre), k .notOver none, k .merged none)
 
-over-after-requires : tie.Need-over-after-requires
-over-after-requires c κs =
-    let k = c .before .check-plan .ensures in
-    (start (c .before .before) .pre, record { merges = k .merges; valid = k .valid; count = k .count })
-
--- it is not over
-module _ (c : tie.Else2) where
-  abbrev asked : tie.After-check-plan
-  asked = c .before .before .before
-
-  abbrev none : tie.Else1
-  none = asked .before
-
-  fine : NotOver (take (start none .args .h .e) (start none .args .start .now))
-  fine = found-fine (start none .pre .sound) (fault-none (graph none) (sym (c .before .over-after .ensures _) ∙ c .if2 .left))
-
-  checked : asked .check-plan .result ≡ checkOf (take (start none .args .h .e) (start none .args .start .now)) (start none .args .plan .now)
-  checked = asked .check-plan .ensures .answers fine
-
--- the plan is taken
-module _ (c : tie.After-put-settled-arg) where
-  abbrev held : tie.Else2
-  held = c .before .before .before
-
-  took : Took (graph (none held)) (start (none held) .args .plan .now) (asked held .check-plan .result) (checked held)
-  took = saved-taken _ _ _ _ (c .before .enum-told .given .1)
-
-put-settled-requires : tie.Need-put-settled-requires
-put-settled-requires c κs =
-    let d = start (none (held c)) .pre in (d .sound, counted d, fine (held c), took c .merged)
-
-returns-3 : tie.Need-returns-3
-returns-3 c =
-    let k = c .before .before .before in
-    let g = c .before .outcome .given in
-    answers-refused (rule-none _ (sym (k .before .over-after .ensures _) ∙ k .if2 .left) ∙ saved-refused _ _ _ (checked k) (g .0 .0) (g .1))
-
-returns-4 : tie.Need-returns-4
-returns-4 c =
-    let a = c .before .before .before in
-    let k = held a in
-    answers-items (c .before .before .put-settled .ensures (took a .merged))
-    (rule-none _ (sym (k .before .over-after .ensures _) ∙ k .if2 .left) ∙ took a .gives)
+returns-2 : tie.Need-returns-2
+returns-2 c =
+    let settled = c .before .before .before .before .before .before .before in
+    let asked = settled .before .before .before .before in
+    let s = start asked in
+    let none = settled .before .before .before .if1 .left in
+    let k = asked .check-saved .ensures in
+    let m = k .merged none in
+    let r = settled-report (s .args .h) (s .args .start .now) (s .args .sizes .now) (s .pre .sound) (counted (s .pre)) (k .notOver none) m
+    (settled .settle .ensures) in
+    let w = c .before .before .put-list .ensures m in
+    let out = s .args .out .now in
+    answers-items (w .0 ∙ ap (λ (l : List ℕ). answer l out) r, w .1 ∙ ap (λ (l : List ℕ). after l out) r)
+    (saved-rule (graph asked .graph) _ _ ∙ rule-none _ (sym (k .rule-is) ∙ none)
+    ∙ ap (λ (p : List Merge). value (listReport (graph asked) p) []) (sym (k .saved none)))
 
 pub check-plan-spec : {M : Type 1} → Rattle.account.proofs.check_plan.Statement.statement M
 check-plan-spec =
-    tie.close
-    (tie.spec (λ c. search needs) (λ c. search needs) returns
-    (λ c κs. let d = start c .pre in starts d (omega (arith, c .if1 .left, d .sound .most))) over-after-requires
-    (λ c. answers-refused (rule-some _ _ (c .before .over-after .ensures _) (c .if2 .taken))) (λ c. search needs) (λ c. search needs)
-    put-settled-requires returns-3 (λ c. search needs) returns-4)
+    tie.close (tie.spec (λ c κs. search needs) returns settle-requires put-list-requires (λ c. search needs) returns-2)

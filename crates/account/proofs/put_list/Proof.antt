@@ -8,7 +8,7 @@ use Rattle.account.proofs.put_list.Tie as tie
 
 module _ (c : tie.Start) where
   few : (c .args .h .n ≤ 64) × (c .args .h .e ≤ 125) × (2 * c .args .count ≤ c .args .h .e) × (c .args .count ≤ 62)
-  few = room (c .args .h) (c .args .start .now) (c .args .sizes .now) (c .pre .0) (c .pre .1) (c .pre .2) (c .pre .3)
+  few = room (c .args .h) (c .args .start .now) (c .pre .0) (c .pre .1) (c .pre .2) (c .pre .3)
 
   slots-long : length (c .args .slots .now) ≡ 192
   slots-long = arrays-long _ (c .pre .0 .simple .pairs) (c .pre .3) (omega (arith, few, c .pre .1)) .1

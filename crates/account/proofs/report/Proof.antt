@@ -1,8 +1,8 @@
 -- `account::report` meets its contract: the verdict's number tells which report the definition gives. Assumes nothing.
 use Rattle.theory.specs.Prelude.{needs, ℕ, arith, _≡_, _≢_, refl, sym, ap, _∙_, List}
 use Rattle.theory.specs.Verdict.{verdictNumber}
-use Rattle.theory.specs.Graph.{Graph}
-use Rattle.graph.specs.Lent.{graphIn}
+use Rattle.theory.specs.Graph.{SizedGraph}
+use Rattle.graph.specs.Lent.{sizedIn}
 use Rattle.graph.specs.Lent.Sheets.{counted}
 use Rattle.space.specs.Space.{answer, after}
 use Rattle.report.specs.Report.{overReport}
@@ -10,8 +10,8 @@ use Rattle.account.specs.Account.{reportOf}
 use Rattle.account.specs.Account.Answers.{OverFound, over-found, PlanFound, plan-found}
 use Rattle.account.proofs.report.Tie as tie
 
-abbrev graph : tie.Start → Graph
-graph s = graphIn (s .args .h) (s .args .start .now) (s .args .sizes .now)
+abbrev graph : tie.Start → SizedGraph
+graph s = sizedIn (s .args .h) (s .args .start .now) (s .args .sizes .now)
 
 -- over
 module _ (c : tie.After-write-over-report-arg) where
@@ -21,8 +21,8 @@ module _ (c : tie.After-write-over-report-arg) where
   none : verdictNumber (c .before .before .before .judge-on .result .verdict) ≡ 0
   none = sym (c .before .before .number .ensures) ∙ c .before .if1 .taken
 
-  over : OverFound (graph start-over) (start-over .pre .sound) _ (c .before .before .before .judge-on .ensures _ .over none)
-  over = over-found _ _ _ _ none
+  over : OverFound (graph start-over .graph) (start-over .pre .sound) (c .before .before .before .judge-on .ensures)
+  over = over-found _ _ _ none
 
 write-over-report-requires : tie.Need-write-over-report-requires
 write-over-report-requires c κs =
@@ -34,7 +34,7 @@ returns c =
     let a = c .before .before .before in
     let s = start-over a in
     let w = c .before .before .write-over-report .ensures in
-    let r : overReport (s .args .h .n) (s .args .h .e) _ _ ≡ reportOf (graph s) = rw (counted (s .pre)) at (over a .report-is) in
+    let r : overReport (s .args .h .n) (s .args .h .e) _ _ ≡ reportOf (graph s) = rw (counted (s .pre)) at (over a .report-is (graph s .sizes)) in
     (w .0 ∙ ap (λ (l : List ℕ). answer l (s .args .out .now)) r, w .1 ∙ ap (λ (l : List ℕ). after l (s .args .out .now)) r)
 
 -- not over
@@ -48,15 +48,15 @@ module _ (c : tie.After-put-list-arg) where
   some : verdictNumber (judged .judge-on .result .verdict) ≢ 0
   some v = c .before .before .before .before .if1 .left (c .before .before .before .before .before .number .ensures ∙ v)
 
-  plan : PlanFound (graph start-plan) (start-plan .pre .sound) _ (judged .judge-on .ensures _ .plan some)
-  plan = plan-found _ _ _ _ some
+  plan : PlanFound (graph start-plan .graph) (start-plan .pre .sound) (judged .judge-on .ensures)
+  plan = plan-found _ _ _ some
 
 returns-2 : tie.Need-returns-2
 returns-2 c =
     let a = c .before .before .before in
     let s = start-plan a in
     let w = c .before .before .put-list .ensures (plan a .merged) in
-    let r = plan a .report-is in
+    let r = plan a .report-is (graph s .sizes) in
     (w .0 ∙ ap (λ (l : List ℕ). answer l (s .args .out .now)) r, w .1 ∙ ap (λ (l : List ℕ). after l (s .args .out .now)) r)
 
 judge-on-requires : tie.Need-judge-on-requires

@@ -11,7 +11,7 @@ use Rattle.theory.specs.Graph.{findingOf}
 use Rattle.sheet.specs.Facts.{Facts}
 use Rattle.sheet.specs.Accepted.{Accepted}
 use Rattle.sheet.specs.Accepted.Laws.{accepted-most, accepted-two}
-use Rattle.sheet.specs.Graph.{graphOf}
+use Rattle.sheet.specs.Graph.{graphOf, sizedOf}
 use Rattle.plans.specs.Check.{savedSteps}
 use Rattle.report.specs.Report.Length.{over-long}
 use Rattle.report.specs.Report.Bound.{report-most}
@@ -19,21 +19,21 @@ use Rattle.account.specs.Account.{listReport, reportBy, reportOf, savedF
 use Rattle.account.specs.Own.Proof.{paired, below, let-through, saved-maximal}
 
 module _ (f : Facts) (a : Accepted f) where
-  list-room : NotOver (graphOf f .clusters) → (p : List Merge) → Valid (graphOf f .clusters) p → length (listReport (graphOf f) p) ≤ 4667
+  list-room : NotOver (graphOf f .clusters) → (p : List Merge) → Valid (graphOf f .clusters) p → length (listReport (sizedOf f) p) ≤ 4667
   unfolding listReport
-  list-room none p v = report-most (graphOf f) (paired f a) p v _ (accepted-two f a) (accepted-most f a) (below f a) none
+  list-room none p v = report-most (sizedOf f) (paired f a) p v _ (accepted-two f a) (accepted-most f a) (below f a) none
 
-  pub report-room : length (reportOf (graphOf f)) ≤ 4667
+  pub report-room : length (reportOf (sizedOf f)) ≤ 4667
   unfolding reportOf
   report-room = go (findingOf (graphOf f)) refl
     where
-      go : (o : Finding) → findingOf (graphOf f) ≡ o → length (reportBy (graphOf f) o) ≤ 4667
+      go : (o : Finding) → findingOf (graphOf f) ≡ o → length (reportBy (sizedOf f) o) ≤ 4667
       go Fine q =
           list-room (overOf-fine (graphOf f .n) (graphOf f .clusters) (paired f a) (below f a) q) (planOf (graphOf f .clusters))
           (plan-of-maximal (graphOf f .clusters) (paired f a) .valid)
       go (First c x) q = omega (arith, over-long (graphOf f .n) (length (graphOf f .clusters)) c x)
 
-  pub saved-room : (l : List ℕ) → savedFault (graphOf f) l ≡ 0 → length (listReport (graphOf f) (savedSteps l)) ≤ 4667
+  pub saved-room : (l : List ℕ) → savedFault (graphOf f) l ≡ 0 → length (listReport (sizedOf f) (savedSteps l)) ≤ 4667
   saved-room l h =
       list-room (overOf-fine (graphOf f .n) (graphOf f .clusters) (paired f a) (below f a) (let-through f a l h)) (savedSteps l)
       (saved-maximal f a l h .2 .valid)

@@ -9,11 +9,11 @@ use Rattle.sheet.specs.Facts.{Facts}
 use Rattle.sheet.specs.Accepted.{Accepted}
 use Rattle.sheet.specs.Rules.Laws.{none-else}
 use Rattle.sheet.specs.Graph.Laws.{sheet-demand3, clusters-pairs, clusters-below, fault-none, fine-fault}
-use Rattle.sheet.specs.Graph.{graphOf, overFault}
+use Rattle.sheet.specs.Graph.{graphOf, sizedOf, overFault}
 use Rattle.theory.specs.declared.Finding.{Finding}
 use Rattle.theory.specs.declared.Finding.the-variants.{Fine}
 use Rattle.theory.specs.declared.Verdict.the-variants.{Over}
-use Rattle.theory.specs.Graph.{Graph, findingOf, verdictOf}
+use Rattle.theory.specs.Graph.{SizedGraph, findingOf, verdictOf}
 use Rattle.theory.specs.Graph.Laws.{fine-verdict, fine-not-over, not-over-fine, length-steps, joints-steps}
 use Rattle.merges.specs.Run.{flat}
 use Rattle.judge.specs.Judged.{planBy, planNumbers, finalsBy, finalClusters}
@@ -24,8 +24,8 @@ use Rattle.plans.specs.Rule14.Proof.{never-14}
 use Rattle.account.specs.Account.{reportBy, reportOf, savedFault}
 use Rattle.account.specs.Own.{ReportsOwn, EngineList, SavedList, OwnLists}
 
-reports-own : (g : Graph) (p : List Merge) → ReportsOwn g p
-reports-own g p = record { same-joints = joints-steps g (g .clusters) p; steps = length-steps g (g .clusters) p }
+reports-own : (g : SizedGraph) (p : List Merge) → ReportsOwn g p
+reports-own g p = record { same-joints = joints-steps g (g .graph .clusters) p; steps = length-steps g (g .graph .clusters) p }
 
 -- ---- the engine's plan lists its numbers ascending
 
@@ -42,7 +42,7 @@ module _ (f : Facts) (a : Accepted f) where
   pub below : Below (graphOf f .n) (graphOf f .clusters)
   below = clusters-below f (a .no-fault)
 
-  engine-list : verdictOf (graphOf f) ≢ Over → EngineList (graphOf f)
+  engine-list : verdictOf (graphOf f) ≢ Over → EngineList (sizedOf f)
   unfolding planNumbers finalClusters reportOf
   engine-list v =
       let g = graphOf f in
@@ -55,8 +55,8 @@ module _ (f : Facts) (a : Accepted f) where
             ∙ ap flat (plan-ascends (planOf (g .clusters)) (g .clusters) (plan-of-is (g .clusters) paired));
         clusters = ap (finalsBy g) q;
         verdict = fine-verdict g q;
-        report = ap (reportBy g) q;
-        own = reports-own g (planOf (g .clusters));
+        report = ap (reportBy (sizedOf f)) q;
+        own = reports-own (sizedOf f) (planOf (g .clusters));
       }
 
   -- rule 11 lets through what is not over
@@ -72,7 +72,7 @@ module _ (f : Facts) (a : Accepted f) where
       (none-else (overFault (graphOf f)) (planFault (graphOf f .clusters) l) h .1) in
       (fine-not-over (graphOf f) (let-through l h), m .0, m .1)
 
-  saved-list : (l : List ℕ) → SavedList (graphOf f) l
+  saved-list : (l : List ℕ) → SavedList (sizedOf f) l
   unfolding savedFault
   saved-list l = record {
     accepted = (
@@ -82,11 +82,11 @@ module _ (f : Facts) (a : Accepted f) where
     same = λ h. let m = saved-maximal l h in
         sheet-demand3 f a (m .0) .every (f .constraints) same (planOf (graphOf f .clusters)) (savedSteps l)
         (plan-of-maximal (graphOf f .clusters) paired) (m .2);
-    own = λ h. reports-own (graphOf f) (savedSteps l);
+    own = λ h. reports-own (sizedOf f) (savedSteps l);
   }
 
   rule-14 : verdictOf (graphOf f) ≢ Over → Never14 (graphOf f .clusters)
   rule-14 v = never-14 (graphOf f .clusters) (λ p h. record { share = sheet-demand3 f a v .whole .counts p h .share })
 
-  pub own-lists : OwnLists (graphOf f)
+  pub own-lists : OwnLists (sizedOf f)
   own-lists = record { engine = engine-list; saved = saved-list; rule-14 = rule-14 }

@@ -6,15 +6,14 @@ use Rattle.theory.specs.Merge.{slot, final, left, total}
 use Rattle.theory.specs.Merge.Numbered.{alive-lt}
 use Rattle.theory.specs.Block.{block}
 use Rattle.theory.specs.Plan.{ascending}
-use Rattle.merges.specs.Run.{places, flat, runOf, Merged}
+use Rattle.merges.specs.Run.{Run, places, flat, runOf, Merged}
 use Rattle.merges.specs.Run.Laws.{length-final}
-use Rattle.merges.specs.declared.Run.{Run}
 use Rattle.space.specs.Space.{answer, after}
 use Rattle.space.specs.Space.Laws.{put-none, put-done}
 use Rattle.space.specs.declared.Written.the-variants.{Done}
 use Rattle.judge.specs.Judged.Laws.{finals-are, steps-few}
-use Rattle.rests.specs.Rests.{aloneFrom, restsOn}
-use Rattle.rests.specs.Rests.Laws.{length-alone}
+use Rattle.theory.specs.Rests.{aloneFrom, restsOn}
+use Rattle.theory.specs.Rests.Laws.{length-alone}
 use Rattle.rests.specs.Words.{word, Listed, Told}
 use Rattle.account.specs.Resting.{wordsOf}
 use Rattle.account.specs.Resting.Pairs.{pairsIn}

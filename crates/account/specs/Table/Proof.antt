@@ -13,14 +13,14 @@ use Rattle.theory.specs.Graph.{listVerdict, stepOf, stepsFrom}
 use Rattle.space.specs.Text.{decimal}
 use Rattle.sheet.specs.Facts.{sheetOf, setOf}
 use Rattle.sheet.specs.Rules.{sheetFault, elementsFault, kindsAllowed, radiiInRange, constraintFault, constraintsFault, sizeFault, stands}
-use Rattle.sheet.specs.Graph.{graphOf}
-use Rattle.rests.specs.Rests.{aloneFrom, restsOn}
+use Rattle.sheet.specs.Graph.{sizedOf}
+use Rattle.theory.specs.Rests.{aloneFrom, restsOn}
 use Rattle.report.specs.Elements.{among, elements, constraintsOf}
 use Rattle.report.specs.Report.{stepLine, clusterLine, stepLines, slotLine, clusterLines, report, overReport}
 use Rattle.account.specs.Account.{listReport, reportOf}
 use Rattle.account.specs.Table.{Row, table, Printed}
 
-printed : map (λ (r : Row). reportOf (graphOf (r .facts))) table ≡ map (λ (r : Row). r .prints) table
+printed : map (λ (r : Row). reportOf (sizedOf (r .facts))) table ≡ map (λ (r : Row). r .prints) table
 unfolding reportOf listReport report overReport stepLines stepLine clusterLines slotLine clusterLine decimal elements constraintsOf among restsOn aloneFrom at stepsFrom
     stepOf ascending ways placed triangle strip stripOf against jointKind listVerdict judged angled ringed stripped ring.strip once linked planOf plan firstOf secondOf thirdOf
     openTest put cleared union joint joints left total has carried ones _∩_ _∪_ setOf pair isOver anyBelow heavy isTight smaller

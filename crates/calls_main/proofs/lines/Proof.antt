@@ -4,14 +4,8 @@ use Prim.Native.Nat.{_-_}
 use lib.ListN.{length}
 use Rattle.calls_main.proofs.lines.Tie as tie
 
-abbrev Inv-loop : tie.InvT-loop
-Inv-loop to text from at₀ at = Unit {0}
-
-abbrev μ-loop : tie.MeasureT-loop
-μ-loop to text from at₀ at = length text - at
-
 pub lines-spec : {M : Type 1} → Rattle.calls_main.proofs.lines.Statement.statement M
 lines-spec =
     tie.close
-    (tie.spec Inv-loop μ-loop (λ c. search needs) (λ c κs. search needs) (λ c. search needs) (λ c. search needs) (λ c. search needs)
-    (λ c. search needs))
+    (tie.spec (λ to text from at₀ at. Unit {0}) (λ to text from at₀ at. length text - at) (λ c. search needs)
+    (λ c κs. search needs) (λ c. search needs) (λ c. search needs) (λ c. search needs) (λ c. search needs))

@@ -1,29 +1,41 @@
--- `chain::find` meets its contract: from an element to itself, by none, or by the run that the search finds. Assumes nothing.
-use Rattle.theory.specs.Prelude.{refl, arith, needs}
-use Rattle.chain.specs.Answer.Laws.{answered-same, answered-none, found-way, found-short, found-run}
+-- `chain::find` meets its contract: none, or the way over as many layers as were found. Assumes nothing.
+use Rattle.theory.specs.Prelude.{needs, arith}
+use Rattle.chain.specs.Layers.Laws.{far-distance}
+use Rattle.chain.specs.Answer.Laws.{answered-none, answered-short, answered-run}
 use Rattle.chain.proofs.find.Tie as tie
+
+returns : tie.Need-returns
+returns c =
+    let a = c .before .before .before .before .before .args in
+    answered-none (a .s .now) (a .from) (a .to) (c .before .spread .ensures .0) (a .out .now) (c .if1 .taken)
+
+returns-2 : tie.Need-returns-2
+returns-2 c =
+    let a = c .before .before .before .before .before .before .args in
+    answered-short (a .s .now) (a .from) (a .to) (c .before .before .spread .ensures .0) (a .out .now)
+    (omega (arith, c .before .if1 .left)) (c .if2 .taken)
+
+put-way-requires : tie.Need-put-way-requires
+put-way-requires c κs =
+    let s = c .before .before .before .before .before .before .before .before in
+    let found = c .before .before .before .before .spread .ensures in
+    let low = c .before .before .before .if1 .left in
+    record {
+      clusters = s .pre .0;
+      element = s .pre .1;
+      low = omega (arith, low);
+      held = found .1;
+      far = far-distance (s .args .s .now) (s .args .to) (s .args .from) (found .0) (omega (arith, low));
+      room = omega (arith, c .before .before .if2 .left);
+    }
 
 returns-3 : tie.Need-returns-3
 returns-3 c =
-    let s = c .before .before .before .before .before .before .pre .0 in
-    found-short (c .before .before .spread .ensures) (c .before .if2 .left) (λ i l. s .beyond i (omega (arith, s .within))) (c .if3 .taken)
-
-put-run-requires : tie.Need-put-run-requires
-put-run-requires c κs =
-    let p = c .before .before .before .before .before .before .before .before .pre in
-    let n = c .before .before .before .if2 .left in
-    (p .0, found-way (c .before .before .before .before .spread .ensures) n, p .2, p .3, omega (arith, n, c .before .before .if3 .left))
-
-returns-4 : tie.Need-returns-4
-returns-4 c =
-    let w = c .before .before .put-run .ensures in
-    found-run (c .before .before .before .before .before .before .before .spread .ensures)
-    (c .before .before .before .before .before .before .if2 .left) (omega (arith, c .before .before .before .before .before .if3 .left)) (w .0) (w .1)
+    let a = c .before .before .before .before .before .before .before .before .before .before .before .args in
+    answered-run (a .s .now) (a .from) (a .to) (c .before .before .before .before .before .before .before .spread .ensures .0) (a .out .now)
+    (omega (arith, c .before .before .before .before .before .before .if1 .left))
+    (omega (arith, c .before .before .before .before .before .if2 .left)) (c .before .before .put-way .ensures)
 
 pub find-spec : {M : Type 1} → Rattle.chain.proofs.find.Statement.statement M
 find-spec =
-    tie.close
-    (tie.spec (λ c. answered-same (c .if1 .taken))
-    (λ c κs. let p = c .before .before .before .pre in (p .0, p .1, p .2, p .3, c .before .if1 .left, refl))
-    (λ c. answered-none (c .before .spread .ensures .none (c .if2 .taken)))
-    returns-3 (λ c. let n = c .before .before .if2 .left in omega (arith, n)) put-run-requires (λ c. search needs) returns-4)
+    tie.close (tie.spec (λ c κs. search needs) returns returns-2 put-way-requires (λ c. search needs) returns-3)

@@ -1,328 +1,281 @@
--- From the end outwards, one layer after another. Assumes nothing.
-use Rattle.theory.specs.Prelude.{_≡_, refl, sym, ap, _∙_, subst, _≢_, _⊎_, inl, inr, ⊎-elim, List, ℕ, zero, suc, _+_, _*_, _/_, _%_, _^_, _≤_, _<_}
-use Rattle.theory.specs.Prelude.{arith, ℕ-discrete, bitAnd, bitOr, bitXor, or-lt, ones, ones-le, length, getD, set, length-set, pow-lt, getD-set-same}
-use Rattle.theory.specs.Prelude.{getD-set-other}
-use Rattle.theory.specs.Set.{_∈_, _∩_, _∪_, at}
-use Rattle.theory.specs.Set.Laws.{at-same, at-le, at-zero, bit, ∈-∩⁻, ∈-∪⁻, ∈-∪ˡ, ∈-∪ʳ, both, element, ⊑⇒size≤, ⊑-size-≡, a⊑a∪b}
-use Rattle.theory.specs.Set.Lowest.{at-beyond}
+-- The layers: what is in them, the step of each loop that computes them, and what lies at a distance. Assumes nothing.
+use Rattle.theory.specs.Prelude.{_≡_, refl, sym, ap, _∙_, subst, _≢_, _⊎_, inl, inr, ⊎-elim, Bool, true, false, not}
+use Rattle.theory.specs.Prelude.{_&&_, cond}
+use Rattle.theory.specs.Prelude.{List, [], _∷_, ℕ, zero, suc, _+_, _-_, _^_, _≤_, _<_, arith, add-one, ℕ-discrete}
+use Rattle.theory.specs.Prelude.{eq-eqb, ne-eqb}
+use Rattle.theory.specs.Prelude.{none, some, lt-ltb, le-ltb, length, drop, drop-cons}
+use Rattle.theory.specs.Set.{_∈_, _∩_, _∪_}
+use Rattle.theory.specs.Set.Laws.{at-other, at-zero, element, meets, ∈-∩⁻, ∈-∪⁻, ∈-∪ˡ, ∈-∪ʳ}
 use Rattle.theory.specs.Merge.{slot}
-use Rattle.search.specs.Words.{word, Member}
 use Rattle.chain.specs.Chain.{Share}
-use Rattle.chain.specs.Chain.Lead.{shared-at, share, single-share, single-is, run-from, Lead, lead-end, lead-more, lead-before, lead-next}
-use Rattle.chain.specs.Chain.Lead.{lead-zero, lead-at, closed-none}
-use Rattle.chain.specs.Layers.{Linked, Around, Turned, Layer, LayerAt, Spreading, Way, Reached}
+use Rattle.chain.specs.Layers.{shares, grown, reached, firstBoth, way, distanceFrom, distance, chainOf}
+use Rattle.chain.specs.Kept.{Far}
 
--- what a has beyond b
-pub beyond-in : (x a b : ℕ) → x ∈ bitXor a (bitAnd a b) → (x ∈ a) × (at x b ≡ 0)
-beyond-in x a b e = (omega (arith, at-beyond x a b, at-le x a), omega (arith, at-beyond x a b, at-le x a))
+-- ---- sharing an element
 
-pub in-beyond : (x a b : ℕ) → x ∈ a → at x b ≡ 0 → x ∈ bitXor a (bitAnd a b)
-in-beyond x a b e o = omega (arith, at-beyond x a b)
+pub shared-at : {a b : ℕ} → Share a b → (x : ℕ) × (x ∈ a) × (x ∈ b)
+shared-at {a} {b} h = let e = element (a ∩ b) (h .some) in let m = ∈-∩⁻ (e .0) a b (e .1) in (e .0, m .0, m .1)
 
-in-or-out : (x a : ℕ) → (at x a ≡ 0) ⊎ (x ∈ a)
-in-or-out x a = bit (at x a) (at-le x a)
+pub share : {a b : ℕ} (x : ℕ) → x ∈ a → x ∈ b → Share a b
+share {a} {b} x p q = record { some = meets a b x p q }
 
--- whether the start is reached
-pub met : (u d : ℕ) {e r : ℕ} → e ≡ 2 ^ u → r ≡ e ∩ d → r ≢ 0 → u ∈ d
-met u d is q n = single-share u (record { some = λ z. n (q ∙ ap (λ (x : ℕ). x ∩ d) is ∙ z) })
-
-pub unmet : (u d : ℕ) {e r : ℕ} → e ≡ 2 ^ u → r ≡ e ∩ d → r ≡ 0 → at u d ≡ 0
-unmet u d is q z = ⊎-elim (λ o. o) (λ i. absurd (share u (at-same u) i .some (ap (λ (x : ℕ). x ∩ d) (sym is) ∙ sym q ∙ z))) (in-or-out u d)
-
-one-of-words : (k a b c : ℕ) (f : ℕ → ℕ → ℕ) (d e g : ℕ) → word (k / 64) (f a d) (f b e) (f c g) ≡ f (word (k / 64) a b c) (word (k / 64) d e g)
-one-of-words k a b c f d e g = by (k / 64)
+-- an element as a set
+pub single-is : (x y : ℕ) → y ∈ 2 ^ x → y ≡ x
+single-is x y h = by (ℕ-discrete y x)
   where
-    by : (w : ℕ) → word w (f a d) (f b e) (f c g) ≡ f (word w a b c) (word w d e g)
-    by zero = refl
-    by (suc zero) = refl
-    by (suc (suc w)) = refl
+    by : Dec (y ≡ x) → y ≡ x
+    by (yes e) = e
+    by (no n) = absurd (omega (arith, h, at-other y x n))
 
-module _ {s links hold : List ℕ} {rim : ℕ} (linked-are : Linked s links hold rim) (v : ℕ) where
-  -- where y leads by suc n, a cluster that holds it leads by n, or y lies in the rim with it
-  held-or-rim : (n k y : ℕ) → Lead s v (suc n) (2 ^ y) → y ∈ slot s k → Lead s v n (slot s k) ⊎ (y ∈ rim)
-  held-or-rim n k y l h = ⊎-elim (λ e. inl (lead-end s v (subst (λ (z : ℕ). z ∈ slot s k) (sym (single-is y v e)) h))) next (lead-next s v l)
+pub single-share : (x : ℕ) {a : ℕ} → Share (2 ^ x) a → x ∈ a
+single-share x {a} h = let m = shared-at h in subst (λ (z : ℕ). z ∈ a) (single-is x (m .0) (m .1)) (m .2)
+
+pub share-dec : (a b : ℕ) → Dec (Share a b)
+share-dec a b = by (ℕ-discrete (a ∩ b) 0)
+  where
+    by : Dec (a ∩ b ≡ 0) → Dec (Share a b)
+    by (yes e) = no (λ sh. sh .some e)
+    by (no n) = yes (record { some = n })
+
+pub shares-yes : {a b : ℕ} → Share a b → shares a b ≡ true
+shares-yes {a} {b} h = ap not (ne-eqb (a ∩ b) 0 (h .some))
+
+pub shares-no : {a b : ℕ} → (Share a b → ⊥) → shares a b ≡ false
+shares-no {a} {b} h = by (ℕ-discrete (a ∩ b) 0)
+  where
+    by : Dec (a ∩ b ≡ 0) → shares a b ≡ false
+    by (yes e) = ap not (eq-eqb (a ∩ b) 0 e)
+    by (no n) = absurd (h (record { some = n }))
+
+-- what the machine's word says of it
+pub word-shares : {a b r : ℕ} → r ≡ a ∩ b → r ≢ 0 → Share a b
+word-shares e n = record { some = λ z. n (e ∙ z) }
+
+pub word-apart : {a b r : ℕ} → r ≡ a ∩ b → r ≡ 0 → Share a b → ⊥
+word-apart e z sh = sh .some (sym e ∙ z)
+
+-- ---- one layer
+
+module _ (s : List ℕ) (d all k : ℕ) (low : k < length s) where
+  grown-step : (b : Bool) → shares (slot s k) d ≡ b
+      → grown (drop k s) d all ≡ grown (drop (k + 1) s) d (cond b (all ∪ slot s k) all)
+  unfolding grown
+  grown-step b e =
+      ap (λ (l : List ℕ). grown l d all) (drop-cons s k 0 low)
+      ∙ ap (λ (x : Bool). grown (drop (suc k) s) d (cond x (all ∪ slot s k) all)) e
+      ∙ ap (λ (n : ℕ). grown (drop n s) d (cond b (all ∪ slot s k) all)) (sym (add-one k))
+
+  pub grown-yes : Share (slot s k) d → grown (drop k s) d all ≡ grown (drop (k + 1) s) d (all ∪ slot s k)
+  grown-yes sh = grown-step true (shares-yes sh)
+
+  pub grown-no : (Share (slot s k) d → ⊥) → grown (drop k s) d all ≡ grown (drop (k + 1) s) d all
+  grown-no n = grown-step false (shares-no n)
+
+-- an element of it was there, or lies in a cluster that shares one with d
+module _ (d x : ℕ) where
+  abbrev Reaches : List ℕ → ℕ → Type 0
+  Reaches s all = (x ∈ all) ⊎ ((k : ℕ) × (x ∈ slot s k) × Share (slot s k) d)
+
+  pub grown-in : (s : List ℕ) (all : ℕ) → x ∈ grown s d all → Reaches s all
+  unfolding grown
+  grown-in [] all h = inl h
+  grown-in (c ∷ s) all h = ⊎-elim here (λ (k, e, sh). inr (suc k, e, sh)) (grown-in s _ h)
     where
-      next : (j : ℕ) × Share (2 ^ y) (slot s j) × Lead s v n (slot s j) → Lead s v n (slot s k) ⊎ (y ∈ rim)
-      next (j, sh, m) = by (ℕ-discrete k j)
-        where
-          by : Dec (k ≡ j) → Lead s v n (slot s k) ⊎ (y ∈ rim)
-          by (yes e) = inl (subst (λ (z : ℕ). Lead s v n (slot s z)) (sym e) m)
-          by (no d) = inr (linked-are .rims .shared k j y d h (single-share y sh))
+      here : x ∈ cond (shares c d) (all ∪ c) all → Reaches (c ∷ s) all
+      here h = elim (share-dec c d) [
+        | yes sh ↦ ⊎-elim inl (λ e. inr (zero, e, sh)) (∈-∪⁻ x all c (rw (shares-yes sh) at h))
+        | no n ↦ inl (rw (shares-no n) at h)
+      ]
 
-  module _ {u n d f sa sb sc : ℕ} {layers : List ℕ} (w : Spreading s v u layers n d f sa sb sc) {near a b c : ℕ}
-      (t : Turned links hold (f ∩ rim) near a b c) where
-    -- what is linked to an element that came last lies in a cluster with it
-    linked-lead : (x : ℕ) → x ∈ near → (k : ℕ) × (x ∈ slot s k) × Lead s v (suc n) (slot s k)
-    linked-lead x e =
-        let (z, zf, zx) = t .links-of .only x e in
-        let (k, zk, xk) = linked-are .linking .only z x zx in
-        let zd = w .inside z (∈-∩⁻ z f rim zf .0) in
-        (k, xk, w .near (slot s k) (share z zk zd))
+  pub grown-keeps : (s : List ℕ) (all : ℕ) → x ∈ all → x ∈ grown s d all
+  unfolding grown
+  grown-keeps [] all h = h
+  grown-keeps (c ∷ s) all h = grown-keeps s _ (by (shares c d))
+    where
+      by : (b : Bool) → x ∈ cond b (all ∪ c) all
+      by true = ∈-∪ˡ x all c h
+      by false = h
 
-    -- a cluster that shares an element with d: it leads by n, or it holds one that came last, in the rim
-    old-or-new : (k : ℕ) → Share (slot s k) d → Lead s v n (slot s k) ⊎ ((y : ℕ) × (y ∈ slot s k) × (y ∈ f ∩ rim))
-    old-or-new k sh =
-        let (y, yk, yd) = shared-at sh in
-        ⊎-elim (λ o. inl (lead-at s v y yk (w .old y yd o)))
-        (λ yf. ⊎-elim (λ l. inl l) (λ r. inr (y, yk, both y f rim yf r))
-        (held-or-rim n k y (w .near (2 ^ y) (share y (at-same y) yd)) yk))
-        (in-or-out y f)
+  pub grown-takes : (s : List ℕ) (all k : ℕ) → Share (slot s k) d → x ∈ slot s k → x ∈ grown s d all
+  unfolding grown
+  grown-takes [] all k sh e = absurd (omega (arith, e, at-zero x))
+  grown-takes (c ∷ s) all zero sh e = rw (shares-yes sh) (grown-keeps s (all ∪ c) (∈-∪ʳ x all c e))
+  grown-takes (c ∷ s) all (suc k) sh e = grown-takes s _ k sh e
 
-    next-near : (p : ℕ) → Share p (d ∪ near) → Lead s v (suc (suc n)) p
-    next-near p sh =
-        let (x, xp, xd) = shared-at sh in
-        ⊎-elim (λ e. lead-more s v (w .near p (share x xp e)) (omega arith))
-        (λ e. let (k, xk, l) = linked-lead x e in lead-before s v k (share x xp xk) l) (∈-∪⁻ x d near xd)
+-- ---- the lowest cluster that shares an element with both
 
-    in-d : (p : ℕ) → Share p d → Share p (d ∪ near)
-    in-d p sh = let (x, xp, xd) = shared-at sh in share x xp (∈-∪ˡ x d near xd)
+module _ (a d : ℕ) where
+  abbrev Both : ℕ → Type 0
+  Both c = Share a c × Share c d
 
-    next-far : (p : ℕ) → Lead s v (suc (suc n)) p → Share p (d ∪ near)
-    next-far p l =
-        ⊎-elim (λ e. in-d p (w .far p (lead-end s v e)))
-        (λ h. let (k, sh, m) = h in through k sh (old-or-new k (w .far (slot s k) m))) (lead-next s v l)
-      where
-        through : (k : ℕ) → Share p (slot s k) → Lead s v n (slot s k) ⊎ ((y : ℕ) × (y ∈ slot s k) × (y ∈ f ∩ rim)) → Share p (d ∪ near)
-        through k sh (inl m) = in-d p (w .far p (lead-before s v k sh m))
-        through k sh (inr (y, yk, yf)) = let (x, xp, xk) = shared-at sh in by x xp xk (ℕ-discrete y x)
-          where
-            by : (x : ℕ) → x ∈ p → x ∈ slot s k → Dec (y ≡ x) → Share p (d ∪ near)
-            by x xp xk (yes e) = share x xp (∈-∪ˡ x d near (subst (λ (z : ℕ). z ∈ d) e (w .inside y (∈-∩⁻ y f rim yf .0))))
-            by x xp xk (no m) =
-                share x xp
-                (∈-∪ʳ x d near (t .links-of .every y x yf (linked-are .linking .every k y x (∈-∩⁻ y f rim yf .1) m yk xk)))
+  both-yes : {c : ℕ} → Both c → (shares a c && shares c d) ≡ true
+  both-yes (p, q) = rw (shares-yes p, shares-yes q)
 
-    -- the words
-    member-lead : (k : ℕ) → k < 192 → Member a b c k → Lead s v (suc n) (slot s k)
-    member-lead k l m =
-        let (z, zf, e) = t .words (k / 64) (omega arith) .only (k % 64) m in
-        let zr = ∈-∩⁻ z f rim zf in
-        let zk : z ∈ slot s k = sym (linked-are .holding .is z k (zr .1) l) ∙ e in
-        w .near (slot s k) (share z zk (w .inside z (zr .0)))
+  both-no : {c : ℕ} → (Both c → ⊥) → (shares a c && shares c d) ≡ false
+  both-no {c} n = elim (share-dec a c) [
+    | yes p ↦ rw (shares-yes p) (shares-no (λ q. n (p, q)))
+    | no m ↦ rw (shares-no m)
+  ]
 
-    lead-member : (k : ℕ) → k < 192 → (y : ℕ) → y ∈ slot s k → y ∈ f ∩ rim → Member a b c k
-    lead-member k l y yk yf =
-        t .words (k / 64) (omega arith) .every y (k % 64) yf (linked-are .holding .is y k (∈-∩⁻ y f rim yf .1) l ∙ yk)
+  both-dec : (c : ℕ) → Dec (Both c)
+  both-dec c = by (share-dec a c) (share-dec c d)
+    where
+      by : Dec (Share a c) → Dec (Share c d) → Dec (Both c)
+      by (yes p) (yes q) = yes (p, q)
+      by (yes p) (no n) = no (λ b. n (b .1))
+      by (no n) e = no (λ b. n (b .0))
 
-    below : (k x : ℕ) → x ∈ slot s k → k < 192
-    below k x h = by (native.Mathlib.Decide.decLt k 192)
-      where
-        by : Dec (k < 192) → k < 192
-        by (yes l) = l
-        by (no m) = absurd (omega (arith, ap (at x) (linked-are .beyond k (omega (arith, m))), at-zero x))
+  module _ (s : List ℕ) (k : ℕ) (low : k < length s) where
+    first-step : (b : Bool) → (shares a (slot s k) && shares (slot s k) d) ≡ b
+        → firstBoth (drop k s) a d ≡ cond b 0 (suc (firstBoth (drop (k + 1) s) a d))
+    unfolding firstBoth
+    first-step b e =
+        ap (λ (l : List ℕ). firstBoth l a d) (drop-cons s k 0 low)
+        ∙ ap (λ (x : Bool). cond x 0 (suc (firstBoth (drop (suc k) s) a d))) e
+        ∙ ap (λ (n : ℕ). cond b 0 (suc (firstBoth (drop n s) a d))) (sym (add-one k))
 
-    abbrev new : ℕ → ℕ → ℕ
-    new p q = bitXor p (bitAnd p q)
+    pub first-here : Both (slot s k) → firstBoth (drop k s) a d ≡ 0
+    first-here b = first-step true (both-yes b)
 
-    -- and the layer, without those of the layers before
-    pub layer-new : Layer s v n (new a sa) (new b sb) (new c sc)
-    layer-new = record {
-      only = λ k l m. member-lead k l (beyond-in (k % 64) (word (k / 64) a b c) (word (k / 64) sa sb sc)
-          (subst (λ (z : ℕ). k % 64 ∈ z) (one-of-words k a b c new sa sb sc) m) .0);
-      every = λ k l. by k (old-or-new k (w .far (slot s k) l));
-    }
-      where
-        by : (k : ℕ) → Lead s v n (slot s k) ⊎ ((y : ℕ) × (y ∈ slot s k) × (y ∈ f ∩ rim)) →
-            ((k < 192) × Member (new a sa) (new b sb) (new c sc) k) ⊎ Lead s v n (slot s k)
-        by k (inl l) = inr l
-        by k (inr (y, yk, yf)) =
-            let l = below k y yk in
-            ⊎-elim
-            (λ o. inl (
-              l,
-              subst (λ (z : ℕ). k % 64 ∈ z) (sym (one-of-words k a b c new sa sb sc))
-                  (in-beyond (k % 64) (word (k / 64) a b c) (word (k / 64) sa sb sc) (lead-member k l y yk yf) o),
-            ))
-            (λ e. inr (w .seen k l e)) (in-or-out (k % 64) (word (k / 64) sa sb sc))
+    pub first-later : (Both (slot s k) → ⊥) → firstBoth (drop k s) a d ≡ suc (firstBoth (drop (k + 1) s) a d)
+    first-later n = first-step false (both-no n)
 
-    next-seen : (k : ℕ) → k < 192 → Member (bitOr sa a) (bitOr sb b) (bitOr sc c) k → Lead s v (suc n) (slot s k)
-    unfolding _∪_
-    next-seen k l m =
-        ⊎-elim (λ e. lead-more s v (w .seen k l e) (omega arith)) (λ e. member-lead k l e)
-        (∈-∪⁻ (k % 64) (word (k / 64) sa sb sc) (word (k / 64) a b c) (subst (λ (z : ℕ). k % 64 ∈ z) (one-of-words k sa sb sc bitOr a b c) m))
+  -- it is one of them, and no higher than any
+  pub record IsFirst (s : List ℕ) (i k : ℕ) : Type 0 where
+    pub low : k < length s
+    pub both : Both (slot s k)
+    pub least : k ≤ i
 
-    next-old : (x : ℕ) → x ∈ d ∪ near → at x (new near d) ≡ 0 → Lead s v (suc n) (2 ^ x)
-    next-old x e o = w .near (2 ^ x) (share x (at-same x) (⊎-elim (λ h. h) (λ h. by h (in-or-out x d)) (∈-∪⁻ x d near e)))
-      where
-        by : x ∈ near → (at x d ≡ 0) ⊎ (x ∈ d) → x ∈ d
-        by h (inl z) = absurd (omega (arith, in-beyond x near d h z))
-        by h (inr i) = i
+  pub first-is : (s : List ℕ) (i : ℕ) → Both (slot s i) → IsFirst s i (firstBoth s a d)
+  unfolding firstBoth
+  first-is [] i (p, q) = absurd (let x = shared-at p in omega (arith, x .2, at-zero (x .0)))
+  first-is (c ∷ s) i b = by (both-dec c) i b (first-is s)
+    where
+      by : Dec (Both c) → (i : ℕ) → Both (slot (c ∷ s) i) → ((i : ℕ) → Both (slot s i) → IsFirst s i (firstBoth s a d))
+          → IsFirst (c ∷ s) i (cond (shares a c && shares c d) 0 (suc (firstBoth s a d)))
+      by (yes h) i b on = rw (both-yes h) (record { low = omega arith; both = h; least = omega arith })
+      by (no n) zero b on = absurd (n b)
+      by (no n) (suc i) b on =
+          let r = on i b in
+          rw (both-no n) (record { low = omega (arith, r .low); both = r .both; least = omega (arith, r .least) })
 
-    next-grown : new near d ≢ 0 → f ≢ 0 → suc (suc (suc n)) ≤ ones (d ∪ near)
-    next-grown m some =
-        let (x, e) = element (new near d) m in
-        let (xn, xd) = beyond-in x near d e in
-        let more = ⊑⇒size≤ (d ∪ near) d (a⊑a∪b d near) in
-        by x (∈-∪ʳ x d near xn) xd more (native.Mathlib.Decide.decLe (ones (d ∪ near)) (ones d))
-      where
-        by : (x : ℕ) → x ∈ d ∪ near → at x d ≡ 0 → ones d ≤ ones (d ∪ near) → Dec (ones (d ∪ near) ≤ ones d) → suc (suc (suc n)) ≤ ones (d ∪ near)
-        by x i o l (yes h) = absurd (omega (arith, ap (at x) (⊑-size-≡ (d ∪ near) d (a⊑a∪b d near) h)))
-        by x i o l (no h) = omega (arith, w .grown some)
+-- what holds below t and at t
+one-more : (P : ℕ → Type 0) (t : ℕ) → ((m : ℕ) → m < t → P m) → P t → (m : ℕ) → m < suc t → P m
+one-more P t h p m l = elim (ℕ-discrete m t) [ yes e ↦ subst P (sym e) p | no n ↦ h m (omega (arith, n)) ]
 
-    -- the next turn
-    pub spread-next : f ≢ 0 → at u d ≡ 0 → near < 2 ^ 64 → n < 64
-        → Spreading s v u (set (set (set layers (3 * n) (new a sa)) (3 * n + 1) (new b sb)) (3 * n + 2) (new c sc)) (n + 1) (bitOr d near)
-        (new near d) (bitOr sa a) (bitOr sb b) (bitOr sc c)
-    unfolding _∪_
-    spread-next some out fits low = subst (λ (m : ℕ). Spreading s v u l3 m (bitOr d near) (new near d) (bitOr sa a) (bitOr sb b) (bitOr sc c))
-        (omega arith) (record {
-          near = next-near;
-          far = next-far;
-          inside = λ x e. ∈-∪ʳ x d near (beyond-in x near d e .0);
-          old = next-old;
-          seen = next-seen;
-          layered = λ m l. by m l (ℕ-discrete m n);
-          grown = λ m. next-grown m some;
-          fits = or-lt 64 d near (w .fits) fits;
-          long = length-set l2 (3 * n + 2) (new c sc) ∙ long2;
-          missed = λ l. let m = single-share u (w .far (2 ^ u) l) in omega (arith, m);
-        })
-      where
-        l1 : List ℕ
-        l1 = set layers (3 * n) (new a sa)
+-- ---- what lies t layers from the end
 
-        l2 : List ℕ
-        l2 = set l1 (3 * n + 1) (new b sb)
+module _ (s : List ℕ) (v : ℕ) where
+  pub reached-more : (t : ℕ) {a : ℕ} → Share a (reached s v t) → Share a (reached s v (suc t))
+  unfolding reached
+  reached-more t sh =
+      let (x, p, q) = shared-at sh in share x p (grown-keeps (reached s v t) x s (reached s v t) q)
 
-        l3 : List ℕ
-        l3 = set l2 (3 * n + 2) (new c sc)
+  -- one cluster before
+  pub reached-before : (t k : ℕ) {a : ℕ} → Share a (slot s k) → Share (slot s k) (reached s v t)
+      → Share a (reached s v (suc t))
+  unfolding reached
+  reached-before t k sh on =
+      let (x, p, q) = shared-at sh in share x p (grown-takes (reached s v t) x s (reached s v t) k on q)
 
-        small : n ≤ 62
-        small = omega (arith, w .grown some, ones-le 64 d (w .fits))
+  -- the way's next cluster stands, and lies a layer nearer
+  pub record Onward (m a k : ℕ) : Type 0 where
+    pub low : k < length s
+    pub from : Share a (slot s k)
+    pub far : Far s v m (slot s k)
 
-        long1 : length l1 ≡ 192
-        long1 = length-set layers (3 * n) (new a sa) ∙ w .long
+  pub far-next : (t a : ℕ) → Far s v (suc t) a → Onward t a (firstBoth s a (reached s v t))
+  unfolding reached
+  far-next t a far =
+      let (x, p, q) = shared-at (far .meets) in
+      ⊎-elim (λ e. absurd (far .misses t (omega arith) (share x p e)))
+      (λ (i, e, on).
+      let l = first-is a (reached s v t) s i (share x p e, on) in
+      let (from, to) = l .both in
+      record {
+        low = l .low;
+        from = from;
+        far = record { meets = to; misses = λ m h sh. far .misses (suc m) (omega arith) (reached-before m _ from sh) };
+      })
+      (grown-in (reached s v t) x s (reached s v t) q)
 
-        long2 : length l2 ≡ 192
-        long2 = length-set l1 (3 * n + 1) (new b sb) ∙ long1
+  -- so a run may be written from the start, a layer fewer at each cluster
+  module _ (m a : ℕ) (some : m ≢ 0) where
+    one-layer : suc (m - 1) ≡ m
+    one-layer = omega (arith, some)
 
-        first : getD l3 (3 * n) 0 ≡ new a sa
-        first =
-            getD-set-other l2 (3 * n + 2) (3 * n) (new c sc) 0 (λ e. omega arith)
-            ∙ getD-set-other l1 (3 * n + 1) (3 * n) (new b sb) 0 (λ e. omega arith)
-            ∙ getD-set-same layers (3 * n) (new a sa) 0 (omega (arith, w .long, small))
+    pub onward : Far s v m a → Onward (m - 1) a (firstBoth s a (reached s v (m - 1)))
+    onward far = far-next (m - 1) a (subst (λ (n : ℕ). Far s v n a) (sym one-layer) far)
 
-        second : getD l3 (3 * n + 1) 0 ≡ new b sb
-        second =
-            getD-set-other l2 (3 * n + 2) (3 * n + 1) (new c sc) 0 (λ e. omega arith)
-            ∙ getD-set-same l1 (3 * n + 1) (new b sb) 0 (omega (arith, long1, small))
+    pub way-next : way s v m a
+        ≡ firstBoth s a (reached s v (m - 1)) ∷ way s v (m - 1) (slot s (firstBoth s a (reached s v (m - 1))))
+    unfolding way
+    way-next = sym (ap (λ (n : ℕ). way s v n a) one-layer)
 
-        third : getD l3 (3 * n + 2) 0 ≡ new c sc
-        third = getD-set-same l2 (3 * n + 2) (new c sc) 0 (omega (arith, long2, small))
+  -- ---- the distance
 
-        other : (i : ℕ) → i < 3 * n → getD l3 i 0 ≡ getD layers i 0
-        other i h =
-            getD-set-other l2 (3 * n + 2) i (new c sc) 0 (λ e. omega arith)
-            ∙ getD-set-other l1 (3 * n + 1) i (new b sb) 0 (λ e. omega arith)
-            ∙ getD-set-other layers (3 * n) i (new a sa) 0 (λ e. omega arith)
+  module _ (u : ℕ) where
+    step : (t : ℕ) (b : Bool) → t < 64 → shares (2 ^ u) (reached s v t) ≡ b
+        → distanceFrom s u v (64 - t) t ≡ cond b t (distanceFrom s u v (64 - (t + 1)) (t + 1))
+    unfolding distanceFrom
+    step t b l e =
+        let one : 64 - t ≡ suc (64 - (t + 1)) = omega arith in
+        ap (λ (n : ℕ). distanceFrom s u v n t) one
+        ∙ ap (λ (x : Bool). cond x t (distanceFrom s u v (64 - (t + 1)) (suc t))) e
+        ∙ ap (λ (n : ℕ). cond b t (distanceFrom s u v (64 - (t + 1)) n)) (sym (add-one t))
 
-        by : (m : ℕ) → m < suc n → Dec (m ≡ n) → LayerAt s v l3 m
-        by m l (yes e) = subst (LayerAt s v l3) (sym e) (rw (first, second, third) layer-new)
-        by m l (no h) =
-            let k : m < n = omega (arith, h) in
-            rw (other (3 * m) (omega arith), other (3 * m + 1) (omega arith), other (3 * m + 2) (omega arith)) (w .layered m k)
+    pub distance-here : (t : ℕ) → t < 64 → Share (2 ^ u) (reached s v t) → distanceFrom s u v (64 - t) t ≡ t
+    distance-here t l sh = step t true l (shares-yes sh)
 
-  -- ---- where it begins and ends
+    pub distance-later : (t : ℕ) → t < 64 → (Share (2 ^ u) (reached s v t) → ⊥)
+        → distanceFrom s u v (64 - t) t ≡ distanceFrom s u v (64 - (t + 1)) (t + 1)
+    distance-later t l n = step t false l (shares-no n)
 
-  module _ (u : ℕ) (layers : List ℕ) (long : length layers ≡ 192) (r : ℕ) (fits : r < 2 ^ 64) (low : v < 64) (around : Around s (2 ^ v) r)
-      (differ : u ≢ v) where
-    abbrev d₀ : ℕ
-    d₀ = r ∪ 2 ^ v
+    pub distance-last : (t : ℕ) → 64 ≤ t → distanceFrom s u v (64 - t) t ≡ t
+    unfolding distanceFrom
+    distance-last t l = let e : 64 - t ≡ 0 = omega arith in rw e
 
-    abbrev f₀ : ℕ
-    f₀ = bitXor r (bitAnd r (2 ^ v))
+    -- where a layer brings nothing new, none after it does
+    pub distance-none : (more t : ℕ) → reached s v (suc t) ≡ reached s v t → (Share (2 ^ u) (reached s v t) → ⊥)
+        → distanceFrom s u v more t ≡ t + more
+    unfolding distanceFrom reached
+    distance-none zero t e n = omega arith
+    distance-none (suc more) t e n =
+        rw (shares-no n)
+        (distance-none more (suc t) (ap (λ (d : ℕ). grown s d d) e) (rw e n) ∙ omega arith)
 
-    start-near : (a : ℕ) → Share a d₀ → Lead s v 1 a
-    start-near a sh =
-        let (x, xa, xd) = shared-at sh in
-        ⊎-elim
-        (λ e. let (k, xk, h) = around .only x e in
-        let (y, yk, yv) = shared-at h in
-        lead-before s v k (share x xa xk) (lead-end s v (subst (λ (z : ℕ). z ∈ slot s k) (single-is v y yv) yk)))
-        (λ e. lead-end s v (subst (λ (z : ℕ). z ∈ a) (single-is v x e) xa)) (∈-∪⁻ x r (2 ^ v) xd)
+    -- the first layer that reaches the start
+    pub record FirstLayer (last r : ℕ) : Type 0 where
+      pub meets : r < last → Share (2 ^ u) (reached s v r)
+      pub misses : (m : ℕ) → m < r → Share (2 ^ u) (reached s v m) → ⊥
+      pub most : r ≤ last
 
-    start-far : (a : ℕ) → Lead s v 1 a → Share a d₀
-    start-far a l =
-        ⊎-elim (λ e. share v e (∈-∪ʳ v r (2 ^ v) (at-same v)))
-        (λ h. let (k, sh, m) = h in
-        let (x, xa, xk) = shared-at sh in
-        share x xa (∈-∪ˡ x r (2 ^ v) (around .every k x (share v (lead-zero s v m) (at-same v)) xk))) (lead-next s v l)
+    pub distance-first : (more t : ℕ) → ((m : ℕ) → m < t → Share (2 ^ u) (reached s v m) → ⊥)
+        → FirstLayer (t + more) (distanceFrom s u v more t)
+    unfolding distanceFrom
+    distance-first zero t n = record { meets = λ l. absurd (omega arith); misses = n; most = omega arith }
+    distance-first (suc more) t n = elim (share-dec (2 ^ u) (reached s v t)) [
+      | yes sh ↦ rw (shares-yes sh) (record { meets = λ l. sh; misses = n; most = omega arith })
+      | no a ↦ rw (shares-no a) (subst (λ (last : ℕ). FirstLayer last (distanceFrom s u v more (suc t))) (omega arith)
+          (distance-first more (suc t) (one-more (λ m. Share (2 ^ u) (reached s v m) → ⊥) t n a)))
+    ]
 
-    pub spread-start : Spreading s v u layers 0 d₀ f₀ 0 0 0
-    unfolding _∪_
-    spread-start = record {
-      near = start-near;
-      far = start-far;
-      inside = λ x e. ∈-∪ˡ x r (2 ^ v) (beyond-in x r (2 ^ v) e .0);
-      old = λ x e o. by x (∈-∪⁻ x r (2 ^ v) e) o (in-or-out x (2 ^ v));
-      seen = λ k l m. absurd (none k m);
-      layered = λ m l. absurd (omega arith);
-      grown = grow;
-      fits = or-lt 64 r (2 ^ v) fits (pow-below v low);
-      long = long;
-      missed = λ l. differ (sym (single-is u v (lead-zero s v l)));
-    }
-      where
-        none : (k : ℕ) → Member 0 0 0 k → ⊥
-        none k m = by-word (k / 64) m
-          where
-            by-word : (w : ℕ) → k % 64 ∈ word w 0 0 0 → ⊥
-            by-word zero e = omega (arith, at-zero (k % 64))
-            by-word (suc zero) e = omega (arith, at-zero (k % 64))
-            by-word (suc (suc w)) e = omega (arith, at-zero (k % 64))
+    pub far-distance : {t : ℕ} → t ≡ distance s u v → t < 64 → Far s v t (2 ^ u)
+    far-distance e l =
+        let f = distance-first 64 0 (λ m h. absurd (omega arith)) in
+        subst (λ (r : ℕ). Far s v r (2 ^ u)) (sym e) (record { meets = f .meets (omega arith); misses = f .misses })
 
-        by : (x : ℕ) → (x ∈ r) ⊎ (x ∈ 2 ^ v) → at x f₀ ≡ 0 → (at x (2 ^ v) ≡ 0) ⊎ (x ∈ 2 ^ v) → Lead s v 0 (2 ^ x)
-        by x e o (inr i) = lead-end s v (subst (λ (z : ℕ). v ∈ 2 ^ z) (sym (single-is v x i)) (at-same v))
-        by x (inl e) o (inl i) = absurd (omega (arith, in-beyond x r (2 ^ v) e i))
-        by x (inr e) o (inl i) = absurd (omega arith)
+    -- ---- the chain
 
-        grow : f₀ ≢ 0 → 2 ≤ ones d₀
-        grow m =
-            let (x, e) = element f₀ m in
-            let (xr, xv) = beyond-in x r (2 ^ v) e in
-            Rattle.theory.specs.Set.Laws.two-in d₀ x v (∈-∪ˡ x r (2 ^ v) xr) (∈-∪ʳ v r (2 ^ v) (at-same v))
-            (λ q. omega (arith, at-same v, ap (λ (z : ℕ). at z (2 ^ v)) q))
+    pub chain-some : {t : ℕ} → t ≡ distance s u v → t < 64 → chainOf s u v ≡ some (way s v t (2 ^ u))
+    unfolding chainOf
+    chain-some e l = rw (← e, lt-ltb _ 64 l)
 
-        pow-below : (i : ℕ) → i < 64 → 2 ^ i < 2 ^ 64
-        pow-below i l = pow-lt l
+    pub chain-none : {t : ℕ} → t ≡ distance s u v → 64 ≤ t → chainOf s u v ≡ none
+    unfolding chainOf
+    chain-none e l = rw (← e, le-ltb _ 64 l)
 
-  -- as the machine's words have it
-  pub spread-begin : (u : ℕ) {layers : List ℕ} → length layers ≡ 192 → {r : ℕ} → r < 2 ^ 64 → v < 64 → u ≢ v → {e : ℕ} → e ≡ 2 ^ v → Around s e r
-      → Spreading s v u layers 0 (bitOr r e) (bitXor r (bitAnd r e)) 0 0 0
-  unfolding _∪_
-  spread-begin u {layers} long {r} fits low differ {e} is around =
-      subst (λ (z : ℕ). Spreading s v u layers 0 (bitOr r z) (bitXor r (bitAnd r z)) 0 0 0) (sym is)
-      (spread-start u layers long r fits low (subst (λ (z : ℕ). Around s z r) is around) differ)
-
-  module _ {u n d f sa sb sc : ℕ} {layers : List ℕ} (w : Spreading s v u layers n d f sa sb sc) where
-    pub spread-low : f ≢ 0 → n ≤ 62
-    spread-low some = omega (arith, w .grown some, ones-le 64 d (w .fits))
-
-    pub spread-found : f ≢ 0 → u ∈ d → Reached s v u layers (n + 1)
-    spread-found some h = record {
-      none = λ e. absurd (omega arith);
-      way = λ m e. let q : n ≡ m = omega arith in subst (Way s v u layers) q (record {
-        low = omega (arith, spread-low some);
-        lead = w .near (2 ^ u) (share u (at-same u) h);
-        missed = w .missed;
-        layered = w .layered;
-        long = w .long;
-      });
-    }
-
-    pub spread-none : f ≡ 0 → Reached s v u layers 0
-    spread-none z = record { none = λ e r h. stuck (closed-none s v d end closed (2 ^ u) r (run-from s v u r h)); way = λ m e. absurd (omega arith) }
-      where
-        all-old : (x : ℕ) → x ∈ d → Lead s v n (2 ^ x)
-        all-old x e = w .old x e (ap (at x) z ∙ at-zero x)
-
-        end : v ∈ d
-        end = single-share v (w .far (2 ^ v) (lead-end s v (at-same v)))
-
-        closed : (k x : ℕ) → Share (slot s k) d → x ∈ slot s k → x ∈ d
-        closed k x sh e =
-            let (y, yk, yd) = shared-at sh in
-            single-share x (w .far (2 ^ x) (lead-before s v k (share x (at-same x) e) (lead-at s v y yk (all-old y yd))))
-
-        stuck : Share (2 ^ u) d → ⊥
-        stuck sh = w .missed (all-old u (single-share u sh))
+  pub length-way : (t a : ℕ) → length (way s v t a) ≡ t
+  unfolding way
+  length-way zero a = refl
+  length-way (suc t) a = ap suc (length-way t _)

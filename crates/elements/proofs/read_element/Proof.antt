@@ -2,8 +2,8 @@
 use Rattle.theory.specs.Prelude.{needs, arith, sym, ap, _∙_, [], not-true, not-false, drop}
 use Rattle.sheet.specs.declared.Kind.the-variants.{Circle}
 use Rattle.sheet.specs.Field.{refused}
-use Rattle.fields.specs.declared.NumberRead.{NumberRead}
-use Rattle.fields.specs.Answers.{ruleOf, asNumber}
+use Rattle.elements.specs.declared.fields.NumberRead.{NumberRead}
+use Rattle.elements.specs.Fields.{ruleOf, asNumber}
 use Rattle.elements.specs.Round.Elements.{straight-element, circle-cut, circle-out, circle-read, stored-none, stored-circle}
 use Rattle.elements.proofs.read_element.Tie as tie
 

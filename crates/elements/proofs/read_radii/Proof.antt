@@ -1,8 +1,7 @@
 -- `elements::read_radii` meets its contract: i elements are read, and their radii stand. Assumes nothing.
-use Rattle.theory.specs.Prelude.{needs, ℕ, _+_, _-_, _/_, _≤_, arith, _≡_, sym, ap, _∙_, length, drop}
+use Rattle.theory.specs.Prelude.{needs, _+_, _-_, _/_, _≤_, arith, _≡_, length}
 use Rattle.sheet.specs.declared.Opening.the-variants.{Pf02}
 use Rattle.sheet.specs.Facts.Laws.{kindsOf-length}
-use Rattle.sheet.specs.Decode.{element}
 use Rattle.elements.specs.Round.{roundNumber, roundKinds}
 use Rattle.elements.specs.Round.Elements.{Partway, partway-none, partway-more, partway-refused, partway-end}
 use Rattle.elements.proofs.read_radii.Tie as tie
@@ -31,8 +30,7 @@ returns c =
     let s = k .before .before .before .before in
     let is = k .kind-of .ensures (s .args .n) (k .before .loop-test .taken) (s .pre .1) in
     rw (c .enum-told .given .1)
-    (partway-refused (a .inv .1) (omega (arith, ks-long s))
-    (ap (λ (m : ℕ). element m (drop (a .c .at) (s .args .s .now))) (sym is) ∙ (rw (c .enum-told .given .1) at (r .ensures))))
+    (partway-refused (a .inv .1) (omega (arith, ks-long s)) is (rw (c .enum-told .given .1) at (r .ensures)))
 
 loop-again : tie.Need-loop-again Inv-loop μ-loop
 loop-again c =
@@ -41,10 +39,7 @@ loop-again c =
     let a = k .before .before .loop in
     let s = k .before .before .before .before in
     let is = k .kind-of .ensures (s .args .n) (k .before .loop-test .taken) (s .pre .1) in
-    let st = rw (c .before .got .given .1) at (r .ensures) in (
-      omega arith,
-      partway-more (a .inv .1) (omega (arith, ks-long s)) (ap (λ (m : ℕ). element m (drop (a .c .at) (s .args .s .now))) (sym is) ∙ st .1) (st .2),
-    )
+    (omega arith, partway-more (a .inv .1) (omega (arith, ks-long s)) is (rw (c .before .got .given .1) at (r .ensures)))
 
 returns-2 : tie.Need-returns-2 Inv-loop μ-loop
 returns-2 c =

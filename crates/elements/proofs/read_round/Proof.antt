@@ -1,12 +1,12 @@
 -- `elements::read_round` meets its contract: rules 2, 4 and 18 of the kinds, then the radii. Assumes nothing.
-use Rattle.theory.specs.Prelude.{needs, _+_, _/_, _≤_, arith, _≡_, sym, ap, _∙_, true, [], leb-true, leb-false, not-true, not-false, length, drop}
+use Rattle.theory.specs.Prelude.{needs, _+_, _/_, _≤_, arith, _≡_, sym, ap, _∙_, true, [], leb-true, leb-false, not-true, not-false, length}
 use Rattle.sheet.specs.Field.{refused}
 use Rattle.sheet.specs.Rules.{kindBitsUsed}
 use Rattle.sheet.specs.declared.Opening.the-variants.{Pf02}
-use Rattle.fields.specs.declared.PlaceRead.{PlaceRead}
-use Rattle.fields.specs.Answers.{ruleOf, asPlace}
+use Rattle.elements.specs.declared.fields.PlaceRead.{PlaceRead}
+use Rattle.elements.specs.Fields.{ruleOf, asPlace}
 use Rattle.elements.specs.Round.{roundNumber, roundKinds, SetsOf}
-use Rattle.elements.specs.Answers.Laws.{round-cut, round-unused, round-unknown, round-known, round-length, round-kinds}
+use Rattle.elements.specs.Answers.Laws.{round-cut, round-unused, round-unknown, round-known, round-whole}
 use Rattle.elements.proofs.read_round.Tie as tie
 
 returns : tie.Need-returns
@@ -66,13 +66,8 @@ returns-5 c =
     let k = d .before .before .before in
     let a = k .before .before .before .before .before .args in
     let g = c .before .end .given .1 in
-    let read = rw g at (r .read-radii .ensures) in
-    let t = drop (a .c .at + (a .n + 3) / 4) (a .s .now) in (
-      read .0,
-      round-known (a .s .now) (a .c .at) (a .n) (room (k .before .before)) (used k) (sym (sets d .known-is)) ∙ read .1,
-      round-length (a .s .now) (a .c .at) (a .n) t (sets d) (read .1),
-      round-kinds (a .s .now) (a .c .at) (a .n) t (sets d) (read .1) (read .2),
-    )
+    round-whole (a .s .now) (a .c .at) (a .n) (c .before .end .given .0 .0) (room (k .before .before)) (used k) (sets d)
+    (rw g at (r .read-radii .ensures))
 
 pub read-round-spec : {M : Type 1} → Rattle.elements.proofs.read_round.Statement.statement M
 read-round-spec =

@@ -1,8 +1,8 @@
 -- `elements::read_straight` meets its contract: a number, and then rule 4. Assumes nothing.
 use Rattle.theory.specs.Prelude.{needs, arith, sym, ap, _∙_, [], ltb-true, not-true, not-false, drop}
 use Rattle.sheet.specs.Field.{refused}
-use Rattle.fields.specs.declared.NumberRead.{NumberRead}
-use Rattle.fields.specs.Answers.{ruleOf, asNumber}
+use Rattle.elements.specs.declared.fields.NumberRead.{NumberRead}
+use Rattle.elements.specs.Fields.{ruleOf, asNumber}
 use Rattle.elements.specs.Answers.Laws.{straight, straight-length, straight-kinds, straight-cut, straight-unused, straight-whole}
 use Rattle.elements.proofs.read_straight.Tie as tie
 

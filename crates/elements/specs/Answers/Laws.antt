@@ -10,9 +10,12 @@ use Rattle.sheet.specs.Facts.Laws.{digitsOf, kindsOf-length}
 use Rattle.sheet.specs.Field.{value, refused, field}
 use Rattle.sheet.specs.Rules.{kindBitsUsed, kindsKnown}
 use Rattle.sheet.specs.Decode.{readKinds, element, readElements}
-use Rattle.fields.specs.Answers.Numbers.{field-short, field-whole}
-use Rattle.elements.specs.Answers.{elementsField}
-use Rattle.elements.specs.Round.{roundNumber, roundKinds, placesOf, SetsOf, RadiiStand}
+use Rattle.elements.specs.Fields.Numbers.{field-short, field-whole}
+use Rattle.elements.specs.declared.fields.Cursor.{Cursor}
+use Rattle.elements.specs.declared.fields.PlaceRead.the-variants as place
+use Rattle.elements.specs.declared.KindsRead.the-variants as kinds
+use Rattle.elements.specs.Answers.{elementsField, ElementsRead}
+use Rattle.elements.specs.Round.{roundNumber, roundKinds, placesOf, SetsOf, RadiiStand, RadiiRead}
 use Rattle.elements.specs.Round.Elements.{elements-digits, sets-digits}
 
 -- ---- PF01
@@ -130,14 +133,23 @@ module _ (s : List ℕ) (from n : ℕ) where
     read-digits : digitsOf es ≡ roundKinds s from n
     read-digits = elements-digits (roundKinds s from n) t (sym (sets .known-is)) e
 
-    pub round-length : length es ≡ n
+    round-length : length es ≡ n
     round-length =
         sym (length-map es (λ x. kindDigit (x .kind))) ∙ ap length read-digits ∙ kindsOf-length Pf02 n (roundNumber s from n)
 
-    pub round-kinds : {radii : List ℕ} → RadiiStand es radii → KindsIn es (record { lines = lines; circles = circles }) radii
+    round-kinds : {radii : List ℕ} → RadiiStand es radii → KindsIn es (record { lines = lines; circles = circles }) radii
     round-kinds stand =
         record {
           lines-are = sets .lines-are ∙ ap (placesOf 1) (sym read-digits) ∙ sets-digits es .0;
           circles-are = sets .circles-are ∙ ap (placesOf 2) (sym read-digits) ∙ sets-digits es .1;
           radii-are = stand;
         }
+
+  -- kinds in which nothing is wrong, with radii that are all there, are the elements
+  pub round-whole : {lines circles : ℕ} {radii : List ℕ} (c : Cursor) → from + (n + 3) / 4 ≤ length s
+      → kindBitsUsed Pf02 n (roundNumber s from n) ≡ true → SetsOf (roundKinds s from n) lines circles true
+      → RadiiRead (roundKinds s from n) s (from + (n + 3) / 4) radii (place.Value c)
+      → ElementsRead (elementsField Pf02 n (drop from s)) s n radii (kinds.Value (record { lines = lines; circles = circles }) c)
+  round-whole c room used sets (es, e, stand) =
+      let t = drop (from + (n + 3) / 4) s in
+      (es, round-known room used (sym (sets .known-is)) ∙ e, round-length t sets e, round-kinds t sets e stand)

@@ -12,7 +12,9 @@ use Rattle.sheet.specs.Field.{Field, value, refused, next, demand, field}
 use Rattle.sheet.specs.Field.Laws.{next-value, demand-value, value-with}
 use Rattle.sheet.specs.Rules.{kindsKnown, radiusInRange}
 use Rattle.sheet.specs.Decode.{element, readElements}
-use Rattle.elements.specs.Round.{placesOf, RadiiStand, Stored}
+use Rattle.elements.specs.declared.fields.Cursor.{Cursor}
+use Rattle.elements.specs.declared.fields.PlaceRead.the-variants.{Value}
+use Rattle.elements.specs.Round.{placesOf, RadiiStand, Stored, ElementRead}
 
 -- ---- one element
 
@@ -108,25 +110,31 @@ module _ {ks s : List ℕ} {from i place : ℕ} {radii : List ℕ} (h : Partway 
   unfolding readElements
   turned l = ap (λ (m : List ℕ). readElements m (drop place s)) (drop-cons ks i 0 l)
 
-  pub partway-more : {x : Element} {place1 : ℕ} {radii1 : List ℕ} → i < length ks
-      → element (getD ks i 0) (drop place s) ≡ value x (drop place1 s) → Stored x i radii radii1 → Partway ks s from (i + 1) place1 radii1
-  partway-more {x} {place1} {radii1} l e st =
+  then : {f g : Field Element} → f ≡ g
+      → next f (λ y s1. next (readElements (drop (suc i) ks) s1) (λ xs s2. value (y ∷ xs) s2))
+      ≡ next g (λ y s1. next (readElements (drop (suc i) ks) s1) (λ xs s2. value (y ∷ xs) s2))
+  then e = rw e
+
+  -- the next element, of kind k, was read
+  pub partway-more : {k : ℕ} {c : Cursor} {radii1 : List ℕ} → i < length ks → k ≡ getD ks i 0
+      → ElementRead (element k (drop place s)) s i radii radii1 (Value c) → Partway ks s from (i + 1) (c .at) radii1
+  partway-more {k} {c} {radii1} l is (x, e, st) =
       let two : suc i ≡ i + 1 = omega arith in
       record {
         es = h .es ++ x ∷ [];
         count = length-append (h .es) (x ∷ []) ∙ ap (λ (m : ℕ). m + 1) (h .count);
         so-far = h .so-far ∙ ap (after (h .es)) (turned l
-            ∙ ap (λ (f : Field Element). next f (λ y s1. next (readElements (drop (suc i) ks) s1) (λ xs s2. value (y ∷ xs) s2))) e
-            ∙ ap (λ (m : ℕ). next (readElements (drop m ks) (drop place1 s)) (λ xs t. value (x ∷ xs) t)) two)
-            ∙ after-more (h .es) x (readElements (drop (i + 1) ks) (drop place1 s));
+            ∙ then (ap (λ (m : ℕ). element m (drop place s)) (sym is) ∙ e)
+            ∙ ap (λ (m : ℕ). next (readElements (drop m ks) (drop (c .at) s)) (λ xs t. value (x ∷ xs) t)) two)
+            ∙ after-more (h .es) x (readElements (drop (i + 1) ks) (drop (c .at) s));
         stand = stand-more (h .es) x i radii radii1 (h .count) (h .stand) st;
         long = st .length-is ∙ h .long;
       }
 
-  pub partway-refused : {j : ℕ} → i < length ks → element (getD ks i 0) (drop place s) ≡ refused j → readElements ks (drop from s) ≡ refused j
-  partway-refused l e =
-      h .so-far ∙ ap (after (h .es)) (turned l
-      ∙ ap (λ (f : Field Element). next f (λ y s1. next (readElements (drop (suc i) ks) s1) (λ xs s2. value (y ∷ xs) s2))) e)
+  pub partway-refused : {k j : ℕ} → i < length ks → k ≡ getD ks i 0 → element k (drop place s) ≡ refused j
+      → readElements ks (drop from s) ≡ refused j
+  partway-refused l is e =
+      h .so-far ∙ ap (after (h .es)) (turned l ∙ then (ap (λ (m : ℕ). element m (drop place s)) (sym is) ∙ e))
 
   pub partway-end : length ks ≤ i → readElements ks (drop from s) ≡ value (h .es) (drop place s)
   unfolding readElements

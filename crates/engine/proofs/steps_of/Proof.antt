@@ -34,10 +34,10 @@ module _ (lines e : ℕ) (sizes : List ℤ) (cs parts joints : List ℕ) (count 
       at-each k h (no n) = getD-set-other steps t k v blankStep n ∙ w .each k (omega arith)
 
 abbrev Inv-loop : tie.InvT-loop
-Inv-loop start sizes lines e count parts joints steps₀ t₀ steps t = Standing lines e sizes start parts joints count t steps
+Inv-loop parts joints count start sizes lines e steps₀ t₀ steps t = Standing lines e sizes start parts joints count t steps
 
 abbrev μ-loop : tie.MeasureT-loop
-μ-loop start sizes lines e count parts joints steps₀ t₀ steps t = count - t
+μ-loop parts joints count start sizes lines e steps₀ t₀ steps t = count - t
 
 loop-holds : tie.Need-loop-holds Inv-loop μ-loop
 loop-holds c =
@@ -50,9 +50,9 @@ loop-holds c =
 
 loop-again : tie.Need-loop-again Inv-loop μ-loop
 loop-again c =
-    let a = c .before .before .before .before .before .before .before .before .args in
-    let l = c .before .before .before .before .loop in
-    one-more (a .lines) (a .e) (a .sizes .now) (a .start .now) (a .run .parts) (a .run .joints) (a .run .steps) (l .t) (l .steps) (l .inv)
+    let a = c .before .before .before .before .args in
+    let l = c .before .before .loop in
+    one-more (a .lines) (a .e) (a .sizes .now) (a .start .now) (a .parts .now) (a .joints .now) (a .count) (l .t) (l .steps) (l .inv)
     (search needs) (search needs)
     (c .step-at .result) (c .step-at .ensures)
 

@@ -8,14 +8,13 @@ use Rattle.theory.specs.Merge.Numbered.{Place, new, old, place, length-put}
 use Rattle.theory.specs.Plan.{ascending}
 use Rattle.theory.specs.Plan.Order.{open-ascending, joint-ascending}
 use Rattle.theory.specs.Placement.{placed, jointKind, ways}
-use Rattle.theory.specs.Graph.{Graph, stepOf, stepsFrom, stepsOf}
+use Rattle.theory.specs.Graph.{SizedGraph, stepOf, stepsFrom, stepsOf}
 use Rattle.theory.specs.Graph.Laws.{length-steps}
 use Rattle.theory.specs.declared.JointKind.{JointKind}
 use Rattle.theory.specs.declared.Ways.{Ways}
 use Rattle.theory.specs.declared.Ways.the-variants.{Unknown}
 use Rattle.theory.specs.declared.Step.{Step}
-use Rattle.merges.specs.Run.{flat, runOf}
-use Rattle.merges.specs.declared.Run.{Run}
+use Rattle.merges.specs.Run.{Run, flat, runOf}
 use Rattle.engine.specs.Steps.{waysBy, stepFrom, stepAt, stepsFor, stepsIn, blankStep, Stepped}
 
 -- ---- placements go by initial clusters only
@@ -64,28 +63,28 @@ module _ (lines e : ℕ) (sizes of : List ℤ) (cs s : List ℕ) (k : Initial e 
           λ z. placed lines kind (sym ci z) (sym cj z) (zi z) (zj z) (zk z)
 
 -- one step
-module _ (g : Graph) (start : List ℕ) (sizes : List ℤ) (same : Sized (length (g .clusters)) sizes (g .sizes)) where
-  step-same : (s : List ℕ) → Initial (length (g .clusters)) start s → (m : Merge) → OpenAt s m → (base : ℕ) (parts knots : List ℕ)
+module _ (g : SizedGraph) (start : List ℕ) (sizes : List ℤ) (same : Sized (length (g .graph .clusters)) sizes (g .sizes)) where
+  step-same : (s : List ℕ) → Initial (length (g .graph .clusters)) start s → (m : Merge) → OpenAt s m → (base : ℕ) (parts knots : List ℕ)
       → base ≡ length s
-      → stepFrom (g .lines) (length (g .clusters)) sizes start base (ascending m .i ∷ ascending m .j ∷ ascending m .k ∷ parts)
+      → stepFrom (g .graph .lines) (length (g .graph .clusters)) sizes start base (ascending m .i ∷ ascending m .j ∷ ascending m .k ∷ parts)
       (joint (three s m) ∷ knots) 0
       ≡ stepOf g s m
   unfolding stepFrom stepOf ways
   step-same s k m o base parts knots b =
       let a = open-ascending s m o in
-      let e = length (g .clusters) in
+      let e = length (g .graph .clusters) in
       let j : joint (three s m) ≡ joint (three s (ascending m)) = sym (joint-ascending s m) in
       let made : base + 0 ≡ length s = omega arith in
-      let w = ap (λ (x : ℕ). waysBy (g .lines) (jointKind (g .lines) x) e sizes start (ascending m)) j
-      ∙ ways-same (g .lines) e sizes (g .sizes) start s k same
-      (jointKind (g .lines) (joint (three s (ascending m)))) (ascending m) (a .livei) (a .livej) in
+      let w = ap (λ (x : ℕ). waysBy (g .graph .lines) (jointKind (g .graph .lines) x) e sizes start (ascending m)) j
+      ∙ ways-same (g .graph .lines) e sizes (g .sizes) start s k same
+      (jointKind (g .graph .lines) (joint (three s (ascending m)))) (ascending m) (a .livei) (a .livej) in
       λ z. record {
         made = made z;
         i = ascending m .i;
         j = ascending m .j;
         k = ascending m .k;
         joint = j z;
-        kind = jointKind (g .lines) (j z);
+        kind = jointKind (g .graph .lines) (j z);
         ways = w z;
       }
 
@@ -111,19 +110,19 @@ later lines e sizes cs made x i j k parts knots t =
       ways = waysBy lines (jointKind lines (getD knots t 0)) e sizes cs (merge (getD l (p0 z) 0) (getD l (p1 z) 0) (getD l (p2 z) 0));
     }
 
-pub steps-from : (g : Graph) (start : List ℕ) (sizes : List ℤ) → Sized (length (g .clusters)) sizes (g .sizes)
+pub steps-from : (g : SizedGraph) (start : List ℕ) (sizes : List ℤ) → Sized (length (g .graph .clusters)) sizes (g .sizes)
     → (p : List Merge) (s : List ℕ) (base t : ℕ)
-    → Valid s p → Initial (length (g .clusters)) start s → length (g .clusters) ≤ length s → base ≡ length s → t < length p
-    → stepFrom (g .lines) (length (g .clusters)) sizes start base (flat (map ascending p)) (joints s p) t ≡ getD (stepsFrom g s p) t blankStep
+    → Valid s p → Initial (length (g .graph .clusters)) start s → length (g .graph .clusters) ≤ length s → base ≡ length s → t < length p
+    → stepFrom (g .graph .lines) (length (g .graph .clusters)) sizes start base (flat (map ascending p)) (joints s p) t ≡ getD (stepsFrom g s p) t blankStep
 unfolding flat joints stepsFrom
 steps-from g start sizes same [] s base t v k h b l = absurd (omega arith)
 steps-from g start sizes same (m ∷ p) s base zero v k h b l =
     step-same g start sizes same s k m (v .0) base (flat (map ascending p)) (joints (put s m) p) b
 steps-from g start sizes same (m ∷ p) s base (suc t) v k h b l =
-    later (g .lines) (length (g .clusters)) sizes start base (joint (three s m)) (ascending m .i) (ascending m .j)
+    later (g .graph .lines) (length (g .graph .clusters)) sizes start base (joint (three s m)) (ascending m .i) (ascending m .j)
     (ascending m .k) (flat (map ascending p))
     (joints (put s m) p) t
-    ∙ steps-from g start sizes same p (put s m) (suc base) t (v .1) (initial-put (length (g .clusters)) start s m h k)
+    ∙ steps-from g start sizes same p (put s m) (suc base) t (v .1) (initial-put (length (g .graph .clusters)) start s m h k)
     (omega (arith, length-put s m)) (omega (arith, length-put s m)) (omega arith)
 
 -- reading the arrays is reading the lists
@@ -153,43 +152,43 @@ steps-for at (s ∷ l) b h =
     ap₂ (λ (x : Step) (r : List Step). x ∷ r) (ap at {x = b} {y = b + 0} (omega arith) ∙ h 0 (omega arith))
     (steps-for at l (suc b) (λ t k. ap at {x = suc b + t} {y = b + suc t} (omega arith) ∙ h (suc t) (omega arith)))
 
-module _ (g : Graph) (p : List Merge) (run : Run) (start : List ℕ) (sizes : List ℤ) (v : Valid (g .clusters) p) (h : run ≡ runOf (g .clusters) p)
-    (b : take (length (g .clusters)) start ≡ g .clusters) (d : take (length (g .clusters)) sizes ≡ g .sizes) where
+module _ (g : SizedGraph) (p : List Merge) (run : Run) (start : List ℕ) (sizes : List ℤ) (v : Valid (g .graph .clusters) p) (h : run ≡ runOf (g .graph .clusters) p)
+    (b : take (length (g .graph .clusters)) start ≡ g .graph .clusters) (d : take (length (g .graph .clusters)) sizes ≡ g .sizes) where
   -- each step that the arrays of a run give is that of its list of merges
   step-is : (t : ℕ) → t < length p
-      → stepAt (g .lines) (length (g .clusters)) sizes start (run .parts) (run .joints) t ≡ getD (stepsOf g p) t blankStep
+      → stepAt (g .graph .lines) (length (g .graph .clusters)) sizes start (run .parts) (run .joints) t ≡ getD (stepsOf g p) t blankStep
   unfolding runOf
   step-is t l =
-      let e = length (g .clusters) in
-      (λ z. stepFrom (g .lines) e sizes start e (h z .parts) (h z .joints) t)
-      ∙ read-lists (g .lines) e sizes start (flat (map ascending p)) (joints (g .clusters) p) t
-      ∙ steps-from g start sizes same p (g .clusters) e t v initial (omega arith) refl l
+      let e = length (g .graph .clusters) in
+      (λ z. stepFrom (g .graph .lines) e sizes start e (h z .parts) (h z .joints) t)
+      ∙ read-lists (g .graph .lines) e sizes start (flat (map ascending p)) (joints (g .graph .clusters) p) t
+      ∙ steps-from g start sizes same p (g .graph .clusters) e t v initial (omega arith) refl l
     where
-      initial : Initial (length (g .clusters)) start (g .clusters)
-      initial n m z = sym (ap (λ (l : List ℕ). slot l n) b) ∙ getD-take (length (g .clusters)) start n 0 m
+      initial : Initial (length (g .graph .clusters)) start (g .graph .clusters)
+      initial n m z = sym (ap (λ (l : List ℕ). slot l n) b) ∙ getD-take (length (g .graph .clusters)) start n 0 m
 
-      same : Sized (length (g .clusters)) sizes (g .sizes)
-      same n m = sym (getD-take (length (g .clusters)) sizes n (pos 0) m) ∙ ap (λ (l : List ℤ). getD l n (pos 0)) d
+      same : Sized (length (g .graph .clusters)) sizes (g .sizes)
+      same n m = sym (getD-take (length (g .graph .clusters)) sizes n (pos 0) m) ∙ ap (λ (l : List ℤ). getD l n (pos 0)) d
 
   steps-counted : run .steps ≡ length p
   unfolding runOf
   steps-counted = ap (λ (r : Run). r .steps) h
 
   -- so the steps in the arrays are those of the list
-  pub steps-in-are : stepsIn (g .lines) (length (g .clusters)) sizes start (run .parts) (run .joints) (run .steps) ≡ stepsOf g p
+  pub steps-in-are : stepsIn (g .graph .lines) (length (g .graph .clusters)) sizes start (run .parts) (run .joints) (run .steps) ≡ stepsOf g p
   steps-in-are =
-      ap (stepsIn (g .lines) (length (g .clusters)) sizes start (run .parts) (run .joints)) (steps-counted ∙ sym (length-steps g (g .clusters) p))
-      ∙ steps-for (stepAt (g .lines) (length (g .clusters)) sizes start (run .parts) (run .joints)) (stepsOf g p) 0
-      (λ t l. ap (stepAt (g .lines) (length (g .clusters)) sizes start (run .parts) (run .joints)) {x = 0 + t} {y = t} (omega arith)
-      ∙ step-is t (omega (arith, length-steps g (g .clusters) p)))
+      ap (stepsIn (g .graph .lines) (length (g .graph .clusters)) sizes start (run .parts) (run .joints)) (steps-counted ∙ sym (length-steps g (g .graph .clusters) p))
+      ∙ steps-for (stepAt (g .graph .lines) (length (g .graph .clusters)) sizes start (run .parts) (run .joints)) (stepsOf g p) 0
+      (λ t l. ap (stepAt (g .graph .lines) (length (g .graph .clusters)) sizes start (run .parts) (run .joints)) {x = 0 + t} {y = t} (omega arith)
+      ∙ step-is t (omega (arith, length-steps g (g .graph .clusters) p)))
 
 -- the steps that are made of the arrays of a run are those of its list of merges
-pub stepped-are : (g : Graph) (p : List Merge) (run : Run) (start : List ℕ) (sizes : List ℤ) (steps : List Step) → Valid (g .clusters) p
-    → run ≡ runOf (g .clusters) p → take (length (g .clusters)) start ≡ g .clusters → take (length (g .clusters)) sizes ≡ g .sizes → length p ≤ 62
-    → Stepped (g .lines) (length (g .clusters)) sizes start run steps → take (run .steps) steps ≡ stepsOf g p
+pub stepped-are : (g : SizedGraph) (p : List Merge) (run : Run) (start : List ℕ) (sizes : List ℤ) (steps : List Step) → Valid (g .graph .clusters) p
+    → run ≡ runOf (g .graph .clusters) p → take (length (g .graph .clusters)) start ≡ g .graph .clusters → take (length (g .graph .clusters)) sizes ≡ g .sizes
+    → length p ≤ 62 → Stepped (g .graph .lines) (length (g .graph .clusters)) sizes start (run .parts) (run .joints) (run .steps) steps → take (run .steps) steps ≡ stepsOf g p
 stepped-are g p run start sizes steps v h b d f w =
     let count = steps-counted g p run start sizes v h b d in
     ext-getD blankStep (take (run .steps) steps) (stepsOf g p)
-    (length-take (run .steps) steps ∙ omega (arith, w .long, count, f) ∙ sym (length-steps g (g .clusters) p))
+    (length-take (run .steps) steps ∙ omega (arith, w .long, count, f) ∙ sym (length-steps g (g .graph .clusters) p))
     (λ t l. let q : t < run .steps = omega (arith, length-take (run .steps) steps) in
     getD-take (run .steps) steps t blankStep q ∙ w .each t q ∙ step-is g p run start sizes v h b d t (omega (arith, count)))

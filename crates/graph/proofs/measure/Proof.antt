@@ -14,7 +14,7 @@ use Rattle.sheet.specs.Facts.Laws.{kind-in}
 use Rattle.sheet.specs.Rules.{radiiInRange}
 use Rattle.sheet.specs.Rules.Laws.{constraints-most, elements-taken}
 use Rattle.sheet.specs.Facts.Kinds.{kindIn}
-use Rattle.sheet.specs.Graph.{sizeOf, sizeIn, graphOf}
+use Rattle.sheet.specs.Graph.{sizeOf, sizeIn, sizedOf}
 use Rattle.graph.specs.declared.Head.{Head}
 use Rattle.graph.specs.declared.Front.{Front}
 use Rattle.graph.specs.Lent.{codeOf, SheetIn, sizesOf, Unpacks}
@@ -50,17 +50,17 @@ module _ {f : Facts} {h : Front} {near start : List ℕ} {codes : List ℤ} {rad
   -- the size at a place
   size-there : (i : ℕ) (d : Constraint) → i < length (f .constraints) → getD (sizesOf f) i (pos 0) ≡ sizeIn (f .elements) (getD (f .constraints) i d)
   size-there i d l =
-      let k : i < length (graphOf f .sizes) = rw length-map l in
-      List·getD-append (graphOf f .sizes) _ (pos 0) i k ∙ getD-mapped (sizeIn (f .elements)) (f .constraints) i (pos 0) d l
+      let k : i < length (sizedOf f .sizes) = rw length-map l in
+      List·getD-append (sizedOf f .sizes) _ (pos 0) i k ∙ getD-mapped (sizeIn (f .elements)) (f .constraints) i (pos 0) d l
 
   -- both are blank behind the constraints
   blank-behind : drop (h .e) codes ≡ drop (h .e) (sizesOf f)
   blank-behind =
       let n : length (map (λ (c : Constraint). codeOf (c .size)) (f .constraints)) ≡ h .e = rw (length-map, count) in
-      let m : length (graphOf f .sizes) ≡ h .e = rw (length-map, count) in
+      let m : length (sizedOf f .sizes) ≡ h .e = rw (length-map, count) in
       let cs = map (λ (c : Constraint). codeOf (c .size)) (f .constraints) in
       ap (drop (h .e)) (a .arrays .codes-are) ∙ (drop-at cs (replicate (200 - length cs) (pos 0)) (h .e) n ∙ ap (λ (k : ℕ). replicate (200 - k) (pos 0)) (n ∙ sym m)
-      ∙ sym (drop-at (graphOf f .sizes) (replicate (200 - length (graphOf f .sizes)) (pos 0)) (h .e) m))
+      ∙ sym (drop-at (sizedOf f .sizes) (replicate (200 - length (sizedOf f .sizes)) (pos 0)) (h .e) m))
 
 loop-holds : tie.Need-loop-holds Inv-loop μ-loop
 loop-holds c = record {
@@ -125,7 +125,7 @@ loop-again c =
       made = λ f h near q a.
           let k = this b (q .0) a in
           let there : l .i < length (sizesOf f) =
-          rw (length-block 200 (pos 0) (graphOf f .sizes) (rw length-map (counted a))) (omega (arith, l .inv .places, room)) in
+          rw (length-block 200 (pos 0) (sizedOf f .sizes) (rw length-map (counted a))) (omega (arith, l .inv .places, room)) in
           let j : c .before .before .kind-at .result ≡ kindAt (f .elements) (k .first) =
           c .before .before .kind-at .ensures ∙ ap (λ (x : Constraint). kindIn (s .args .h .kinds) (s .args .radii .now) (x .first)) (is b (q .0) a)
           ∙ ap (λ (x : Kinds). kindIn x (s .args .radii .now) (k .first)) (sym (q .1)) ∙ kind-in (a .kinds-in) (k .first) in

@@ -17,11 +17,11 @@ use Rattle.sheet.specs.Rules.{stands, constraintFault, constraintsFault}
 use Rattle.sheet.specs.Rules.Laws.{ends-true, stands-more, none-else, constraints-most}
 use Rattle.sheet.specs.Accepted.{Accepted}
 use Rattle.sheet.specs.Accepted.Laws.{taken, accepted-two, accepted-most}
-use Rattle.sheet.specs.Graph.{clusterOf, graphOf}
+use Rattle.sheet.specs.Graph.{clusterOf, graphOf, sizedOf}
 use Rattle.sheet.specs.Graph.Laws.{clusters-pairs, clusters-below}
 use Rattle.graph.specs.declared.Head.{Head}
 use Rattle.graph.specs.declared.Front.{Front}
-use Rattle.graph.specs.Lent.{graphIn, headIn, SheetIn, Stands, sizesOf, Sound, Drawn}
+use Rattle.graph.specs.Lent.{graphIn, sizedIn, headIn, SheetIn, Stands, sizesOf, Sound, Drawn}
 
 -- ---- no constraint stands twice
 
@@ -94,15 +94,18 @@ module _ {f : Facts} {h : Head} {near start : List ℕ} (a : Stands f h near sta
       ap₂ take (ap (λ (x : Head). x .e) (a .head-is)) (a .start-is)
       ∙ take-block 200 0 (map clusterOf (f .constraints)) (length (f .constraints)) (sym (length-map (f .constraints) _))
 
-  pub graph-stands : {sizes : List ℤ} → sizes ≡ sizesOf f → graphIn h start sizes ≡ graphOf f
-  graph-stands {sizes} is =
-      let sizes-are : take (h .e) sizes ≡ graphOf f .sizes = ap₂ take (ap (λ (x : Head). x .e) (a .head-is)) is
-      ∙ take-block 200 (pos 0) (graphOf f .sizes) (length (f .constraints)) (sym (length-map (f .constraints) _)) in
-      λ z. record { n = a .head-is z .n; lines = a .head-is z .lines; clusters = clusters-are z; sizes = sizes-are z }
+  pub graph-stands : graphIn h start ≡ graphOf f
+  graph-stands = λ z. record { n = a .head-is z .n; lines = a .head-is z .lines; clusters = clusters-are z }
+
+  pub sized-stands : {sizes : List ℤ} → sizes ≡ sizesOf f → sizedIn h start sizes ≡ sizedOf f
+  sized-stands {sizes} is =
+      let sizes-are : take (h .e) sizes ≡ sizedOf f .sizes = ap₂ take (ap (λ (x : Head). x .e) (a .head-is)) is
+      ∙ take-block 200 (pos 0) (sizedOf f .sizes) (length (f .constraints)) (sym (length-map (f .constraints) _)) in
+      λ z. record { graph = graph-stands z; sizes = sizes-are z }
 
   pub drawn : Drawn h near start
   drawn = record {
-    sound = subst (λ (g : Graph). Sound (g .n) (g .clusters)) (sym (graph-stands refl)) (accepted-sound f (a .accepted));
+    sound = subst (λ (g : Graph). Sound (g .n) (g .clusters)) (sym graph-stands) (accepted-sound f (a .accepted));
     few = rw (a .head-is) most;
     places = ap length (a .start-is) ∙ length-block 200 0 (map clusterOf (f .constraints)) (rw length-map most);
     near-is = subst (λ (cs : List ℕ). Near cs near) (sym clusters-are) (a .noted .pairs);
@@ -116,8 +119,8 @@ module _ {f : Facts} {h : Front} {near start : List ℕ} {codes : List ℤ} {rad
   pub drawn-in : Drawn (headIn h) near start
   drawn-in = drawn stands-in
 
-  pub graph-is : graphIn (headIn h) start (sizesOf f) ≡ graphOf f
-  graph-is = graph-stands stands-in refl
+  pub graph-is : graphIn (headIn h) start ≡ graphOf f
+  graph-is = graph-stands stands-in
 
 module _ {h : Head} {near start : List ℕ} (d : Drawn h near start) where
   pub counted : length (take (h .e) start) ≡ h .e

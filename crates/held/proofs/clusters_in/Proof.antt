@@ -1,7 +1,6 @@
 -- `held::clusters_in` meets its contract: the final clusters of the sketch in the record that is read. Assumes nothing.
 use Rattle.theory.specs.Prelude.{needs, refl}
 use Rattle.sheet.specs.Answer.Laws.{answers-refused, answers-items}
-use Rattle.graph.specs.Lent.{sizesOf}
 use Rattle.judge.specs.Judged.{finalClusters}
 use Rattle.records.specs.Record.{heldRecord}
 use Rattle.records.specs.Record.Laws.{FactsIn, facts-in}
@@ -23,7 +22,7 @@ facts c = facts-in _ _ _ _ (c .before .before .before .read-held .ensures) (c .b
 returns-2 : tie.Need-returns-2
 returns-2 c =
     let f = facts (c .before .before .before .before .before .before .before) in
-    answers-items (c .before .before .clusters .ensures (sizesOf (f .facts))) (items-are f (c .before .before .before .before .before .before .head-of .ensures) finalClusters)
+    answers-items (c .before .before .clusters .ensures) (items-are f (c .before .before .before .before .before .before .head-of .ensures) finalClusters)
 
 pub clusters-in-spec : {M : Type 1} → Rattle.held.proofs.clusters_in.Statement.statement M
 clusters-in-spec =

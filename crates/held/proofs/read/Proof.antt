@@ -4,7 +4,7 @@ use Rattle.sheet.specs.Facts.{factsOf}
 use Rattle.sheet.specs.Rules.{sheetFault}
 use Rattle.sheet.specs.Graph.{graphOf, overFault}
 use Rattle.graph.specs.declared.Head.{Head}
-use Rattle.graph.specs.Lent.{graphIn, sizesOf}
+use Rattle.graph.specs.Lent.{graphIn}
 use Rattle.graph.specs.Lent.Sheets.{graph-is, drawn-in}
 use Rattle.held.specs.Held.Laws.{value-unsound, value-over, value-held}
 use Rattle.held.proofs.read.Tie as tie
@@ -31,8 +31,8 @@ module _ (c : tie.After-over-fault) where
   over-is : c .over-fault .result ≡ overFault (graphOf (factsOf (start .args .s)))
   over-is =
       let f = c .before .before .before .before .fill in
-      c .over-fault .ensures (sizesOf (factsOf (start .args .s)))
-      ∙ ap (λ (h : Head). overFault (graphIn h (f .last .1 .1 .0) (sizesOf (factsOf (start .args .s))))) (c .before .before .before .head-of .ensures)
+      c .over-fault .ensures
+      ∙ ap (λ (h : Head). overFault (graphIn h (f .last .1 .1 .0))) (c .before .before .before .head-of .ensures)
       ∙ ap overFault (graph-is (f .ensures))
 
 returns-2 : tie.Need-returns-2

@@ -10,7 +10,7 @@ use Rattle.sheet.specs.Rules.{sheetFault}
 use Rattle.sheet.specs.Graph.{graphOf, overFault}
 use Rattle.graph.specs.declared.Head.{Head}
 use Rattle.graph.specs.declared.Front.{Front}
-use Rattle.graph.specs.Lent.{graphIn, headIn, sizesOf, Drawn}
+use Rattle.graph.specs.Lent.{graphIn, headIn, Drawn}
 use Rattle.graph.specs.Lent.Sheets.{graph-is, drawn-in}
 use Rattle.reader.specs.declared.CodesRead.{CodesRead}
 use Rattle.reader.specs.declared.CodesRead.the-variants.{Value, Refused as Unread}
@@ -67,5 +67,5 @@ module _ {x : Field Facts} {h : Front} {near start radii : List ℕ} {codes : Li
   pub head-drawn : Drawn k near start
   head-drawn = rw head-is (drawn-in (f .sheet-in))
 
-  pub items-are : (what : Graph → List ℕ) → heldItems what x ≡ value (what (graphIn k start (sizesOf (f .facts)))) []
+  pub items-are : (what : Graph → List ℕ) → heldItems what x ≡ value (what (graphIn k start)) []
   items-are what = rw (f .reads, head-is) (ap (λ (g : Graph). value (what g) []) (sym (graph-is (f .sheet-in))))

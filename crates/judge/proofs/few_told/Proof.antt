@@ -9,17 +9,17 @@ returns-2 : tie.Need-returns-2
 returns-2 c =
     let (d, few) = c .before .before .before .before .before .pre in
     let k = c .before .core-of .ensures .1 _ (d .sound .simple) (d .near-is) .0 in
-    λ z. few-peeled _ (d .sound) (omega (arith, c .before .before .if1 .taken, counted d)) k (omega (arith, c .if2 .left)) few
+    few-peeled _ (d .sound) (omega (arith, c .before .before .if1 .taken, counted d)) k (omega (arith, c .if2 .left)) few
 
 returns-3 : tie.Need-returns-3
-returns-3 c = λ z.
+returns-3 c =
     first-tells _ (c .before .before .before .before .before .before .before .pre .0 .sound)
-    (sym (c .before .before .before .over-of .ensures z) ∙ c .before .constraint .given .1)
+    (sym (c .before .before .before .over-of .ensures) ∙ c .before .constraint .given .1)
 
 returns-4 : tie.Need-returns-4
-returns-4 c = λ z.
+returns-4 c =
     let (d, few) = c .before .before .before .before .before .before .pre in
-    let q = sym (c .before .before .over-of .ensures z) ∙ c .enum-told .given .1 in
+    let q = sym (c .before .before .over-of .ensures) ∙ c .enum-told .given .1 in
     fine-tells _ (d .sound) q (sym (fewer-is _ (d .sound) few q (λ e. c .before .before .before .if1 .left (omega (arith, e, counted d)))))
 
 pub few-told-spec : {M : Type 1} → Rattle.judge.proofs.few_told.Statement.statement M

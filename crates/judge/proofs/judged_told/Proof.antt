@@ -7,4 +7,4 @@ pub judged-told-spec : {M : Type 1} → Rattle.judge.proofs.judged_told
 judged-told-spec =
     tie.close
     (tie.spec (λ c κs. (c .before .before .before .pre, record { slots-blank = refl; parts-blank = refl; joints-blank = refl }))
-    (λ c. λ z. found-tells _ (c .before .before .before .before .pre .sound) (c .judge-on .ensures z)))
+    (λ c. found-tells _ (c .before .before .before .before .pre .sound) (c .judge-on .ensures)))

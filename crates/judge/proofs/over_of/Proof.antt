@@ -3,4 +3,4 @@ use borrow.Author.Needs.{needs}
 use Rattle.judge.proofs.over_of.Tie as tie
 
 pub over-of-spec : {M : Type 1} → Rattle.judge.proofs.over_of.Statement.statement M
-over-of-spec = tie.close (tie.spec (λ c κs. search needs) (λ c. λ z. c .find-over .ensures _ (c .before .pre .sound .below)))
+over-of-spec = tie.close (tie.spec (λ c κs. search needs) (λ c. c .find-over .ensures _ (c .before .pre .sound .below)))

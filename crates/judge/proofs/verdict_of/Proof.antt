@@ -5,9 +5,9 @@ use Rattle.judge.specs.Judged.Short.{more-is}
 use Rattle.judge.proofs.verdict_of.Tie as tie
 
 returns : tie.Need-returns
-returns c = let d = c .before .before .before .pre in λ z. sym (more-is _ (d .sound) (omega (arith, c .if1 .taken, counted d)))
+returns c = let d = c .before .before .before .pre in sym (more-is _ (d .sound) (omega (arith, c .if1 .taken, counted d)))
 
 pub verdict-of-spec : {M : Type 1} → Rattle.judge.proofs.verdict_of.Statement.statement M
 verdict-of-spec =
     tie.close
-    (tie.spec (λ c. search needs) (λ c. search needs) returns (λ c κs. search needs) (λ c. λ z. c .tell .ensures z .verdict-is))
+    (tie.spec (λ c. search needs) (λ c. search needs) returns (λ c κs. search needs) (λ c. c .tell .ensures .verdict-is))

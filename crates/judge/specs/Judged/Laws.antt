@@ -9,9 +9,8 @@ use Rattle.theory.specs.Verdict.{judged}
 use Rattle.theory.specs.declared.Verdict.{Verdict}
 use Rattle.theory.specs.Graph.{Graph, listVerdict}
 use Rattle.graph.specs.declared.Head.{Head}
-use Rattle.merges.specs.Run.{flat, runOf, runIn, Blank, Start, Merged}
+use Rattle.merges.specs.Run.{Run, flat, runOf, runIn, Blank, Start, Merged}
 use Rattle.merges.specs.Run.Laws.{length-joints, length-final}
-use Rattle.merges.specs.declared.Run.{Run}
 use Rattle.graph.specs.Lent.{Drawn}
 use Rattle.graph.specs.Lent.Sheets.{counted, fine-few}
 

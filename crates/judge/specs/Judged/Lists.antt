@@ -13,12 +13,10 @@ use Rattle.theory.specs.Graph.{Graph, findingOf, verdictOf}
 use Rattle.theory.specs.Graph.Laws.{first-verdict, fine-verdict}
 use Rattle.graph.specs.Lent.{Sound}
 use Rattle.graph.specs.Lent.Sheets.{found-fine, fine-few}
-use Rattle.merges.specs.Run.{flat, runOf}
+use Rattle.merges.specs.Run.{Run, flat, runOf}
 use Rattle.merges.specs.Run.Laws.{length-numbers, length-final}
 use Rattle.engine.specs.Lists.{livingOf}
-use Rattle.merges.specs.declared.Run.{Run}
-use Rattle.judge.specs.declared.Judged.{Judged}
-use Rattle.judge.specs.Judged.{listed, planned, overFound, judgedBy, judgedOf, planBy, planNumbers, finalsBy, finalClusters}
+use Rattle.judge.specs.Judged.{Judged, listed, planned, overFound, judgedBy, judgedOf, planBy, planNumbers, finalsBy, finalClusters}
 
 -- zeros name no living cluster
 living-none : (k : ℕ) → livingOf (replicate k 0) ≡ []

@@ -21,12 +21,10 @@ use Rattle.peeling.specs.Core.Peeling.{core-none}
 use Rattle.theory.specs.Over.Laws.{overOf-fine}
 use Rattle.theory.specs.Ring.Laws.{few-ringed, one-ringed}
 use Rattle.peeling.specs.Core.Merging.{loose-one}
-use Rattle.merges.specs.Run.{runIn, Blank, Merged, Planned}
-use Rattle.merges.specs.declared.Run.{Run}
-use Rattle.judge.specs.declared.Judged.{Judged}
-use Rattle.judge.specs.Judged.{listed, overFound, judgedBy, judgedOf}
+use Rattle.merges.specs.Run.{Run, runIn, Blank, Planned}
+use Rattle.judge.specs.Judged.{Judged, listed, overFound, judgedBy, judgedOf}
 use Rattle.judge.specs.Telling.{Tells, Reached}
-use Rattle.judge.specs.Judged.Laws.{laid, steps-are}
+use Rattle.judge.specs.Judged.Laws.{laid}
 use Rattle.judge.specs.Judged.Lists.{judged-held}
 
 module _ (g : Graph) (sound : Sound (g .n) (g .clusters)) where
@@ -50,9 +48,6 @@ module _ (g : Graph) (sound : Sound (g .n) (g .clusters)) where
   run-first q blank = laid [] blank (blank .slots-blank) ∙ sym (ap (λ (j : Judged). j .run) (first-judged q))
 
   -- merges that leave one cluster show that it is not over
-  pub one-left : {run : Run} → Merged cs run → 2 * run .steps + 1 ≡ length cs → NotOver cs
-  one-left m one = one-fine cs (sound .simple .pairs) (m .p) (m .valid) (omega (arith, steps-are cs (sound .simple .pairs) m, one))
-
   module _ {steps : ℕ} (r : Reached cs steps) where
     reached-left : left (final cs (r .merges)) + 2 * steps ≡ length cs
     reached-left = omega (arith, steps-left cs (sound .simple .pairs) (r .merges) (r .valid), r .count)

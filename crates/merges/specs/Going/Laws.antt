@@ -8,11 +8,10 @@ use Rattle.theory.specs.Merge.Count.{steps-left}
 use Rattle.theory.specs.Merge.Numbered.{alive-lt}
 use Rattle.theory.specs.Plan.{ascending}
 use Rattle.theory.specs.Plan.Order.{open-ascending, put-ascending, joint-ascending}
-use Rattle.merges.specs.Run.{places, mostSteps, flat, runOf, Start}
+use Rattle.merges.specs.Run.{Run, places, mostSteps, flat, runOf, Start}
 use Rattle.merges.specs.Run.Laws.{final-snoc, valid-snoc, joints-snoc, flat-snoc, length-final, length-numbers, length-joints, store-three}
 use Rattle.merges.specs.Run.Laws.{three-block, put-block}
 use Rattle.merges.specs.Going.{Slots, Going, Made}
-use Rattle.merges.specs.declared.Run.{Run}
 
 -- ---- the clusters
 

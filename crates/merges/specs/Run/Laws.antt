@@ -1,12 +1,12 @@
 -- Lists of merges: one merge more at the end, how many numbers, and one merge in an array. Assumes nothing.
 use Rattle.theory.specs.Prelude.{_≡_, refl, sym, ap, _∙_, List, [], _∷_, _++_, map, append-assoc, map-append, ℕ, suc, _+_, _*_, _<_, arith, length}
-use Rattle.theory.specs.Prelude.{take, set, length-append, length-map, length-set}
+use Rattle.theory.specs.Prelude.{take, set, length-append, length-map, length-set, _≢_, Bool, true, false, eqb, eqb-true, eqb-false, eq-eqb, ne-eqb}
 use Rattle.theory.specs.Block.{block}
 use Rattle.theory.specs.Block.Laws.{getD-block, set-block, store-block, take-block}
-use Rattle.theory.specs.Merge.{Merge, three, OpenAt, union, joint, cleared, put, Valid, final, joints}
+use Rattle.theory.specs.Merge.{Merge, three, OpenAt, union, joint, cleared, put, Valid, final, joints, left}
 use Rattle.theory.specs.Merge.Numbered.{length-cleared, length-put}
 use Rattle.theory.specs.Plan.{ascending}
-use Rattle.merges.specs.Run.{places, flat, Start}
+use Rattle.merges.specs.Run.{places, flat, oneLeft, Start}
 
 -- ---- before any merge
 
@@ -57,6 +57,23 @@ pub length-joints : (p : List Merge) (s : List ℕ) → length (joints s p) ≡ 
 unfolding joints
 length-joints [] s = refl
 length-joints (r ∷ p) s = ap suc (length-joints p (put s r))
+
+-- ---- one cluster left
+
+module _ (e steps : ℕ) where
+  pub one-left-true : oneLeft e steps ≡ true → 2 * steps + 1 ≡ e
+  one-left-true = eqb-true (2 * steps + 1) e
+
+  pub one-left-false : oneLeft e steps ≡ false → 2 * steps + 1 ≢ e
+  one-left-false = eqb-false (2 * steps + 1) e
+
+  -- of clusters that merges of e left
+  pub one-left : (s : List ℕ) → left s + 2 * steps ≡ e → oneLeft e steps ≡ eqb (left s) 1
+  one-left s h = by (eqb (left s) 1) refl
+    where
+      by : (b : Bool) → eqb (left s) 1 ≡ b → eqb (2 * steps + 1) e ≡ b
+      by true q = eq-eqb (2 * steps + 1) e (omega (arith, h, eqb-true (left s) 1 q))
+      by false q = ne-eqb (2 * steps + 1) e (λ z. eqb-false (left s) 1 q (omega (arith, h, z)))
 
 -- ---- in an array of k places
 

@@ -8,10 +8,10 @@ use Rattle.theory.specs.Constraints.{pair, Pairs, Below, has, carried, NotOver,
 use Rattle.theory.specs.Constraints.Laws.{has-in, carried-cut, not-over-in, pair-in, pair-comm, size-pair, pair-below}
 use Rattle.theory.specs.Over.{IsOver, isOver}
 use Rattle.theory.specs.Over.Laws.{more-over, over-isOver, fine-isOver}
-use Rattle.greedy.specs.Completion.{Offer, _∈_ as _∈ᵒ_, cluster}
-use Rattle.greedy.specs.Completion.Rank.{Exact}
-use Rattle.greedy.specs.Completion.Laws.{exact-kept, next-carried}
-use Rattle.greedy.specs.Choice.{choose}
+use Rattle.theory.specs.Completion.{Offer, _∈_ as _∈ᵒ_, cluster}
+use Rattle.theory.specs.Completion.Rank.{Exact}
+use Rattle.theory.specs.Completion.Laws.{exact-kept, next-carried}
+use Rattle.theory.specs.Choice.{choose}
 use Rattle.sparsity.specs.Answer.{Using, More, Took}
 use Rattle.missing.specs.Missing.{number}
 use Rattle.missing.specs.Choosing.{pairAt, chooseNumbers, Numbered, Tied, Held, Tried}

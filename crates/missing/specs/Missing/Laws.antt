@@ -6,10 +6,10 @@ use Rattle.theory.specs.Graph.{Graph}
 use Rattle.sheet.specs.Field.{Field, value, refused, demand}
 use Rattle.sheet.specs.Refusals.{Rule, By, given, ruled}
 use Rattle.missing.specs.Links.Order.{length-map}
-use Rattle.greedy.specs.Completion.{Offer, _∈_}
-use Rattle.greedy.specs.Completion.Laws.{cheapest-one}
-use Rattle.greedy.specs.Choice.{pricesAllowed, offers, chosen, cheapest}
-use Rattle.greedy.specs.Choice.Laws.{offers-sound, Right, cheapest-right}
+use Rattle.theory.specs.Completion.{Offer, _∈_}
+use Rattle.theory.specs.Completion.Laws.{cheapest-one}
+use Rattle.theory.specs.Choice.{pricesAllowed, offers, chosen, cheapest}
+use Rattle.theory.specs.Choice.Laws.{offers-sound, Right, cheapest-right}
 use Rattle.missing.specs.Choosing.{chooseNumbers, Numbered}
 use Rattle.missing.specs.Choosing.Laws.{numbers-chosen}
 use Rattle.missing.specs.Missing.{number, pairsOf, listField, cheapestField, Told}

@@ -1,79 +1,67 @@
 -- `part::put_cluster` meets its contract: the verdict's number tells 11, the count of clusters 26, and the arrays hold the plan's steps. Assumes
 -- nothing.
-use Rattle.theory.specs.Prelude.{needs, arith, sym, _∙_}
-use Rattle.theory.specs.Graph.{Graph}
-use Rattle.graph.specs.Lent.{graphIn}
-use Rattle.graph.specs.Lent.Sheets.{counted}
-use Rattle.part.specs.Tallies.Plan as plan
-use Rattle.part.specs.Tallies.Judged.{over-refused, PlanFound, plan-found, number-refused}
+use Rattle.theory.specs.Prelude.{needs, arith, _≡_, _≢_, refl, sym, ap, _∙_, ℕ, _*_, _≤_}
+use Rattle.theory.specs.Verdict.{verdictNumber}
+use Rattle.theory.specs.Graph.{SizedGraph}
+use Rattle.sheet.specs.Field.{refused}
+use Rattle.sheet.specs.Answer.{byRule}
+use Rattle.graph.specs.Lent.{sizedIn}
+use Rattle.judge.specs.Found.Laws.{PlanFound, found-over, found-plan}
+use Rattle.part.specs.Part.{clusterField, heldField}
+use Rattle.part.specs.Tallies.Plan.{few-run, no-cluster, asks, all-listed}
 use Rattle.part.specs.Tallies.Answers.{tallied-refused}
 use Rattle.part.proofs.put_cluster.Tie as tie
 
-abbrev graph : tie.Start → Graph
-graph s = graphIn (s .args .h) (s .args .start .now) (s .args .sizes .now)
+-- what is found
+module _ (c : tie.After-judge-on) where
+  abbrev entry : tie.Start
+  entry = c .before .before .before .before
 
-returns : tie.Need-returns
-returns c =
-    let s = c .before .before .before in
-    tallied-refused
-    (over-refused (graph s) (s .pre .sound) _ (c .before .before .judge .ensures _) (sym (c .before .number .ensures) ∙ c .if1 .taken) (s .args .c))
+  abbrev graph : SizedGraph
+  graph = sizedIn (entry .args .h) (entry .args .start .now) (entry .args .sizes .now)
+
+  over : verdictNumber (c .judge-on .result .verdict) ≡ 0 → heldField graph (entry .args .c) ≡ refused 11
+  over v = ap (λ (k : ℕ). byRule k (clusterField graph (entry .args .c))) (found-over (graph .graph) (c .judge-on .ensures) v)
+
+  plan : verdictNumber (c .judge-on .result .verdict) ≢ 0 → PlanFound (graph .graph) (c .judge-on .ensures)
+  plan v = found-plan (graph .graph) (c .judge-on .ensures) (entry .pre .sound) v
 
 -- not over
 module _ (c : tie.Else1) where
-  abbrev entry : tie.Start
-  entry = c .before .before .before
+  abbrev judged : tie.After-judge-on
+  judged = c .before .before
 
-  found : PlanFound (graph entry) (entry .pre .sound) (c .before .before .judge .result) (c .before .before .judge .ensures _)
-  found = plan-found _ _ _ _ (λ v. c .if1 .left (c .before .number .ensures ∙ v))
+  found : PlanFound (graph judged .graph) (judged .judge-on .ensures)
+  found = plan judged (λ v. c .if1 .left (c .before .number .ensures ∙ v))
 
-add-if2 : tie.Need-add-if2
-add-if2 c =
-    let x = c .before .before .before in
-    let s = entry x in
-    record {
-      fits = omega (
-        arith,
-        plan.few-run (s .args .h) (s .args .start .now) (s .args .sizes .now) (s .pre .sound) (counted (s .pre)) (found x .notOver) _
-            (found x .run-is),
-        s .pre .few,
-      );
-    }
+  few : 2 * judged .judge-on .result .steps ≤ entry judged .args .h .e
+  few = few-run (entry judged .args .sizes .now) (entry judged .pre) (judged .judge-on .ensures) found
+
+returns : tie.Need-returns
+returns c = tallied-refused (over (c .before .before) (sym (c .before .number .ensures) ∙ c .if1 .taken))
 
 returns-2 : tie.Need-returns-2
-returns-2 c =
-    let x = c .before .before .before .before in
-    let s = entry x in
-    tallied-refused
-    (number-refused (graph s) (found x .none) (s .args .c)
-    (omega (
-      arith,
-      plan.steps-are (s .args .h) (s .args .start .now) (s .args .sizes .now) (s .pre .sound) (counted (s .pre)) (found x .notOver) _
-          (found x .run-is),
-      counted (s .pre),
-      c .if2 .taken,
-    )))
+returns-2 c = let x = c .before .before .before in let k = judged x in tallied-refused (no-cluster _ (entry k .pre) _ (found x) (entry k .args .c) (c .if2 .taken))
 
 -- the number of a cluster
 put-part-requires : tie.Need-put-part-requires
 put-part-requires c κs =
     let text = c .before .before .before .before in
-    let y = text .before .before .before in
-    let x = y .before .before .before .before in
-    let s = entry x in
-    let asked =
-    plan.asks (s .args .h) (s .args .start .now) (s .args .sizes .now) (s .pre .sound) (counted (s .pre)) (found x .notOver) _ (found x .run-is)
-    (s .args .c) (omega (arith, y .if2 .left)) in
-    (asked .0, (asked .1, text .numerals .ensures))
+    let y = text .before in
+    let x = y .before .before .before in
+    let k = judged x in
+    let (low, fits) = asks _ (entry k .pre) _ (found x) (entry k .args .c) (omega (arith, y .if2 .left)) in
+    (low, (fits, text .numerals .ensures))
 
 returns-3 : tie.Need-returns-3
 returns-3 c =
-    let y = c .before .before .before .before .before .before .before .before in
-    let x = y .before .before .before .before in
-    let s = entry x in
-    plan.all-listed (s .args .h) (s .args .start .now) (s .args .sizes .now) (s .pre .sound) (counted (s .pre)) (found x .notOver) _ (found x .run-is)
-    (s .args .c) (omega (arith, y .if2 .left)) (found x .none) (c .put-part .ensures)
+    let y = c .before .before .before .before .before .before in
+    let x = y .before .before .before in
+    let k = judged x in
+    all-listed _ (entry k .pre) _ (found x) (entry k .args .c) (omega (arith, y .if2 .left)) (c .put-part .ensures)
 
 pub put-cluster-spec : {M : Type 1} → Rattle.part.proofs.put_cluster.Statement.statement M
 put-cluster-spec =
     tie.close
-    (tie.spec (λ c κs. search needs) (λ c κs. search needs) returns add-if2 returns-2 (λ c κs. search needs) put-part-requires returns-3)
+    (tie.spec (λ c κs. (c .before .before .before .pre, record { slots-blank = refl; parts-blank = refl; joints-blank = refl })) (λ c κs. search needs)
+    returns (λ c. omega (arith, few (c .before .before), entry (judged (c .before .before)) .pre .few)) returns-2 (λ c κs. search needs) put-part-requires returns-3)

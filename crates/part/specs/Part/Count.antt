@@ -10,7 +10,7 @@ use Rattle.theory.specs.Merge.Threes.{size-union, big-a, big-b, big-c}
 use Rattle.theory.specs.Set.Laws.{size-zero}
 use Rattle.theory.specs.Plan.{ascending}
 use Rattle.theory.specs.Plan.Order.{open-ascending, put-ascending}
-use Rattle.theory.specs.Graph.{Graph, stepOf, stepsFrom}
+use Rattle.theory.specs.Graph.{SizedGraph, stepOf, stepsFrom}
 use Rattle.theory.specs.declared.Step.{Step}
 use Rattle.engine.specs.Steps.{blankStep}
 use Rattle.part.specs.Part.{partSteps}
@@ -174,7 +174,7 @@ module _ (e : ℕ) (step : ℕ → Step) where
         at-weighs c (old q f) z = h .weighs c (λ y. z (f ∙ y)) ∙ ap weight (sym f)
 
   -- a list of merges whose steps are those from here on
-  pub counted-run : (g : Graph) (p : List Merge) (s : List ℕ) → Valid s p → Counted s
+  pub counted-run : (g : SizedGraph) (p : List Merge) (s : List ℕ) → Valid s p → Counted s
       → ((t : ℕ) → t < length p → step (length s - e + t) ≡ getD (stepsFrom g s p) t blankStep) → Counted (final s p)
   unfolding stepsFrom stepOf
   counted-run g [] s v h are = h

@@ -2,7 +2,7 @@
 use Rattle.theory.specs.Prelude.{ℕ, zero, suc, _+_, _-_, _≤_, _<_, decLt, arith, _≡_, refl, sym, ap, _∙_, subst, _⊎_, inl, inr, List, [], _∷_, _++_}
 use Rattle.theory.specs.Prelude.{length}
 use Rattle.theory.specs.Constraints.{Pairs, Among, Perm, then}
-use Rattle.theory.specs.Graph.{Graph, stepsOf}
+use Rattle.theory.specs.Graph.{SizedGraph, stepsOf}
 use Rattle.theory.specs.Graph.Laws.{length-steps}
 use Rattle.theory.specs.Merge.{final}
 use Rattle.theory.specs.Plan.{planOf}
@@ -161,19 +161,19 @@ module _ (e : ℕ) (step : ℕ → Step) where
 
 -- ---- of a graph's plan
 
-module _ (g : Graph) (pairs : Pairs (g .clusters)) (c : ℕ) (below : c < length (g .clusters) + length (planOf (g .clusters))) where
+module _ (g : SizedGraph) (pairs : Pairs (g .graph .clusters)) (c : ℕ) (below : c < length (g .graph .clusters) + length (planOf (g .graph .clusters))) where
   abbrev e : ℕ
-  e = length (g .clusters)
+  e = length (g .graph .clusters)
 
   pub shown : Shown g c
   unfolding clusterSteps
   shown =
       let n = counted-plan g pairs in
-      let p = planOf (g .clusters) in
+      let p = planOf (g .graph .clusters) in
       let l = lower-plan g pairs c below in
-      let long : length (final (g .clusters) p) ≡ e + length p = length-final p (g .clusters) in
-      let all : firsts (planStep g) (length (final (g .clusters) p) - e) ≡ stepsOf g p =
-      let z : length (final (g .clusters) p) - e ≡ length (stepsOf g p) = omega (arith, long, length-steps g (g .clusters) p) in
+      let long : length (final (g .graph .clusters) p) ≡ e + length p = length-final p (g .graph .clusters) in
+      let all : firsts (planStep g) (length (final (g .graph .clusters) p) - e) ≡ stepsOf g p =
+      let z : length (final (g .graph .clusters) p) - e ≡ length (stepsOf g p) = omega (arith, long, length-steps g (g .graph .clusters) p) in
       ap (firsts (planStep g)) z ∙ firsts-all (stepsOf g p) in
       record {
         exactly = λ s. (
@@ -181,8 +181,8 @@ module _ (g : Graph) (pairs : Pairs (g .clusters)) (c : ℕ) (below : c < length
           λ x. let (d, m, q) = x in subst (λ (y : Step). In y (clusterSteps g c)) (sym q) (to-list e (planStep g) d c l m),
         );
         once = n .once c (omega (arith, long));
-        ordered = in-order e (planStep g) (length (final (g .clusters) p)) (n .makes) (suc c) c [] (omega arith) (omega (arith, long)) l;
-        whole = λ one z. then (gather-one (partSteps e (planStep g)) (final (g .clusters) p) c one z)
-            (subst (Perm (gather (partSteps e (planStep g)) 0 (final (g .clusters) p))) all (n .gathers));
+        ordered = in-order e (planStep g) (length (final (g .graph .clusters) p)) (n .makes) (suc c) c [] (omega arith) (omega (arith, long)) l;
+        whole = λ one z. then (gather-one (partSteps e (planStep g)) (final (g .graph .clusters) p) c one z)
+            (subst (Perm (gather (partSteps e (planStep g)) 0 (final (g .graph .clusters) p))) all (n .gathers));
         steps-elements = steps-elements g pairs c below;
       }

@@ -8,7 +8,8 @@ use Rattle.pattern.proofs.chain.Tie as tie
 returns : tie.Need-returns
 unfolding heldSheet
 returns c =
-    rw (refused-read _ _ _ _ _ (c .before .before .before .read-graph .ensures) (c .before .enum-told .given .1) (c .refusal .ensures)) (refl, refl)
+    rw (refused-read _ _ _ _ _ (c .before .before .before .read-graph .ensures) (c .before .enum-told .given .1) (c .refusal .ensures))
+    (record { answer-is = refl; left-is = refl })
 
 -- the facts of the sheet
 read : (c : tie.After-start2)
@@ -23,7 +24,7 @@ returns-2 : tie.Need-returns-2
 returns-2 c =
     let a = c .before .before .before .before .before .before .before .before .before .before .before .before .before .before .before .args in
     let f = read (c .before .before .before .before) in chain-read _ (a .from) (a .to) (f .reads) (f .graph-read) (a .out .now) _ _
-    (c .before .before .chain-of .ensures _)
+    (c .before .before .chain-of .ensures)
 
 pub chain-spec : {M : Type 1} → Rattle.pattern.proofs.chain.Statement.statement M
 chain-spec =

@@ -1,9 +1,9 @@
 -- `pattern::check_plan` meets its contract: 11 and the plan check, of the graph that is read. Assumes nothing.
 use Rattle.theory.specs.Prelude.{needs, ℕ, _≡_, refl, subst, List}
-use Rattle.theory.specs.Graph.{Graph}
+use Rattle.theory.specs.Graph.{SizedGraph}
 use Rattle.sheet.specs.Answer.{byRule, Answers}
 use Rattle.space.specs.declared.Written.{Written}
-use Rattle.sheet.specs.Graph.{graphOf, overFault}
+use Rattle.sheet.specs.Graph.{graphOf, sizedOf, overFault}
 use Rattle.sheet.specs.Field.{value}
 use Rattle.sheet.specs.Answer.Laws.{next-rule, answers-refused}
 use Rattle.account.specs.Account.{savedField}
@@ -28,10 +28,10 @@ read c =
     (c .before .before .before .before .before .got .given .1)
 
 -- the answer goes by the graph alone
-by-graph : (plan : List ℕ) {g g′ : Graph} {space left : List ℕ} {r : Written} → g ≡ g′
-    → Answers (byRule (overFault g) (savedField g plan)) space r left
-    → Answers (byRule (overFault g′) (savedField g′ plan)) space r left
-by-graph plan {space = space} {left} {r} e h = subst (λ (x : Graph). Answers (byRule (overFault x) (savedField x plan)) space r left) e h
+by-graph : (plan : List ℕ) {g g′ : SizedGraph} {space left : List ℕ} {r : Written} → g ≡ g′
+    → Answers (byRule (overFault (g .graph)) (savedField g plan)) space r left
+    → Answers (byRule (overFault (g′ .graph)) (savedField g′ plan)) space r left
+by-graph plan {space = space} {left} {r} e h = subst (λ (x : SizedGraph). Answers (byRule (overFault (x .graph)) (savedField x plan)) space r left) e h
 
 returns-2 : tie.Need-returns-2
 unfolding heldSheet
@@ -40,9 +40,9 @@ returns-2 c =
     let f = read (c .before .before .before) in
     rw (
       f .reads,
-      next-rule (overFault (graphOf (f .facts))) (value (f .facts) (f .rest)) (λ x rest. savedField (graphOf x) (a .plan .now)),
+      next-rule (overFault (graphOf (f .facts))) (value (f .facts) (f .rest)) (λ x rest. savedField (sizedOf x) (a .plan .now)),
     )
-    (by-graph (a .plan .now) (f .graph-read) (c .before .before .check-plan .ensures))
+    (by-graph (a .plan .now) (f .sized-read) (c .before .before .check-plan .ensures))
 
 pub check-plan-spec : {M : Type 1} → Rattle.pattern.proofs.check_plan.Statement.statement M
 check-plan-spec =

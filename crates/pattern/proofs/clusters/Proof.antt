@@ -25,7 +25,7 @@ read c =
 returns-2 : tie.Need-returns-2
 returns-2 c =
     let f = read (c .before .before .before) in
-    answers-items (c .before .before .clusters .ensures (c .before .before .before .before .before .before .before .before .before .read-graph .last .1 .1 .1 .0)) (rw (f .reads) (ap (λ (g : Graph). value (finalClusters g) []) (sym (f .graph-read))))
+    answers-items (c .before .before .clusters .ensures) (rw (f .reads) (ap (λ (g : Graph). value (finalClusters g) []) (sym (f .graph-read))))
 
 pub clusters-spec : {M : Type 1} → Rattle.pattern.proofs.clusters.Statement.statement M
 clusters-spec =

@@ -7,7 +7,7 @@ use Rattle.sheet.specs.Accepted.Laws.{factsOf-sheetOf, sheetOf-fault}
 use Rattle.sheet.specs.Graph.{graphOf, overFault}
 use Rattle.sheet.specs.Answer.Laws.{rule-some, answers-refused, answers-items}
 use Rattle.graph.specs.declared.Head.{Head}
-use Rattle.graph.specs.Lent.{graphIn, sizesOf}
+use Rattle.graph.specs.Lent.{graphIn}
 use Rattle.pattern.specs.Entries.{heldSheet}
 use Rattle.pattern.specs.Entries.Reading.{SheetFound, refused-sheet, sheet-found}
 use Rattle.pattern.proofs.hold_in.Tie as tie
@@ -28,8 +28,8 @@ read c = sheet-found _ _ _ _ _ _ (c .before .before .before .before .before .bef
 over-is : (c : tie.After-over-fault) → c .over-fault .result ≡ overFault (graphOf (read (c .before) .facts))
 over-is c =
     let f = read (c .before) in
-    c .over-fault .ensures (sizesOf (f .facts))
-    ∙ ap overFault (ap (λ (h : Head). graphIn h (c .before .before .before .before .before .before .before .read-codes .last .1 .1 .0) (sizesOf (f .facts)))
+    c .over-fault .ensures
+    ∙ ap overFault (ap (λ (h : Head). graphIn h (c .before .before .before .before .before .before .before .read-codes .last .1 .1 .0))
     (c .before .before .before .head-of .ensures) ∙ f .graph-read)
 
 returns-2 : tie.Need-returns-2

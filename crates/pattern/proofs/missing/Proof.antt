@@ -42,7 +42,7 @@ returns-2 c =
       f .reads,
       next-rule (overFault (graphOf (f .facts))) (value (f .facts) (f .rest)) (λ x rest. cheapestField (graphOf x) (a .prices .now)),
     )
-    (by-graph (a .prices .now) (f .graph-read) (c .before .before .missing .ensures _))
+    (by-graph (a .prices .now) (f .graph-read) (c .before .before .missing .ensures))
 
 pub missing-spec : {M : Type 1} → Rattle.pattern.proofs.missing.Statement.statement M
 missing-spec =

@@ -39,7 +39,7 @@ returns-2 c =
       f .reads,
       next-rule (overFault (graphOf (f .facts))) (value (f .facts) (f .rest)) (λ x rest. openField (graphOf x) (a .count)),
     )
-    (by-graph (a .count) (f .graph-read) (c .before .before .open-of .ensures _))
+    (by-graph (a .count) (f .graph-read) (c .before .before .open-of .ensures))
 
 pub open-merges-spec : {M : Type 1} → Rattle.pattern.proofs.open_merges.Statement.statement M
 open-merges-spec =

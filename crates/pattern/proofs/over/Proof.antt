@@ -20,7 +20,7 @@ read c =
     facts-read _ _ _ _ _ (c .before .before .before .before .before .read-graph .ensures) (c .before .before .before .got .given .1)
 
 found : (c : tie.After-over-of) → findingOf (graphOf (read (c .before) .facts)) ≡ c .over-of .result
-found c = sym (c .over-of .ensures [] ∙ ap (λ (g : Graph). findingOf g) (read (c .before) .graph-read))
+found c = sym (c .over-of .ensures ∙ ap (λ (g : Graph). findingOf g) (read (c .before) .graph-read))
 
 returns-2 : tie.Need-returns-2
 returns-2 c =

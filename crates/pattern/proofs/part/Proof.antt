@@ -1,7 +1,7 @@
 -- `pattern::part` meets its contract: 11, 26 and 17 of the graph that is read. Assumes nothing.
 use Rattle.theory.specs.Prelude.{needs, ℕ, _≡_, refl, subst, List}
 use Rattle.space.specs.declared.Written.{Written}
-use Rattle.theory.specs.Graph.{Graph}
+use Rattle.theory.specs.Graph.{SizedGraph}
 use Rattle.sheet.specs.Answer.{Answers}
 use Rattle.sheet.specs.Answer.Laws.{answers-refused}
 use Rattle.part.specs.Part.{heldField, linesField}
@@ -27,15 +27,15 @@ read c =
     (c .before .before .before .before .before .got .given .1)
 
 -- the answer goes by the graph alone
-by-graph : (number : ℕ) {g g′ : Graph} {space left : List ℕ} {r : Written} → g ≡ g′ → Answers (linesField (heldField g number)) space r left
+by-graph : (number : ℕ) {g g′ : SizedGraph} {space left : List ℕ} {r : Written} → g ≡ g′ → Answers (linesField (heldField g number)) space r left
     → Answers (linesField (heldField g′ number)) space r left
-by-graph number {space = space} {left} {r} e h = subst (λ (x : Graph). Answers (linesField (heldField x number)) space r left) e h
+by-graph number {space = space} {left} {r} e h = subst (λ (x : SizedGraph). Answers (linesField (heldField x number)) space r left) e h
 
 returns-2 : tie.Need-returns-2
 returns-2 c =
     let a = c .before .before .before .before .before .before .before .before .before .before .before .before .before .before .before .before .args in
     let f = read (c .before .before .before) in
-    rw (part-held (a .bytes .now) (a .number) (f .reads)) (by-graph (a .number) (f .graph-read) (c .before .before .list .ensures))
+    rw (part-held (a .bytes .now) (a .number) (f .reads)) (by-graph (a .number) (f .sized-read) (c .before .before .list .ensures))
 
 pub part-spec : {M : Type 1} → Rattle.pattern.proofs.part.Statement.statement M
 part-spec =

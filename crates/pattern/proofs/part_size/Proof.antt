@@ -1,6 +1,6 @@
 -- `pattern::part_size` meets its contract: 11 and 26 of the graph that is read. Assumes nothing.
 use Rattle.theory.specs.Prelude.{needs, refl, sym, ap, _∙_}
-use Rattle.theory.specs.Graph.{Graph}
+use Rattle.theory.specs.Graph.{SizedGraph}
 use Rattle.part.specs.Part.{heldField}
 use Rattle.part.specs.Tallies.{measureOf}
 use Rattle.pattern.specs.Entries.{heldSheet}
@@ -26,7 +26,7 @@ returns-2 : tie.Need-returns-2
 returns-2 c =
     let f = read (c .before) in
     let a = c .before .before .before .before .before .before .before .before .before .before .before .before .args in
-    c .measure .ensures ∙ ap (λ (g : Graph). measureOf (heldField g (a .number))) (f .graph-read)
+    c .measure .ensures ∙ ap (λ (g : SizedGraph). measureOf (heldField g (a .number))) (f .sized-read)
     ∙ ap measureOf (sym (part-held (a .bytes .now) (a .number) (f .reads)))
 
 pub part-size-spec : {M : Type 1} → Rattle.pattern.proofs.part_size.Statement.statement M

@@ -1,10 +1,9 @@
 -- `pattern::plan` meets its contract: the numbers of the judgement of the graph that is read. Assumes nothing.
-use Rattle.theory.specs.Prelude.{needs, refl, sym, ap, _∙_, List, [], ℕ}
+use Rattle.theory.specs.Prelude.{_≡_, needs, refl, sym, ap, _∙_, List, [], ℕ, _*_, arith, length, take, length-take-le}
 use Rattle.theory.specs.Graph.{Graph}
 use Rattle.sheet.specs.Graph.{graphOf}
 use Rattle.graph.specs.Lent.Sheets.{accepted-sound}
-use Rattle.merges.specs.Run.{runIn}
-use Rattle.merges.specs.declared.Run.{Run}
+use Rattle.merges.specs.Run.{Run, runIn}
 use Rattle.judge.specs.Judged.{judgedOf}
 use Rattle.judge.specs.Judged.Lists.{HeldRun, run-held}
 use Rattle.sheet.specs.Field.{value}
@@ -37,16 +36,20 @@ module _ (c : tie.After-plan-on) where
   run = let l = c .plan-on .last .1 .1 .1 in runIn (c .plan-on .result) (l .1 .0) (l .1 .1 .0) (l .0)
 
   held : HeldRun (graphOf (read lent .facts)) (accepted-sound _ (read lent .stands .accepted)) run
-  held = run-held _ _ (c .plan-on .ensures _ ∙ ap (λ (g : Graph). judgedOf g .run) (read lent .graph-read))
+  held = run-held _ _ (c .plan-on .ensures ∙ ap (λ (g : Graph). judgedOf g .run) (read lent .graph-read))
+
+  long : length (take (3 * run .steps) (run .parts)) ≡ 3 * run .steps
+  long = length-take-le _ (run .parts) (omega (arith, held .few-steps, held .all-parts))
 
 returns-2 : tie.Need-returns-2
 returns-2 c =
     let k = c .before .before .before .before .before in
-    answers-items (c .before .before .put-plan .ensures)
+    answers-items (c .before .before .put-all16 .ensures)
     (rw (read (lent k) .reads) (ap (λ (l : List ℕ). value l []) (sym (held k .plan-is))))
 
 pub plan-spec : {M : Type 1} → Rattle.pattern.proofs.plan.Statement.statement M
 plan-spec =
     tie.close
     (tie.spec (λ c κs. (refl, refl, refl)) (λ c. search needs) (λ c. search needs) (λ c κs. search needs) returns plan-on-requires
-    (λ c κs. let j = held (c .before .before) in (j .few-steps, j .all-parts)) (λ c. search needs) returns-2)
+    (λ c. omega (arith, held c .few-steps)) (λ c. let h = held (c .before) in omega (arith, h .few-steps, h .all-parts))
+    (λ c. sym (long (c .before .before))) (λ c κs. search needs) (λ c. search needs) returns-2)

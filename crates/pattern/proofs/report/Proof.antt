@@ -1,6 +1,6 @@
 -- `pattern::report` meets its contract: the report of the graph that is read. Assumes nothing.
 use Rattle.theory.specs.Prelude.{needs, refl, sym, ap, []}
-use Rattle.theory.specs.Graph.{Graph}
+use Rattle.theory.specs.Graph.{SizedGraph}
 use Rattle.account.specs.Account.{reportOf}
 use Rattle.sheet.specs.Field.{value}
 use Rattle.sheet.specs.Answer.Laws.{answers-refused, answers-items}
@@ -25,7 +25,7 @@ read c =
 returns-2 : tie.Need-returns-2
 returns-2 c =
     let f = read (c .before .before .before) in
-    answers-items (c .before .before .report .ensures) (rw (f .reads) (ap (λ (g : Graph). value (reportOf g) []) (sym (f .graph-read))))
+    answers-items (c .before .before .report .ensures) (rw (f .reads) (ap (λ (g : SizedGraph). value (reportOf g) []) (sym (f .sized-read))))
 
 pub report-spec : {M : Type 1} → Rattle.pattern.proofs.report.Statement.statement M
 report-spec =

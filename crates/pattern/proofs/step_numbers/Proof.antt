@@ -6,7 +6,7 @@ use Rattle.pattern.proofs.step_numbers.Tie as tie
 returns : tie.Need-returns
 returns c =
     let f = c .before .before .before .before in
-    listed-numbers (f .before .before .plan-listing .ensures) (f .before .no-records .ensures) (f .fill-on .ensures)
+    listed-numbers (f .before .before .plan-listing .ensures) (f .before .no-steps .ensures) (f .fill-on .ensures)
     (c .before .before .put-numbers .ensures)
 
 pub step-numbers-spec : {M : Type 1} → Rattle.pattern.proofs.step_numbers.Statement.statement M

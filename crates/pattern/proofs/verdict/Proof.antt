@@ -21,4 +21,4 @@ pub verdict-spec : {M : Type 1} → Rattle.pattern.proofs.verdict.State
 verdict-spec =
     tie.close
     (tie.spec (λ c κs. (refl, refl, refl)) (λ c. search needs) (λ c. search needs) (λ c κs. search needs) returns (λ c κs. read c .drawn-is)
-    (λ c. let f = read (c .before) in rw (f .reads) (ap Is (c .verdict-of .ensures _ ∙ ap verdictOf (f .graph-read)))))
+    (λ c. let f = read (c .before) in rw (f .reads) (ap Is (c .verdict-of .ensures ∙ ap verdictOf (f .graph-read)))))

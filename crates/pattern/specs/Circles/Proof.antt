@@ -1,6 +1,6 @@
 -- The promises of circles hold: every answer goes through the graph, which is that of the centres. Assumes nothing.
 use Rattle.theory.specs.Prelude.{ℕ, _≡_, sym, ap, _∙_, List, [], _∷_, map, map-append}
-use Rattle.theory.specs.Graph.{Graph, verdictOf}
+use Rattle.theory.specs.Graph.{Graph, SizedGraph, verdictOf}
 use Rattle.sheet.specs.declared.Opening.the-variants.{Pf01}
 use Rattle.sheet.specs.declared.Constraint.{Constraint}
 use Rattle.sheet.specs.declared.Sheet.{Sheet}
@@ -12,16 +12,16 @@ use Rattle.sheet.specs.Accepted.{Accepted}
 use Rattle.sheet.specs.Accepted.Laws.{factsOf-sheetOf}
 use Rattle.sheet.specs.Answer.Laws.{next-rule}
 use Rattle.sheet.specs.RoundTrip.{written-read}
-use Rattle.sheet.specs.Graph.{graphOf, overFault}
-use Rattle.round.specs.Centres.{centreElement, centreConstraint, centres}
-use Rattle.round.specs.Centres.Laws.{graph-centres}
-use Rattle.round.specs.Centres.Contact.{contacts, derived}
-use Rattle.round.specs.Centres.Sheet.{centres-accepted}
-use Rattle.round.specs.Centres.Same.{judged-centres, held-centres}
-use Rattle.round.specs.First.Laws.{reads-as-before}
-use Rattle.round.specs.First.Fits.{pf01-rules, pf01-most}
-use Rattle.round.specs.First.Written.{pf01-writes, pf01-written-most, pf01-sizes}
-use Rattle.account.specs.Account.{savedField}
+use Rattle.sheet.specs.Graph.{graphOf, sizedOf, overFault}
+use Rattle.sheet.specs.Centres.{centreElement, centreConstraint, centres}
+use Rattle.sheet.specs.Centres.Laws.{graph-centres, sized-centres}
+use Rattle.sheet.specs.Centres.Contact.{contacts, derived}
+use Rattle.sheet.specs.Centres.Sheet.{centres-accepted}
+use Rattle.sheet.specs.Centres.Same.{judged-centres, held-centres}
+use Rattle.sheet.specs.First.Laws.{reads-as-before}
+use Rattle.sheet.specs.First.Fits.{pf01-rules, pf01-most}
+use Rattle.sheet.specs.First.Written.{pf01-writes, pf01-written-most, pf01-sizes}
+use Rattle.account.specs.Account.{reportOf, savedField}
 use Rattle.part.specs.Part.{clusterField, linesField}
 use Rattle.steps.specs.Records.{planSteps, savedRecords}
 use Rattle.chain.specs.Answer.{asked}
@@ -35,46 +35,48 @@ use Rattle.pattern.specs.Over.Held.{ask-rule, asked-next, placed-next}
 use Rattle.pattern.specs.Circles.{SameGraph, unlessOver, Round, taken, judgedBy, RoundHeld, Circles}
 
 module _ (bytes rest : List ℕ) (f : Facts) (all : Bytes bytes) (reads : readSheet bytes ≡ value f rest) where
-  abbrev own : graphOf f ≡ graphOf (centres f)
-  own = sym (graph-centres f)
+  abbrev own : sizedOf f ≡ sizedOf (centres f)
+  own = sym (sized-centres f)
 
-  -- what a held sheet's graph gives
-  held-is : {A : Type 0} (what : Graph → Field A) → next (heldSheet bytes) (λ x t. what (graphOf x))
-      ≡ unlessOver (graphOf (centres f)) (what (graphOf (centres f)))
+  -- what a held sheet's sized graph gives
+  held-is : {A : Type 0} (what : SizedGraph → Field A) → next (heldSheet bytes) (λ x t. what (sizedOf x))
+      ≡ unlessOver (graphOf (centres f)) (what (sizedOf (centres f)))
   unfolding heldSheet
   held-is what =
       rw reads
-      (next-rule (overFault (graphOf f)) (value f rest) (λ x t. what (graphOf x))
-      ∙ ap (λ (g : Graph). unlessOver g (what g)) own)
+      (next-rule (overFault (graphOf f)) (value f rest) (λ x t. what (sizedOf x))
+      ∙ ap (λ (g : SizedGraph). unlessOver (g .graph) (what g)) own)
 
   module _ (ok : Accepted (centres f)) where
     same : SameGraph bytes (sheetBytes (centres f))
     unfolding heldSheet
     same = record {
-      verdict = judged-centres (λ g. value (verdictOf g) []) bytes f rest reads ok;
-      items = λ what. judged-centres (λ g. value (what g) []) bytes f rest reads ok;
+      verdict = judged-centres (λ g. value (verdictOf (g .graph)) []) bytes f rest reads ok;
+      items = λ what. judged-centres (λ g. value (what (g .graph)) []) bytes f rest reads ok;
+      report = judged-centres (λ g. value (reportOf g) []) bytes f rest reads ok;
       check = λ plan. held-centres (λ g. savedField g plan) bytes f rest reads ok;
       steps = held-centres (λ g. value (planSteps g) []) bytes f rest reads ok;
       saved-steps = λ plan. held-centres (λ g. savedRecords g plan) bytes f rest reads ok;
       part = λ c. ap linesField (held-centres (λ g. clusterField g c) bytes f rest reads ok);
       part-steps = λ c. held-centres (λ g. clusterField g c) bytes f rest reads ok;
-      chain = λ start end. held-centres (λ g. asked g start end) bytes f rest reads ok;
-      missing = λ prices. held-centres (λ g. cheapestField g prices) bytes f rest reads ok;
-      open-merges = λ steps. held-centres (λ g. openField g steps) bytes f rest reads ok;
+      chain = λ start end. held-centres (λ g. asked (g .graph) start end) bytes f rest reads ok;
+      missing = λ prices. held-centres (λ g. cheapestField (g .graph) prices) bytes f rest reads ok;
+      open-merges = λ steps. held-centres (λ g. openField (g .graph) steps) bytes f rest reads ok;
     }
 
   light : Round bytes f
   light = record {
-    verdict = rw reads (ap (λ (g : Graph). value (verdictOf g) []) own);
-    items = λ what. rw reads (ap (λ (g : Graph). value (what g) []) own);
+    verdict = rw reads (ap (λ (g : SizedGraph). value (verdictOf (g .graph)) []) own);
+    items = λ what. rw reads (ap (λ (g : SizedGraph). value (what (g .graph)) []) own);
+    report = rw reads (ap (λ (g : SizedGraph). value (reportOf g) []) own);
     check = λ plan. held-is (λ g. savedField g plan);
     steps = held-is (λ g. value (planSteps g) []);
     saved-steps = λ plan. held-is (λ g. savedRecords g plan);
     part = λ c. ap linesField (held-is (λ g. clusterField g c));
     part-steps = λ c. held-is (λ g. clusterField g c);
-    chain = λ start end. held-is (λ g. asked g start end);
-    missing = λ prices. held-is (λ g. cheapestField g prices);
-    open-merges = λ steps. held-is (λ g. openField g steps);
+    chain = λ start end. held-is (λ g. asked (g .graph) start end);
+    missing = λ prices. held-is (λ g. cheapestField (g .graph) prices);
+    open-merges = λ steps. held-is (λ g. openField (g .graph) steps);
     sheet = λ small. let ok = centres-accepted f accepted small in (ok, same ok);
     contacts = contacts (f .elements);
     derived = derived f accepted;

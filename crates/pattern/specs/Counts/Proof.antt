@@ -1,5 +1,5 @@
 -- What a call answers is short: the bounds of reports and sheets, and of the merges of constraints that are not over. Assumes nothing.
-use Rattle.theory.specs.Prelude.{ℕ, zero, suc, _+_, _*_, _-_, _≤_, arith, _≡_, refl, sym, ap, _∙_, subst, List, [], map}
+use Rattle.theory.specs.Prelude.{ℕ, zero, suc, _+_, _*_, _-_, _≤_, arith, _≡_, refl, sym, ap, _∙_, subst, List, [], map, some}
 use Rattle.theory.specs.Prelude.{length, length-map, length-append, length-replicate, replicate}
 use Rattle.theory.specs.Constraints.{NotOver}
 use Rattle.theory.specs.Over.Laws.{overOf-fine, fine-most}
@@ -23,7 +23,7 @@ use Rattle.sheet.specs.Encode.{radiiBytes, sheetBytes}
 use Rattle.sheet.specs.Encode.Laws.{constraints-length}
 use Rattle.sheet.specs.Accepted.{Accepted}
 use Rattle.sheet.specs.Accepted.Laws.{accepted-two, accepted-most}
-use Rattle.sheet.specs.Graph.{clusterOf, graphOf, overFault}
+use Rattle.sheet.specs.Graph.{clusterOf, graphOf, sizedOf, overFault}
 use Rattle.sheet.specs.Graph.Laws.{fault-none}
 use Rattle.sheet.specs.Answer.{byRule}
 use Rattle.sheet.specs.RoundTrip.{written-read, written-most}
@@ -45,7 +45,7 @@ use Rattle.space.specs.declared.Written.the-variants.{Done}
 use Rattle.records.specs.Record.Laws.{record-accepted, sheet-short}
 use Rattle.records.specs.Record.Room.{held-length, record-room, by27-none, placed-room}
 use Rattle.account.specs.Account.{listReport, reportOf, savedFault}
-use Rattle.rests.specs.Rests.{restsOn}
+use Rattle.theory.specs.Rests.{restsOn}
 use Rattle.account.specs.Resting.{restsBy, restNumbers}
 use Rattle.account.specs.Resting.Laws.{words-most}
 use Rattle.account.specs.Account.Room.{report-room, saved-room}
@@ -53,7 +53,10 @@ use Rattle.account.specs.Own.Proof.{paired, below}
 use Rattle.pattern.specs.Entries.{held, heldSheet, initialClusters, overItems, overNumbers, checkField, stepsField, savedStepsField}
 use Rattle.pattern.specs.Entries.{holdField}
 use Rattle.report.specs.Report.{stepLines}
-use Rattle.pattern.specs.Entries.{partOf, missingField}
+use Rattle.pattern.specs.Entries.{partOf, chainField, missingField}
+use Rattle.chain.specs.Answer.{finalsOf, endsFault}
+use Rattle.chain.specs.Layers.{chainOf}
+use Rattle.chain.specs.Layers.Shortest.{chain-few}
 use Rattle.pattern.specs.Entries.Parts.{part-short}
 use Rattle.pattern.specs.Entries.Sketches.{held-accepted, check-saved}
 use Rattle.missing.specs.Missing.Laws.{listed-most}
@@ -100,9 +103,9 @@ module _ (f : Facts) (a : Accepted f) where
       by (First c x) q = omega (arith, length-numbers [])
 
   -- seven numbers a step, and two clusters fewer at each
-  steps-short : findingOf g ≡ Fine → (p : List Merge) → Valid (g .clusters) p → length (stepNumbers (stepsOf g p)) ≤ 434
+  steps-short : findingOf g ≡ Fine → (p : List Merge) → Valid (g .clusters) p → length (stepNumbers (stepsOf (sizedOf f) p)) ≤ 434
   steps-short q p v =
-      omega (arith, length-records (stepsOf g p), length-steps g (g .clusters) p, steps-left (g .clusters) (paired f a) p v, few q)
+      omega (arith, length-records (stepsOf (sizedOf f) p), length-steps (sizedOf f) (g .clusters) p, steps-left (g .clusters) (paired f a) p v, few q)
 
   clusters-short : length (finalClusters g) ≤ 125
   unfolding finalClusters
@@ -155,7 +158,7 @@ module _ (bytes : List ℕ) (all : Bytes bytes) where
   unfolding heldSheet
   check-short plan items rest e =
       next-value (heldSheet bytes) _ e (λ h u was e1. next-value (readSheet bytes) held was (λ f t read e2.
-      after-rule (savedFault (graphOf f) plan) (listReport (graphOf f) (savedSteps plan)) (λ z. saved-room f (accepted f t read) plan z) items rest
+      after-rule (savedFault (graphOf f) plan) (listReport (sizedOf f) (savedSteps plan)) (λ z. saved-room f (accepted f t read) plan z) items rest
       (sym (check-saved bytes plan f t read) ∙ e)))
 
   missing-short : (prices : List ℕ) → AtMost 125 (missingField bytes prices)
@@ -174,7 +177,7 @@ module _ (bytes : List ℕ) (all : Bytes bytes) where
   steps-few = few-numbers (stepsField bytes) (λ steps u was. next-value (heldSheet bytes) _ was (λ f t is e.
       let (a, o) = held-accepted bytes f t all is in
       let g = graphOf f in
-      let same : stepsOf g (planOf (g .clusters)) ≡ steps = cc in
+      let same : stepsOf (sizedOf f) (planOf (g .clusters)) ≡ steps = cc in
       let short = steps-short f a (fault-none g o) (planOf (g .clusters)) (plan-of-maximal (g .clusters) (paired f a) .valid) in
       omega (arith, short, ap (λ (l : List Step). length (stepNumbers l)) same)))
 
@@ -182,8 +185,8 @@ module _ (bytes : List ℕ) (all : Bytes bytes) where
   saved-few plan = few-numbers (savedStepsField bytes plan) (λ steps u was. next-value (heldSheet bytes) _ was (λ f t is e.
       let (a, o) = held-accepted bytes f t all is in
       let g = graphOf f in
-      let (z, e1) = rule-value (planFault (g .clusters) plan) (value (stepsOf g (savedSteps plan)) []) e in
-      let same : stepsOf g (savedSteps plan) ≡ steps = cc in
+      let (z, e1) = rule-value (planFault (g .clusters) plan) (value (stepsOf (sizedOf f) (savedSteps plan)) []) e in
+      let same : stepsOf (sizedOf f) (savedSteps plan) ≡ steps = cc in
       let short = steps-short f a (fault-none g o) (savedSteps plan) (accepted-maximal (g .clusters) plan .0 z .1 .valid) in
       omega (arith, short, ap (λ (l : List Step). length (stepNumbers l)) same)))
 
@@ -225,9 +228,16 @@ longest-short n items rest e =
       ap length same,
     ))
 
+chain-short : (bytes : List ℕ) (u v : ℕ) (run rest : List ℕ) → chainField bytes u v ≡ value (some run) rest → length run ≤ 63
+chain-short bytes u v run rest e = next-value (heldSheet bytes) _ e (λ f t was e1. by (graphOf f) (endsFault (graphOf f .n) u v) e1)
+  where
+    by : (g : Graph) (k : ℕ) → byRule k (value (chainOf (finalsOf g) u v) []) ≡ value (some run) rest → length run ≤ 63
+    by g zero h = chain-few (finalsOf g) u v run (cc)
+    by g (suc k) h = refused-value h
+
 pub counts : Counts
 counts = record {
-  report = λ bytes all. after-value (readSheet bytes) (λ f. reportOf (graphOf f)) (λ f t e. report-room f (accepted bytes all f t e));
+  report = λ bytes all. after-value (readSheet bytes) (λ f. reportOf (sizedOf f)) (λ f t e. report-room f (accepted bytes all f t e));
   check = λ bytes plan all. check-short bytes all plan;
   missing = λ bytes prices all. missing-short bytes all prices;
   plan = λ bytes all. after-value (readSheet bytes) (λ f. planNumbers (graphOf f)) (λ f t e. plan-short f (accepted bytes all f t e));
@@ -248,6 +258,7 @@ counts = record {
   held-rests = λ lent all. after-value (heldRecord lent) (λ f. restNumbers (graphOf f)) (λ f t e. rests-short f (sketch-few lent all f t e .0));
   part = λ bytes c all. after-value (partOf bytes c) stepLines (λ l t e. part-short bytes c all e .1);
   part-steps = λ bytes c all l t e. part-short bytes c all e .0;
+  chain = chain-short;
   open-merges = λ bytes steps all l t e. open-short bytes steps all e;
   longest = longest-short;
 }

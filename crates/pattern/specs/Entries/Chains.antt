@@ -1,5 +1,5 @@
 -- The chain of a sheet that is read is that of its graph. Assumes nothing.
-use Rattle.theory.specs.Prelude.{ℕ, _≡_, sym, subst, List}
+use Rattle.theory.specs.Prelude.{ℕ, _≡_, sym, subst, List, Option}
 use Rattle.theory.specs.Graph.{Graph}
 use Rattle.sheet.specs.Facts.{Facts}
 use Rattle.sheet.specs.Field.{Field, value}
@@ -18,7 +18,7 @@ module _ (bytes : List ℕ) (u v : ℕ) where
   chain-asked {f} {rest} e = rw e (next-rule (overFault (graphOf f)) (value f rest) (λ h t. asked (graphOf h) u v))
 
   pub chain-read : {f : Facts} {rest : List ℕ} → readSheet bytes ≡ value f rest → {g : Graph} → g ≡ graphOf f → (space left : List ℕ) (r : Answer)
-      → ChainAnswers (byRule (overFault g) (asked g u v)) u v space r left → ChainAnswers (chainField bytes u v) u v space r left
+      → ChainAnswers (byRule (overFault g) (asked g u v)) space r left → ChainAnswers (chainField bytes u v) space r left
   chain-read e is space left r h =
-      subst (λ (x : Field Graph). ChainAnswers x u v space r left) (sym (chain-asked e))
-      (subst (λ (x : Graph). ChainAnswers (byRule (overFault x) (asked x u v)) u v space r left) is h)
+      subst (λ (x : Field (Option (List ℕ))). ChainAnswers x space r left) (sym (chain-asked e))
+      (subst (λ (x : Graph). ChainAnswers (byRule (overFault x) (asked x u v)) space r left) is h)

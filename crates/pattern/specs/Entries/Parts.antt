@@ -1,6 +1,6 @@
 -- The steps of one cluster of a sheet that is read: 11 and 26 go by its graph; what is had beforehand is what is then written. Assumes nothing.
 use Rattle.theory.specs.Prelude.{ℕ, _+_, _≤_, _<_, _≡_, refl, sym, ap, _∙_, Bool, true, false, cond, List, [], ltb-true, ltb, length}
-use Rattle.theory.specs.Graph.{Graph}
+use Rattle.theory.specs.Graph.{SizedGraph}
 use Rattle.theory.specs.Plan.{planOf}
 use Rattle.theory.specs.declared.Step.{Step}
 use Rattle.space.specs.declared.Written.the-variants.{Done, Refused}
@@ -11,7 +11,7 @@ use Rattle.sheet.specs.Decode.{readSheet}
 use Rattle.sheet.specs.Accepted.{Accepted}
 use Rattle.sheet.specs.Answer.{byRule}
 use Rattle.sheet.specs.Answer.Laws.{next-rule}
-use Rattle.sheet.specs.Graph.{graphOf, overFault}
+use Rattle.sheet.specs.Graph.{graphOf, sizedOf, overFault}
 use Rattle.sheet.specs.Graph.Laws.{fault-none}
 use Rattle.graph.specs.Lent.Sheets.{accepted-sound, found-fine}
 use Rattle.report.specs.Report.{stepLines}
@@ -25,9 +25,9 @@ use Rattle.part.specs.Tallies.Answers.{had, not-had}
 use Rattle.pattern.specs.Entries.{heldSheet, partOf, countOf}
 use Rattle.pattern.specs.Entries.Sketches.{held-accepted}
 
-pub part-held : (bytes : List ℕ) {f : Facts} {rest : List ℕ} (c : ℕ) → readSheet bytes ≡ value f rest → partOf bytes c ≡ heldField (graphOf f) c
+pub part-held : (bytes : List ℕ) {f : Facts} {rest : List ℕ} (c : ℕ) → readSheet bytes ≡ value f rest → partOf bytes c ≡ heldField (sizedOf f) c
 unfolding heldSheet
-part-held bytes {f} {rest} c e = rw e (next-rule (overFault (graphOf f)) (value f rest) (λ y r. clusterField (graphOf y) c))
+part-held bytes {f} {rest} c e = rw e (next-rule (overFault (graphOf f)) (value f rest) (λ y r. clusterField (sizedOf y) c))
 
 -- ---- counted by a measure
 
@@ -51,15 +51,15 @@ pub record PartFound (bytes : List ℕ) (c : ℕ) (l : List Step) : Type 0 where
   pub accepted : Accepted facts
   pub notOver : overFault (graphOf facts) ≡ 0
   pub below : c < length (graphOf facts .clusters) + length (planOf (graphOf facts .clusters))
-  pub steps-are : l ≡ clusterSteps (graphOf facts) c
+  pub steps-are : l ≡ clusterSteps (sizedOf facts) c
 
 -- a number that is taken is one of a cluster
-numbered : (g : Graph) (c : ℕ) {l : List Step} {rest : List ℕ} → clusterField g c ≡ value l rest
-    → (c < length (g .clusters) + length (planOf (g .clusters))) × (l ≡ clusterSteps g c)
-numbered g c {l} {rest} e = by (ltb c (length (g .clusters) + length (planOf (g .clusters)))) refl e
+numbered : (g : SizedGraph) (c : ℕ) {l : List Step} {rest : List ℕ} → clusterField g c ≡ value l rest
+    → (c < length (g .graph .clusters) + length (planOf (g .graph .clusters))) × (l ≡ clusterSteps g c)
+numbered g c {l} {rest} e = by (ltb c (length (g .graph .clusters) + length (planOf (g .graph .clusters)))) refl e
   where
-    by : (b : Bool) → ltb c (length (g .clusters) + length (planOf (g .clusters))) ≡ b → byRule (cond b 0 26) (value (clusterSteps g c) []) ≡ value l rest
-        → (c < length (g .clusters) + length (planOf (g .clusters))) × (l ≡ clusterSteps g c)
+    by : (b : Bool) → ltb c (length (g .graph .clusters) + length (planOf (g .graph .clusters))) ≡ b → byRule (cond b 0 26) (value (clusterSteps g c) []) ≡ value l rest
+        → (c < length (g .graph .clusters) + length (planOf (g .graph .clusters))) × (l ≡ clusterSteps g c)
     by true q h = let same : clusterSteps g c ≡ l = cc in (ltb-true c _ q, sym same)
     by false q h = refused-value h
 
@@ -67,7 +67,7 @@ pub part-found : (bytes : List ℕ) (c : ℕ) {l : List Step} {rest : List ℕ} 
 part-found bytes c all e =
     next-value (heldSheet bytes) _ e (λ f t was e1.
     let (h, o) = held-accepted bytes f t all was in
-    let n = numbered (graphOf f) c e1 in
+    let n = numbered (sizedOf f) c e1 in
     record { facts = f; accepted = h; notOver = o; below = n .0; steps-are = n .1 })
 
 -- 62 steps and 3,534 bytes at most
@@ -75,6 +75,6 @@ pub part-short : (bytes : List ℕ) (c : ℕ) {l : List Step} {rest : List ℕ} 
     → (length l ≤ 62) × (length (stepLines l) ≤ 3534)
 part-short bytes c all e =
     let p = part-found bytes c all e in
-    let g = graphOf (p .facts) in
+    let g = sizedOf (p .facts) in
     let sound = accepted-sound (p .facts) (p .accepted) in
-    rw (p .steps-are) (short-plan g (sound .simple .pairs) c (p .below) sound (found-fine sound (fault-none g (p .notOver))))
+    rw (p .steps-are) (short-plan g (sound .simple .pairs) c (p .below) sound (found-fine sound (fault-none (g .graph) (p .notOver))))

@@ -6,11 +6,11 @@ use Rattle.space.specs.Space.{answer, after}
 use Rattle.sheet.specs.Facts.{Facts}
 use Rattle.sheet.specs.Field.{value, refused}
 use Rattle.sheet.specs.Decode.{readSheet}
-use Rattle.sheet.specs.Graph.{graphOf}
+use Rattle.sheet.specs.Graph.{graphOf, sizedOf}
 use Rattle.graph.specs.declared.Head.{Head}
 use Rattle.graph.specs.declared.Front.{Front}
-use Rattle.graph.specs.Lent.{graphIn, headIn, sizesOf, SheetIn, Stands, Drawn}
-use Rattle.graph.specs.Lent.Sheets.{graph-stands, graph-is, drawn, drawn-in}
+use Rattle.graph.specs.Lent.{graphIn, sizedIn, headIn, SheetIn, Stands, Drawn}
+use Rattle.graph.specs.Lent.Sheets.{graph-stands, sized-stands, graph-is, drawn, drawn-in}
 use Rattle.reader.specs.declared.GraphRead.{GraphRead}
 use Rattle.reader.specs.declared.GraphRead.the-variants.{Value, Refused}
 use Rattle.reader.specs.declared.CodesRead.{CodesRead}
@@ -26,7 +26,8 @@ pub record FactsRead (bytes : List ℕ) (h : Head) (near start : List ℕ) (size
   pub reads : readSheet bytes ≡ value facts rest
   pub stands : Stands facts h near start
   pub drawn-is : Drawn h near start
-  pub graph-read : graphIn h start sizes ≡ graphOf facts
+  pub graph-read : graphIn h start ≡ graphOf facts
+  pub sized-read : sizedIn h start sizes ≡ sizedOf facts
 
 module _ (bytes : List ℕ) (r : GraphRead) (near start : List ℕ) (sizes : List ℤ) (got : GraphIs (readSheet bytes) r near start sizes) where
   told : {k : GraphRead} → r ≡ k → GraphIs (readSheet bytes) k near start sizes
@@ -39,7 +40,15 @@ module _ (bytes : List ℕ) (r : GraphRead) (near start : List ℕ) (sizes : Lis
   pub facts-read : {h : Head} → r ≡ Value h → FactsRead bytes h near start sizes
   facts-read e =
       let (f, rest, q, stands, sizes-are) = told e in
-      record { facts = f; rest = rest; reads = q; stands = stands; drawn-is = drawn stands; graph-read = graph-stands stands sizes-are }
+      record {
+        facts = f;
+        rest = rest;
+        reads = q;
+        stands = stands;
+        drawn-is = drawn stands;
+        graph-read = graph-stands stands;
+        sized-read = sized-stands stands sizes-are;
+      }
 
 -- ---- the whole sheet
 
@@ -49,7 +58,7 @@ pub record SheetFound (bytes : List ℕ) (h : Front) (near start : List ℕ) (si
   pub reads : readSheet bytes ≡ value facts rest
   pub sheet-in : SheetIn facts h near start sizes radii
   pub drawn-is : Drawn (headIn h) near start
-  pub graph-read : graphIn (headIn h) start (sizesOf facts) ≡ graphOf facts
+  pub graph-read : graphIn (headIn h) start ≡ graphOf facts
 
 module _ (bytes : List ℕ) (r : CodesRead) (near start : List ℕ) (sizes : List ℤ) (radii : List ℕ) (got : SheetRead (readSheet bytes) r near start sizes radii) where
   told-sheet : {k : CodesRead} → r ≡ k → SheetRead (readSheet bytes) k near start sizes radii

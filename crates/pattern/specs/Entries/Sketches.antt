@@ -5,13 +5,13 @@ use Rattle.sheet.specs.Field.{value, Bytes}
 use Rattle.sheet.specs.Field.Laws.{next-value, refused-value}
 use Rattle.sheet.specs.Decode.{readSheet}
 use Rattle.sheet.specs.Accepted.{Accepted}
-use Rattle.sheet.specs.Graph.{graphOf, overFault}
+use Rattle.sheet.specs.Graph.{graphOf, sizedOf, overFault}
 use Rattle.sheet.specs.Answer.{byRule}
 use Rattle.sheet.specs.Answer.Laws.{next-rule}
 use Rattle.sheet.specs.RoundTrip.{written-read}
 use Rattle.plans.specs.Check.{savedSteps}
 use Rattle.account.specs.Account.{listReport, savedFault, savedField}
-use Rattle.account.specs.Account.Answers.{saved-rule}
+use Rattle.account.specs.Saved.Laws.{saved-rule}
 use Rattle.pattern.specs.Entries.{held, heldSheet, checkField}
 
 -- ---- rule 11
@@ -34,8 +34,8 @@ held-accepted bytes f rest all q =
 
 -- a saved plan is refused by the rule that `account` Own speaks of
 pub check-saved : (bytes plan : List ℕ) (f : Facts) (rest : List ℕ) → readSheet bytes ≡ value f rest
-    → checkField bytes plan ≡ byRule (savedFault (graphOf f) plan) (value (listReport (graphOf f) (savedSteps plan)) [])
+    → checkField bytes plan ≡ byRule (savedFault (graphOf f) plan) (value (listReport (sizedOf f) (savedSteps plan)) [])
 unfolding heldSheet
 check-saved bytes plan f rest e =
     rw e
-    (next-rule (overFault (graphOf f)) (value f rest) (λ g t. savedField (graphOf g) plan) ∙ saved-rule (graphOf f) plan)
+    (next-rule (overFault (graphOf f)) (value f rest) (λ g t. savedField (sizedOf g) plan) ∙ saved-rule (graphOf f) plan _)

@@ -1,16 +1,16 @@
 -- The steps of a sheet that is read, by value: what the arrays give is what the bytes stand for. Assumes nothing.
 use Rattle.theory.specs.Prelude.{ℕ, arith, _≡_, refl, sym, ap, _∙_, subst, ⊎-elim, List, ℤ, length, replicate}
-use Rattle.theory.specs.Graph.{Graph}
+use Rattle.theory.specs.Graph.{SizedGraph}
 use Rattle.theory.specs.declared.Step.{Step}
 use Rattle.space.specs.declared.Written.{Written}
 use Rattle.sheet.specs.Field.{Field, value, refused, next}
 use Rattle.sheet.specs.Decode.{readSheet}
-use Rattle.sheet.specs.Graph.{graphOf, overFault}
+use Rattle.sheet.specs.Graph.{graphOf, sizedOf, overFault}
 use Rattle.sheet.specs.Answer.{byRule, Answers}
 use Rattle.sheet.specs.Answer.Laws.{next-rule}
 use Rattle.sheet.specs.Refusals.Laws.{refused-by}
 use Rattle.graph.specs.declared.Head.{Head}
-use Rattle.graph.specs.Lent.{graphIn}
+use Rattle.graph.specs.Lent.{graphIn, sizedIn}
 use Rattle.engine.specs.Steps.{blankStep}
 use Rattle.steps.specs.declared.Listing.{Listing}
 use Rattle.steps.specs.declared.Filled.{Filled}
@@ -21,9 +21,9 @@ use Rattle.pattern.specs.Entries.{heldSheet}
 use Rattle.pattern.specs.Entries.Reading.{FactsRead}
 
 -- what a held sheet's graph gives
-module _ (what : Graph → Field (List Step)) (bytes : List ℕ) where
+module _ (what : SizedGraph → Field (List Step)) (bytes : List ℕ) where
   abbrev given : Field (List Step)
-  given = next (heldSheet bytes) (λ f rest. what (graphOf f))
+  given = next (heldSheet bytes) (λ f rest. what (sizedOf f))
 
   -- a sheet that is refused
   pub refused-listed : {j : ℕ} {l : Listing} → readSheet bytes ≡ refused j → l ≡ listingOf (refused j) → Listed given l
@@ -33,13 +33,13 @@ module _ (what : Graph → Field (List Step)) (bytes : List ℕ) where
 
   -- one that is read: 11, or what its graph gives
   pub read-listed : {h : Head} {near start : List ℕ} {sizes : List ℤ} {l : Listing} (f : FactsRead bytes h near start sizes)
-      → Listed (byRule (overFault (graphIn h start sizes)) (what (graphIn h start sizes))) l → Listed given l
+      → Listed (byRule (overFault (graphIn h start)) (what (sizedIn h start sizes))) l → Listed given l
   unfolding heldSheet
   read-listed f is =
       as-listed is
       (rw (f .reads)
-      (next-rule (overFault (graphOf (f .facts))) (value (f .facts) (f .rest)) (λ x rest. what (graphOf x))
-      ∙ ap (λ (g : Graph). byRule (overFault g) (what g)) (sym (f .graph-read))))
+      (next-rule (overFault (graphOf (f .facts))) (value (f .facts) (f .rest)) (λ x rest. what (sizedOf x))
+      ∙ ap (λ (g : SizedGraph). byRule (overFault (g .graph)) (what g)) (sym (f .sized-read))))
 
 -- the numbers of a list of 62 that is filled
 pub listed-numbers : {x : Field (List Step)} {l : Listing} {old : List Step} {f : Filled} {space left : List ℕ} {r : Written} → Listed x l

@@ -25,7 +25,7 @@ use Rattle.graph.specs.Lent.Sheets.{accepted-sound, found-fine}
 use Rattle.engine.specs.Lists.{livingOf}
 use Rattle.engine.specs.Lists.Laws.{living-live, living-count}
 use Rattle.judge.specs.Judged.{finalsBy, finalClusters}
-use Rattle.rests.specs.Rests.Laws.{rests as rests-hold}
+use Rattle.theory.specs.Rests.Laws.{rests as rests-hold}
 use Rattle.account.specs.Resting.{restsBy, restNumbers}
 use Rattle.sketch.specs.Runs.{Event, afterAll, placedIn, holdFault, Held, Run}
 use Rattle.sketch.specs.Runs.Proof.{held-accepted, sheet-held, runs}

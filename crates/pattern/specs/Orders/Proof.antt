@@ -6,7 +6,7 @@ use Rattle.theory.specs.Constraints.{Perm}
 use Rattle.theory.specs.Merge.{Merge, Maximal, final, joints}
 use Rattle.theory.specs.Plan.{planOf}
 use Rattle.theory.specs.Plan.Laws.{plan-of-maximal}
-use Rattle.theory.specs.Graph.{Graph, verdictOf, stepsOf}
+use Rattle.theory.specs.Graph.{Graph, SizedGraph, verdictOf, stepsOf}
 use Rattle.theory.specs.Graph.Laws.{not-over-fine, length-steps, joints-steps}
 use Rattle.theory.specs.Graph.Short.{joint-three}
 use Rattle.theory.specs.Demand.{Agree}
@@ -21,7 +21,7 @@ use Rattle.sheet.specs.Decode.{readSheet}
 use Rattle.sheet.specs.Accepted.{Accepted}
 use Rattle.sheet.specs.Answer.{byRule}
 use Rattle.sheet.specs.RoundTrip.{written-read}
-use Rattle.sheet.specs.Graph.{graphOf, reordered}
+use Rattle.sheet.specs.Graph.{graphOf, sizedOf, reordered}
 use Rattle.sheet.specs.Graph.Laws.{clusters-pairs, sheet-demand3, fine-fault}
 use Rattle.engine.specs.Lists.{livingOf}
 use Rattle.engine.specs.Lists.Laws.{living-live, living-count}
@@ -33,7 +33,7 @@ use Rattle.steps.specs.Records.{planSteps, savedRecords}
 use Rattle.account.specs.Account.{listReport, reportOf, savedFault}
 use Rattle.account.specs.Own.{EngineList}
 use Rattle.account.specs.Own.Proof.{own-lists}
-use Rattle.pattern.specs.Entries.{itemsField, heldSheet, checkField, stepsField, savedStepsField}
+use Rattle.pattern.specs.Entries.{itemsField, reportField, heldSheet, checkField, stepsField, savedStepsField}
 use Rattle.pattern.specs.Entries.Sketches.{check-saved}
 use Rattle.pattern.specs.Orders.{inOrder, Both, SameSets, SameSteps, SameAnyOrder, InOrders}
 use Rattle.pattern.specs.Orders.Read.{own-order, read-in-order}
@@ -44,28 +44,31 @@ module _ (bytes : List ℕ) (f : Facts) (rest : List ℕ) (reads : readSheet byt
   items-are : (what : Graph → List ℕ) → itemsField what bytes ≡ value (what (graphOf f)) []
   items-are what = rw reads refl
 
+  report-is : reportField bytes ≡ value (reportOf (sizedOf f)) []
+  report-is = rw reads refl
+
   module _ (v : verdictOf (graphOf f) ≢ Over) where
     held-is : heldSheet bytes ≡ value f rest
     unfolding heldSheet
     held-is = rw (reads, fine-fault (graphOf f) (not-over-fine (graphOf f) v))
 
-    steps-are : stepsField bytes ≡ value (stepsOf (graphOf f) (planOf (graphOf f .clusters))) []
+    steps-are : stepsField bytes ≡ value (stepsOf (sizedOf f) (planOf (graphOf f .clusters))) []
     unfolding planSteps
-    steps-are = ap (λ (x : Field Facts). next x (λ h t. value (planSteps (graphOf h)) [])) held-is
+    steps-are = ap (λ (x : Field Facts). next x (λ h t. value (planSteps (sizedOf h)) [])) held-is
 
-    saved-are : (plan : List ℕ) → savedStepsField bytes plan ≡ savedRecords (graphOf f) plan
-    saved-are plan = ap (λ (x : Field Facts). next x (λ h t. savedRecords (graphOf h) plan)) held-is
+    saved-are : (plan : List ℕ) → savedStepsField bytes plan ≡ savedRecords (sizedOf f) plan
+    saved-are plan = ap (λ (x : Field Facts). next x (λ h t. savedRecords (sizedOf h) plan)) held-is
 
 -- the steps of two lists of merges that come to the same
-same-steps : (g h : Graph) (p q : List Merge) → Agree g h p q → SameSteps (stepsOf g p) (stepsOf h q)
+same-steps : (g h : SizedGraph) (p q : List Merge) → Agree (g .graph) (h .graph) p q → SameSteps (stepsOf g p) (stepsOf h q)
 same-steps g h p q a =
-    rw (joints-steps g (g .clusters) p, joints-steps h (h .clusters) q)
+    rw (joints-steps g (g .graph .clusters) p, joints-steps h (h .graph .clusters) q)
     (a .same-joints, joints-long g p ∙ a .steps ∙ sym (joints-long h q))
   where
-    joints-long : (g : Graph) (p : List Merge) → length (joints (g .clusters) p) ≡ length p
+    joints-long : (g : SizedGraph) (p : List Merge) → length (joints (g .graph .clusters) p) ≡ length p
     joints-long g p =
-        ap length (sym (joints-steps g (g .clusters) p)) ∙ length-map (stepsOf g p) (λ (s : Step). s .joint)
-        ∙ length-steps g (g .clusters) p
+        ap length (sym (joints-steps g (g .graph .clusters) p)) ∙ length-map (stepsOf g p) (λ (s : Step). s .joint)
+        ∙ length-steps g (g .graph .clusters) p
 
 -- ---- two orders
 
@@ -79,16 +82,23 @@ module _ (bytes new : List ℕ) (f : Facts) (rest : List ℕ) (a : Accepted f) (
   abbrev h : Graph
   h = graphOf (reordered f ds)
 
+  -- with the sizes
+  abbrev gs : SizedGraph
+  gs = sizedOf f
+
+  abbrev hs : SizedGraph
+  hs = sizedOf (reordered f ds)
+
   other : Accepted (reordered f ds) × (verdictOf h ≢ Over)
   other = sheet-demand3 f a v .orders ds perm
 
   lists : (p q : List Merge) → Maximal (g .clusters) p → Maximal (h .clusters) q → Agree g h p q
   lists = sheet-demand3 f a v .every ds perm
 
-  one-list : EngineList g
+  one-list : EngineList gs
   one-list = own-lists f a .engine v
 
-  other-list : EngineList h
+  other-list : EngineList hs
   other-list = own-lists (reordered f ds) (other .0) .engine (other .1)
 
   agree : Agree g h (one-list .p) (other-list .p)
@@ -108,11 +118,11 @@ module _ (bytes new : List ℕ) (f : Facts) (rest : List ℕ) (a : Accepted f) (
   )
 
   saved : (plan told : List ℕ) → checkField new plan ≡ value told []
-      → (told ≡ listReport h (savedSteps plan)) × Agree g h (planOf (g .clusters)) (savedSteps plan)
+      → (told ≡ listReport hs (savedSteps plan)) × Agree g h (planOf (g .clusters)) (savedSteps plan)
   saved plan told e = by (savedFault h plan) refl (sym (check-saved new plan (reordered f ds) [] reads′) ∙ e)
     where
-      by : (k : ℕ) → savedFault h plan ≡ k → byRule k (value (listReport h (savedSteps plan)) []) ≡ value told []
-          → (told ≡ listReport h (savedSteps plan)) × Agree g h (planOf (g .clusters)) (savedSteps plan)
+      by : (k : ℕ) → savedFault h plan ≡ k → byRule k (value (listReport hs (savedSteps plan)) []) ≡ value told []
+          → (told ≡ listReport hs (savedSteps plan)) × Agree g h (planOf (g .clusters)) (savedSteps plan)
       by zero z q =
           let m = own-lists (reordered f ds) (other .0) .saved plan .accepted .0 z in
           (cc, lists (planOf (g .clusters)) (savedSteps plan) own-plan (m .2))
@@ -124,21 +134,21 @@ module _ (bytes new : List ℕ) (f : Facts) (rest : List ℕ) (a : Accepted f) (
       (sym (saved-are new (reordered f ds) [] reads′ (other .1) plan) ∙ e)
     where
       by : (k : ℕ) → planFault (h .clusters) plan ≡ k
-          → byRule k (value (stepsOf h (savedSteps plan)) []) ≡ value steps []
+          → byRule k (value (stepsOf hs (savedSteps plan)) []) ≡ value steps []
           → Both (stepsField bytes) (savedStepsField new plan) SameSteps
       by zero z q = record {
-        one = stepsOf g (planOf (g .clusters));
-        other = stepsOf h (savedSteps plan);
+        one = stepsOf gs (planOf (g .clusters));
+        other = stepsOf hs (savedSteps plan);
         one-is = steps-are bytes f rest reads v;
         other-is = saved-are new (reordered f ds) [] reads′ (other .1) plan
-            ∙ ap (λ (k : ℕ). byRule k (value (stepsOf h (savedSteps plan)) [])) z;
+            ∙ ap (λ (k : ℕ). byRule k (value (stepsOf hs (savedSteps plan)) [])) z;
         alike =
-            same-steps g h (planOf (g .clusters)) (savedSteps plan)
+            same-steps gs hs (planOf (g .clusters)) (savedSteps plan)
             (lists (planOf (g .clusters)) (savedSteps plan) own-plan (accepted-maximal (h .clusters) plan .0 z .1));
       }
       by (suc k) z q = refused-value q
 
-  same-any-order : SameAnyOrder bytes new g h
+  same-any-order : SameAnyOrder bytes new gs hs
   same-any-order = record {
     not-over = other .1;
     verdict =
@@ -161,20 +171,20 @@ module _ (bytes new : List ℕ) (f : Facts) (rest : List ℕ) (a : Accepted f) (
       alike = rw (whole-saved (one-list .p), whole-saved (other-list .p)) agree;
     };
     report = record {
-      one = listReport g (one-list .p);
-      other = listReport h (other-list .p);
-      one-is = items-are bytes f rest reads reportOf ∙ ap (λ (x : List ℕ). value x []) (one-list .report);
-      other-is = items-are new (reordered f ds) [] reads′ reportOf
+      one = listReport gs (one-list .p);
+      other = listReport hs (other-list .p);
+      one-is = report-is bytes f rest reads ∙ ap (λ (x : List ℕ). value x []) (one-list .report);
+      other-is = report-is new (reordered f ds) [] reads′
           ∙ ap (λ (x : List ℕ). value x []) (other-list .report);
       alike = record { p = one-list .p; q = other-list .p; told-is = refl; also-is = refl; agree = agree };
     };
     steps = record {
-      one = stepsOf g (planOf (g .clusters));
-      other = stepsOf h (planOf (h .clusters));
+      one = stepsOf gs (planOf (g .clusters));
+      other = stepsOf hs (planOf (h .clusters));
       one-is = steps-are bytes f rest reads v;
       other-is = steps-are new (reordered f ds) [] reads′ (other .1);
       alike =
-          same-steps g h (planOf (g .clusters)) (planOf (h .clusters))
+          same-steps gs hs (planOf (g .clusters)) (planOf (h .clusters))
           (lists (planOf (g .clusters)) (planOf (h .clusters)) own-plan
           (plan-of-maximal (h .clusters) (clusters-pairs (reordered f ds) (other .0 .no-fault))));
     };

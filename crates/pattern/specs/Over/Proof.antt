@@ -25,7 +25,7 @@ use Rattle.sheet.specs.Accepted.{Accepted}
 use Rattle.sheet.specs.Answer.{byRule}
 use Rattle.sheet.specs.Refusals.{Rule, By, Fault}
 use Rattle.sheet.specs.Refusals.Laws.{OfFacts, which, fault-constraint}
-use Rattle.sheet.specs.Graph.{graphOf, overFault}
+use Rattle.sheet.specs.Graph.{graphOf, sizedOf, overFault}
 use Rattle.sheet.specs.Graph.Laws.{clusters-pairs, clusters-below, first-fault, fine-fault}
 use Rattle.merges.specs.Run.{flat}
 use Rattle.judge.specs.Judged.{planBy, planNumbers, finalsBy, finalClusters}
@@ -47,7 +47,7 @@ use Rattle.sketch.specs.Sketch.Laws.{extended-none, judged-not}
 use Rattle.sketch.specs.Runs.{Held}
 use Rattle.sketch.specs.Runs.Proof.{held-accepted}
 use Rattle.records.specs.Record.{recordBytes, placeJudged, placedIn, writtenField}
-use Rattle.pattern.specs.Entries.{itemsField, verdictField, overItems, overNumbers, heldSheet, countOf}
+use Rattle.pattern.specs.Entries.{itemsField, reportField, verdictField, overItems, overNumbers, heldSheet, countOf}
 use Rattle.pattern.specs.Over.Held.{ask-rule, place-rule, asked-next, placed-next}
 use Rattle.pattern.specs.Over.{OverTold, OverWith, OverNext}
 
@@ -126,6 +126,9 @@ module _ (bytes : List ℕ) (f : Facts) (rest : List ℕ) (a : Accepted f) (read
   items-are : (what : Graph → List ℕ) → itemsField what bytes ≡ value (what g) []
   items-are what = rw reads refl
 
+  report-is : reportField bytes ≡ value (reportOf (sizedOf f)) []
+  report-is = rw reads refl
+
   verdict-is : verdictField bytes ≡ value (verdictOf g) []
   verdict-is = rw reads refl
 
@@ -150,19 +153,19 @@ module _ (bytes : List ℕ) (f : Facts) (rest : List ℕ) (a : Accepted f) (read
       )
 
   named : {c x : ℕ} → findingOf g ≡ First c x
-      → itemsField reportOf bytes ≡ value (overReport (g .n) (length (g .clusters)) c x) []
+      → reportField bytes ≡ value (overReport (g .n) (length (g .clusters)) c x) []
   unfolding reportOf
-  named q = items-are reportOf ∙ ap (λ (r : Finding). value (reportBy g r) []) q
+  named q = report-is ∙ ap (λ (r : Finding). value (reportBy (sizedOf f) r) []) q
 
   listed : {c x : ℕ} → findingOf g ≡ First c x → itemsField overNumbers bytes ≡ value (c ∷ x ∷ []) []
   listed q = items-are overNumbers ∙ ap (λ (r : Finding). value (overItems r) []) q
 
   not-named : (c x : ℕ) → findingOf g ≡ Fine
-      → itemsField reportOf bytes ≡ value (overReport (g .n) (length (g .clusters)) c x) [] → ⊥
+      → reportField bytes ≡ value (overReport (g .n) (length (g .clusters)) c x) [] → ⊥
   unfolding reportOf listReport report overReport
   not-named c x q e =
       unlike (listVerdict g (planOf (g .clusters))) _ _ (list-not-over g (planOf (g .clusters)))
-      (same-value (sym (items-are reportOf ∙ ap (λ (r : Finding). value (reportBy g r) []) q) ∙ e))
+      (same-value (sym (report-is ∙ ap (λ (r : Finding). value (reportBy (sizedOf f) r) []) q) ∙ e))
 
   not-listed : (c x : ℕ) → findingOf g ≡ Fine → itemsField overNumbers bytes ≡ value (c ∷ x ∷ []) [] → ⊥
   not-listed c x q e =
@@ -178,7 +181,7 @@ module _ (bytes : List ℕ) (f : Facts) (rest : List ℕ) (a : Accepted f) (read
 
   report-told : Found g
       → IsOver (g .clusters)
-      ↔ ((c x : ℕ) × (itemsField reportOf bytes ≡ value (overReport (g .n) (length (g .clusters)) c x) []))
+      ↔ ((c x : ℕ) × (reportField bytes ≡ value (overReport (g .n) (length (g .clusters)) c x) []))
   report-told (is-over c x q o) = (λ h. (c, x, named q), λ h. o)
   report-told (is-fine q none) = (λ h. absurd (none h), λ (c, x, e). absurd (not-named c x q e))
 
@@ -188,7 +191,7 @@ module _ (bytes : List ℕ) (f : Facts) (rest : List ℕ) (a : Accepted f) (read
 
   first-told : Found g → (c x : ℕ) → itemsField overNumbers bytes ≡ value (c ∷ x ∷ []) []
       → FirstOver (g .clusters) c x
-      × (itemsField reportOf bytes ≡ value (overReport (g .n) (length (g .clusters)) c x) [])
+      × (reportField bytes ≡ value (overReport (g .n) (length (g .clusters)) c x) [])
   first-told (is-over c x q o) d y e =
       let both = same-items c x d y (same-value (sym (listed q) ∙ e)) in
       rw (← both .0, ← both .1) (overOf-first (g .n) (g .clusters) pairs below c x q, named q)
@@ -218,24 +221,24 @@ module _ (bytes : List ℕ) (f : Facts) (rest : List ℕ) (a : Accepted f) (read
         no-cluster = none-listed finalClusters (finalsBy g) refl (λ c x. refl) o;
         no-rests = none-listed restNumbers (restsBy g) refl (λ c x. refl) o;
         check = λ plan.
-            meets-11 (λ x. next x (λ h t. savedField (graphOf h) plan)) (refused 11) refl (λ e.
+            meets-11 (λ x. next x (λ h t. savedField (sizedOf h) plan)) (refused 11) refl (λ e.
             not-saved (g .clusters) plan (rule-is (planFault (g .clusters) plan) _ [] 11 e));
         saved-steps = λ plan.
-            meets-11 (λ x. next x (λ h t. savedRecords (graphOf h) plan)) (refused 11) refl (λ e.
+            meets-11 (λ x. next x (λ h t. savedRecords (sizedOf h) plan)) (refused 11) refl (λ e.
             not-saved (g .clusters) plan (rule-is (planFault (g .clusters) plan) _ [] 11 e));
-        steps = meets-11 (λ x. next x (λ h t. value (planSteps (graphOf h)) [])) (refused 11) refl (λ e. not-refused e);
+        steps = meets-11 (λ x. next x (λ h t. value (planSteps (sizedOf h)) [])) (refused 11) refl (λ e. not-refused e);
         part = λ c.
-            meets-11 (λ x. linesField (next x (λ h t. clusterField (graphOf h) c))) (refused 11) refl (λ e.
+            meets-11 (λ x. linesField (next x (λ h t. clusterField (sizedOf h) c))) (refused 11) refl (λ e.
             not-numbered g c (rule-lines (numberFault g c) _ 11 e));
         part-steps = λ c.
-            meets-11 (λ x. countOf (next x (λ h t. clusterField (graphOf h) c))) (Refused 11) refl (λ e.
+            meets-11 (λ x. countOf (next x (λ h t. clusterField (sizedOf h) c))) (Refused 11) refl (λ e.
             not-numbered g c (rule-counted (numberFault g c) _ 11 e));
         part-bytes = λ c.
-            meets-11 (λ x. countOf (linesField (next x (λ h t. clusterField (graphOf h) c)))) (Refused 11) refl (λ e.
+            meets-11 (λ x. countOf (linesField (next x (λ h t. clusterField (sizedOf h) c)))) (Refused 11) refl (λ e.
             not-numbered g c (rule-lines-counted (numberFault g c) _ 11 e));
         chain = λ start end.
             meets-11 (λ x. next x (λ h t. asked (graphOf h) start end)) (refused 11) refl (λ e.
-            not-ended g start end (rule-is (endsFault (g .n) start end) g [] 11 e));
+            not-ended g start end (rule-is (endsFault (g .n) start end) _ [] 11 e));
         missing = λ prices.
             meets-11 (λ x. next x (λ h t. cheapestField (graphOf h) prices)) (refused 11) refl (λ e.
             let r : Rule 21 23 11 = which (subst (By (Rule 21 23)) e (by-rules g prices)) in omega (arith, r .from));

@@ -7,7 +7,7 @@ use Rattle.space.specs.Space.{answer, after}
 use Rattle.space.specs.Space.Laws.{long-answer}
 use Rattle.sheet.specs.Facts.{Facts}
 use Rattle.sheet.specs.Field.{Field, value, refused, next, Bytes}
-use Rattle.sheet.specs.Graph.{graphOf}
+use Rattle.sheet.specs.Graph.{sizedOf}
 use Rattle.sheet.specs.Answer.{byRule, answerTo, afterTo}
 use Rattle.report.specs.Report.{stepLines}
 use Rattle.graph.specs.Lent.Sheets.{accepted-sound}
@@ -58,17 +58,17 @@ steps-refused (refused j) space k e = (e, e)
 -- ---- a sheet that is held
 
 module _ (bytes rest : List ℕ) (f : Facts) (c : ℕ) (e : heldSheet bytes ≡ value f rest) where
-  of-facts : partOf bytes c ≡ clusterField (graphOf f) c
-  of-facts = ap (λ (x : Field Facts). next x (λ y r. clusterField (graphOf y) c)) e
+  of-facts : partOf bytes c ≡ clusterField (sizedOf f) c
+  of-facts = ap (λ (x : Field Facts). next x (λ y r. clusterField (sizedOf y) c)) e
 
-  taken : c < clustersMade f → partOf bytes c ≡ value (clusterSteps (graphOf f) c) []
-  taken b = of-facts ∙ ap (λ (t : Bool). byRule (cond t 0 26) (value (clusterSteps (graphOf f) c) [])) (lt-ltb c (clustersMade f) b)
+  taken : c < clustersMade f → partOf bytes c ≡ value (clusterSteps (sizedOf f) c) []
+  taken b = of-facts ∙ ap (λ (t : Bool). byRule (cond t 0 26) (value (clusterSteps (sizedOf f) c) [])) (lt-ltb c (clustersMade f) b)
 
   beyond : clustersMade f ≤ c → partOf bytes c ≡ refused 26
-  beyond b = of-facts ∙ ap (λ (t : Bool). byRule (cond t 0 26) (value (clusterSteps (graphOf f) c) [])) (le-ltb c (clustersMade f) b)
+  beyond b = of-facts ∙ ap (λ (t : Bool). byRule (cond t 0 26) (value (clusterSteps (sizedOf f) c) [])) (le-ltb c (clustersMade f) b)
 
-  known : Bytes bytes → c < clustersMade f → Shown (graphOf f) c
-  known all b = shown.shown (graphOf f) (accepted-sound f (held-accepted bytes f rest all e .0) .simple .pairs) c b
+  known : Bytes bytes → c < clustersMade f → Shown (sizedOf f) c
+  known all b = shown.shown (sizedOf f) (accepted-sound f (held-accepted bytes f rest all e .0) .simple .pairs) c b
 
 pub parts : Parts
 parts = record {

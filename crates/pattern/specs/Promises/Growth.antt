@@ -1,4 +1,5 @@
--- More dimensions, never a smaller part, of what the entry points answer (document 02, 2026-13): `growth` Sheets brought to bytes. Assumes nothing.
+-- More dimensions, never a smaller part, of what the entry points answer (document 02, 2026-13): `sheet` Growth and `sketch`
+-- Runs/Growth brought to bytes. Assumes nothing.
 use Rattle.theory.specs.Prelude.{ℕ, _≡_, refl, sym, ap, _∙_, subst, _≢_, _↔_, List, []}
 use Rattle.theory.specs.Set.{_⊑_}
 use Rattle.theory.specs.Constraints.{Among}
@@ -21,8 +22,9 @@ use Rattle.engine.specs.Lists.Laws.{living-live}
 use Rattle.judge.specs.Judged.{finalsBy, finalClusters}
 use Rattle.sketch.specs.Runs.{Event, afterAll}
 use Rattle.sketch.specs.Runs.Proof.{sheet-held}
-use Rattle.growth.specs.Sheets.{Grown, NeverSmaller}
-use Rattle.growth.specs.Sheets.Proof.{never-smaller, placed-never-smaller}
+use Rattle.sketch.specs.Runs.Growth.{placed-never-smaller}
+use Rattle.sheet.specs.Growth.{Grown, NeverSmaller}
+use Rattle.sheet.specs.Growth.Proof.{never-smaller}
 use Rattle.pattern.specs.Entries.{itemsField}
 use Rattle.pattern.specs.Promises.{HeldRuns, GrownTold, PlacedTold}
 

@@ -2,7 +2,7 @@
 -- Assumes nothing.
 use Rattle.theory.specs.Prelude.{ℕ, zero, suc, _+_, _*_, _%_, _≤_, _<_, _≡_, refl, sym, ap, ap₂, _∙_, subst, _≢_, _↔_}
 use Rattle.theory.specs.Prelude.{Iff·trans, List, [], _∷_, map}
-use Rattle.theory.specs.Prelude.{arith, length}
+use Rattle.theory.specs.Prelude.{arith, lt-ltb, length}
 use Rattle.theory.specs.Constraints.{Among, Pairs, Below, NotOver}
 use Rattle.theory.specs.Constraints.Perm.{same}
 use Rattle.theory.specs.Merge.{Merge, put, Maximal, final, joints, live, left}
@@ -24,7 +24,7 @@ use Rattle.sheet.specs.Field.{Field, value, Bytes, next}
 use Rattle.sheet.specs.Decode.{readSheet}
 use Rattle.sheet.specs.Accepted.{Accepted}
 use Rattle.sheet.specs.RoundTrip.{written-read}
-use Rattle.sheet.specs.Graph.{graphOf, overFault}
+use Rattle.sheet.specs.Graph.{graphOf, sizedOf, overFault}
 use Rattle.sheet.specs.Accepted.Laws.{accepted-two, factsOf-sheetOf}
 use Rattle.sheet.specs.Graph.Laws.{clusters-pairs, clusters-below, sheet-demand3, fine-fault}
 use Rattle.engine.specs.Lists.{livingOf}
@@ -39,20 +39,25 @@ use Rattle.records.specs.Record.{recordBytes}
 use Rattle.records.specs.Record.Room.{record-room}
 use Rattle.records.specs.Runs.Proof.{after-stands, after-long, record-runs}
 use Rattle.account.specs.Account.{listReport, reportOf, savedFault}
-use Rattle.rests.specs.Rests.{restsOn}
-use Rattle.rests.specs.Rests.Laws.{rests as rests-hold}
+use Rattle.theory.specs.Rests.{restsOn}
+use Rattle.theory.specs.Rests.Laws.{rests as rests-hold}
 use Rattle.account.specs.Resting.{wordsOf, restsBy, restNumbers}
 use Rattle.account.specs.Own.{ReportsOwn, EngineList}
 use Rattle.account.specs.Own.Proof.{own-lists}
 use Rattle.missing.specs.Missing.{cheapestField, Told}
 use Rattle.missing.specs.Missing.Laws.{told}
-use Rattle.pattern.specs.Entries.{itemsField, verdictField, heldSheet, checkField}
+use Rattle.chain.specs.Chain.Laws.{chain-one}
+use Rattle.chain.specs.Layers.{chainOf}
+use Rattle.chain.specs.Answer.{finalsOf}
+use Rattle.chain.specs.Answer.Finals.{finals-chain}
+use Rattle.graph.specs.Lent.Sheets.{accepted-sound}
+use Rattle.pattern.specs.Entries.{itemsField, reportField, verdictField, heldSheet, checkField}
 use Rattle.pattern.specs.Entries.Sketches.{check-saved}
 use Rattle.pattern.specs.Over.Proof.{over-told, over-next}
 use Rattle.pattern.specs.Orders.Proof.{in-orders}
 use Rattle.pattern.specs.Held.Proof.{held-page}
 use Rattle.pattern.specs.Promises.Growth.{grown-told, placed-told}
-use Rattle.pattern.specs.Promises.{NameSays, OwnList, HeldRuns, Promises}
+use Rattle.pattern.specs.Promises.{NameSays, OwnList, HeldRuns, ChainTold, Promises}
 
 -- the engine's plan lists its numbers ascending
 plan-ascends : (p : List Merge) (s : List ℕ) → IsPlan s p → map ascending p ≡ p
@@ -78,6 +83,9 @@ module _ (bytes : List ℕ) (f : Facts) (rest : List ℕ) (all : Bytes bytes) (r
 
   items-are : (what : Graph → List ℕ) → itemsField what bytes ≡ value (what g) []
   items-are what = rw reads refl
+
+  report-is : reportField bytes ≡ value (reportOf (sizedOf f)) []
+  report-is = rw reads refl
 
   verdict-is : verdictField bytes ≡ value (verdictOf g) []
   verdict-is = rw reads refl
@@ -123,7 +131,7 @@ module _ (bytes : List ℕ) (f : Facts) (rest : List ℕ) (all : Bytes bytes) (r
 
     -- ---- the answers are a list's own
 
-    engine-list : EngineList g
+    engine-list : EngineList (sizedOf f)
     engine-list = own-lists f accepted .engine not-over
 
     -- the list behind the plan's numbers is the engine's, which ascend at every step
@@ -150,7 +158,8 @@ module _ (bytes : List ℕ) (f : Facts) (rest : List ℕ) (all : Bytes bytes) (r
           living-count (final (g .clusters) (l .p)) ∙ a .lefts,
         )
 
-    own : (p : List Merge) (plan : List ℕ) → Maximal (g .clusters) p → savedSteps plan ≡ p → ReportsOwn g p → OwnList bytes g p plan (listReport g p)
+    own : (p : List Merge) (plan : List ℕ) → Maximal (g .clusters) p → savedSteps plan ≡ p → ReportsOwn (sizedOf f) p
+        → OwnList bytes (sizedOf f) p plan (listReport (sizedOf f) p)
     own p plan v e r = record {
       maximal = v;
       numbers = e;
@@ -164,16 +173,16 @@ module _ (bytes : List ℕ) (f : Facts) (rest : List ℕ) (all : Bytes bytes) (r
 
   -- ---- the page
 
-  saved-own : (plan told : List ℕ) → checkField bytes plan ≡ value told [] → OwnList bytes g (savedSteps plan) plan told
+  saved-own : (plan told : List ℕ) → checkField bytes plan ≡ value told [] → OwnList bytes (sizedOf f) (savedSteps plan) plan told
   saved-own plan told e = by (savedFault g plan) refl (sym (check-saved bytes plan f rest reads) ∙ e)
     where
-      by : (k : ℕ) → savedFault g plan ≡ k → byRule k (value (listReport g (savedSteps plan)) []) ≡ value told []
-          → OwnList bytes g (savedSteps plan) plan told
+      by : (k : ℕ) → savedFault g plan ≡ k → byRule k (value (listReport (sizedOf f) (savedSteps plan)) []) ≡ value told []
+          → OwnList bytes (sizedOf f) (savedSteps plan) plan told
       by zero z e =
           let s = own-lists f accepted .saved plan in
           let m = s .accepted .0 z in
-          let t : listReport g (savedSteps plan) ≡ told = cc in
-          subst (OwnList bytes g (savedSteps plan) plan) t (own (m .0) (savedSteps plan) plan (m .2) refl (s .own z))
+          let t : listReport (sizedOf f) (savedSteps plan) ≡ told = cc in
+          subst (OwnList bytes (sizedOf f) (savedSteps plan) plan) t (own (m .0) (savedSteps plan) plan (m .2) refl (s .own z))
       by (suc k) z e = let x : _≡_ {A = ℕ} 0 1 = cc in absurd (omega arith)
 
   accepts : verdictOf g ≢ Over → (plan : List ℕ)
@@ -181,13 +190,13 @@ module _ (bytes : List ℕ) (f : Facts) (rest : List ℕ) (all : Bytes bytes) (r
   accepts v plan = (
     λ (told, e). whole told (savedFault g plan) refl (sym (check-saved bytes plan f rest reads) ∙ e),
     λ h. (
-      listReport g (savedSteps plan),
+      listReport (sizedOf f) (savedSteps plan),
       check-saved bytes plan f rest reads
-          ∙ ap (λ (k : ℕ). byRule k (value (listReport g (savedSteps plan)) [])) (own-lists f accepted .saved plan .accepted .1 (v, h .0, h .1)),
+          ∙ ap (λ (k : ℕ). byRule k (value (listReport (sizedOf f) (savedSteps plan)) [])) (own-lists f accepted .saved plan .accepted .1 (v, h .0, h .1)),
     ),
   )
     where
-      whole : (told : List ℕ) (k : ℕ) → savedFault g plan ≡ k → byRule k (value (listReport g (savedSteps plan)) []) ≡ value told []
+      whole : (told : List ℕ) (k : ℕ) → savedFault g plan ≡ k → byRule k (value (listReport (sizedOf f) (savedSteps plan)) []) ≡ value told []
           → (length plan % 3 ≡ 0) × Maximal (g .clusters) (savedSteps plan)
       whole told zero z e = let m = own-lists f accepted .saved plan .accepted .0 z in (m .1, m .2)
       whole told (suc k) z e = let x : _≡_ {A = ℕ} 0 1 = cc in absurd (omega arith)
@@ -214,6 +223,15 @@ module _ (bytes : List ℕ) (f : Facts) (rest : List ℕ) (all : Bytes bytes) (r
   unfolding restNumbers
   words-are v = items-are restNumbers ∙ ap (λ (o : Finding). value (restsBy g o) []) (not-over-fine g v)
 
+  chain-told : verdictOf g ≢ Over → (u v : ℕ) → u < g .n → v < g .n → ChainTold bytes g u v
+  chain-told n u v l m =
+      let is = finals-chain g (accepted-sound f accepted) u v l m in record {
+        chain = chainOf (finalsOf g) u v;
+        given = rw (held-is, fine-fault g (not-over-fine g n), lt-ltb u (g .n) l, lt-ltb v (g .n) m);
+        is = is;
+        only = λ o h. chain-one (finalsOf g) u v o _ h is;
+      }
+
   pub promises : Promises bytes f
   promises = record {
     over = over-told bytes f rest accepted reads;
@@ -223,9 +241,9 @@ module _ (bytes : List ℕ) (f : Facts) (rest : List ℕ) (all : Bytes bytes) (r
         let l = engine-list v in (
           l .p,
           flat (l .p),
-          listReport g (l .p),
+          listReport (sizedOf f) (l .p),
           items-are planNumbers ∙ ap (λ (x : List ℕ). value x []) (l .plan),
-          items-are reportOf ∙ ap (λ (x : List ℕ). value x []) (l .report),
+          report-is ∙ ap (λ (x : List ℕ). value x []) (l .report),
           first-at-every-step v,
           own v (l .p) (flat (l .p)) (l .maximal) (whole-saved (l .p)) (l .own),
         );
@@ -235,6 +253,7 @@ module _ (bytes : List ℕ) (f : Facts) (rest : List ℕ) (all : Bytes bytes) (r
         subst (Told g prices) (sym (ap (λ (x : Field Facts). next x (λ h t. cheapestField (graphOf h) prices)) (held-is ∙ ap (λ (k : ℕ). byRule k (value f rest))
         (fine-fault g (not-over-fine g not-over)))))
         (told g prices (accepted-two f accepted) pairs below (fine not-over) long ok);
+    chain = chain-told;
     runs = held-runs;
     rests = λ v p w. rests-hold (g .clusters) pairs (fine v) p w;
     words = words-are;

@@ -21,7 +21,7 @@ use Rattle.sheet.specs.RoundTrip.{written-read}
 use Rattle.sheet.specs.Refusals.{Rule, OfSheet, By, given, ruled, Fault}
 use Rattle.sheet.specs.Refusals.Laws.{by-next, by-wider, which, by-sheet}
 use Rattle.sheet.specs.Refusals.Laws.{fault-else, fault-sheet}
-use Rattle.sheet.specs.Graph.{graphOf, overRule, overFault}
+use Rattle.sheet.specs.Graph.{graphOf, sizedOf, overRule, overFault}
 use Rattle.plans.specs.Check.{savedSteps, planFault}
 use Rattle.plans.specs.Check.Laws.{fault-range}
 use Rattle.theory.specs.declared.Verdict.{Verdict}
@@ -37,10 +37,9 @@ use Rattle.steps.specs.Records.{filledTo}
 use Rattle.account.specs.Account.Room.{report-room}
 use Rattle.longest.specs.Longest.{longestSheet, longestField}
 use Rattle.chain.specs.declared.Answer.the-variants.{Refused as No}
-use Rattle.chain.specs.Chain.{Shortest, Chain}
-use Rattle.chain.specs.Answer.{asRun, chainAnswer, finalsOf, endsFault, asked as chained, ChainAnswers}
+use Rattle.chain.specs.Answer.{asRun, endsFault, asked as chained, chainTo}
 use Rattle.missing.specs.Missing.Laws.{by-rules}
-use Rattle.pattern.specs.Entries.{itemsField, held, heldSheet}
+use Rattle.pattern.specs.Entries.{reportField, held, heldSheet}
 use Rattle.part.specs.Part.{numberFault}
 use Rattle.pattern.specs.Entries.{partOf}
 use Rattle.pattern.specs.Refusals.{Short, ShortList, ShortRun, Asking, Holding, Checking, Numbered, Refusals}
@@ -71,15 +70,15 @@ lent-list (value steps rest) list k e = by (ltb (length list) (length steps)) re
     by false p h = absurd (let z : _≡_ {A = ℕ} 0 1 = cc in omega arith)
 
 -- 4,667 bytes take every report
-printed : (bytes space : List ℕ) (k : ℕ) → Bytes bytes → 4667 ≤ length space → answerTo (itemsField reportOf bytes) space ≡ Refused k → OfSheet k
+printed : (bytes space : List ℕ) (k : ℕ) → Bytes bytes → 4667 ≤ length space → answerTo (reportField bytes) space ≡ Refused k → OfSheet k
 printed bytes space k all room e = by (readSheet bytes) (by-sheet bytes) refl e
   where
-    by : (x : Field Facts) → By OfSheet x → readSheet bytes ≡ x → answerTo (next x (λ f rest. value (reportOf (graphOf f)) [])) space ≡ Refused k
+    by : (x : Field Facts) → By OfSheet x → readSheet bytes ≡ x → answerTo (next x (λ f rest. value (reportOf (sizedOf f)) [])) space ≡ Refused k
         → OfSheet k
     by (refused j) h q e = let n : j ≡ k = cc in subst OfSheet n (which h)
     by (value f rest) h q e =
         let fits = report-room f (written-read bytes f rest all q .2) in
-        let never : Done (length (reportOf (graphOf f))) ≡ Refused k = sym (long-answer (reportOf (graphOf f)) space (omega (arith, fits))) ∙ e in
+        let never : Done (length (reportOf (sizedOf f))) ≡ Refused k = sym (long-answer (reportOf (sizedOf f)) space (omega (arith, fits))) ∙ e in
         absurd (let z : _≡_ {A = ℕ} 0 1 = cc in omega arith)
 
 -- ---- numbers of rules
@@ -265,42 +264,25 @@ abbrev Chaining : ℕ → Type 0
 Chaining k = Holding k ⊎ (k ≡ 25)
 
 by-ends : (g : Graph) (u v : ℕ) → By Chaining (chained g u v)
-by-ends g u v = by-rule (endsFault (g .n) u v) (value g []) (fault-ends (ltb u (g .n) && ltb v (g .n))) given
+by-ends g u v = by-rule (endsFault (g .n) u v) _ (fault-ends (ltb u (g .n) && ltb v (g .n))) given
   where
     fault-ends : (b : Bool) → Fault Chaining (cond b 0 25)
     fault-ends true = tt
     fault-ends false = inr refl
 
 -- and 17 where the run is longer than the space
-ran : (x : Field Graph) (u v : ℕ) (space left : List ℕ) (k : ℕ) → ChainAnswers x u v space (No k) left
-    → (x ≡ refused k) ⊎ ((k ≡ 17) × ShortRun x u v space)
+ran : (x : Field (Option (List ℕ))) (space : List ℕ) (k : ℕ) → chainTo x space ≡ No k → (x ≡ refused k) ⊎ ((k ≡ 17) × ShortRun x space)
 unfolding answer
-ran (refused j) u v space left k h = let e = h .0 in let n : j ≡ k = cc in inl (rw n)
-ran (value g rest) u v space left k h = by (h .chain) (h .is) (h .answer-is)
+ran (refused j) space k e = let n : j ≡ k = cc in inl (rw n)
+ran (value none rest) space k e = absurd (let z : _≡_ {A = ℕ} 0 1 = cc in omega arith)
+ran (value (some r) rest) space k e = long (ltb (length space) (length r)) refl e
   where
-    long : (r : List ℕ) → Shortest (finalsOf g) u v r → (b : Bool) → ltb (length space) (length r) ≡ b
-        → No k ≡ asRun (cond b (Refused 17) (Done (length r)))
-        → (value g rest ≡ refused k) ⊎ ((k ≡ 17) × ShortRun (value g rest) u v space)
-    long r s true q e =
+    long : (b : Bool) → ltb (length space) (length r) ≡ b → asRun (cond b (Refused 17) (Done (length r))) ≡ No k
+        → (value (some r) rest ≡ refused k) ⊎ ((k ≡ 17) × ShortRun (value (some r) rest) space)
+    long true q e =
         let n : k ≡ 17 = cc in
-        inr (
-          n,
-          record {
-            graph = g;
-            rest = rest;
-            run = r;
-            gives = refl;
-            shortest = s;
-            longer = ltb-true (length space)
-                (length r) q;
-          },
-        )
-    long r s false q e = absurd (let z : _≡_ {A = ℕ} 0 1 = cc in omega arith)
-
-    by : (o : Option (List ℕ)) → Chain (finalsOf g) u v o → No k ≡ chainAnswer o space
-        → (value g rest ≡ refused k) ⊎ ((k ≡ 17) × ShortRun (value g rest) u v space)
-    by none s e = absurd (let z : _≡_ {A = ℕ} 0 1 = cc in omega arith)
-    by (some r) s e = long r s (ltb (length space) (length r)) refl e
+        inr (n, record { run = r; rest = rest; gives = refl; longer = ltb-true (length space) (length r) q })
+    long false q e = absurd (let z : _≡_ {A = ℕ} 0 1 = cc in omega arith)
 
 pub refusals : Refusals
 refusals = record {
@@ -309,10 +291,11 @@ refusals = record {
   verdict = λ bytes. by-next (by-sheet bytes) (λ f rest. given);
   rewrite = λ bytes. by-next (by-sheet bytes) (λ f rest. given);
   items = λ what bytes. by-next (by-sheet bytes) (λ f rest. given);
+  report = λ bytes. by-next (by-sheet bytes) (λ f rest. given);
   write = λ s. by-rule (sheetFault s) _ (fault-sheet s) given;
-  check = λ bytes plan. checked bytes plan (λ f. listReport (graphOf f) (savedSteps plan));
+  check = λ bytes plan. checked bytes plan (λ f. listReport (sizedOf f) (savedSteps plan));
   steps = λ bytes. by-next (by-sketch bytes) (λ f rest. given);
-  saved-steps = λ bytes plan. checked bytes plan (λ f. stepsOf (graphOf f) (savedSteps plan));
+  saved-steps = λ bytes plan. checked bytes plan (λ f. stepsOf (sizedOf f) (savedSteps plan));
   records = lent-list;
   hold = by-sketch;
   missing = λ bytes prices. by-next (by-wider (λ k h. inl h) (by-sketch bytes)) (λ f rest. by-wider (λ k h. inr h) (by-rules (graphOf f) prices));

@@ -13,6 +13,7 @@ same-answers a b reads same = record {
   read = reads;
   verdict = rw reads;
   items = λ what. rw reads;
+  report = rw reads;
   rewrite = rw (reads, same);
   check = λ plan. rw reads;
   steps = rw reads;

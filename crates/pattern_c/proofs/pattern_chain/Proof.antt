@@ -5,7 +5,7 @@ use Rattle.pattern_c.proofs.pattern_chain.Tie as tie
 
 returns : tie.Need-returns
 returns c =
-    chain-counts _ _ _ _ _ (c .before .before .before .before .chain .result) (c .count .result) _ (record { sfits = c .count .ok })
+    chain-counts _ _ _ (c .before .before .before .before .chain .result) (c .count .result) _ (record { sfits = c .count .ok })
     (c .count .ensures)
     (c .before .chain-items .ensures) (c .before .before .before .before .chain .ensures)
 

@@ -1,12 +1,11 @@
 -- A rule's number with its sign, and a count, in 32 bits. Assumes nothing.
-use Rattle.theory.specs.Prelude.{ℕ, zero, suc, _<_, arith, _≡_, refl, ap, _∙_, List, lt-ltb, ℤ, pos, negsuc, _-ℤ_}
+use Rattle.theory.specs.Prelude.{ℕ, zero, suc, _<_, arith, _≡_, refl, ap, _∙_, List, Option, lt-ltb, ℤ, pos, negsuc, _-ℤ_}
 use mir.Syntax.{w32}
 use mir.Val.{SFits, toZ, ofZ}
 use mir.Facts.{toZ-ofZ}
 use Rattle.space.specs.declared.Written.{Written}
 use Rattle.sheet.specs.Field.{Field}
 use Rattle.sheet.specs.Answer.{Answers}
-use Rattle.theory.specs.Graph.{Graph}
 use Rattle.chain.specs.declared.Answer.{Answer}
 use Rattle.chain.specs.Answer.{ChainAnswers}
 use Rattle.pattern_c.specs.Numbers.{minus, asCount, AnswersCount, asItems, ChainCount}
@@ -27,6 +26,7 @@ pub counts : {x : Field (List ℕ)} {space left : List ℕ} (z : ℤ) (w : Writt
     → AnswersCount x space (toZ w32 (ofZ w32 z)) left
 counts z w fits e a = record { answer-is = counted z w _ fits e (a .answer-is); left-is = a .left-is }
 
-pub chain-counts : (x : Field Graph) (u v : ℕ) (space left : List ℕ) (a : Answer) (z : ℤ) (w : Written) → SFits w32 z → z ≡ asCount w → w ≡ asItems a
-    → ChainAnswers x u v space a left → ChainCount x u v space (toZ w32 (ofZ w32 z)) left
-chain-counts x u v space left a z w fits e f h = record { answer = a; is = h; number-is = counted z w (asItems a) fits e f }
+pub chain-counts : (x : Field (Option (List ℕ))) (space left : List ℕ) (a : Answer) (z : ℤ) (w : Written) → SFits w32 z → z ≡ asCount w
+    → w ≡ asItems a → ChainAnswers x space a left → ChainCount x space (toZ w32 (ofZ w32 z)) left
+chain-counts x space left a z w fits e f h =
+    record { answer-is = counted z w _ fits e (f ∙ ap asItems (h .answer-is)); left-is = h .left-is }

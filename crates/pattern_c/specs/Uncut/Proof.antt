@@ -1,9 +1,7 @@
--- No number for C is cut: `pattern` Counts, a chain's 63 clusters and the five verdicts, each far below 2^31. Assumes
--- nothing.
+-- No number for C is cut: `pattern` Counts and the five verdicts, each far below 2^31. Assumes nothing.
 use Rattle.theory.specs.Prelude.{ℕ, zero, suc, _%_, _<_, _≤_, arith, _≡_, refl, ap, _∙_, Bool, true, false, cond, List}
 use Rattle.theory.specs.Prelude.{ltb}
 use Rattle.theory.specs.Prelude.{lt-ltb, pos, Option, none, some, length}
-use Rattle.theory.specs.Graph.{Graph}
 use Rattle.theory.specs.Verdict.{verdictNumber}
 use Rattle.theory.specs.declared.Verdict.{Verdict}
 use Rattle.theory.specs.declared.Verdict.the-variants.{Over, Angle, Well, Stuck, Under}
@@ -11,8 +9,7 @@ use Rattle.space.specs.declared.Written.the-variants.{Done, Refused}
 use Rattle.space.specs.Space.{answer}
 use Rattle.sheet.specs.Field.{Field, value, refused}
 use Rattle.sheet.specs.Answer.{byRule}
-use Rattle.chain.specs.declared.Answer.{Answer}
-use Rattle.chain.specs.Answer.{asRun, chainAnswer, ChainAnswers}
+use Rattle.chain.specs.Answer.{asRun, chainTo}
 use Rattle.sketch.specs.declared.Judgement.{Judgement}
 use Rattle.sketch.specs.declared.Judgement.the-variants.{Is, Refused as No}
 use Rattle.card.specs.Card.{setVerdict}
@@ -80,14 +77,11 @@ run-of r space few n e = by (ltb (length space) (length r)) e
     by true h = apart h
     by false h = whole (length r) n (omega arith) h
 
-run : (x : Field Graph) (start end : ℕ) (space left : List ℕ) (a : Answer) → ChainAnswers x start end space a left
-    → Whole (asItems a)
-run (refused k) start end space left a h = rw (h .0) (λ n e. apart e)
-run (value g rest) start end space left a h = rw (h .answer-is) (by (h .chain) (h .few))
-  where
-    by : (o : Option (List ℕ)) → ((r : List ℕ) → o ≡ some r → length r ≤ 63) → Whole (asItems (chainAnswer o space))
-    by none few n e = apart e
-    by (some r) few n e = run-of r space (few r refl) n e
+run : (x : Field (Option (List ℕ))) → ((r rest : List ℕ) → x ≡ value (some r) rest → length r ≤ 63) → (space : List ℕ)
+    → Whole (asItems (chainTo x space))
+run (refused k) few space n e = apart e
+run (value none rest) few space n e = apart e
+run (value (some r) rest) few space n e = run-of r space (few r rest refl) n e
 
 pub none-cut : NoneCut
 unfolding columnsField
@@ -115,7 +109,7 @@ none-cut = record {
   part-steps = λ bytes c all. counted _ (counts .part-steps bytes c all) (omega arith);
   part-bytes = λ bytes c all. counted _ (counts .part bytes c all) (omega arith);
   part = λ bytes c all. written _ (counts .part bytes c all) (omega arith);
-  chain = λ bytes start end. run (chainField bytes start end) start end;
+  chain = λ bytes start end. run (chainField bytes start end) (counts .chain bytes start end);
   missing = λ bytes prices all. written _ (counts .missing bytes prices all) (omega arith);
   card = λ number. judged (Is (setVerdict 5 (number % 1024)));
   longest = λ n. written _ (counts .longest n) (omega arith);

@@ -1,7 +1,8 @@
 -- `core_of` meets its contract. The loop's invariant: elements are taken away down to left, todo are light there, and the others not. Assumes nothing.
-use Rattle.theory.specs.Prelude.{ap, _∙_, _-_, arith, needs}
+use Rattle.theory.specs.Prelude.{_≡_, ap, _∙_, _-_, min, arith, needs}
 use Rattle.theory.specs.Set.{_∩_, full}
 use Rattle.theory.specs.Set.Laws.{a∩b⊑b}
+use Rattle.sets.specs.Image.Laws.{image-sub}
 use Rattle.peeling.specs.Core.{Light, Heavy, Mutual, Peeled}
 use Rattle.peeling.specs.Core.Neighbours.{heavy-start}
 use Rattle.peeling.specs.Core.Peeling.{peeled-start, heavy-none, light-room, round, core-peeled, peeled-largest}
@@ -18,7 +19,8 @@ loop-holds c =
     let near = c .before .before .before .before .args .near .now in
     let n = c .before .before .before .used in
     let low = c .light-all in
-    rw (c .before .below .ensures ∙ ap full (c .before .before .wide .ensures)) (
+    let all : min (c .before .before .wide .result) 64 ≡ n .result = omega (arith, c .before .before .wide .ensures, n .ensures .1) in
+    rw (c .before .below .ensures ∙ ap full all) (
       peeled-start near (n .result) (n .ensures .1) (n .ensures .2),
       low .ensures .0,
       λ m. heavy-start near (n .result) (low .result) (n .ensures .1) (n .ensures .2) m (low .ensures .1),
@@ -26,14 +28,14 @@ loop-holds c =
 
 light-of-requires : tie.Need-light-of-requires Inv-loop μ-loop
 unfolding _∩_
-light-of-requires c κs = let l = c .before .before .loop in a∩b⊑b (c .neighbours .result) (l .left - l .todo)
+light-of-requires c κs = let l = c .before .before .loop in a∩b⊑b (c .image .result) (l .left - l .todo)
 
 loop-again : tie.Need-loop-again Inv-loop μ-loop
 loop-again c =
     let near = c .before .before .before .before .before .before .before .before .args .near .now in
     let inv = c .before .before .before .loop .inv in
-    let around = c .before .neighbours in
-    let next = round near (around .result) (inv .1) (around .ensures) (inv .0) (inv .2) (c .light-of .ensures .1) in
+    let around = c .before .image in
+    let next = round near (around .result) (inv .1) (image-sub (around .ensures)) (inv .0) (inv .2) (c .light-of .ensures .1) in
     (next .0, c .light-of .ensures .0, next .1)
 
 returns : tie.Need-returns Inv-loop μ-loop
@@ -52,6 +54,6 @@ pub core-of-spec : {M : Type 1} → Rattle.peeling.proofs.core_of.State
 core-of-spec =
     tie.close
     (tie.spec Inv-loop μ-loop (λ c κs. search needs) (λ c κs. search needs)
-    (λ c κs. omega (arith, c .wide .ensures, c .before .used .ensures .0, c .before .used .ensures .1)) (λ c κs. c .before .before .used .ensures .1)
+    (λ c κs. search needs) (λ c κs. c .before .before .used .ensures .1)
     loop-holds (λ c. light-room (c .before .loop .inv .1)) (λ c κs. search needs) light-of-requires
     (λ c. omega (arith, c .before .before .loop-test .taken, light-room (c .before .before .before .loop .inv .1))) loop-again returns)

@@ -2,7 +2,6 @@
 -- none loses any. Assumes nothing.
 use Rattle.theory.specs.Prelude.{_≡_, sym, ap, subst, _⊎_, inl, inr, List, ℕ, _+_, _*_, _-_, _^_, _≤_, _<_, decLe, arith, bitAnd, bitOr, ones, length}
 use Rattle.theory.specs.Prelude.{refl, _∙_, zero, suc, sub-zero, and-le-r, take, getD, take-length, pow-pos}
-use native.Mathlib.Nat.{pow-suc}
 use Rattle.theory.specs.Set.{_∈_, _∩_, _∪_, _⊑_, at, full}
 use Rattle.theory.specs.Set.Laws.{at-∩, at-le, bit, size-zero, ⊑⇒size≤, ⊑-trans, a∩b⊑a, a∩b⊑b, ∩-comm, out, below-full}
 use Rattle.theory.specs.Set.Laws.{at-zero, size-none, some, ⊑⇒∩≡}
@@ -16,13 +15,6 @@ use Rattle.peeling.specs.Core.{Few, Loose, Core, Dense, Largest, Beyond,
 use Rattle.peeling.specs.Core.Neighbours.{full-at, near-sub, light-or, light-rest, heavy-but, heavy-with, heavy-less}
 
 -- ---- those without a neighbour are gone at the start
-
-pub all-below : (n top : ℕ) → 1 ≤ n → top ≡ 2 ^ (n - 1) → top - 1 + top ≡ full n
-unfolding full
-all-below zero top h e = absurd (omega arith)
-all-below (suc n) top h e =
-    let low : suc n - 1 ≡ n = omega arith in
-    omega (arith, e ∙ ap (λ (k : ℕ). 2 ^ k) low, pow-suc 2 n, pow-pos n)
 
 full-less : (k : ℕ) → full (suc k) - 2 ^ k ≡ full k
 unfolding full

@@ -8,9 +8,12 @@ returns : tie.Need-returns
 unfolding stepFault
 returns c =
     let a = c .before .before .before .before .args in
-    c .step-fault .ensures
-    ∙ (λ t. faultOf (c .before .before .before .cluster-at .ensures t) (c .before .before .cluster-at2 .ensures t) (c .before .cluster-at3 .ensures t)
-    (merge (a .i) (a .j) (a .k)))
+    let m = merge (a .i) (a .j) (a .k) in
+    let x = c .before .before .before .cluster-at in
+    let y = c .before .before .cluster-at2 in
+    let z = c .before .cluster-at3 in
+    _∙_ {b = faultOf (x .result) (y .result) (z .result) m} (c .step-fault .ensures)
+    (λ t. faultOf (x .ensures t) (y .ensures t) (z .ensures t) m)
 
 pub fault-at-spec : {M : Type 1} → Rattle.plans.proofs.fault_at.Statement.statement M
 fault-at-spec = tie.close (tie.spec (λ c κs. search needs) (λ c κs. search needs) (λ c κs. search needs) (λ c κs. search needs) returns)

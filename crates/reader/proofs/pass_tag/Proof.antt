@@ -4,7 +4,7 @@ use mir.Facts.{toZ-ofZ}
 use mir.Syntax.{w32}
 use Rattle.sheet.specs.Field.{value, refused}
 use Rattle.sheet.specs.Decode.{tag}
-use Rattle.fields.specs.Answers.Numbers.{field-short, field-whole}
+use Rattle.elements.specs.Fields.Numbers.{field-short, field-whole}
 use Rattle.reader.proofs.pass_tag.Tie as tie
 
 module _ (s : List ℕ) (at : ℕ) where

@@ -9,7 +9,7 @@ use Rattle.sheet.specs.Rules.Laws.{elements-range, constraints-most}
 use Rattle.sheet.specs.Decode.{readConstraints, readSheet}
 use Rattle.elements.specs.Answers.{elementsField, ElementsRead, kindsRule}
 use Rattle.elements.specs.declared.KindsRead.{KindsRead}
-use Rattle.fields.specs.Answers.{asByte}
+use Rattle.elements.specs.Fields.{asByte}
 use Rattle.reader.specs.Answers.{asOpening}
 use Rattle.reader.proofs.Sheets.{sheet-tail}
 use Rattle.reader.proofs.read_front.Tie as tie

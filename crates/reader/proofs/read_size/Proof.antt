@@ -5,7 +5,7 @@ use mir.Facts.{toZ-ofZ}
 use Rattle.sheet.specs.Field.{value, field, signed32}
 use Rattle.sheet.specs.Rules.{sizeInRange}
 use Rattle.sheet.specs.Decode.{size}
-use Rattle.fields.specs.Answers.{asNumber}
+use Rattle.elements.specs.Fields.{asNumber}
 use Rattle.reader.proofs.read_size.Tie as tie
 
 returns : tie.Need-returns

@@ -2,7 +2,7 @@
 use Rattle.theory.specs.Prelude.{needs, _≡_, sym, ap, _∙_, subst}
 use Rattle.sheet.specs.Graph.{graphOf, overFault}
 use Rattle.graph.specs.declared.Head.{Head}
-use Rattle.graph.specs.Lent.{graphIn, sizesOf}
+use Rattle.graph.specs.Lent.{graphIn}
 use Rattle.graph.specs.Lent.Sheets.{graph-is, drawn-in}
 use Rattle.reader.specs.declared.CodesRead.{CodesRead}
 use Rattle.reader.specs.Answers.{SheetRead}
@@ -33,8 +33,8 @@ over-is : (c : tie.After-over-fault) → c .over-fault .result ≡ overFault (gr
 over-is c =
     let k = c .before .before .before .before in
     let f = read k in
-    c .over-fault .ensures (sizesOf (f .facts))
-    ∙ ap (λ (h : Head). overFault (graphIn h (k .before .before .before .read .last .1 .1 .0) (sizesOf (f .facts)))) (c .before .before .before .head-of .ensures)
+    c .over-fault .ensures
+    ∙ ap (λ (h : Head). overFault (graphIn h (k .before .before .before .read .last .1 .1 .0))) (c .before .before .before .head-of .ensures)
     ∙ ap overFault (graph-is (f .sheet-in))
 
 returns-2 : tie.Need-returns-2

@@ -8,7 +8,7 @@ returns c =
     let lines = c .before .before .before .before .before .before in
     let put = lines .put-over-report .ensures in
     buffered (omega (arith, put .0 .next-is, put .1)) (put .0) (lines .before .before .before .before .before .args .out .now)
-    (c .before .before .put-whole .ensures)
+    (c .before .before .put-all8 .ensures)
 
 pub write-over-report-spec : {M : Type 1} → Rattle.report.proofs.write_over_report.Statement.statement M
 write-over-report-spec =

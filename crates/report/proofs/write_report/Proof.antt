@@ -7,7 +7,7 @@ returns : tie.Need-returns
 returns c =
     let lines = c .before .before .before .before .before .before in
     let entry = lines .before .before .before .before .before in
-    buffered (omega (arith, entry .pre .1)) (lines .put-report .ensures) (entry .args .out .now) (c .before .before .put-whole .ensures)
+    buffered (omega (arith, entry .pre .1)) (lines .put-report .ensures) (entry .args .out .now) (c .before .before .put-all8 .ensures)
 
 pub write-report-spec : {M : Type 1} → Rattle.report.proofs.write_report.Statement.statement M
 write-report-spec =

@@ -14,11 +14,11 @@ use Rattle.theory.specs.Merge.Threes.{size-joint}
 use Rattle.theory.specs.Plan.{ascending}
 use Rattle.theory.specs.Plan.Order.{open-ascending}
 use Rattle.theory.specs.Placement.{byOrder, against, triangle, strip, stripOf, placed, sizeAt, initial, jointKind, ways}
-use Rattle.rests.specs.Rests.{restsOn}
-use Rattle.rests.specs.Rests.Laws.{carrying}
+use Rattle.theory.specs.Rests.{restsOn}
+use Rattle.theory.specs.Rests.Laws.{carrying}
 use Rattle.space.specs.Text.{decimal}
 use Rattle.space.specs.Text.Laws.{decimal-1}
-use Rattle.theory.specs.Graph.{Graph, stepOf, stepsFrom, stepsOf}
+use Rattle.theory.specs.Graph.{SizedGraph, stepOf, stepsFrom, stepsOf}
 use Rattle.theory.specs.Graph.Laws.{length-steps}
 use Rattle.theory.specs.declared.Verdict.{Verdict}
 use Rattle.theory.specs.declared.JointKind.{JointKind}
@@ -149,21 +149,21 @@ ways-one-digit lines e sizes s m = go (initial e m)
         (sizeAt sizes (m .j)) (sizeAt sizes (m .k))
     go false = omega arith
 
-modest-step : (g : Graph) (s : List ℕ) (m : Merge) → OpenAt s m → Modest (stepOf g s m)
+modest-step : (g : SizedGraph) (s : List ℕ) (m : Merge) → OpenAt s m → Modest (stepOf g s m)
 unfolding stepOf
 modest-step g s m o = record {
   joint-three = omega (arith, size-joint (three s (ascending m)) (open-ascending s m o .open3));
-  ways-one = ways-one-digit (g .lines) (length (g .clusters)) (g .sizes) s (ascending m);
+  ways-one = ways-one-digit (g .graph .lines) (length (g .graph .clusters)) (g .sizes) s (ascending m);
 }
 
-pub modest-steps : (g : Graph) (s : List ℕ) (p : List Merge) → Valid s p → AllModest (stepsFrom g s p)
+pub modest-steps : (g : SizedGraph) (s : List ℕ) (p : List Merge) → Valid s p → AllModest (stepsFrom g s p)
 unfolding stepsFrom
 modest-steps g s [] v = tt
 modest-steps g s (m ∷ p) v = (modest-step g s m (v .0), modest-steps g (put s m) p (v .1))
 
 -- ---- and their numbers small
 
-small-step : (g : Graph) (s : List ℕ) (m : Merge) → OpenAt s m → length s < 256 → Small (stepOf g s m)
+small-step : (g : SizedGraph) (s : List ℕ) (m : Merge) → OpenAt s m → length s < 256 → Small (stepOf g s m)
 unfolding stepOf
 small-step g s m o h =
     let a = open-ascending s m o in
@@ -174,36 +174,36 @@ small-step g s m o h =
       k-small = omega (arith, alive-lt s (ascending m .k) (a .livek));
     }
 
-pub small-steps : (g : Graph) (s : List ℕ) (p : List Merge) → Valid s p → length s + length p ≤ 256 → AllSmall (stepsFrom g s p)
+pub small-steps : (g : SizedGraph) (s : List ℕ) (p : List Merge) → Valid s p → length s + length p ≤ 256 → AllSmall (stepsFrom g s p)
 unfolding stepsFrom
 small-steps g s [] v h = tt
 small-steps g s (m ∷ p) v h = (small-step g s m (v .0) (omega arith), small-steps g (put s m) p (v .1) (omega (arith, length-put s m)))
 
 -- ---- every list of merges
 
-module _ (g : Graph) (pairs : Pairs (g .clusters)) (p : List Merge) (valid : Valid (g .clusters) p) (v : Verdict) where
+module _ (g : SizedGraph) (pairs : Pairs (g .graph .clusters)) (p : List Merge) (valid : Valid (g .graph .clusters) p) (v : Verdict) where
   abbrev bytes : List ℕ
-  bytes = report (g .n) (length (g .clusters)) v (stepsOf g p) (final (g .clusters) p) (restsOn (length (g .clusters)) p)
+  bytes = report (g .graph .n) (length (g .graph .clusters)) v (stepsOf g p) (final (g .graph .clusters) p) (restsOn (length (g .graph .clusters)) p)
 
-  pub report-bound : g .n < 100 → length bytes + 6 * length p ≤ 42 + 37 * length (g .clusters)
+  pub report-bound : g .graph .n < 100 → length bytes + 6 * length p ≤ 42 + 37 * length (g .graph .clusters)
   report-bound small =
       omega (
         arith,
-        report-short (g .n) (length (g .clusters)) v (stepsOf g p) (final (g .clusters) p) (restsOn (length (g .clusters)) p) small
-            (modest-steps g (g .clusters) p valid) (carrying (g .clusters) pairs p valid .count),
-        length-steps g (g .clusters) p,
-        steps-left (g .clusters) pairs p valid,
-        weights-kept (g .clusters) pairs p valid,
+        report-short (g .graph .n) (length (g .graph .clusters)) v (stepsOf g p) (final (g .graph .clusters) p) (restsOn (length (g .graph .clusters)) p) small
+            (modest-steps g (g .graph .clusters) p valid) (carrying (g .graph .clusters) pairs p valid .count),
+        length-steps g (g .graph .clusters) p,
+        steps-left (g .graph .clusters) pairs p valid,
+        weights-kept (g .graph .clusters) pairs p valid,
       )
 
   -- a sheet that is not over
-  pub report-most : 2 ≤ g .n → g .n ≤ 64 → Below (g .n) (g .clusters) → NotOver (g .clusters) → length bytes ≤ 4667
+  pub report-most : 2 ≤ g .graph .n → g .graph .n ≤ 64 → Below (g .graph .n) (g .graph .clusters) → NotOver (g .graph .clusters) → length bytes ≤ 4667
   unfolding NotOver
   report-most two most below fine =
       omega (
         arith,
         report-bound (omega arith),
-        fine (full (g .n)) (omega (arith, size-full (g .n))),
-        size-full (g .n),
-        carried-full (g .n) (g .clusters) below,
+        fine (full (g .graph .n)) (omega (arith, size-full (g .graph .n))),
+        size-full (g .graph .n),
+        carried-full (g .graph .n) (g .graph .clusters) below,
       )

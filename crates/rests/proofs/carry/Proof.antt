@@ -37,7 +37,7 @@ module _ {e steps t i j k : ℕ} {parts : List ℕ} (h : t < steps) (ei : i ≡ 
       (sym (are ∙ (λ z. set words (e + t) (getD words (ei z) 0 ∪ getD words (ej z) 0 ∪ getD words (ek z) 0)))) (told-next l t h w words room told)
 
 -- the parts are in use
-module _ (c : tie.After-wide3 Inv-loop μ-loop) where
+module _ (c : tie.After-place-of3 Inv-loop μ-loop) where
   abbrev at : tie.At-loop Inv-loop μ-loop
   at = c .before .before .before .before .before .before .before
 
@@ -47,17 +47,17 @@ module _ (c : tie.After-wide3 Inv-loop μ-loop) where
   going : at .loop .t < start .args .steps
   going = c .before .before .before .before .before .before .loop-test .taken
 
-  used : (start .args .e + at .loop .t < 192) × (c .before .before .before .before .wide .result < 192) × (c .before .before .wide2 .result < 192)
-      × (c .wide3 .result < 192)
-  used = in-use going (c .before .before .before .before .wide .ensures) (c .before .before .wide2 .ensures) (c .wide3 .ensures) (start .pre .0)
+  used : (start .args .e + at .loop .t < 192) × (c .before .before .before .before .place-of .result < 192) × (c .before .before .place-of2 .result < 192)
+      × (c .place-of3 .result < 192)
+  used = in-use going (c .before .before .before .before .place-of .ensures) (c .before .before .place-of2 .ensures) (c .place-of3 .ensures) (start .pre .0)
       (start .pre .1) (start .pre .2)
 
   one-more : (w : ℕ) {words next : List ℕ}
-      → next ≡ set words (start .args .e + at .loop .t) (getD words (c .before .before .before .before .wide .result) 0
-      ∪ getD words (c .before .before .wide2 .result) 0 ∪ getD words (c .wide3 .result) 0)
+      → next ≡ set words (start .args .e + at .loop .t) (getD words (c .before .before .before .before .place-of .result) 0
+      ∪ getD words (c .before .before .place-of2 .result) 0 ∪ getD words (c .place-of3 .result) 0)
       → (l : Listed (start .args .e) (start .args .parts .now) (start .args .steps)) → Told w (l .cs) (take (at .loop .t) (l .p)) words
       → Told w (l .cs) (take (at .loop .t + 1) (l .p)) next
-  one-more w = joined going (c .before .before .before .before .wide .ensures) (c .before .before .wide2 .ensures) (c .wide3 .ensures) w (used .0)
+  one-more w = joined going (c .before .before .before .before .place-of .ensures) (c .before .before .place-of2 .ensures) (c .place-of3 .ensures) w (used .0)
 
 loop-again : tie.Need-loop-again Inv-loop μ-loop
 loop-again c =

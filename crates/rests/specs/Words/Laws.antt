@@ -13,8 +13,8 @@ use Rattle.theory.specs.Plan.{ascending}
 use Rattle.theory.specs.Plan.Order.{open-ascending, put-ascending}
 use Rattle.merges.specs.Run.{places, flat}
 use Rattle.merges.specs.Run.Laws.{final-snoc, length-final}
-use Rattle.rests.specs.Rests.{aloneFrom, restsOn}
-use Rattle.rests.specs.Rests.Laws.{length-alone, slot-alone, Stands, new, gone, kept, stands}
+use Rattle.theory.specs.Rests.{aloneFrom, restsOn}
+use Rattle.theory.specs.Rests.Laws.{length-alone, slot-alone, Stands, new, gone, kept, stands}
 use Rattle.rests.specs.Words.{word, Listed, Alone, Told}
 
 -- ---- words of a union

@@ -11,7 +11,7 @@ unfolding _∩_ _∪_ union
 returns c =
     let dead = c .before .before .before .before .before .before .before .before .three-of .ensures in
     let made = c .before .before .before .before .before .before .before .alone .ensures in
-    let near = c .before .before .before .before .before .before .before .before .before .near-of in
+    let near = c .before .before .before .before .before .before .before .before .before .image in
     let edge = c .before .before .before .before .rejoin in
     let j = edge .ensures .0 in
     record {

@@ -125,7 +125,7 @@ returns-5 c = λ f a.
     let one = start k .args .c in
     record {
       answer-is =
-          c .judge-last .ensures _ ∙ ap lastAnswer (graph-is m) ∙ last-asked f one (a .accepted) (few k a) (none k a)
+          c .judge-last .ensures ∙ ap lastAnswer (graph-is m) ∙ last-asked f one (a .accepted) (few k a) (none k a)
           ∙ ap (λ (i : ℕ). asJudged i (verdictOf (graphOf (extended f one)))) (sym (place-asked f one _ (now-held (tried k) a)));
       holds = λ e. m;
     }

@@ -21,7 +21,7 @@ use Rattle.sheet.specs.Graph.{graphOf, clusterOf, overFault}
 use Rattle.sheet.specs.Graph.Laws.{fine-fault, first-fault, length-clusters}
 use Rattle.graph.specs.declared.Front.{Front}
 use Rattle.graph.specs.declared.Head.{Head}
-use Rattle.graph.specs.Lent.{graphIn, headIn, SheetIn, sizesOf, Sound, Drawn}
+use Rattle.graph.specs.Lent.{graphIn, headIn, SheetIn, Sound, Drawn}
 use Rattle.graph.specs.Lent.Sheets.{accepted-sound, found-fine, graph-is, counted}
 use Rattle.judge.specs.Telling.{Tells}
 use Rattle.sketch.specs.declared.Judgement.the-variants.{Is, Refused}
@@ -124,19 +124,19 @@ module _ (g : Graph) where
   pub last-not-over : {v : Verdict} → v ≡ verdictOf g → (v ≡ Over → ⊥) → Is v ≡ lastAnswer g
   last-not-over v n = last-fine v (not-over-fine g (λ o. n (v ∙ o)))
 
-module _ {h : Head} {near start : List ℕ} (d : Drawn h near start) (z : List ℤ) {k x : ℕ} where
-  pub first-listed : findingOf (graphIn h start z) ≡ First k x → k < h .e
+module _ {h : Head} {near start : List ℕ} (d : Drawn h near start) {k x : ℕ} where
+  pub first-listed : findingOf (graphIn h start) ≡ First k x → k < h .e
   first-listed q = let o = overOf-first _ _ (d .sound .simple .pairs) (d .sound .below) k x q in omega (arith, o .listed, counted d)
 
-  pub last-first : {r : ℕ} → r ≡ lastRule k (h .e) → findingOf (graphIn h start z) ≡ First k x → Refused r ≡ lastAnswer (graphIn h start z)
+  pub last-first : {r : ℕ} → r ≡ lastRule k (h .e) → findingOf (graphIn h start) ≡ First k x → Refused r ≡ lastAnswer (graphIn h start)
   unfolding lastAnswer
-  last-first e q = ap Refused (e ∙ ap (lastRule k) (sym (counted d))) ∙ sym (ap (lastBy (graphIn h start z)) q)
+  last-first e q = ap Refused (e ∙ ap (lastRule k) (sym (counted d))) ∙ sym (ap (lastBy (graphIn h start)) q)
 
 -- of a graph whose verdict is over, what is told
-module _ {h : Head} {near start : List ℕ} (d : Drawn h near start) (z : List ℤ) {v : Verdict} {first : ℕ}
-    (t : Tells (graphIn h start z) v first) (over : v ≡ Over) where
+module _ {h : Head} {near start : List ℕ} (d : Drawn h near start) {v : Verdict} {first : ℕ}
+    (t : Tells (graphIn h start) v first) (over : v ≡ Over) where
   abbrev g : Graph
-  g = graphIn h start z
+  g = graphIn h start
 
   -- by the first that is found
   by-first : (A : Type 0) → ((k x : ℕ) → findingOf g ≡ First k x → A) → A
@@ -147,11 +147,11 @@ module _ {h : Head} {near start : List ℕ} (d : Drawn h near start) (z : List �
       go (First k x) q = f k x q
 
   pub told-listed : first < h .e
-  told-listed = by-first (first < h .e) (λ k x q. omega (arith, t .first-is k x q, first-listed d z q))
+  told-listed = by-first (first < h .e) (λ k x q. omega (arith, t .first-is k x q, first-listed d q))
 
   pub last-told : {r : ℕ} → r ≡ lastRule first (h .e) → Refused r ≡ lastAnswer g
   last-told {r} e =
-      by-first (Refused r ≡ lastAnswer g) (λ k x q. last-first d z (e ∙ ap (λ (i : ℕ). lastRule i (h .e)) (t .first-is k x q)) q)
+      by-first (Refused r ≡ lastAnswer g) (λ k x q. last-first d (e ∙ ap (λ (i : ℕ). lastRule i (h .e)) (t .first-is k x q)) q)
 
 -- ---- the rules in their order
 
@@ -206,9 +206,9 @@ some-rule (suc i) k n e = omega arith
 
 -- that rule, unless the sheet in the arrays is over
 pub unless-in : {f : Facts} {h : Front} {near start near′ start′ radii : List ℕ} {codes codes′ : List ℤ} → SheetIn f h near start codes radii
-    → (c : Constraint) (held rule : ℕ) {r : ℕ} → ((z : List ℤ) → r ≡ or-else (by27 (overFault (graphIn (headIn h) start z))) rule)
+    → (c : Constraint) (held rule : ℕ) {r : ℕ} → r ≡ or-else (by27 (overFault (graphIn (headIn h) start))) rule
     → (rule ≡ 0 → ⊥)
     → placeFault f c held ≡ or-else (by27 (overFault (graphOf f))) rule → PlacedIn f c held h (Refused r) near′ start′ codes′ radii
 unless-in {f} a c held rule {r} told n e =
-    let is = told (sizesOf f) ∙ ap (λ (g : Graph). or-else (by27 (overFault g)) rule) (graph-is a) in
+    let is = told ∙ ap (λ (g : Graph). or-else (by27 (overFault g)) rule) (graph-is a) in
     refused-in f c held r (e ∙ sym is) (λ z. some-rule (overFault (graphOf f)) rule n (sym is ∙ z))

@@ -2,12 +2,13 @@
 -- `answer` and `after`. Assumes nothing.
 use Prim.Native.Nat.{ℕ, suc, _+_, _≤_, _<_}
 use native.Mathlib.Nat.{add-zero, zero-add, add-suc, suc-add}
+use native.Mathlib.Numerals.{add-one}
 use native.Mathlib.Omega.{arith}
 use borrow.Author.Tests.{lt-ltb, le-ltb}
 use mathlib.Core.Path.{_≡_, refl, sym, ap, _∙_}
 use mathlib.Core.List.{List, [], _∷_, _++_}
-use lib.ListN.{length, take, drop, set, length-append}
-use lib.Seq.{sets, sets-eq, length-sets, take-at}
+use lib.ListN.{length, take, drop, set, getD, length-append, length-set, drop-of-length-le}
+use lib.Seq.{sets, sets-eq, length-sets, take-at, drop-cons}
 use Rattle.space.specs.declared.Written.the-variants.{Done, Refused}
 use Rattle.space.specs.Space.{Put, answer, after}
 
@@ -19,6 +20,27 @@ sets-append (x ∷ xs) ys l i = sets-append xs ys (set l i x) (suc i) ∙ rw (ad
 
 pub sets-front : (xs l : List ℕ) → length xs ≤ length l → sets l 0 xs ≡ xs ++ drop (length xs) l
 sets-front xs l h = sets-eq xs l 0 (omega arith) ∙ rw zero-add
+
+-- items stored one after another: what is left of them, put from the place reached, makes the space that all of them make
+pub record Storing (space : List ℕ) (at : ℕ) (items : List ℕ) (i : ℕ) (now : List ℕ) : Type 0 where
+  pub bound : i ≤ length items
+  pub length-is : length now ≡ length space
+  pub sets-is : sets space at items ≡ sets now (at + i) (drop i items)
+
+pub storing-none : (space : List ℕ) (at : ℕ) (items : List ℕ) → Storing space at items 0 space
+storing-none space at items = record { bound = omega arith; length-is = refl; sets-is = rw add-zero }
+
+pub storing-one : {space now items : List ℕ} {at i j : ℕ} → j ≡ at + i → i < length items → Storing space at items i now
+    → Storing space at items (i + 1) (set now j (getD items i 0))
+storing-one {space} {now} {items} {at} {i} j-is h s =
+    record {
+      bound = omega arith;
+      length-is = simp length-set (s .length-is);
+      sets-is = s .sets-is ∙ rw (drop-cons items i 0 h, j-is, add-one, add-suc);
+    }
+
+pub storing-all : {space now items : List ℕ} {at i : ℕ} → length items ≤ i → Storing space at items i now → now ≡ sets space at items
+storing-all {space} {now} {items} {at} {i} h s = sym (s .sets-is ∙ rw (drop-of-length-le items h))
 
 -- ---- pieces of writing
 
@@ -82,3 +104,8 @@ put-done h p = (ap Done (p .next-is ∙ zero-add _) ∙ sym (long-answer _ _ h),
 pub put-stands : {items space left : List ℕ} {next : ℕ} → length items ≤ length space → Put space 0 items next left → take next left ≡ items
 put-stands {items} {space} {left} {next} room p =
     ap (take next) (p .after-is (omega arith) ∙ sets-front items space room) ∙ take-at items _ next (omega (arith, p .next-is))
+
+-- items that have room, all of them stored
+pub stored : {items space now : List ℕ} {i : ℕ} → length items ≤ length space → length items ≤ i → Storing space 0 items i now
+    → (Done i ≡ answer items space) × (now ≡ after items space)
+stored h m s = put-done h (put-all (omega (arith, s .bound)) (storing-all m s))

@@ -1,81 +1,52 @@
--- `steps::saved_steps` meets its contract: 11 of an over graph, else what the check of the plan answers. Assumes nothing.
-use Rattle.theory.specs.Prelude.{needs, arith, _≡_, sym, _∙_, take}
-use Rattle.theory.specs.Constraints.{NotOver}
-use Rattle.theory.specs.Graph.{Graph}
-use Rattle.sheet.specs.Graph.Laws.{fault-none}
+-- `steps::saved_steps` meets its contract: the rule that refuses the plan, else the steps of its merges. Assumes nothing.
+use Rattle.theory.specs.Prelude.{needs, sym, ap, _∙_, List, []}
+use Rattle.theory.specs.Merge.{Merge}
+use Rattle.theory.specs.Graph.{SizedGraph, stepsOf}
+use Rattle.sheet.specs.Field.{value}
 use Rattle.sheet.specs.Answer.Laws.{rule-none, rule-some}
-use Rattle.graph.specs.Lent.{graphIn}
-use Rattle.graph.specs.Lent.Sheets.{counted, found-fine}
-use Rattle.judge.specs.Judged.Laws.{starts}
-use Rattle.judge.specs.Judged.Short.{more-fault}
-use Rattle.plans.specs.Check.{checkOf}
-use Rattle.steps.specs.Records.Laws.{saved-refused, SavedRun, saved-run, as-listed, as-refused}
+use Rattle.graph.specs.Lent.{sizedIn}
+use Rattle.graph.specs.Lent.Sheets.{counted}
+use Rattle.account.specs.Account.Laws.{room}
+use Rattle.account.specs.Saved.Laws.{saved-rule}
+use Rattle.steps.specs.Records.Laws.{listed-are, as-listed, as-refused}
 use Rattle.steps.proofs.saved_steps.Tie as tie
+
+-- the plan is checked
+module _ (c : tie.After-check-saved) where
+  abbrev start : tie.Start
+  start = c .before .before .before .before .before
+
+  abbrev graph : SizedGraph
+  graph = sizedIn (start .args .h) (start .args .start .now) (start .args .sizes .now)
 
 returns : tie.Need-returns
 returns c =
-    let d = c .before .before .before .before .before .pre in
-    as-refused (c .refused .ensures) (rule-some _ _ (sym (more-fault _ (d .sound) (omega (arith, c .before .if1 .taken, counted d)))) (omega arith))
-    (omega arith)
+    let asked = c .before .before in
+    let k = asked .check-saved .ensures in
+    as-refused (c .refused .ensures) (saved-rule (graph asked .graph) _ _ ∙ rule-some _ _ (k .rule-is) (c .before .if1 .taken)) (c .before .if1 .taken)
 
--- no more than 2n-3 constraints
-module _ (c : tie.Else1) where
-  abbrev start : tie.Start
-  start = c .before .before .before .before
-
-  abbrev graph : Graph
-  graph = graphIn (start .args .h) (start .args .start .now) (start .args .sizes .now)
-
-over-after-requires : tie.Need-over-after-requires
-over-after-requires c κs =
-    let k = c .before .check-plan .ensures in
-    (start (c .before .before) .pre, record { merges = k .merges; valid = k .valid; count = k .count })
+steps-of-requires : tie.Need-steps-of-requires
+steps-of-requires c κs =
+    let asked = c .before .before .before in
+    let none = c .before .before .if1 .left in
+    let s = start asked in
+    let k = asked .check-saved .ensures in
+    let few = room (s .args .h) (s .args .start .now) (s .pre .sound) (counted (s .pre)) (k .notOver none) (k .merged none) in
+    (few .1, few .3)
 
 returns-2 : tie.Need-returns-2
-returns-2 c = as-refused (c .refused2 .ensures) (rule-some _ _ (c .before .before .over-after .ensures _) (c .before .if2 .taken)) (c .before .if2 .taken)
-
--- it is not over
-module _ (c : tie.Else2) where
-  abbrev asked : tie.After-check-plan
-  asked = c .before .before .before
-
-  abbrev none : tie.Else1
-  none = asked .before
-
-  fine : NotOver (take (start none .args .h .e) (start none .args .start .now))
-  fine = found-fine (start none .pre .sound) (fault-none (graph none) (sym (c .before .over-after .ensures _) ∙ c .if2 .left))
-
-  checked : asked .check-plan .result ≡ checkOf (take (start none .args .h .e) (start none .args .start .now)) (start none .args .plan .now)
-  checked = asked .check-plan .ensures .answers fine
-
--- the plan is taken
-module _ (c : tie.After-enum-told) where
-  abbrev held : tie.Else2
-  held = c .before .before
-
-  took : SavedRun (graph (none held)) (start (none held) .args .plan .now) (asked held .check-plan .result) (checked held)
-  took = saved-run _ _ _ _ (c .enum-told .given .1)
-
-listed-requires : tie.Need-listed-requires
-listed-requires c κs =
-    let d = start (none (held c)) .pre in (d .sound, counted d, fine (held c), took c .merged)
-
-returns-3 : tie.Need-returns-3
-returns-3 c =
-    let k = c .before .before .before .before in
-    let g = c .before .before .outcome .given in
-    let s = saved-refused (graph (none k)) _ _ (checked k) (g .0 .0) (g .1) in
-    as-refused (c .refused3 .ensures) (rule-none _ (sym (k .before .over-after .ensures _) ∙ k .if2 .left) ∙ s .0) (s .1)
-
-returns-4 : tie.Need-returns-4
-returns-4 c =
-    let k = held (c .before) in
-    as-listed (c .listed .ensures (took (c .before) .merged))
-    (rule-none _ (sym (k .before .over-after .ensures _) ∙ k .if2 .left) ∙ took (c .before) .gives)
+returns-2 c =
+    let asked = c .before .before .before .before in
+    let none = c .before .before .before .if1 .left in
+    let s = start asked in
+    let k = asked .check-saved .ensures in
+    as-listed
+    (listed-are (s .args .h) (s .args .start .now) (s .args .sizes .now) (s .pre .sound) (counted (s .pre)) (k .notOver none) (k .merged none)
+    (c .steps-of .ensures))
+    (saved-rule (graph asked .graph) _ _ ∙ rule-none _ (sym (k .rule-is) ∙ none)
+    ∙ ap (λ (p : List Merge). value (stepsOf (graph asked) p) []) (sym (k .saved none)))
 
 pub saved-steps-spec : {M : Type 1} → Rattle.steps.proofs.saved_steps.Statement.statement M
 saved-steps-spec =
     tie.close
-    (tie.spec (λ c. search needs) (λ c. search needs) (λ c κs. search needs) returns
-    (λ c κs. let d = start c .pre in starts d (omega (arith, c .if1 .left, d .sound .most))) over-after-requires (λ c κs. search needs) returns-2
-    (λ c. search needs) (λ c κs. search needs) (λ c. search needs) listed-requires returns-3 returns-4)
+    (tie.spec (λ c κs. search needs) (λ c κs. search needs) returns steps-of-requires returns-2)

@@ -1,6 +1,4 @@
--- The steps that the arrays of a run give are those of its list of merges; what a judgement says of them; and what is filled from a listing is what
--- its
--- field gives. Assumes nothing.
+-- The steps that the arrays of a run give are those of its list of merges, and what is filled from a listing is what its field gives. Assumes nothing.
 use Rattle.theory.specs.Prelude.{ℕ, zero, suc, _+_, _*_, _≤_, _<_, min, arith, add-one, lt-ltb, le-ltb, ltb-true, ltb-false, _≡_, refl, sym, ap, _∙_}
 use Rattle.theory.specs.Prelude.{subst, _≢_, Bool, true, false, cond, List, [], _∷_, _++_, ltb, ℤ, length, getD, take, drop, length-take}
 use Rattle.theory.specs.Prelude.{drop-of-length-le, List·getD-eq-default, drop-cons, ext-getD, getD-take, take-all, take-append-seam}
@@ -9,59 +7,51 @@ use Rattle.theory.specs.Block.Laws.{length-block, getD-block, take-block}
 use Rattle.theory.specs.Constraints.{NotOver}
 use Rattle.theory.specs.Plan.{planOf}
 use Rattle.theory.specs.Plan.Laws.{plan-of-maximal}
-use Rattle.theory.specs.Verdict.{verdictNumber}
-use Rattle.theory.specs.Verdict.Laws.{number-over}
-use Rattle.theory.specs.declared.Finding.{Finding}
-use Rattle.theory.specs.declared.Finding.the-variants.{Fine, First}
 use Rattle.theory.specs.declared.Step.{Step}
-use Rattle.theory.specs.Graph.{Graph, findingOf, stepsOf}
-use Rattle.theory.specs.Graph.Laws.{list-not-over, length-steps}
+use Rattle.theory.specs.Graph.{Graph, SizedGraph, stepsOf}
+use Rattle.theory.specs.Graph.Laws.{length-steps}
 use Rattle.space.specs.declared.Written.{Written}
 use Rattle.space.specs.declared.Written.the-variants.{Done, Refused}
 use Rattle.space.specs.Space.{Put}
 use Rattle.space.specs.Space.Laws.{put-refused, put-done}
 use Rattle.sheet.specs.Field.{Field, value, refused}
-use Rattle.sheet.specs.Answer.{byRule, Answers}
+use Rattle.sheet.specs.Answer.{Answers}
 use Rattle.sheet.specs.Answer.Laws.{answers-items}
-use Rattle.sheet.specs.Graph.{overRule, overFault}
 use Rattle.graph.specs.declared.Head.{Head}
-use Rattle.graph.specs.Lent.{graphIn, Sound}
-use Rattle.graph.specs.Lent.Sheets.{found-fine}
-use Rattle.merges.specs.Run.{runOf, Merged}
-use Rattle.merges.specs.declared.Run.{Run}
+use Rattle.graph.specs.Lent.{sizedIn, Sound}
+use Rattle.merges.specs.Run.{Run, runOf, Merged}
 use Rattle.engine.specs.Steps.{Stepped, blankStep}
 use Rattle.engine.specs.Steps.Laws.{stepped-are}
-use Rattle.judge.specs.declared.Judged.{Judged}
-use Rattle.judge.specs.Judged.{listed, judgedBy, judgedOf}
-use Rattle.plans.specs.declared.Outcome.the-variants.{Accepted, Refused as Stopped}
-use Rattle.plans.specs.declared.Checked.{Checked}
-use Rattle.plans.specs.Check.{savedSteps, planFault, answerOf, checkOf}
-use Rattle.plans.specs.Check.Laws.{accepted-maximal}
 use Rattle.account.specs.Account.Laws.{room}
 use Rattle.steps.specs.declared.Listing.{Listing}
 use Rattle.steps.specs.declared.Taken.{Taken}
-use Rattle.steps.specs.Records.{planSteps, savedRecords, filledTo, listAfter, Fills}
+use Rattle.steps.specs.Records.{filledTo, listAfter, Fills}
 use Rattle.steps.specs.Listing.{listingOf, Fit, Listed, none, takenOf, filled}
 use Rattle.steps.specs.Records.{numbersOf, stepNumbers, numbersField}
 use Rattle.steps.specs.Listing.{numbersFrom}
 
 -- ---- the steps of a run
 
+-- the engine's plan
+abbrev pub planMerged : (g : Graph) → Sound (g .n) (g .clusters) → {run : Run} → run ≡ runOf (g .clusters) (planOf (g .clusters))
+    → Merged (g .clusters) run
+planMerged g sound e = record { p = planOf (g .clusters); valid = plan-of-maximal (g .clusters) (sound .simple .pairs) .valid; is = e }
+
 module _ (h : Head) (start : List ℕ) (sizes : List ℤ) (sound : Sound (h .n) (take (h .e) start)) (count : length (take (h .e) start) ≡ h .e)
     (fine : NotOver (take (h .e) start)) {run : Run} (m : Merged (take (h .e) start) run) {steps : List Step}
-    (stepped : Stepped (h .lines) (h .e) sizes start run steps) where
-  abbrev g : Graph
-  g = graphIn h start sizes
+    (stepped : Stepped (h .lines) (h .e) sizes start (run .parts) (run .joints) (run .steps) steps) where
+  abbrev g : SizedGraph
+  g = sizedIn h start sizes
 
   few : (h .n ≤ 64) × (h .e ≤ 125) × (2 * run .steps ≤ h .e) × (run .steps ≤ 62)
-  few = room h start sizes sound count fine m
+  few = room h start sound count fine m
 
   steps-are : run .steps ≡ length (m .p)
   unfolding runOf
   steps-are = ap (λ (r : Run). r .steps) (m .is)
 
   long : run .steps ≡ length (stepsOf g (m .p))
-  long = steps-are ∙ sym (length-steps g (g .clusters) (m .p))
+  long = steps-are ∙ sym (length-steps g (g .graph .clusters) (m .p))
 
   front : take (run .steps) steps ≡ stepsOf g (m .p)
   front =
@@ -86,76 +76,6 @@ module _ (h : Head) (start : List ℕ) (sizes : List ℤ) (sound : Sound (h .n) 
       ext-getD blankStep steps (block 62 blankStep (stepsOf g (m .p))) (stepped .long ∙ sym (length-block 62 blankStep (stepsOf g (m .p)) most))
       (λ t l. each t (ltb t (run .steps)) refl) in
       record { is = λ z. record { rule = 0; count = long z; steps = all z }; fit = most }
-
--- ---- what is judged
-
-module _ (g : Graph) (sound : Sound (g .n) (g .clusters)) (j : Judged) (e : j ≡ judgedOf g) where
-  abbrev planned : Field (List Step)
-  planned = byRule (overFault g) (value (planSteps g) [])
-
-  pub over-refused : verdictNumber (j .verdict) ≡ 0 → planned ≡ refused 11
-  unfolding judgedOf overFault listed
-  over-refused v = by-finding (findingOf g) refl
-    where
-      by-finding : (o : Finding) → findingOf g ≡ o → byRule (overRule (findingOf g)) (value (planSteps g) []) ≡ refused 11
-      by-finding Fine q =
-          absurd
-          (list-not-over g (planOf (g .clusters)) (number-over _ (sym (ap (λ (x : Judged). verdictNumber (x .verdict)) (e ∙ ap (judgedBy g) q)) ∙ v)))
-      by-finding (First c x) q = ap (λ (o : Finding). byRule (overRule o) (value (planSteps g) [])) q
-
-  -- the run of the engine's plan
-  pub record PlanRun : Type 0 where
-    pub notOver : NotOver (g .clusters)
-    pub merged : Merged (g .clusters) (j .run)
-    pub gives : planned ≡ value (stepsOf g (merged .p)) []
-
-  pub plan-run : verdictNumber (j .verdict) ≢ 0 → PlanRun
-  unfolding judgedOf overFault listed planSteps
-  plan-run v = by-finding (findingOf g) refl
-    where
-      by-finding : (o : Finding) → findingOf g ≡ o → PlanRun
-      by-finding Fine q = record {
-        notOver = found-fine sound q;
-        merged = record {
-          p = planOf (g .clusters);
-          valid = plan-of-maximal (g .clusters) (sound .simple .pairs) .valid;
-          is = ap (λ (x : Judged). x .run) (e ∙ ap (judgedBy g) q);
-        };
-        gives = ap (λ (o : Finding). byRule (overRule o) (value (stepsOf g (planOf (g .clusters))) [])) q;
-      }
-      by-finding (First c x) q = absurd (v (ap (λ (x : Judged). verdictNumber (x .verdict)) (e ∙ ap (judgedBy g) q)))
-
--- ---- what is checked
-
-module _ (g : Graph) (l : List ℕ) (r : Checked) (e : r ≡ checkOf (g .clusters) l) where
-  pub saved-refused : (k : ℕ) → r .outcome ≡ Stopped k → (savedRecords g l ≡ refused k) × (k ≢ 0)
-  unfolding checkOf
-  saved-refused k o = by-fault (planFault (g .clusters) l) (sym o ∙ ap (λ (x : Checked). x .outcome) e)
-    where
-      by-fault : (rule : ℕ) → Stopped k ≡ answerOf rule (runOf (g .clusters) (savedSteps l)) .outcome
-          → (byRule rule (value (stepsOf g (savedSteps l)) []) ≡ refused k) × (k ≢ 0)
-      by-fault zero h = absurd (let z : _≡_ {A = ℕ} 0 1 = cc in omega arith)
-      by-fault (suc rule) h = let n : suc rule ≡ k = cc in (ap refused n, λ z. omega (arith, n, z))
-
-  -- the run of a saved plan
-  pub record SavedRun : Type 0 where
-    pub merged : Merged (g .clusters) (r .run)
-    pub gives : savedRecords g l ≡ value (stepsOf g (merged .p)) []
-
-  pub saved-run : r .outcome ≡ Accepted → SavedRun
-  unfolding checkOf
-  saved-run o = by-fault (planFault (g .clusters) l) refl (sym o ∙ ap (λ (x : Checked). x .outcome) e)
-    where
-      by-fault : (rule : ℕ) → planFault (g .clusters) l ≡ rule → Accepted ≡ answerOf rule (runOf (g .clusters) (savedSteps l)) .outcome → SavedRun
-      by-fault zero p h = record {
-        merged = record {
-          p = savedSteps l;
-          valid = accepted-maximal (g .clusters) l .0 p .1 .valid;
-          is = ap (λ (x : Checked). x .run) (e ∙ ap (λ (k : ℕ). answerOf k (runOf (g .clusters) (savedSteps l))) p);
-        };
-        gives = rw p;
-      }
-      by-fault (suc rule) p h = absurd (let z : _≡_ {A = ℕ} 0 1 = cc in omega arith)
 
 -- ---- a listing
 

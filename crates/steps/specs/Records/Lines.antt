@@ -5,7 +5,7 @@ use Rattle.theory.specs.Plan.{planOf}
 use Rattle.theory.specs.declared.Finding.the-variants.{Fine}
 use Rattle.theory.specs.declared.Step.{Step}
 use Rattle.theory.specs.declared.Verdict.{Verdict}
-use Rattle.theory.specs.Graph.{Graph, findingOf, listVerdict, stepsOf}
+use Rattle.theory.specs.Graph.{SizedGraph, findingOf, listVerdict, stepsOf}
 use Rattle.report.specs.Report.{report, verdictLine, elementsLine, stepLines}
 use Rattle.account.specs.Account.{listReport, reportBy, reportOf}
 use Rattle.steps.specs.Records.{planSteps}
@@ -15,13 +15,13 @@ pub record Lines (n e : ℕ) (v : Verdict) (steps : List Step) (bytes : List ℕ
   pub clusters : List ℕ
   pub bytes-are : bytes ≡ verdictLine v ++ (elementsLine n e ++ (stepLines steps ++ clusters))
 
-module _ (g : Graph) where
+module _ (g : SizedGraph) where
   -- of every list of merges, so of a saved plan
-  pub list-lines : (p : List Merge) → Lines (g .n) (length (g .clusters)) (listVerdict g p) (stepsOf g p) (listReport g p)
+  pub list-lines : (p : List Merge) → Lines (g .graph .n) (length (g .graph .clusters)) (listVerdict (g .graph) p) (stepsOf g p) (listReport g p)
   unfolding listReport report
   list-lines p = record { clusters = _; bytes-are = refl }
 
   -- and of the engine's plan
-  pub plan-lines : findingOf g ≡ Fine → Lines (g .n) (length (g .clusters)) (listVerdict g (planOf (g .clusters))) (planSteps g) (reportOf g)
+  pub plan-lines : findingOf (g .graph) ≡ Fine → Lines (g .graph .n) (length (g .graph .clusters)) (listVerdict (g .graph) (planOf (g .graph .clusters))) (planSteps g) (reportOf g)
   unfolding reportOf planSteps
-  plan-lines q = let l = list-lines (planOf (g .clusters)) in record { clusters = l .clusters; bytes-are = ap (reportBy g) q ∙ l .bytes-are }
+  plan-lines q = let l = list-lines (planOf (g .graph .clusters)) in record { clusters = l .clusters; bytes-are = ap (reportBy g) q ∙ l .bytes-are }

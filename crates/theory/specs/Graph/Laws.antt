@@ -13,7 +13,7 @@ use Rattle.theory.specs.Plan.Laws.{plan-of-maximal}
 use Rattle.theory.specs.Plan.Order.{joint-ascending}
 use Rattle.theory.specs.Ring.Laws.{same-ringed}
 use Rattle.theory.specs.Verdict.Laws.{angled-same, judged-same, judged-not-over}
-use Rattle.theory.specs.Graph.{Graph, findingOf, listVerdict, verdictBy, verdictOf, stepOf, stepsFrom}
+use Rattle.theory.specs.Graph.{Graph, findingOf, listVerdict, verdictBy, verdictOf, SizedGraph, stepOf, stepsFrom}
 use Rattle.theory.specs.declared.Finding.{Finding}
 use Rattle.theory.specs.declared.Finding.the-variants.{Fine, First}
 use Rattle.theory.specs.declared.Verdict.the-variants.{Over}
@@ -89,12 +89,12 @@ module _ (g : Graph) where
 
 -- ---- the steps of a list of merges
 
-pub length-steps : (g : Graph) (s : List ℕ) (p : List Merge) → length (stepsFrom g s p) ≡ length p
+pub length-steps : (g : SizedGraph) (s : List ℕ) (p : List Merge) → length (stepsFrom g s p) ≡ length p
 unfolding stepsFrom
 length-steps g s [] = refl
 length-steps g s (m ∷ p) = ap suc (length-steps g (put s m) p)
 
-pub joints-steps : (g : Graph) (s : List ℕ) (p : List Merge) → map (λ (t : Step). t .joint) (stepsFrom g s p) ≡ joints s p
+pub joints-steps : (g : SizedGraph) (s : List ℕ) (p : List Merge) → map (λ (t : Step). t .joint) (stepsFrom g s p) ≡ joints s p
 unfolding stepsFrom stepOf joints
 joints-steps g s [] = refl
 joints-steps g s (m ∷ p) = ap₂ (λ (x : ℕ) (l : List ℕ). x ∷ l) (joint-ascending s m) (joints-steps g (put s m) p)

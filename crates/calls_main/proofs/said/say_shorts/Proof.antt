@@ -4,14 +4,9 @@ use Prim.Native.Nat.{_-_}
 use lib.ListN.{length}
 use Rattle.calls_main.proofs.said.say_shorts.Tie as tie
 
-abbrev Inv-loop : tie.InvT-loop
-Inv-loop to space i₀ i = Unit {0}
-
-abbrev μ-loop : tie.MeasureT-loop
-μ-loop to space i₀ i = length space - i
-
 pub say-shorts-spec : {M : Type 1} → Rattle.calls_main.proofs.said.say_shorts.Statement.statement M
 say-shorts-spec =
     tie.close
-    (tie.spec Inv-loop μ-loop (λ c. search needs) (λ c. search needs) (λ c. search needs) (λ c κs. search needs) (λ c. search needs)
-    (λ c. search needs) (λ c. search needs) (λ c. search needs))
+    (tie.spec (λ to space i₀ i. Unit {0}) (λ to space i₀ i. length space - i) (λ c. search needs) (λ c. search needs)
+    (λ c. search needs) (λ c κs. search needs) (λ c. search needs) (λ c. search needs) (λ c. search needs)
+    (λ c. search needs))

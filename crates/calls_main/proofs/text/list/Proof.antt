@@ -8,12 +8,6 @@ use lib.Seq.{length-take-le}
 use Rattle.io.specs.Counts.{Counts}
 use Rattle.calls_main.proofs.text.list.Tie as tie
 
-abbrev Inv-loop : tie.InvT-loop
-Inv-loop text from out₀ n₀ at₀ out n at = (length out ≡ length out₀) × (n ≤ length out₀)
-
-abbrev μ-loop : tie.MeasureT-loop
-μ-loop text from out₀ n₀ at₀ out n at = length out₀ - n
-
 -- `Counts` from its bound
 counts : (i : ℕ) (list : List ℕ) → i ≤ length list → Counts i list
 counts i list h = (h, sym (length-take-le i list h))
@@ -21,6 +15,9 @@ counts i list h = (h, sym (length-take-le i list h))
 pub list-spec : {M : Type 1} → Rattle.calls_main.proofs.text.list.Statement.statement M
 list-spec =
     tie.close
-    (tie.spec Inv-loop μ-loop (λ c. search needs) (λ c κs. search needs) (λ c κs. search needs) (λ c. search needs) (λ c. counts _ _ (search needs))
-    (λ c κs. search needs) (λ c κs. search needs) (λ c κs. search needs) (λ c κs. search needs) (λ c. search needs) (λ c. search needs)
-    (λ c κs. search needs) (λ c. search needs) (λ c. search needs) (λ c. search needs) (λ c. counts _ _ (search needs)))
+    (tie.spec (λ text from out₀ n₀ at₀ out n at. (length out ≡ length out₀) × (n ≤ length out₀))
+    (λ text from out₀ n₀ at₀ out n at. length out₀ - n) (λ c. search needs) (λ c κs. search needs)
+    (λ c κs. search needs) (λ c. search needs) (λ c. counts _ _ (search needs)) (λ c κs. search needs)
+    (λ c κs. search needs) (λ c κs. search needs) (λ c κs. search needs) (λ c. search needs) (λ c. search needs)
+    (λ c κs. search needs) (λ c. search needs) (λ c. search needs) (λ c κs. search needs) (λ c. search needs)
+    (λ c. counts _ _ (search needs)))

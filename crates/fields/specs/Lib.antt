@@ -1,2 +1,0 @@
--- What the answers of a field's reading say.
-pub mod Answers

@@ -1,2 +1,0 @@
--- What the loops of the test for a ring have done so far.
-pub mod Turns
