@@ -87,9 +87,11 @@ class Names:
         return found[0] if found else None
 
     def item(self, crate, name, inner=None):
-        """An item of a crate: a function, a type, a variant."""
+        """An item of a crate or of a module in it: a function, a type, a variant."""
         self.crate, self.file = self.house.crates.get(crate, self.crate), None
         files = self.crate.files if crate in self.house.crates else []
+        if files and inner and self.house.source_module(self.crate, name) is not None:
+            name, inner = inner, None
         decl = next((d for f in files if f.language == "rt" for d in f.decls if d.name == name), None)
         if decl is not None:
             self.file = decl.file

@@ -37,7 +37,8 @@ class Programs(antt.Reader):
     def path_meaning(self, path):
         """What a path means: crate::name, Type::Variant, crate::Type::Variant, and names of the kit's crates."""
         head, rest = path[0], path[1:]
-        crate = self.file.crate if head in ("crate", "self", "super") else self.house.crates.get(head)
+        own = head in ("crate", "self", "super") or self.house.source_module(self.file.crate, head) is not None
+        crate = self.file.crate if own else self.house.crates.get(head)
         if crate is not None and rest:
             items = self.house.crate_items(crate)
             while rest[0] not in items and len(rest) > 1:
@@ -61,10 +62,16 @@ class Programs(antt.Reader):
         while j + 1 < len(toks) and toks[j].text == "::" and toks[j + 1].kind == "name":
             path.append(toks[j + 1])
             j += 2
+        crate = self.file.crate
         for k, t in enumerate(path, 1):
             if len(path) > 1 and (k == 1 and t.text in self.house.crates or t.text in RESERVED):
                 if t.text not in RESERVED:
-                    self.mark(t.start, t.end, "module", self.house.crates[t.text])
+                    crate = self.house.crates[t.text]
+                    self.mark(t.start, t.end, "module", crate)
+                continue
+            module = self.house.source_module(crate, t.text) if k < len(path) else None
+            if module is not None:
+                self.mark(t.start, t.end, "module", module)
                 continue
             meaning = scope.find(t.text) if len(path) == 1 else None
             if meaning is None:
@@ -96,8 +103,9 @@ class Programs(antt.Reader):
         if decl.kind == "const":
             self.body(toks[2:], scope)
             return
-        end = closing(toks, 2)
-        self.parameters(toks[3:end], scope, owner)
+        first = next(k for k in range(2, len(toks)) if toks[k].text == "(")  # behind a lifetime, where there is one
+        end = closing(toks, first)
+        self.parameters(toks[first + 1 : end], scope, owner)
         i = end + 1
         while toks[i].start < decl.open:
             t = toks[i]

@@ -10,7 +10,7 @@ from words import Token
 TOKEN = re.compile(
     r"(?P<space>\s+)|(?P<comment>//[^\n]*)|(?P<string>b?\"(?:\\.|[^\"\\])*\"|b?'(?:\\.[^']*|[^'\\])')"
     r"|(?P<number>[0-9][0-9a-zA-Z_]*)|(?P<name>[A-Za-z_][A-Za-z0-9_]*)"
-    r"|(?P<mark>::|=>|->|\.\.=?|[=!<>]=|<<|>>|&&|\|\||.)",
+    r"|(?P<mark>'[a-z]+|::|=>|->|\.\.=?|[=!<>]=|<<|>>|&&|\|\||.)",
     re.S,
 )
 
@@ -125,11 +125,7 @@ class Reader(Programs):
         decl = self.file.declare(toks[i + 1].text, "method" if owner else "function", toks[i + 1], owner and "impl")
         decl.owner, decl.marks = owner, {x.text for x in toks[begin:i]}
         body = i + 2
-        while (
-            toks[body].text != "{"
-            or "ensures" in (toks[body - 1].text, toks[body - 2].text)
-            or toks[body - 1].text == "requires"
-        ):
+        while toks[body].text != "{" or {toks[body - 1].text, toks[body - 2].text} & {"requires", "ensures"}:
             body = closing(toks, body) + 1 if toks[body].text in ("(", "[", "{") else body + 1
         end = closing(toks, body)
         decl.type = self.file.text[toks[begin].start : toks[body].start].rstrip()

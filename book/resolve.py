@@ -17,7 +17,7 @@ class House:
     def __init__(self):
         self.crates = sources.crates()
         self.files = {f.path: f for c in self.crates.values() for f in c.files}
-        self.kit_crates = {n for c in self.crates.values() for n in c.needs if n not in self.crates}
+        self.kit_crates = {"std"} | {n for c in self.crates.values() for n in c.needs if n not in self.crates}
         self.prelude = self.read_prelude()
         self.methods, self.field_index, self.tables = {}, {}, {}
         self.readers = []
@@ -56,6 +56,10 @@ class House:
         folder = os.path.dirname(file.path)
         return self.files.get(f"{folder}/{name}.rt") or self.files.get(f"{folder}/{name}/mod.rt")
 
+    def source_module(self, crate, name):
+        """The module of that name in a crate's source."""
+        return self.files.get(f"crates/{crate.name}/src/{name}.rt")
+
     def module(self, words, file):
         """The module that a path names: a file of ours, what the kit makes from one, or a library of the kit's."""
         if not words:
@@ -78,6 +82,8 @@ class House:
             return next((d for d in whole.names.get(rest[-1], []) if d.kind == "data"), None)
         if "declared" in rest:
             at = rest.index("declared") + 1
+            while at < len(rest) and self.source_module(crate, rest[at]) is not None:
+                at += 1
             decl = self.crate_type(crate, rest[at]) if at < len(rest) else None
             if decl is None:
                 return None
