@@ -62,22 +62,18 @@ class Documents(Links):
             self.names.reset()
             self.names.about = self.names.records = section.about
             self.names.fields_meant = bool(section.rows) and section.rows[0].head[0] == "field"
-            text, table = [], []
-            for line in section.lines + [""]:
-                if isinstance(line, promises.Row):
-                    table.append(line)
-                elif line.strip():
-                    text.append(line)
-                else:
-                    out += [f"<p>{self.words(page, self.names.pieces(chr(10).join(text)))}</p>"] if text else []
-                    out += [self.promises_table(page, table)] if table else []
-                    text, table = [], []
+            for block in section.blocks:
+                told = isinstance(block, str)
+                out.append(self.listed(page, self.names.pieces(block)) if told else self.promise_block(page, block))
         return "\n".join(out)
 
-    def promises_table(self, page, rows):
-        head = "".join(f"<th>{escape(h)}</th>" for h in rows[0].head)
-        body = "".join("<tr>" + "".join(f"<td>{self.words(page, p)}</td>" for p in r.pieces) + "</tr>\n" for r in rows)
-        return f'<div class="table"><table><thead><tr>{head}</tr></thead><tbody>{body}</tbody></table></div>'
+    def promise_block(self, page, row):
+        """A promise as the document has it: the field and what it says, or the sentence and a list below it."""
+        first = f"<strong>{self.words(page, row.pieces[0])}</strong>"
+        if row.head[0] == "field":
+            return self.listed(page, row.pieces[1], first + ": ")
+        below = "".join(f"<li>{label}: {self.words(page, p)}</li>" for label, p in zip(row.head[1:], row.pieces[1:]))
+        return f"<p>{first}</p><ul>{below}</ul>"
 
     # ---- links and pictures
 

@@ -209,7 +209,7 @@ def read(house, names, sections, edits):
         for row in (row for section in sections for row in section.rows):
             if any(n in own for cell in row.named for n in cell if isinstance(n, Decl)):
                 entry.rows.append(row)
-                entry.edits += [n for n in row.names("wrong") if n in edits.values() and n not in entry.edits]
+                entry.edits += [n for n in row.names("refused") if n in edits.values() and n not in entry.edits]
     for edit in edits.values():
         touched = [e for e in entries if edit.function is not None and edit.function in (e.function, e.inner)]
         for entry in touched + called(edit.call, entries):

@@ -28,7 +28,7 @@ def chapter_page(path):
 def sentence(row, most=None):
     """The words of a promise: its sentence, or the field that it is about and what it says."""
     text = row.texts[0] if row.head[0] == "sentence" else row.texts[0] + ": " + row.texts[1]
-    text = re.sub(r"`([^`]*)`", r"\1", text)
+    text = re.sub(r"`([^`]*)`", r"\1", text.replace(":\n- ", ": ").replace("\n- ", "; "))
     return shortened(text[:1].upper() + text[1:], most)
 
 
@@ -59,7 +59,7 @@ class Links:
         return self.link(page, row.page, sentence(row, most))
 
     def words(self, page, pieces):
-        """A cell in its words, every name a link."""
+        """A text in its words, every name a link."""
         out = []
         for text, meaning, code in pieces:
             if meaning is not None:
@@ -67,6 +67,12 @@ class Links:
             else:
                 out.append(self.code_span(page, text) if code else escape(text))
         return "".join(out).replace("</code><code>", "")
+
+    def listed(self, page, pieces, opening=""):
+        """A text in its words, as a paragraph behind its opening; its lines that begin with a stroke are a list."""
+        first, *items = ("\n" + self.words(page, pieces)).split("\n- ")
+        first, shown = opening + first.strip(), "".join(f"<li>{item}</li>" for item in items)
+        return (f"<p>{first}</p>" if first else "") + (f"<ul>{shown}</ul>" if items else "")
 
     def code_span(self, page, text):
         """A span of code in a document: a link where it names something of ours."""

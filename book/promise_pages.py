@@ -39,21 +39,21 @@ class PromisePages(Links):
         programs."""
         h, told = f"h{level}", set()
         out = [f"<blockquote><p>{self.words(page, row.pieces[0])}</p></blockquote>"]
-        for word, title in (("what", "What it says"), ("definition", "Definition"), ("shown", "Shown by")):
-            i = row.cell(word)
-            if i is None or i >= len(row.texts) or not row.texts[i]:
+        for label, title in (("says", "What it says"), ("definition", "Definition"), ("shown by", "Shown by")):
+            i = row.place(label)
+            if i is None:
                 continue
-            out.append(f"<{h}>{title}</{h}><p>{self.words(page, row.pieces[i])}</p>")
+            out.append(f"<{h}>{title}</{h}>{self.listed(page, row.pieces[i])}")
             for decl in (m for m in row.named[i] if isinstance(m, Decl)):
                 whole = decl.parent if isinstance(decl.parent, Decl) else decl
                 if whole not in told:
                     told.add(whole)
                     out.append(self.shown(page, whole))
-        wrongs = [m for m in row.names("wrong") if isinstance(m, promises.Edit)]
-        i = row.cell("wrong")
+        wrongs = [m for m in row.names("refused") if isinstance(m, promises.Edit)]
+        i = row.place("refused")
         if wrongs:
             out.append(f"<{h}>Wrong programs that are refused</{h}>{self.wrongs(page, wrongs)}")
-        elif i is not None and i < len(row.texts) and row.texts[i]:
+        elif i is not None:
             out.append(f"<{h}>Wrong programs that are refused</{h}><p>{self.words(page, row.pieces[i])}</p>")
         return "\n".join(out)
 
@@ -120,9 +120,11 @@ class PromisePages(Links):
             tag = "h2" if len(sections) > 1 else "span"
             body.append(f'<{tag} id="{slug(section.title)}">{escape(section.title) if tag == "h2" else ""}</{tag}>')
             renderer = Renderer(code=lambda text: self.code_span(page, text))
-            body.append(renderer.render("\n".join(x for x in section.lines if isinstance(x, str))))
-            for row in section.rows:
-                body.append(f"<h3>{self.promise(page, row, 160)}</h3>{self.at_length(page, row, 4)}")
+            for block in section.blocks:
+                if isinstance(block, str):
+                    body.append(renderer.render(block))
+                else:
+                    body.append(f"<h3>{self.promise(page, block, 160)}</h3>{self.at_length(page, block, 4)}")
         self.site.write(page, title, "\n".join(body), "promise", [("Promises", INDEX)])
 
     def wrong_pages(self):

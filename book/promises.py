@@ -1,13 +1,14 @@
-"""docs/PROMISES.md: its tables, row by row, and what each name in them leads to."""
+"""docs/PROMISES.md: its promises, one by one, and what each name in them leads to."""
 
 import os
 import re
 
 from house import ROOT, Decl
-from markdown import cells
 from names import Names
 
 DOCUMENT = "docs/PROMISES.md"
+#: What may stand below a promise.
+LABELS = ("definition", "shown by", "refused")
 
 
 class Edit:
@@ -35,43 +36,52 @@ class Edit:
 
 
 class Row:
-    """One row of a table: its cells, and the names in each."""
+    """A promise: its sentence, or a field and what it says, then what stands below it, and the names in each of
+    these texts."""
 
-    def __init__(self, head, texts):
-        self.head, self.texts, self.page = head, texts, ""
-        self.pieces, self.named = [], []  # for each cell: its parts as Names.pieces gives them, and what it names
+    def __init__(self, block):
+        first, *items = block.split("\n- ")
+        bold, says = re.fullmatch(r"\*\*(.+?)\*\*:? ?(.*)", first).groups()
+        self.head, self.texts, self.page = (["field", "says"], [bold, says], "") if says else (["sentence"], [bold], "")
+        for item in items:
+            label, _, text = item.partition(":")
+            if label in LABELS:
+                self.head.append(label)
+                self.texts.append(text.strip())
+            else:
+                self.texts[-1] += "\n- " + item
+        self.pieces, self.named = [], []  # for each text: its parts as Names.pieces gives them, and what it names
 
-    def cell(self, word):
-        """The place of the column whose title begins so, None where there is none."""
-        return next((i for i, h in enumerate(self.head) if h.startswith(word)), None)
+    def place(self, label):
+        """The place of the text with that label, None where there is none."""
+        return self.head.index(label) if label in self.head else None
 
-    def names(self, word):
-        i = self.cell(word)
-        return self.named[i] if i is not None and i < len(self.named) else []
+    def names(self, label):
+        i = self.place(label)
+        return self.named[i] if i is not None else []
 
 
 class Section:
-    """A section of the document: its title, its lines with the rows among them, and the records that it is about."""
+    """A section of the document: its title, its promises, all its blocks with these among them, and the records that
+    it is about."""
 
     def __init__(self, title):
-        self.title, self.lines, self.rows, self.about, self.page = title, [], [], [], ""
+        self.title, self.blocks, self.rows, self.about, self.page = title, [], [], [], ""
 
 
-def sections_of(lines):
-    """The sections of the document: a table's first row, above a line of strokes, says what the others have."""
-    sections, head = [Section("")], None
-    for line, after in zip(lines, lines[1:] + [""]):
-        section = sections[-1]
-        if line.startswith("## "):
-            sections.append(Section(line[3:].strip()))
-        elif line.startswith("|") and re.fullmatch(r"\|[|\s:-]+", after):
-            head = cells(line)
-        elif line.startswith("|") and not re.fullmatch(r"\|[|\s:-]+", line):
-            row = Row(head, cells(line))
-            section.rows.append(row)
-            section.lines.append(row)
-        elif not line.startswith(("# ", "|")):
-            section.lines.append(line)
+def sections_of(text):
+    """The sections of the document. A block that begins in bold is a promise; a line goes on where no item of a list
+    begins."""
+    sections = [Section("")]
+    for block in re.split(r"\n{2,}", text.strip()):
+        block = re.sub(r"\n(?!- )\s*", " ", block)
+        if block.startswith("## "):
+            sections.append(Section(block[3:].strip()))
+        elif block.startswith("**"):
+            sections[-1].rows.append(Row(block))
+            sections[-1].blocks.append(sections[-1].rows[-1])
+        elif not block.startswith("# "):
+            sections[-1].blocks.append(block)
     return sections
 
 
@@ -80,7 +90,7 @@ def records(told):
 
 
 def resolve(row, previous, names, about, lost):
-    """Reads the names of a row. The columns behind the first are read first: they say which files the sentence
+    """Reads the names of a promise. What stands below the sentence is read first: it says which files the sentence
     means."""
     names.reset()
     names.pieces(" ; ".join(row.texts[1:]))
@@ -95,19 +105,20 @@ def resolve(row, previous, names, about, lost):
         row.pieces[i] = names.pieces(row.texts[i], lost)
     row.named = [[m for _, m, _ in parts if m is not None] for parts in row.pieces]
     for i, text in enumerate(row.texts):
-        if text.startswith("the same") and previous is not None and i < len(previous.named):
-            row.named[i] = previous.named[i] + [n for n in row.named[i] if n not in previous.named[i]]
+        if text.startswith("the same") and previous is not None:
+            above = previous.names(row.head[i])
+            row.named[i] = above + [n for n in row.named[i] if n not in above]
 
 
 def read(house, edits):
     """The sections of the document, the reader of its names, and the names in it that lead nowhere."""
     with open(os.path.join(ROOT, DOCUMENT), encoding="utf-8") as file:
-        sections = sections_of(file.read().split("\n"))
+        sections = sections_of(file.read())
     names, lost = Names(house, edits), []
     for section in sections:
         names.reset()
         names.about, previous = [], None
-        names.pieces(" ".join(line for line in section.lines if isinstance(line, str)), lost)
+        names.pieces(" ".join(block for block in section.blocks if isinstance(block, str)), lost)
         section.about = names.about = records(names.told)
         for row in section.rows:
             resolve(row, previous, names, section.about, lost)

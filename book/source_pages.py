@@ -50,8 +50,8 @@ class SourcePages(Links):
     def promised(self, page, decl, row):
         """A promise that names a declaration, with what else it names."""
         parts = [self.promise(page, row, 140)]
-        for word, title in (("definition", "defined"), ("shown", "shown by"), ("wrong", "wrong programs")):
-            meant = [m for m in row.names(word) if m is not decl and not isinstance(m, (File, Crate))]
+        for label, title in (("definition", "defined"), ("shown by", "shown by"), ("refused", "wrong programs")):
+            meant = [m for m in row.names(label) if m is not decl and not isinstance(m, (File, Crate))]
             if meant:
                 parts.append(f"<b>{title}</b> " + ", ".join(self.to(page, m) for m in meant[:12]))
         return f'<div class="promised">{"<br>".join(parts)}</div>'

@@ -15,6 +15,7 @@ sys.path.insert(0, os.path.join(ROOT, "book"))
 import antt  # noqa: E402
 import book  # noqa: E402
 import names  # noqa: E402
+import promises  # noqa: E402
 import rattle  # noqa: E402
 
 TAG = re.compile(r"<[a-zA-Z][^>]*>")
@@ -109,6 +110,8 @@ def main():
         must(not names.is_name(html.unescape(code)), f"docs/PROMISES.md: {code} is no link")
     for row in made.rows:
         must(row.page in pages, f"no page for {row.texts[0]}")
+        labelled = row.head[0] == "field" or len(row.head) > 1 and "\n- " not in "".join(row.texts)
+        must(labelled, f"docs/PROMISES.md: {row.texts[0]}: below it stands more than {', '.join(promises.LABELS)}")
     with open(os.path.join(ROOT, "include/pattern.h"), encoding="utf-8") as file:
         declared = set(re.findall(r"^\w+ \*?(pattern_\w+)\(", file.read(), re.M))
     must(declared == {e.name for e in made.entries}, f"entry points: {declared ^ {e.name for e in made.entries}}")
