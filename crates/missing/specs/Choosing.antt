@@ -11,7 +11,7 @@ pub mod Laws
 abbrev pub pairAt : ℕ → ℕ
 pairAt k = pair (k / 256) (k % 256)
 
--- greedy's choice, of numbers
+-- the greedy choice, of numbers
 unfoldable pub chooseNumbers : ℕ → List ℕ → List ℕ → List ℕ
 chooseNumbers n cs [] = []
 chooseNumbers n cs (k ∷ ks) =

@@ -1,4 +1,4 @@
--- What a call for the cheapest missing dimensions answers: document 02, 2026-02, over greedy's Completion and Choice. Shown to be the cheapest by `told`
+-- What a call for the cheapest missing dimensions answers: document 02, 2026-02, over theory's Completion and Choice. Shown to be the cheapest by `told`
 -- of Missing/Laws.antt.
 use mathlib.Core.Path.{_≡_}
 use mathlib.Core.Logic.{_↔_}

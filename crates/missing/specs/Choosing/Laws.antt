@@ -147,7 +147,7 @@ number-pair o h =
     let a : number o / 256 ≡ o .u = omega arith in
     let b : number o % 256 ≡ o .v = omega arith in ap₂ pair a b
 
--- it is greedy's
+-- it is the greedy choice
 pub numbers-chosen : (n : ℕ) (l : List Offer) (cs : List ℕ) → ((o : Offer) → o ∈ᵒ l → o .v < 256) → chooseNumbers n cs (map number l) ≡ map number (choose n cs l)
 unfolding chooseNumbers choose
 numbers-chosen n [] cs h = refl
