@@ -111,7 +111,8 @@ loop-again c =
       λ es done en el n h.
           let g : Given a = record { es = es; done = done; n-is = en; kinds-in = el; count = n; holds = h } in
           let s = a .before .before .args .s .now in
-          let y = as-sized (rest k es) s (z .before .before .before .read-dimension .ensures es el) (z .before .sized .given .1) in
+          let d = z .before .before .before .read-dimension in
+          let y = as-sized (rest k es) s (d .ensures es el) (z .before .sized .given .1) in
           let this : Constraint =
           record { first = k .before .ends .given .0 .0; second = k .before .ends .given .0 .1 .0; size = y .size } in
           one-more (turn a g) more (ends-are (k .before .before .before) g ∙ ap (asEnds es s) (k .before .ends .given .1)
