@@ -148,7 +148,7 @@ walk-none space s b = record {
   from-in = omega arith;
   to-in = omega arith;
   at-in = omega (arith, before-most s b);
-  whole = rw (sub-zero, sub-zero);
+  whole = rw (sub-zero (before s), sub-zero (listed s));
 }
 
 module _ {space s : List ℕ} {e at from to i : ℕ} {out : List ℕ} (w : Walk space s e at from to i out) where
@@ -195,10 +195,8 @@ module _ {space s : List ℕ} {e at from to i : ℕ} {out : List ℕ} (w : Walk 
                 take-add (at - from) (3 + sizeLength bits) (drop from s),
                 behind,
                 there,
-                append-assoc,
-                append-assoc,
-                append-assoc,
-              );
+              )
+              (simp append-assoc);
         }
 
     pub walk-tagged : {next : ℕ} {out′ : List ℕ} → bits / 2 % 2 ≡ 1
@@ -210,7 +208,7 @@ module _ {space s : List ℕ} {e at from to i : ℕ} {out : List ℕ} (w : Walk 
         let size = take (4 * (bits % 2)) (drop (at + 3) s) in
         let long : length (take (at + 2 - from) (drop from s) ++ (bits - 2) ∷ size)
         ≡ min (at + 2 - from) (length s - from) + suc (min (4 * (bits % 2)) (length s - (at + 3))) =
-        rw (length-append, length-take, length-drop, length-take, length-drop) in
+        simp (length-append, length-take, length-drop) in
         record {
           turns = omega arith;
           done = w .done ++ (take (at + 2 - from) (drop from s) ++ (bits - 2) ∷ size);

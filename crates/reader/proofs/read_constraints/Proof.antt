@@ -1,6 +1,6 @@
 -- `reader::read_constraints` meets its contract: whatever the elements and the constraints before are, what is left gives the answer (`Turn`).
 -- Assumes nothing.
-use Rattle.theory.specs.Prelude.{_-_, _<_, _≤_, arith, List, _≡_, refl, sym, ap, _∙_, needs, length, drop}
+use Rattle.theory.specs.Prelude.{ℕ, _-_, _<_, _≤_, arith, ℤ, List, _≡_, refl, sym, ap, _∙_, needs, length, drop}
 use mir.Facts.{toZ-ofZ}
 use mir.Syntax.{w32}
 use Rattle.sheet.specs.declared.Element.{Element}
@@ -8,12 +8,15 @@ use Rattle.sheet.specs.declared.Size.{Size}
 use Rattle.sheet.specs.declared.Constraint.{Constraint}
 use Rattle.sheet.specs.Facts.{kindAt}
 use Rattle.sheet.specs.Facts.Kinds.{KindsIn}
-use Rattle.sheet.specs.Field.{Field}
+use Rattle.sheet.specs.Field.{Field, refused}
 use Rattle.sheet.specs.Decode.{dimension, constraint}
+use Rattle.elements.specs.declared.fields.Cursor.{Cursor}
 use Rattle.graph.specs.Lent.{InArrays}
 use Rattle.graph.specs.Lent.Laws.{ends-in, codes-in, in-arrays}
-use Rattle.reader.specs.Answers.{between, asEnds, endsRule, sizeRule, asSize}
-use Rattle.reader.proofs.Constraints.{Turn, stopped, one-more, at-end, bytes-follow, no-size, sized}
+use Rattle.reader.specs.declared.SizeRead.{SizeRead}
+use Rattle.reader.specs.declared.SizeRead.the-variants as size-read
+use Rattle.reader.specs.Answers.{between, asEnds, endsRule, sizeRule, asSize, codeIn}
+use Rattle.reader.proofs.Constraints.{Turn, stopped, one-more, at-end, bytes-follow, no-size, Sized, sized}
 use Rattle.reader.proofs.read_constraints.Tie as tie
 
 abbrev Inv-loop : tie.InvT-loop
@@ -77,6 +80,14 @@ rest c es =
     dimension (kindAt es (c .before .ends .given .0 .0)) (kindAt es (c .before .ends .given .0 .1 .0))
     (drop (c .before .ends .given .0 .1 .1 .0 .at) (from-ends c .before .before .args .s .now))
 
+-- a size is what was read of it
+module _ (x : Field Size) (s : List ℕ) {r : SizeRead} (reads : asSize s r ≡ codeIn x) where
+  as-refused : {k : ℕ} → r ≡ size-read.Refused k → x ≡ refused k
+  as-refused e = no-size x (sym reads ∙ ap (asSize s) e)
+
+  as-sized : {z : ℤ} {c : Cursor} → r ≡ size-read.Value z c → Sized x z (drop (c .at) s)
+  as-sized e = sized x (sym reads ∙ ap (asSize s) e)
+
 returns-2 : tie.Need-returns-2 Inv-loop μ-loop
 returns-2 c = λ es done en el n h.
     let k = c .before .before .before .before .before .before .before in
@@ -87,7 +98,7 @@ returns-2 c = λ es done en el n h.
     rw (c .refusal2 .ensures ∙ ap sizeRule (t .1))
     (stopped (turn a g) (k .before .before .before .before .before .loop-test .taken)
     (ends-are (k .before .before .before) g ∙ ap (asEnds es s) (k .before .ends .given .1)
-    ∙ rw (no-size (rest k es) (sym (c .before .before .before .read-dimension .ensures es el) ∙ ap (asSize s) (t .1)))))
+    ∙ rw (as-refused (rest k es) s (c .before .before .before .read-dimension .ensures es el) (t .1))))
 
 loop-again : tie.Need-loop-again Inv-loop μ-loop
 loop-again c =
@@ -100,7 +111,8 @@ loop-again c =
       λ es done en el n h.
           let g : Given a = record { es = es; done = done; n-is = en; kinds-in = el; count = n; holds = h } in
           let s = a .before .before .args .s .now in
-          let y = sized (rest k es) (sym (z .before .before .before .read-dimension .ensures es el) ∙ ap (asSize s) (z .before .sized .given .1)) in
+          let d = z .before .before .before .read-dimension in
+          let y = as-sized (rest k es) s (d .ensures es el) (z .before .sized .given .1) in
           let this : Constraint =
           record { first = k .before .ends .given .0 .0; second = k .before .ends .given .0 .1 .0; size = y .size } in
           one-more (turn a g) more (ends-are (k .before .before .before) g ∙ ap (asEnds es s) (k .before .ends .given .1)

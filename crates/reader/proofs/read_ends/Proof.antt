@@ -75,7 +75,8 @@ unfolding constraint
 returns-5 c =
     let b = c .before .before .before .before .before in
     let k = b .before .before .before .before in
-    let o = ends-true _ _ _ (ascend (c .before .before)) in (
+    let n = k .before .before .before .before .args .n in
+    let o = ends-true n (k .start .given .0 .0) (b .end .given .0 .0) (ascend (c .before .before)) in (
       λ es cs en h.
           rw (
             ← k .before .before .read-byte .ensures,

@@ -1,7 +1,9 @@
 -- `report::put_report` meets its contract: its front and its clusters make the report. Assumes nothing.
 use Rattle.theory.specs.Prelude.{needs, arith, ℕ, _+_, _≡_, List, length, take}
+use Rattle.theory.specs.declared.Verdict.{Verdict}
 use Rattle.theory.specs.declared.Step.{Step}
 use Rattle.engine.specs.Steps.{stepsIn}
+use Rattle.report.specs.Block.{Stands}
 use Rattle.report.specs.Block.Laws.{stands-as, _then_}
 use Rattle.report.specs.Report.{clusterLines, report}
 use Rattle.report.specs.Pieces.{wide, front}
@@ -22,6 +24,12 @@ module _ (s : tie.Start) where
   lengths : length (front (s .args .n) (s .args .e) (s .args .verdict) steps) + length (clusterLines 0 finals rests)
       ≡ length (report (s .args .n) (s .args .e) (s .args .verdict) steps finals rests)
   lengths = clusters-long (s .args .n) (s .args .e) (s .args .verdict) steps finals rests
+
+-- the parts put one after another
+report-put : (n e : ℕ) (v : Verdict) (steps : List Step) (finals rests space : List ℕ) {s1 s2 : List ℕ} {a1 a2 : ℕ}
+    → Stands space 0 (front n e v steps) a1 s1 → Stands s1 a1 (clusterLines 0 finals rests) a2 s2
+    → Stands space 0 (report n e v steps finals rests) a2 s2
+report-put n e v steps finals rests space p q = stands-as (front-clusters n e v steps finals rests) (p then q)
 
 put-front-requires : tie.Need-put-front-requires
 put-front-requires c κs =
@@ -44,8 +52,8 @@ returns : tie.Need-returns
 returns c =
     let front = c .before .before in
     let s = front .before .before in
-    stands-as (front-clusters (s .args .n) (s .args .e) (s .args .verdict) (steps s) (finals s) (rests s))
-    (front .put-front .ensures then c .put-clusters .ensures)
+    report-put (s .args .n) (s .args .e) (s .args .verdict) (steps s) (finals s) (rests s) (s .args .out .now)
+    (front .put-front .ensures) (c .put-clusters .ensures)
 
 pub put-report-spec : {M : Type 1} → Rattle.report.proofs.put_report.Statement.statement M
 put-report-spec = tie.close (tie.spec put-front-requires (λ c. search needs) put-clusters-requires returns)

@@ -1,5 +1,5 @@
 -- `report::put_steps_from` meets its contract: the lines of the steps from `t` on are still to be put. Assumes nothing.
-use Rattle.theory.specs.Prelude.{ℕ, _-_, _≤_, arith, sym, ap, subst}
+use Rattle.theory.specs.Prelude.{ℕ, _-_, _≤_, _≡_, arith, sym, ap, subst, List}
 use Rattle.theory.specs.declared.Step.{Step}
 use Rattle.report.specs.Block.Laws.{stands-as}
 use Rattle.engine.specs.Steps.{stepAt, stepsFor}
@@ -24,12 +24,21 @@ abbrev μ-loop : tie.MeasureT-loop
 abbrev steps : tie.Start Inv-loop μ-loop → ℕ → Step
 steps s = stepAt (s .args .lines) (s .args .e) (s .args .sizes .now) (s .args .start .now) (s .args .parts .now) (s .args .joints .now)
 
+-- a step read from the arrays is small, and its line put, where that holds of the step there
+module _ (step : Step) {read : Step} (same : read ≡ step) where
+  small-read : Small step → Small read
+  small-read h = subst Small (sym same) h
+
+  line-read : {space after : List ℕ} {at next : ℕ} → Stands space at (stepLine read) next after
+      → Stands space at (stepLine step) next after
+  line-read p = stands-as (ap stepLine same) p
+
 put-step-line-requires : tie.Need-put-step-line-requires Inv-loop μ-loop
 put-step-line-requires c κs =
     let s = c .before .before .before .before in
     let l = c .before .before .before .loop in (
       s .pre .0,
-      subst Small (sym (c .before .step-at .ensures))
+      small-read (steps s (l .t)) (c .before .step-at .ensures)
           (small-at (steps s) (s .args .first) (s .args .last) (l .t) (s .pre .3) (l .inv .0) (c .before .before .loop-test .taken)),
       omega (arith, place stands (l .inv .1), s .pre .4),
     )
@@ -41,7 +50,7 @@ loop-again c =
     let h = c .before .before .before .loop-test .taken in (
       omega (arith, l .inv .0),
       put-next stands (steps-next (steps s) (s .args .last) (l .t) h) (l .inv .1)
-          (stands-as (ap stepLine (c .before .before .step-at .ensures)) (c .put-step-line .ensures)),
+          (line-read (steps s (l .t)) (c .before .before .step-at .ensures) (c .put-step-line .ensures)),
     )
 
 returns : tie.Need-returns Inv-loop μ-loop

@@ -1,11 +1,10 @@
 -- `writer::put_front` meets its contract: one piece after another. Assumes nothing.
-use Rattle.theory.specs.Prelude.{needs, _-_, _≤_, min, arith, _≡_, ap, _∙_, length, length-append, length-take-le}
+use Rattle.theory.specs.Prelude.{needs, _-_, _≤_, min, arith, _≡_, ap, _∙_, length, take, length-append, length-take-le}
 use Rattle.sheet.specs.Field.{digits, kindBytes}
 use Rattle.sheet.specs.Field.Laws.{length-digits, opening-length}
 use Rattle.sheet.specs.Encode.Laws.{kinds-length}
-use Rattle.space.specs.Space.Laws.{put-as, _then_}
 use Rattle.writer.specs.Spread.{kindsInEight}
-use Rattle.writer.proofs.Pieces.{front-pieces}
+use Rattle.writer.proofs.Pieces.{front-put}
 use Rattle.writer.proofs.put_front.Tie as tie
 
 -- the place after each piece
@@ -58,10 +57,10 @@ returns c =
     let t = b .before .before .before .before in
     let o = t .before .before .before in
     let s = o .before .before in
-    put-as
-    (rw (o .opening-bytes .ensures)
-    (front-pieces (s .args .o) _ (length-take-le (s .args .n) (s .args .elements) (room s)) (s .pre .1) (s .pre .2)))
-    (t .put-text .ensures then b .put-byte .ensures then k .put-kinds .ensures then c .before .before .put-radii-by .ensures)
+    let a = s .args in
+    front-put (a .o) (take (a .n) (a .elements)) (a .n) (a .kinds)
+    (length-take-le (a .n) (a .elements) (room s)) (s .pre .1) (s .pre .2) (o .opening-bytes .ensures)
+    (t .put-text .ensures) (b .put-byte .ensures) (k .put-kinds .ensures) (c .before .before .put-radii-by .ensures)
 
 pub put-front-spec : {M : Type 1} → Rattle.writer.proofs.put_front.Statement.statement M
 put-front-spec =

@@ -6,7 +6,7 @@ use Rattle.sheet.specs.Encode.{constraintsBytes, sheetBytes}
 use Rattle.sheet.specs.Encode.Laws.{constraints-more, constraints-length}
 use Rattle.space.specs.Space.{Put}
 use Rattle.space.specs.Space.Laws.{put-as, put-none, _then_}
-use Rattle.writer.proofs.Pieces.{front-length, sheet-pieces}
+use Rattle.writer.proofs.Pieces.{front-length, sheet-put}
 use Rattle.writer.proofs.put_sheet.Tie as tie
 
 abbrev Inv-loop : tie.InvT-loop
@@ -78,8 +78,8 @@ all c =
     length-take-le _ _ (omega (arith, long-elements s, s .pre .0)) in
     let e-is : length (take (s .args .t2 .e) (s .args .t2 .constraints)) ≡ s .args .t2 .e =
     length-take-le _ _ (omega (arith, long-constraints s, s .pre .1)) in
-    put-as (sheet-pieces (factsOf (s .args .t2)) n-is e-is)
-    (n .put-front .ensures then c .before .before .before .before .put-byte .ensures then (rw last at (a .inv .1)))
+    sheet-put (factsOf (s .args .t2)) (s .args .t2 .n) (s .args .t2 .e) n-is e-is (n .put-front .ensures)
+    (c .before .before .before .before .put-byte .ensures) (rw last at (a .inv .1))
 
 pub put-sheet-spec : {M : Type 1} → Rattle.writer.proofs.put_sheet.Statement.statement M
 put-sheet-spec =
