@@ -19,11 +19,13 @@ use Rattle.account.specs.Saved.Laws.{saved-rule}
 use Rattle.account.proofs.check_plan.Tie as tie
 
 -- what the check of a plan says of its field
-module _ (g : SizedGraph) (l : List ℕ) {r : Checked} {parts joints slots : List ℕ} (k : SavedIn (g .graph) l r parts joints slots) where
+module _ (g : SizedGraph) (l : List ℕ) {r : Checked} {parts joints slots : List ℕ}
+    (k : SavedIn (g .graph) l r parts joints slots) where
   field-refused : r .rule ≢ 0 → byRule (overFault (g .graph)) (savedField g l) ≡ refused (r .rule)
   field-refused some = saved-rule (g .graph) l _ ∙ rule-some _ _ (k .rule-is) some
 
-  field-is : (none : r .rule ≡ 0) → byRule (overFault (g .graph)) (savedField g l) ≡ value (listReport g (k .merged none .p)) []
+  field-is : (none : r .rule ≡ 0)
+      → byRule (overFault (g .graph)) (savedField g l) ≡ value (listReport g (k .merged none .p)) []
   field-is none =
       saved-rule (g .graph) l _ ∙ rule-none _ (sym (k .rule-is) ∙ none)
       ∙ ap (λ (p : List Merge). value (listReport g p) []) (sym (k .saved none))
@@ -44,23 +46,28 @@ module _ (c : tie.After-check-saved) where
     abbrev merged : Merged (graph .graph .clusters) run
     merged = c .check-saved .ensures .merged none
 
-    few : (start .args .h .n ≤ 64) × (start .args .h .e ≤ 125) × (2 * run .steps ≤ start .args .h .e) × (run .steps ≤ 62)
+    few : (start .args .h .n ≤ 64) × (start .args .h .e ≤ 125) × (2 * run .steps ≤ start .args .h .e)
+        × (run .steps ≤ 62)
     few =
-        room (start .args .h) (start .args .start .now) (start .pre .sound) (counted (start .pre)) (c .check-saved .ensures .notOver none)
-        {run = run} merged
+        room (start .args .h) (start .args .start .now) (start .pre .sound) (counted (start .pre))
+        (c .check-saved .ensures .notOver none) {run = run} merged
 
     long : (length (run .joints) ≡ 64) × (length (run .slots) ≡ 192)
-    long = arrays-long (graph .graph .clusters) (start .pre .sound .simple .pairs) {run = run} merged (omega (arith, few, counted (start .pre)))
+    long =
+        arrays-long (graph .graph .clusters) (start .pre .sound .simple .pairs) {run = run} merged
+        (omega (arith, few, counted (start .pre)))
 
-    report-is : {v : Verdict} → Settled (start .args .h) run v → reportWith graph v (merged .p) ≡ listReport graph (merged .p)
+    report-is : {v : Verdict} → Settled (start .args .h) run v
+        → reportWith graph v (merged .p) ≡ listReport graph (merged .p)
     report-is =
-        settled-report (start .args .h) (start .args .start .now) (start .args .sizes .now) (start .pre .sound) (counted (start .pre))
-        (c .check-saved .ensures .notOver none) {run = run} merged
+        settled-report (start .args .h) (start .args .start .now) (start .args .sizes .now) (start .pre .sound)
+        (counted (start .pre)) (c .check-saved .ensures .notOver none) {run = run} merged
 
 returns : tie.Need-returns
 returns c =
     let asked = c .before in
-    answers-refused (field-refused (graph asked) (start asked .args .plan .now) (asked .check-saved .ensures) (c .if1 .taken))
+    answers-refused
+    (field-refused (graph asked) (start asked .args .plan .now) (asked .check-saved .ensures) (c .if1 .taken))
 
 settle-requires : tie.Need-settle-requires
 settle-requires c κs =

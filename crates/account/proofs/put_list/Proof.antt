@@ -38,10 +38,11 @@ write-report-requires c κs =
         slots-long s,
         low .long,
         high .long,
-        all-small (s .args .h) (s .args .start .now) (s .args .sizes .now) (s .pre .0) (s .pre .1) (s .pre .2) (s .pre .3),
+        all-small (s .args .h) (s .args .start .now) (s .args .sizes .now) (s .pre .0) (s .pre .1) (s .pre .2)
+            (s .pre .3),
       ),
-      not-long (s .args .h) (s .args .start .now) (s .args .sizes .now) (s .pre .0) (s .pre .1) (s .pre .2) (s .pre .3) low high
-          (s .args .verdict),
+      not-long (s .args .h) (s .args .start .now) (s .args .sizes .now) (s .pre .0) (s .pre .1) (s .pre .2)
+          (s .pre .3) low high (s .args .verdict),
     )
 
 returns : tie.Need-returns
@@ -50,8 +51,8 @@ returns c m =
     let s = start k in
     let q = parts (s .pre .1) m in
     let t = made k .carry .ensures (q .listed) in
-    let r = reported (s .args .h) (s .args .start .now) (s .args .sizes .now) (s .pre .0) (s .pre .1) (s .pre .2) m (q .told (t .0))
-    (q .told (t .1)) (s .args .verdict) in
+    let r = reported (s .args .h) (s .args .start .now) (s .args .sizes .now) (s .pre .0) (s .pre .1)
+    (s .pre .2) m (q .told (t .0)) (q .told (t .1)) (s .args .verdict) in
     rw r at (c .before .before .write-report .ensures)
 
 pub put-list-spec : {M : Type 1} → Rattle.account.proofs.put_list.Statement.statement M

@@ -38,7 +38,9 @@ module _ (c : tie.Else1) where
   plan = plan-found _ _ _ (λ v. c .if1 .left (c .before .number .ensures ∙ v))
 
   few : (start .args .h .n ≤ 64) × (start .args .h .e ≤ 125) × (2 * run .steps ≤ start .args .h .e) × (run .steps ≤ 62)
-  few = room (start .args .h) (start .args .start .now) (start .pre .sound) (counted (start .pre)) (plan .notOver) {run = run} (plan .merged)
+  few =
+      room (start .args .h) (start .args .start .now) (start .pre .sound) (counted (start .pre)) (plan .notOver)
+      {run = run} (plan .merged)
 
   long : (length (run .joints) ≡ 64) × (length (run .slots) ≡ 192)
   long =
@@ -69,8 +71,8 @@ returns-2 c =
     let k = held r in
     let s = start k in
     let t = r .carry .ensures (made k .listed) in
-    let e = pairs-are (counted (s .pre)) {run = run k} (plan k .merged) (s .pre .sound .simple .pairs) (few k .1) (made k .told (t .0))
-    (made k .told (t .1)) in
+    let e = pairs-are (counted (s .pre)) {run = run k} (plan k .merged) (s .pre .sound .simple .pairs)
+    (few k .1) (made k .told (t .0)) (made k .told (t .1)) in
     rw (e, plan k .rests-are) at (c .before .before .put-rests .ensures)
 
 pub rests-spec : {M : Type 1} → Rattle.account.proofs.rests.Statement.statement M

@@ -45,7 +45,8 @@ steps-of-requires : tie.Need-steps-of-requires
 steps-of-requires c κs =
     let k = c .before .before in
     let s = start k in
-    let few = room (s .args .h) (s .args .start .now) (s .pre .sound) (counted (s .pre)) (found k .notOver) {run = run k} (merged k) in
+    let few = room (s .args .h) (s .args .start .now) (s .pre .sound) (counted (s .pre)) (found k .notOver)
+    {run = run k} (merged k) in
     (few .1, few .3)
 
 returns-2 : tie.Need-returns-2
@@ -54,8 +55,8 @@ returns-2 c =
     let k = c .before .before .before in
     let s = start k in
     as-listed
-    (listed-are (s .args .h) (s .args .start .now) (s .args .sizes .now) (s .pre .sound) (counted (s .pre)) (found k .notOver)
-    {run = run k} (merged k) (c .steps-of .ensures)) (rule-none _ (found k .none))
+    (listed-are (s .args .h) (s .args .start .now) (s .args .sizes .now) (s .pre .sound) (counted (s .pre))
+    (found k .notOver) {run = run k} (merged k) (c .steps-of .ensures)) (rule-none _ (found k .none))
 
 pub plan-steps-spec : {M : Type 1} → Rattle.steps.proofs.plan_steps.Statement.statement M
 plan-steps-spec =

@@ -18,11 +18,13 @@ use Rattle.steps.specs.Records.Laws.{listed-are, as-listed, as-refused}
 use Rattle.steps.proofs.saved_steps.Tie as tie
 
 -- what the check of a plan says of its field
-module _ (g : SizedGraph) (l : List ℕ) {r : Checked} {parts joints slots : List ℕ} (k : SavedIn (g .graph) l r parts joints slots) where
+module _ (g : SizedGraph) (l : List ℕ) {r : Checked} {parts joints slots : List ℕ}
+    (k : SavedIn (g .graph) l r parts joints slots) where
   field-refused : r .rule ≢ 0 → byRule (overFault (g .graph)) (savedRecords g l) ≡ refused (r .rule)
   field-refused some = saved-rule (g .graph) l _ ∙ rule-some _ _ (k .rule-is) some
 
-  field-is : (none : r .rule ≡ 0) → byRule (overFault (g .graph)) (savedRecords g l) ≡ value (stepsOf g (k .merged none .p)) []
+  field-is : (none : r .rule ≡ 0)
+      → byRule (overFault (g .graph)) (savedRecords g l) ≡ value (stepsOf g (k .merged none .p)) []
   field-is none =
       saved-rule (g .graph) l _ ∙ rule-none _ (sym (k .rule-is) ∙ none)
       ∙ ap (λ (p : List Merge). value (stepsOf g p) []) (sym (k .saved none))
@@ -42,7 +44,8 @@ returns : tie.Need-returns
 returns c =
     let asked = c .before .before in
     as-refused (c .refused .ensures)
-    (field-refused (graph asked) (start asked .args .plan .now) (asked .check-saved .ensures) (c .before .if1 .taken)) (c .before .if1 .taken)
+    (field-refused (graph asked) (start asked .args .plan .now) (asked .check-saved .ensures) (c .before .if1 .taken))
+    (c .before .if1 .taken)
 
 steps-of-requires : tie.Need-steps-of-requires
 steps-of-requires c κs =
@@ -50,7 +53,8 @@ steps-of-requires c κs =
     let none = c .before .before .if1 .left in
     let s = start asked in
     let k = asked .check-saved .ensures in
-    let few = room (s .args .h) (s .args .start .now) (s .pre .sound) (counted (s .pre)) (k .notOver none) {run = run asked} (k .merged none) in
+    let few = room (s .args .h) (s .args .start .now) (s .pre .sound) (counted (s .pre)) (k .notOver none)
+    {run = run asked} (k .merged none) in
     (few .1, few .3)
 
 returns-2 : tie.Need-returns-2
@@ -60,8 +64,8 @@ returns-2 c =
     let s = start asked in
     let k = asked .check-saved .ensures in
     as-listed
-    (listed-are (s .args .h) (s .args .start .now) (s .args .sizes .now) (s .pre .sound) (counted (s .pre)) (k .notOver none)
-    {run = run asked} (k .merged none) (c .steps-of .ensures))
+    (listed-are (s .args .h) (s .args .start .now) (s .args .sizes .now) (s .pre .sound) (counted (s .pre))
+    (k .notOver none) {run = run asked} (k .merged none) (c .steps-of .ensures))
     (field-is (graph asked) (s .args .plan .now) k none)
 
 pub saved-steps-spec : {M : Type 1} → Rattle.steps.proofs.saved_steps.Statement.statement M
