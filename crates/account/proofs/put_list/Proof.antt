@@ -1,6 +1,5 @@
 -- `account::put_list` meets its contract: what the arrays give is the list's own report, and no longer than its block. Assumes nothing.
-use Rattle.theory.specs.Prelude.{needs, ℕ, _*_, _≤_, arith, _≡_, refl, ap, _∙_, List, length}
-use Rattle.space.specs.Space.{answer, after}
+use Rattle.theory.specs.Prelude.{needs, _*_, _≤_, arith, _≡_, refl, length}
 use Rattle.judge.specs.Judged.Laws.{arrays-long}
 use Rattle.account.specs.Account.Laws.{room, reported, all-small, not-long}
 use Rattle.account.specs.Resting.Laws.{parts}
@@ -39,9 +38,11 @@ write-report-requires c κs =
         slots-long s,
         low .long,
         high .long,
-        all-small _ _ _ (s .pre .0) (s .pre .1) (s .pre .2) (s .pre .3),
+        all-small (s .args .h) (s .args .start .now) (s .args .sizes .now) (s .pre .0) (s .pre .1) (s .pre .2)
+            (s .pre .3),
       ),
-      not-long _ _ _ (s .pre .0) (s .pre .1) (s .pre .2) (s .pre .3) low high (s .args .verdict),
+      not-long (s .args .h) (s .args .start .now) (s .args .sizes .now) (s .pre .0) (s .pre .1) (s .pre .2)
+          (s .pre .3) low high (s .args .verdict),
     )
 
 returns : tie.Need-returns
@@ -50,9 +51,9 @@ returns c m =
     let s = start k in
     let q = parts (s .pre .1) m in
     let t = made k .carry .ensures (q .listed) in
-    let r = reported _ _ _ (s .pre .0) (s .pre .1) (s .pre .2) m (q .told (t .0)) (q .told (t .1)) (s .args .verdict) in
-    let w = c .before .before .write-report .ensures in
-    (w .0 ∙ ap (λ (l : List ℕ). answer l (s .args .out .now)) r, w .1 ∙ ap (λ (l : List ℕ). after l (s .args .out .now)) r)
+    let r = reported (s .args .h) (s .args .start .now) (s .args .sizes .now) (s .pre .0) (s .pre .1)
+    (s .pre .2) m (q .told (t .0)) (q .told (t .1)) (s .args .verdict) in
+    rw r at (c .before .before .write-report .ensures)
 
 pub put-list-spec : {M : Type 1} → Rattle.account.proofs.put_list.Statement.statement M
 put-list-spec =

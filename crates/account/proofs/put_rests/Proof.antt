@@ -16,7 +16,8 @@ returns : tie.Need-returns
 returns c =
     let s = c .before .before .before .before .before .before in
     let p = c .before .before .before in
-    let h : length (s .args .out .now) < length (items s) = rw (none p, p .put-pairs .ensures .next-is, zero-add) at (c .if1 .taken) in
+    let h : length (s .args .out .now) < length (items s) =
+    rw (none p, p .put-pairs .ensures .next-is, zero-add (length (items s))) at (c .if1 .taken) in
     rw (none p) (put-refused (items s) (s .args .out .now) h)
 
 returns-2 : tie.Need-returns-2
@@ -24,7 +25,8 @@ returns-2 c =
     let s = c .before .before .before .before .before .before .before .before .before .before in
     let p = c .before .before .before .before .before .before .before in
     let h : length (items s) ≤ length (s .args .out .now) =
-    rw (none p, p .put-pairs .ensures .next-is, zero-add) at (c .before .before .before .before .if1 .left) in
+    rw (none p, p .put-pairs .ensures .next-is, zero-add (length (items s)))
+    at (c .before .before .before .before .if1 .left) in
     put-done h (rw (none p) at (c .before .before .put-pairs2 .ensures))
 
 pub put-rests-spec : {M : Type 1} → Rattle.account.proofs.put_rests.Statement.statement M

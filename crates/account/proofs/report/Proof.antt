@@ -1,10 +1,9 @@
 -- `account::report` meets its contract: the verdict's number tells which report the definition gives. Assumes nothing.
-use Rattle.theory.specs.Prelude.{needs, ℕ, arith, _≡_, _≢_, refl, sym, ap, _∙_, List}
+use Rattle.theory.specs.Prelude.{needs, arith, _≡_, _≢_, refl, sym, _∙_}
 use Rattle.theory.specs.Verdict.{verdictNumber}
 use Rattle.theory.specs.Graph.{SizedGraph}
 use Rattle.graph.specs.Lent.{sizedIn}
 use Rattle.graph.specs.Lent.Sheets.{counted}
-use Rattle.space.specs.Space.{answer, after}
 use Rattle.report.specs.Report.{overReport}
 use Rattle.account.specs.Account.{reportOf}
 use Rattle.account.specs.Account.Answers.{OverFound, over-found, PlanFound, plan-found}
@@ -33,9 +32,8 @@ returns : tie.Need-returns
 returns c =
     let a = c .before .before .before in
     let s = start-over a in
-    let w = c .before .before .write-over-report .ensures in
     let r : overReport (s .args .h .n) (s .args .h .e) _ _ ≡ reportOf (graph s) = rw (counted (s .pre)) at (over a .report-is (graph s .sizes)) in
-    (w .0 ∙ ap (λ (l : List ℕ). answer l (s .args .out .now)) r, w .1 ∙ ap (λ (l : List ℕ). after l (s .args .out .now)) r)
+    rw r at (c .before .before .write-over-report .ensures)
 
 -- not over
 module _ (c : tie.After-put-list-arg) where
@@ -55,9 +53,7 @@ returns-2 : tie.Need-returns-2
 returns-2 c =
     let a = c .before .before .before in
     let s = start-plan a in
-    let w = c .before .before .put-list .ensures (plan a .merged) in
-    let r = plan a .report-is (graph s .sizes) in
-    (w .0 ∙ ap (λ (l : List ℕ). answer l (s .args .out .now)) r, w .1 ∙ ap (λ (l : List ℕ). after l (s .args .out .now)) r)
+    rw (plan a .report-is (graph s .sizes)) at (c .before .before .put-list .ensures (plan a .merged))
 
 judge-on-requires : tie.Need-judge-on-requires
 judge-on-requires c κs = (c .before .before .before .before .pre, record { slots-blank = refl; parts-blank = refl; joints-blank = refl })

@@ -1,13 +1,13 @@
 -- `account::rests` meets its contract: the words in the arrays are those of the definition. Assumes nothing.
-use Rattle.theory.specs.Prelude.{needs, ℕ, _*_, _≤_, arith, refl, sym, ap, _∙_, List}
+use Rattle.theory.specs.Prelude.{needs, _*_, _≤_, arith, _≡_, refl, sym, _∙_, length}
 use Rattle.theory.specs.Graph.{Graph}
 use Rattle.graph.specs.Lent.{graphIn}
 use Rattle.graph.specs.Lent.Sheets.{counted}
-use Rattle.space.specs.Space.{answer, after}
+use Rattle.merges.specs.Run.{Run, runIn}
 use Rattle.judge.specs.Judged.Laws.{arrays-long}
 use Rattle.account.specs.Account.Laws.{room}
 use Rattle.account.specs.Account.Answers.{over-found, PlanFound, plan-found}
-use Rattle.account.specs.Resting.Laws.{parts, pairs-are, none-stored}
+use Rattle.account.specs.Resting.Laws.{Parts, parts, pairs-are, none-stored}
 use Rattle.account.proofs.rests.Tie as tie
 
 abbrev graph : tie.Start → Graph
@@ -31,17 +31,29 @@ module _ (c : tie.Else1) where
   abbrev judged : tie.After-judge-on
   judged = c .before .before
 
+  abbrev run : Run
+  run = let l = judged .judge-on .last .1 .1 .1 in runIn (judged .judge-on .result .steps) (l .1 .0) (l .1 .1 .0) (l .0)
+
   plan : PlanFound (graph start) (start .pre .sound) (judged .judge-on .ensures)
   plan = plan-found _ _ _ (λ v. c .if1 .left (c .before .number .ensures ∙ v))
 
-  few : (start .args .h .n ≤ 64) × (start .args .h .e ≤ 125) × (2 * judged .judge-on .result .steps ≤ start .args .h .e)
-      × (judged .judge-on .result .steps ≤ 62)
-  few = room (start .args .h) (start .args .start .now) (start .pre .sound) (counted (start .pre)) (plan .notOver) (plan .merged)
+  few : (start .args .h .n ≤ 64) × (start .args .h .e ≤ 125) × (2 * run .steps ≤ start .args .h .e) × (run .steps ≤ 62)
+  few =
+      room (start .args .h) (start .args .start .now) (start .pre .sound) (counted (start .pre)) (plan .notOver)
+      {run = run} (plan .merged)
+
+  long : (length (run .joints) ≡ 64) × (length (run .slots) ≡ 192)
+  long =
+      arrays-long (graph start .clusters) (start .pre .sound .simple .pairs) {run = run} (plan .merged)
+      (omega (arith, few, counted (start .pre)))
+
+  made : Parts (counted (start .pre)) {run = run} (plan .merged)
+  made = parts (counted (start .pre)) {run = run} (plan .merged)
 
 carry-requires : tie.Need-carry-requires
 carry-requires c κs =
     let k = c .before .before .before in
-    (few k .1, few k .3, parts (counted (start k .pre)) (plan k .merged) .listed, refl, refl)
+    (few k .1, few k .3, made k .listed, refl, refl)
 
 abbrev held : tie.After-carry → tie.Else1
 held c = c .before .before .before .before
@@ -50,23 +62,18 @@ put-rests-requires : tie.Need-put-rests-requires
 put-rests-requires c κs =
     let r = c .before .before .before .before .before in
     let k = held r in
-    let d = start k .pre in
-    let q = parts (counted d) (plan k .merged) in
-    let t = r .carry .ensures (q .listed) in
-    let long = arrays-long (graph (start k) .clusters) (d .sound .simple .pairs) (plan k .merged) (omega (arith, few k, counted d)) in
-    (omega (arith, few k), long .1, q .told (t .0) .long, q .told (t .1) .long)
+    let t = r .carry .ensures (made k .listed) in
+    (omega (arith, few k), long k .1, made k .told (t .0) .long, made k .told (t .1) .long)
 
 returns-2 : tie.Need-returns-2
 returns-2 c =
     let r = c .before .before .before .before .before .before .before .before in
     let k = held r in
     let s = start k in
-    let q = parts (counted (s .pre)) (plan k .merged) in
-    let t = r .carry .ensures (q .listed) in
-    let e = pairs-are (counted (s .pre)) (plan k .merged) (s .pre .sound .simple .pairs) (few k .1) (q .told (t .0)) (q .told (t .1))
-    ∙ plan k .rests-are in
-    let w = c .before .before .put-rests .ensures in
-    (w .0 ∙ ap (λ (l : List ℕ). answer l (s .args .out .now)) e, w .1 ∙ ap (λ (l : List ℕ). after l (s .args .out .now)) e)
+    let t = r .carry .ensures (made k .listed) in
+    let e = pairs-are (counted (s .pre)) {run = run k} (plan k .merged) (s .pre .sound .simple .pairs)
+    (few k .1) (made k .told (t .0)) (made k .told (t .1)) in
+    rw (e, plan k .rests-are) at (c .before .before .put-rests .ensures)
 
 pub rests-spec : {M : Type 1} → Rattle.account.proofs.rests.Statement.statement M
 rests-spec =
