@@ -61,7 +61,7 @@ fn pair(high: u8, low: u8) -> u8 {
 }
 
 // How many bytes a list has, and where the text goes on.
-#[derive(Drop)]
+#[derive(Clone, Copy)]
 pub struct Taken {
     pub count: usize,
     pub next: usize,

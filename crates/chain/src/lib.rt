@@ -92,7 +92,7 @@ fn put_way(s: &[u64], layers: &[u64; ELEMENTS], t: usize, from: usize, to: usize
 }
 
 // The answer to a call for the chain: how many clusters its run has, that there is none, or the rule that refuses.
-#[derive(Drop)]
+#[derive(Clone, Copy)]
 pub enum Answer {
     Run(usize),
     None,

@@ -46,7 +46,7 @@ pub fn print(written: Written, out: &[u8]) {
 }
 
 // What was read: whether no reading failed, and how many bytes stand at the front of the buffer.
-#[derive(Drop)]
+#[derive(Clone, Copy)]
 pub struct Input {
     pub whole: bool,
     pub count: usize,

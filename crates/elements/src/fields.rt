@@ -5,25 +5,25 @@ ghost use Rattle.sheet.specs.Field.{byte, field};
 ghost use Rattle.elements.specs.Fields.{rule_of, as_place, as_byte, as_number, Below};
 
 // The place of the next byte.
-#[derive(Drop)]
+#[derive(Clone, Copy)]
 pub struct Cursor {
     pub at: usize,
 }
 
 // A field whose bytes are not kept: the place after it.
-#[derive(Drop)]
+#[derive(Clone, Copy)]
 pub enum PlaceRead {
     Value(Cursor),
     Refused(u8),
 }
 
-#[derive(Drop)]
+#[derive(Clone, Copy)]
 pub enum ByteRead {
     Value(u8, Cursor),
     Refused(u8),
 }
 
-#[derive(Drop)]
+#[derive(Clone, Copy)]
 pub enum NumberRead {
     Value(u64, Cursor),
     Refused(u8),

@@ -16,14 +16,14 @@ use sheet::{Kinds, Opening};
 use theory::ELEMENTS;
 
 // The kinds of the elements as sets, with the place after the radii.
-#[derive(Drop)]
+#[derive(Clone, Copy)]
 pub enum KindsRead {
     Value(Kinds, Cursor),
     Refused(u8),
 }
 
 // The lines and the circles under PF02, and whether each kind is known.
-#[derive(Drop)]
+#[derive(Clone, Copy)]
 struct Sets {
     lines: u64,
     circles: u64,

@@ -12,7 +12,7 @@ use sheet::{Constraint, Kind, Kinds, Opening, Sheet, Size};
 use theory::{CONSTRAINTS, ELEMENTS};
 
 // What judging asks of a sheet beside its constraints: the count of its elements, the count of its constraints, and its lines as one number.
-#[derive(Drop)]
+#[derive(Clone, Copy)]
 pub struct Head {
     pub n: usize,
     pub e: usize,
@@ -20,7 +20,7 @@ pub struct Head {
 }
 
 // All that a sheet has beside its constraints and its radii.
-#[derive(Drop)]
+#[derive(Clone, Copy)]
 pub struct Front {
     pub opening: Opening,
     pub n: usize,

@@ -48,7 +48,7 @@ pub fn over_after(h: Head, near: &[u64; ELEMENTS], start: &[u64; CONSTRAINTS], s
 
 // The same of a sheet whose plan stands in lent arrays: how many steps it has, and whether these leave one cluster. What the arrays hold of an over
 // sheet is no plan.
-#[derive(Drop)]
+#[derive(Clone, Copy)]
 pub struct Found {
     pub verdict: Verdict,
     pub first: usize,
@@ -175,7 +175,7 @@ pub fn plan_on(
 // ---- the verdict alone
 
 // A verdict, and of an over sheet the first constraint that makes it so.
-#[derive(Drop)]
+#[derive(Clone, Copy)]
 pub struct Told {
     pub verdict: Verdict,
     pub first: usize,

@@ -103,7 +103,7 @@ pub fn step(
 // ---- the first open merge
 
 // What the search finds: the numbers of an open merge, ascending.
-#[derive(Drop)]
+#[derive(Clone, Copy)]
 enum Hit {
     At(usize, usize, usize),
     Nothing,
@@ -178,7 +178,7 @@ pub fn one_left(e: usize, steps: usize) -> bool
 }
 
 // How many merges were made, and the frontier that they leave.
-#[derive(Drop)]
+#[derive(Clone, Copy)]
 pub struct Halt {
     pub steps: usize,
     pub rim: u64,

@@ -14,14 +14,14 @@ use space::Written;
 use theory::{CLUSTERS, CONSTRAINTS, ELEMENTS, JOINTS, PARTS};
 
 // How many steps, and how many bytes their lines have.
-#[derive(Drop)]
+#[derive(Clone, Copy)]
 pub struct Tally {
     pub steps: usize,
     pub bytes: usize,
 }
 
 // The answer to a call that measures.
-#[derive(Drop)]
+#[derive(Clone, Copy)]
 pub enum Measured {
     Is(Tally),
     Refused(u8),

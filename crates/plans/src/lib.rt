@@ -69,7 +69,7 @@ fn higher(x: usize, y: usize) -> usize
 }
 
 // The parts of a step.
-#[derive(Drop)]
+#[derive(Clone, Copy)]
 pub struct Parts {
     pub i: usize,
     pub j: usize,
@@ -117,7 +117,7 @@ fn end_fault(slots: &[u64; CLUSTERS], e: usize, steps: usize) -> u8
 }
 
 // What the check of a saved plan answers: the rule that refuses it, 0 if none does, and how many of its merges were made.
-#[derive(Drop)]
+#[derive(Clone, Copy)]
 pub struct Checked {
     pub rule: u8,
     pub steps: usize,

@@ -18,55 +18,55 @@ use graph::{Front, Head};
 use sheet::{Constraint, Element, Kind, Kinds, Opening, PairKind, Sheet, Size};
 use theory::{CONSTRAINTS, ELEMENTS};
 
-#[derive(Drop)]
+#[derive(Clone, Copy)]
 enum OpeningRead {
     Value(Opening, Cursor),
     Refused(u8),
 }
 
 // The two ends of a constraint.
-#[derive(Drop)]
+#[derive(Clone, Copy)]
 enum EndsRead {
     Value(u8, u8, Cursor),
     Refused(u8),
 }
 
 // A size as one number, 0 for a missing one.
-#[derive(Drop)]
+#[derive(Clone, Copy)]
 enum SizeRead {
     Value(i32, Cursor),
     Refused(u8),
 }
 
 // All before the constraints.
-#[derive(Drop)]
+#[derive(Clone, Copy)]
 enum FrontRead {
     Value(Front, Cursor),
     Refused(u8),
 }
 
 // A sheet in arrays: what is not in them.
-#[derive(Drop)]
+#[derive(Clone, Copy)]
 pub enum CodesRead {
     Value(Front),
     Refused(u8),
 }
 
 // The constraint graph of a sheet: what is not in the arrays.
-#[derive(Drop)]
+#[derive(Clone, Copy)]
 pub enum GraphRead {
     Value(Head),
     Refused(u8),
 }
 
-#[derive(Drop)]
+#[derive(Clone, Copy)]
 pub enum Outcome {
     Accepted,
     Refused(u8),
 }
 
 // A refused reading carries the blank sheet.
-#[derive(Drop)]
+#[derive(Clone, Copy)]
 pub struct Reading {
     pub outcome: Outcome,
     pub sheet: Sheet,

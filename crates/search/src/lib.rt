@@ -29,7 +29,7 @@ pub fn outs(links: &[u64; ELEMENTS], x: u64, edge: u64) -> u64
 }
 
 // What is left of a word of waiting clusters, and what its first reaches.
-#[derive(Drop)]
+#[derive(Clone, Copy)]
 struct Waiting {
     rest: u64,
     outs: u64,
@@ -60,7 +60,7 @@ fn first_reaching(
 }
 
 // A cluster and the elements that it reaches; no cluster is 192.
-#[derive(Drop)]
+#[derive(Clone, Copy)]
 pub struct Reaching {
     pub cluster: usize,
     pub outs: u64,
@@ -202,7 +202,7 @@ fn bit_in(w: usize, n: usize) -> u64
 }
 
 // A set of cluster numbers below 192.
-#[derive(Drop)]
+#[derive(Clone, Copy)]
 struct Words {
     a: u64,
     b: u64,
@@ -292,7 +292,7 @@ fn where_same(x: u64, y: u64, set: u64) -> u64
 }
 
 // What a union finds at its edge: the elements that it reaches, and those of the edge that are linked with its own elements alone.
-#[derive(Drop)]
+#[derive(Clone, Copy)]
 struct Edge {
     outs: u64,
     inner: u64,

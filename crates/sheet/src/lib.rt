@@ -18,27 +18,27 @@ pub const OPENING: [u8; 4] = *b"PF01";
 // Those that open a sheet with circles.
 pub const ROUND_OPENING: [u8; 4] = *b"PF02";
 
-#[derive(Drop)]
+#[derive(Clone, Copy)]
 pub enum Opening {
     Pf01,
     Pf02,
 }
 
 // A circle has its radius.
-#[derive(Drop)]
+#[derive(Clone, Copy)]
 pub enum Kind {
     Point,
     Line,
     Circle(u32),
 }
 
-#[derive(Drop)]
+#[derive(Clone, Copy)]
 pub struct Element {
     pub kind: Kind,
 }
 
 // A size, or a contact that stands for one: tangent, or the other contact. What is unfit is a map that no pair takes.
-#[derive(Drop)]
+#[derive(Clone, Copy)]
 pub enum Size {
     Given(i32),
     Missing,
@@ -47,7 +47,7 @@ pub enum Size {
     Unfit,
 }
 
-#[derive(Drop)]
+#[derive(Clone, Copy)]
 pub struct Constraint {
     pub first: u8,
     pub second: u8,
@@ -55,7 +55,7 @@ pub struct Constraint {
 }
 
 // Places beyond the counts n and e have no influence.
-#[derive(Drop)]
+#[derive(Clone, Copy)]
 pub struct Sheet {
     pub opening: Opening,
     pub n: usize,
@@ -65,7 +65,7 @@ pub struct Sheet {
 }
 
 // The kinds of a constraint's two ends, a circle counted as its centre.
-#[derive(Drop)]
+#[derive(Clone, Copy)]
 pub enum PairKind {
     Points,
     PointLine,
@@ -73,7 +73,7 @@ pub enum PairKind {
 }
 
 // The lines and the circles among a sheet's elements, as sets.
-#[derive(Drop)]
+#[derive(Clone, Copy)]
 pub struct Kinds {
     pub lines: u64,
     pub circles: u64,

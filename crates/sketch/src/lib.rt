@@ -13,14 +13,14 @@ use sheet::{Constraint, Sheet};
 use theory::{CONSTRAINTS, ELEMENTS, Verdict};
 
 // The answer to a call for a verdict: the verdict, or the rule that refuses.
-#[derive(Drop)]
+#[derive(Clone, Copy)]
 pub enum Judgement {
     Is(Verdict),
     Refused(u8),
 }
 
 // What placing answers, and the sketch after it: a refusal leaves it as it was.
-#[derive(Drop)]
+#[derive(Clone, Copy)]
 pub struct Placed {
     pub answer: Judgement,
     pub sketch: Sheet,

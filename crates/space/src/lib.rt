@@ -5,7 +5,7 @@ ghost use Rattle.space.specs.Space.{Put, answer, after};
 ghost use Rattle.space.specs.Text.{digit as digitCode, decimal};
 
 // The answer to a call that writes: the count of items written, or the number of the rule that refuses.
-#[derive(Drop)]
+#[derive(Clone, Copy)]
 pub enum Written {
     Done(usize),
     Refused(u8),

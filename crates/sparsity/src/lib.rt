@@ -45,7 +45,7 @@ fn free_of(y: u8, z: u8, x: u8) -> usize
 }
 
 // The set of the elements reached, and how many there are.
-#[derive(Drop)]
+#[derive(Clone, Copy)]
 pub struct Front {
     pub seen: u64,
     pub count: usize,
@@ -81,7 +81,7 @@ fn opens(y: u8, z: u8, x: u8, before: usize, after: usize) -> usize
 }
 
 // What a search has found: the set of the elements reached, how many there are, and the place of one that has a free entry, or the count.
-#[derive(Drop)]
+#[derive(Clone, Copy)]
 pub struct Sought {
     pub seen: u64,
     pub count: usize,
@@ -184,7 +184,7 @@ fn gather(
 }
 
 // Where a constraint uses a freedom: an entry of an element, and the other end that it is to hold.
-#[derive(Drop)]
+#[derive(Clone, Copy)]
 pub struct Spot {
     pub element: usize,
     pub entry: usize,

@@ -18,7 +18,7 @@ use theory::{CLUSTERS, CONSTRAINTS, ELEMENTS, JOINTS, JointKind, PARTS, STEPS, S
 // ---- the steps by value
 
 // The rule that refuses, 0 if none, and the steps of a list of merges, blank beyond them.
-#[derive(Drop)]
+#[derive(Clone, Copy)]
 pub struct Listing {
     pub rule: u8,
     pub count: usize,
@@ -97,7 +97,7 @@ pub fn saved_steps(
 // ---- into a lent list
 
 // How many records go into the list, all or none, and the answer.
-#[derive(Drop)]
+#[derive(Clone, Copy)]
 pub struct Taken {
     pub n: usize,
     pub answer: Written,
@@ -152,7 +152,7 @@ pub fn fill(out: &mut [Step], l: Listing) -> Written
 }
 
 // The answer, and the list after the call.
-#[derive(Drop)]
+#[derive(Clone, Copy)]
 pub struct Filled {
     pub answer: Written,
     pub list: [Step; STEPS],

@@ -19,7 +19,7 @@ use theory::ELEMENTS;
 pub const MOST_BYTES: usize = 1678;
 
 // The kinds of a sheet's elements in two numbers: those that eight bytes hold, and those after them.
-#[derive(Drop)]
+#[derive(Clone, Copy)]
 struct KindNumbers {
     low: u64,
     high: u64,

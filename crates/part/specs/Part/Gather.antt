@@ -1,6 +1,6 @@
 -- The steps of the living clusters, one cluster after another: a merge adds its own step to them, and moves no other to another cluster. So no step
 -- stands in two clusters, nor twice in one. Assumes nothing.
-use Rattle.theory.specs.Prelude.{ℕ, zero, suc, ◌+◌, ◌≤◌, ◌<◌, ℕ_discrete, arith, eq-eqb, ne_eqb, ◌≡◌, refl, sym, ap, ◌∙◌, subst, ◌≢◌, Ne·symm, List}
+use Rattle.theory.specs.Prelude.{ℕ, zero, suc, ◌+◌, ◌≤◌, ◌<◌, ℕ_discrete, arith, eq-eqb, ne_eqb, ◌≡◌, refl, sym, ap, ◌∙◌, subst, ◌≢◌, Ne-symm, List}
 use Rattle.theory.specs.Prelude.{[], ◌∷◌, ◌++◌, append_assoc, append-nil, eqb, ones, length, set, get_or, length-append, List·getD-append}
 use Rattle.theory.specs.Prelude.{get_or-set_other, get_or-append-add, ext_get_or}
 use Rattle.theory.specs.Set.Laws.{size-zero, ⊑⇒size≤}
@@ -179,9 +179,9 @@ module _ (of : ℕ → List Step) (s : List ℕ) (m : Merge) (o : OpenAt s m) wh
   apart =
       let s1 = set s m.i 0 in
       let s2 = set s1 m.j 0 in
-      let j : slot s1 m.j ≢ 0 = λ z. o.livej (sym (get_or-set_other s m.i m.j 0 0 (Ne·symm o.i≢j)) ∙ z) in
+      let j : slot s1 m.j ≢ 0 = λ z. o.livej (sym (get_or-set_other s m.i m.j 0 0 (Ne-symm o.i≢j)) ∙ z) in
       let k : slot s2 m.k ≢ 0 =
-      λ z. o.livek (sym (get_or-set_other s1 m.j m.k 0 0 (Ne·symm o.j≢k) ∙ get_or-set_other s m.i m.k 0 0 (Ne·symm o.i≢k)) ∙ z) in
+      λ z. o.livek (sym (get_or-set_other s1 m.j m.k 0 0 (Ne-symm o.j≢k) ∙ get_or-set_other s m.i m.k 0 0 (Ne-symm o.i≢k)) ∙ z) in
       then (gather-set of s 0 m.i m.i (omega arith) o.livei)
       (after_front (of m.i) (then (gather-set of s1 0 m.j m.j (omega arith) j)
       (after_front (of m.j) (gather-set of s2 0 m.k m.k (omega arith) k))))

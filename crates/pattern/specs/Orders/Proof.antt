@@ -1,6 +1,6 @@
 -- The promises of every order hold: demand 3 is brought to the answers of two sheets whose constraints stand in
 -- different orders. Assumes nothing.
-use Rattle.theory.specs.Prelude.{ℕ, zero, suc, ◌≡◌, refl, sym, ap, ◌∙◌, ◌≢◌, Iff·trans, Iff·symm, List, [], length}
+use Rattle.theory.specs.Prelude.{ℕ, zero, suc, ◌≡◌, refl, sym, ap, ◌∙◌, ◌≢◌, Iff-trans, Iff-symm, List, [], length}
 use Rattle.theory.specs.Prelude.{length-map}
 use Rattle.theory.specs.Constraints.{Perm}
 use Rattle.theory.specs.Merge.{Merge, Maximal, final, joints}
@@ -111,8 +111,8 @@ module _ (bytes new : List ℕ) (f : Facts) (rest : List ℕ) (a : Accepted f) (
       (living_of (final h.clusters other-list.p))
   clusters-same = (
     λ x.
-        Iff·trans (living-live (final g.clusters one_list.p) x)
-        (Iff·trans (agree.finals x) (Iff·symm (living-live (final h.clusters other-list.p) x))),
+        Iff-trans (living-live (final g.clusters one_list.p) x)
+        (Iff-trans (agree.finals x) (Iff-symm (living-live (final h.clusters other-list.p) x))),
     living-count (final g.clusters one_list.p) ∙ agree.lefts
         ∙ sym (living-count (final h.clusters other-list.p)),
   )

@@ -1,5 +1,5 @@
 -- Over is one finding that every answer goes by. Assumes nothing.
-use Rattle.theory.specs.Prelude.{ℕ, zero, suc, ◌+◌, arith, ◌≡◌, refl, sym, ap, ◌∙◌, subst, ◌≢◌, ◌↔◌, Iff·trans, Bool}
+use Rattle.theory.specs.Prelude.{ℕ, zero, suc, ◌+◌, arith, ◌≡◌, refl, sym, ap, ◌∙◌, subst, ◌≢◌, ◌↔◌, Iff-trans, Bool}
 use Rattle.theory.specs.Prelude.{true, false, cond, ◌&&◌, ltb}
 use Rattle.theory.specs.Prelude.{List, [], ◌∷◌, ◌++◌, length, get_or, inl, inr, map}
 use Rattle.theory.specs.Constraints.{Pairs, Below}
@@ -316,17 +316,17 @@ module _ (s : Sheet) (h : Held s) (c : Constraint) where
   pub over_next : OverNext s c
   over_next = record {
     ask =
-        Iff·trans over-next-is
+        Iff-trans over-next-is
         (subst (λ (j : Judgement). (next_fault f c ≡ 11) ↔ (j ≡ Not 11)) (sym (asked-next s h c))
         (judged-11 (next_fault f c) verdict_with));
     place =
-        Iff·trans over-next-is
+        Iff-trans over-next-is
         (subst (λ (j : Judgement). (next_fault f c ≡ 11) ↔ (j ≡ Not 11)) (sym (placed-next s h c))
         (judged-11 (next_fault f c) verdict_with));
     ask_in = λ lent e.
-        Iff·trans over-next-is
+        Iff-trans over-next-is
         (rw (e, ask-rule s h c) (rule-11 (next_fault f c) verdict_with));
     place_in = λ lent e.
-        Iff·trans over-next-is
+        Iff-trans over-next-is
         (rw (e, place-rule s h c) (placed-11 (next_fault f c) (extended f c) lent));
   }

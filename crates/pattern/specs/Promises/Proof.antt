@@ -1,7 +1,7 @@
 -- The promises hold: the answers' lists are those of `account` Own; over and orders are shown beside (Over, Orders).
 -- Assumes nothing.
 use Rattle.theory.specs.Prelude.{ℕ, zero, suc, ◌+◌, ◌*◌, ◌%◌, ◌≤◌, ◌<◌, ◌≡◌, refl, sym, ap, ap₂, ◌∙◌, subst, ◌≢◌, ◌↔◌}
-use Rattle.theory.specs.Prelude.{Iff·trans, List, [], ◌∷◌, map}
+use Rattle.theory.specs.Prelude.{Iff-trans, List, [], ◌∷◌, map}
 use Rattle.theory.specs.Prelude.{arith, lt-ltb, length}
 use Rattle.theory.specs.Constraints.{Among, Pairs, Below, NotOver}
 use Rattle.theory.specs.Constraints.Perm.{same}
@@ -154,7 +154,7 @@ module _ (bytes : List ℕ) (f : Facts) (rest : List ℕ) (all : Bytes bytes) (r
         let a = (sheet-demand3 f accepted not_over).every f.constraints same l.p p l.maximal v in (
           living_of (final g.clusters l.p),
           items-are final_clusters ∙ ap (λ (x : List ℕ). value x []) l.clusters,
-          λ x. Iff·trans (living-live (final g.clusters l.p) x) (a.finals x),
+          λ x. Iff-trans (living-live (final g.clusters l.p) x) (a.finals x),
           living-count (final g.clusters l.p) ∙ a.lefts,
         )
 

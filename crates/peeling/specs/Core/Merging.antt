@@ -1,6 +1,6 @@
 -- Constraints that are peeled off to the last element: 2n-3 of them on n elements end in one cluster, whatever list of merges is made.
 -- Assumes nothing.
-use Rattle.theory.specs.Prelude.{◌≡◌, refl, sym, ap, ◌∙◌, subst, ◌≢◌, ◌⊎◌, inl, inr, Ne·symm, List, [], ◌∷◌, ℕ, zero, suc, ◌+◌, ◌*◌, ◌-◌, ◌^◌, ◌≤◌}
+use Rattle.theory.specs.Prelude.{◌≡◌, refl, sym, ap, ◌∙◌, subst, ◌≢◌, ◌⊎◌, inl, inr, Ne-symm, List, [], ◌∷◌, ℕ, zero, suc, ◌+◌, ◌*◌, ◌-◌, ◌^◌, ◌≤◌}
 use Rattle.theory.specs.Prelude.{◌<◌, arith, ℕ_discrete, dec_le, ones, length, set, pow_pos, pow_mono, get_or-set_other}
 use Rattle.theory.specs.Set.{◌∈◌, ◌∩◌, ◌⊑◌, at, full}
 use Rattle.theory.specs.Set.Laws.{at-le, at_zero, bit, zero-ext, ⊑⇒size≤, ⊑-size-≡, size-zero, size-full, ⊑_refl, other, two_in, both, ∈-∩⁻}
@@ -160,7 +160,7 @@ module _ (cs : List ℕ) (pairs : Pairs cs) (fine : NotOver cs) (H : Fam) (good 
               arith,
               pairs-share t.m t.k sm sk m≢k,
               two_in (t.m ∩ t.k) x p.0 (both x t.m t.k xm xk)
-                  (both p.0 t.m t.k p.1 (subst (λ (w : ℕ). w ∈ t.k) (sym f) q.1)) (Ne·symm p.2),
+                  (both p.0 t.m t.k p.1 (subst (λ (w : ℕ). w ∈ t.k) (sym f) q.1)) (Ne-symm p.2),
             ) in
             absurd (
             corner y u.0 v.0 p.0 q.0 x hy u.1 v.1 e n

@@ -1,5 +1,5 @@
 -- An element that a cluster reaches gives exactly one merge of it, and the first of these merges is the first of all. Assumes nothing.
-use Rattle.theory.specs.Prelude.{◌≡◌, sym, ap, ◌∙◌, subst, ◌≢◌, ◌⊎◌, inl, inr, Ne·symm, List, ℕ, ◌/◌, ◌%◌, ◌≤◌, ◌<◌, min, max, arith, ℕ_discrete}
+use Rattle.theory.specs.Prelude.{◌≡◌, sym, ap, ◌∙◌, subst, ◌≢◌, ◌⊎◌, inl, inr, Ne-symm, List, ℕ, ◌/◌, ◌%◌, ◌≤◌, ◌<◌, min, max, arith, ℕ_discrete}
 use Rattle.theory.specs.Prelude.{dec_le, dec_lt}
 use Rattle.theory.specs.Set.{◌∈◌, ◌∩◌, at}
 use Rattle.theory.specs.Set.Laws.{at-le, both, ∈-∩⁻, two_in, filled}
@@ -97,7 +97,7 @@ module _ {s : List ℕ} (fine : Fine s) where
       pair-side-case (no n) (yes e) =
           inr (one-holder d k r z (other (slot s i) r z ri zi) rd zd (subst (λ (y : ℕ). y ∈ slot s k) e A.q_k) m.z_k)
       pair-side-case (no n) (no h) =
-          absurd (no_third i j k d z A.p A.q r (Ne·symm (other (slot s k) A.q A.p A.q_k A.p_k)) n h A.p_i A.q_i ri zi A.p_j
+          absurd (no_third i j k d z A.p A.q r (Ne-symm (other (slot s k) A.q A.p A.q_k A.p_k)) n h A.p_i A.q_i ri zi A.p_j
           m.z_j A.q_k m.z_k rd zd)
 
   -- an element gives at most one merge of i
@@ -185,7 +185,7 @@ module _ {s : List ℕ} {used rim : ℕ} {links hold todo : List ℕ} (ready : R
         back : (r : ℕ) → r ∈ slot s i → z ∈ linked links r → r ∈ linked links z ∩ slot s i
         back r ri e =
             let c = ready.linking.only r z e in
-            both r (linked links z) (slot s i) (ready.linking.every c.0 z r reaching-rim (Ne·symm (other (slot s i) r z ri h.out)) c.2
+            both r (linked links z) (slot s i) (ready.linking.every c.0 z r reaching-rim (Ne-symm (other (slot s i) r z ri h.out)) c.2
             c.1) ri
 
         only : (r : ℕ) → r ∈ linked links z ∩ slot s i → Dec (r ≡ h.p) → Dec (r ≡ h.q) → (r ≡ h.p) ⊎ (r ≡ h.q)
@@ -196,7 +196,7 @@ module _ {s : List ℕ} {used rim : ℕ} {links hold todo : List ℕ} (ready : R
             let c = ready.linking.only h.p z h.by_p in
             let d = ready.linking.only h.q z h.by_q in
             let f = ready.linking.only z r b.0 in
-            absurd (no_third ready.fine i c.0 d.0 f.0 z h.p h.q r h.differ (Ne·symm n) (Ne·symm g) p-slot.0 q-slot.0 b.1
+            absurd (no_third ready.fine i c.0 d.0 f.0 z h.p h.q r h.differ (Ne-symm n) (Ne-symm g) p-slot.0 q-slot.0 b.1
             h.out c.1 c.2 d.1 d.2 f.2 f.1)
 
   -- ---- the lowest cluster that reaches an element

@@ -1,6 +1,6 @@
 -- Where two living clusters share at most one element, the clusters that take part in an open merge are those that reach an element by their
 -- part of the rim. Assumes nothing.
-use Rattle.theory.specs.Prelude.{◌≡◌, sym, ap, subst, ◌≢◌, Ne·symm, List, ℕ, arith}
+use Rattle.theory.specs.Prelude.{◌≡◌, sym, ap, subst, ◌≢◌, Ne-symm, List, ℕ, arith}
 use Rattle.theory.specs.Set.{◌∈◌, ◌∩◌, at}
 use Rattle.theory.specs.Set.Laws.{both, ∈-∩⁻}
 use Rattle.theory.specs.Merge.{slot, merge, OpenAt, ShareOne}
@@ -19,9 +19,9 @@ module _ {s : List ℕ} (apart : ShareOne s) where
   pub closes : (i j k p q r : ℕ) → p ≢ q → p ∈ slot s i → p ∈ slot s j → r ∈ slot s j → q ∈ slot s i
       → q ∈ slot s k → r ∈ slot s k → at r (slot s i) ≡ 0 → OpenAt s (merge i j k)
   closes i j k p q r n pi pj rj qi qk rk ri =
-      let i≢j : i ≢ j = Ne·symm (apart_by s j i r rj ri) in
+      let i≢j : i ≢ j = Ne-symm (apart_by s j i r rj ri) in
       triangle apart i j k p q r i≢j (λ e. n (same-shared apart i j p q i≢j pi pj qi (subst (λ (z : ℕ). q ∈ slot s z) (sym e) qk)))
-      (Ne·symm (apart_by s k i r rk ri)) n (other (slot s i) p r pi ri) (other (slot s i) q r qi ri) pi pj qi qk rj rk
+      (Ne-symm (apart_by s k i r rk ri)) n (other (slot s i) p r pi ri) (other (slot s i) q r qi ri) pi pj qi qk rj rk
 
 module _ {s : List ℕ} {rim : ℕ} {links : List ℕ} (rs : Rim s rim) (ls : Links s rim links) where
   -- a cluster of an open merge reaches the element that the other two share

@@ -1,5 +1,5 @@
 -- After a merge the rim, the links, the holders and the waiting clusters are again those of the clusters. Assumes nothing.
-use Rattle.theory.specs.Prelude.{◌≡◌, refl, sym, ap, ◌∙◌, subst, ◌≢◌, ◌⊎◌, inl, inr, ⊎_elim, Ne·symm, List, ℕ, ◌≤◌, ◌<◌, arith, ℕ_discrete, length}
+use Rattle.theory.specs.Prelude.{◌≡◌, refl, sym, ap, ◌∙◌, subst, ◌≢◌, ◌⊎◌, inl, inr, ⊎_elim, Ne-symm, List, ℕ, ◌≤◌, ◌<◌, arith, ℕ_discrete, length}
 use Rattle.theory.specs.Prelude.{List·getD-eq-default}
 use Rattle.theory.specs.Set.{◌∈◌, ◌∩◌, ◌∪◌, at}
 use Rattle.theory.specs.Set.Laws.{at-le, at_zero, both, ∈-∩⁻, ∈-∪⁻, ∈-∪ˡ, ∈-∪ʳ, out, filled, other as another}
@@ -59,7 +59,7 @@ module _ {s : List ℕ} (fine : Fine s) {rim : ℕ} {m : Merge} (o : OpenAt s m)
       → ((r : ℕ) → r ∈ linked links p → r ∈ union (three s m)) → ⊥
   inner-alone d p n pd pu within =
       let r = another (slot s d) p (fine.big d (filled (slot s d) p pd)) in
-      let ru = within r.0 (ls.every d p r.0 (edge-rim d p n pd pu) (Ne·symm r.2) pd r.1) in
+      let ru = within r.0 (ls.every d p r.0 (edge-rim d p n pd pu) (Ne-symm r.2) pd r.1) in
       r.2 (union-shares fine o d r.0 p n r.1 pd ru pu)
 
   pub rim-put : {rim' : ℕ} → Gone links (union (three s m)) rim rim' → Rim (put s m) rim'
@@ -272,7 +272,7 @@ module _ {s : List ℕ} (fine : Fine s) {rim : ℕ} {m : Merge} (o : OpenAt s m)
           z-out = outs.every z (record {
             p = x;
             q = y;
-            differ = Ne·symm yx;
+            differ = Ne-symm yx;
             p_in = both x (union (three s m)) rim xu xr;
             q_in = both y (union (three s m)) rim yu yr;
             by_p = x-links;
@@ -301,8 +301,8 @@ module _ {s : List ℕ} (fine : Fine s) {rim : ℕ} {m : Merge} (o : OpenAt s m)
           with-union-case (yes i) (yes j) =
               still a la A.0
               (td.waiting a m.k c
-              (triangle fine.apart a m.k c x z y (not-part m m.k a part-k A.0) (Ne·symm (not-part m m.k c part-k C.0)) w.i≢k xz
-              (Ne·symm yx) (Ne·symm yz) xa i za zc j yc))
+              (triangle fine.apart a m.k c x z y (not-part m m.k a part-k A.0) (Ne-symm (not-part m m.k c part-k C.0)) w.i≢k xz
+              (Ne-symm yx) (Ne-symm yz) xa i za zc j yc))
 
       waiting : (a b c : ℕ) → OpenAt (put s m) (merge a b c) → waits todo' a ≡ 1
       waiting a b c w = waiting-case (ℕ_discrete a (length s)) (ℕ_discrete b (length s)) (ℕ_discrete c (length s))

@@ -336,18 +336,28 @@ module _ (t : Graph) (prices : List ℕ) (l g : List Offer) (two : 2 ≤ t.n) (p
 
 -- ---- there is only one cheapest
 
-first_one : {l k : List Offer} → First l k → First k l → l ≡ k
-first_one same q = refl
-first_one (here {a = a} {b = b} p) (here q) = absurd (clash a b p q)
+first_to : {l k l' k' : List Offer} → First l k → First k' l' → k ≡ k' → l ≡ l' → l ≡ k
+first_to same q e f = refl
+first_to (here p) same e f = cc
+first_to (here {a = a} {b = b} p) (here {a = c} {b = d} q) e f =
+    let h : c ≡ b = cc in let i : d ≡ a = cc in absurd (clash a b p (subst (λ (x : Offer). PairBefore b x) i (subst (λ (x : Offer). PairBefore x d) h q)))
   where
     clash : (a b : Offer) → PairBefore a b → PairBefore b a → ⊥
     clash a b (inl p) (inl q) = omega arith
     clash a b (inl p) (inr q) = omega arith
     clash a b (inr p) (inl q) = omega arith
     clash a b (inr p) (inr q) = omega arith
-first_one (here {a = a} p) (next b q) = absurd (before-not a a refl (inr (refl, p)))
-first_one (next a p) (here q) = absurd (before-not a a refl (inr (refl, q)))
-first_one (next a p) (next b q) = ap (λ (l : List Offer). a ∷ l) (first_one p q)
+first_to (here {a = a} {b = b} p) (next c q) e f =
+    let h : b ≡ a = cc in absurd (before-not a a refl (inr (refl, subst (λ (x : Offer). PairBefore a x) h p)))
+first_to (next a p) same e f = cc
+first_to (next a p) (here {a = c} {b = d} q) e f =
+    let h : c ≡ a = cc in let i : d ≡ a = cc in
+    absurd (before-not a a refl (inr (refl, subst (λ (x : Offer). PairBefore a x) i (subst (λ (x : Offer). PairBefore x d) h q))))
+first_to (next a {l = l} {k = k} p) (next b {l = m} {k = n} q) e f =
+    let h : k ≡ m = cc in let i : l ≡ n = cc in ap (λ (x : List Offer). a ∷ x) (first_to p q h i)
+
+first_one : {l k : List Offer} → First l k → First k l → l ≡ k
+first_one p q = first_to p q refl refl
 
 pub cheapest-one : (t : Graph) (prices : List ℕ) (l k : List Offer) → Cheapest t prices l → Cheapest t prices k → l ≡ k
 cheapest-one t prices l k a b =

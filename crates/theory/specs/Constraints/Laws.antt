@@ -1,6 +1,6 @@
 -- Laws of constraints: what is carried by two sets, by three and a fourth, by the sheet's own elements, in any order of the constraints.
 -- Assumes nothing.
-use Rattle.theory.specs.Prelude.{◌≡◌, refl, sym, ap, ap₂, ◌∙◌, subst, ◌≢◌, ◌↔◌, ◌⊎◌, inl, inr, ⊎_elim, Iff·trans, Iff·rfl, Bool, true, false}
+use Rattle.theory.specs.Prelude.{◌≡◌, refl, sym, ap, ap₂, ◌∙◌, subst, ◌≢◌, ◌↔◌, ◌⊎◌, inl, inr, ⊎_elim, Iff-trans, Iff-rfl, Bool, true, false}
 use Rattle.theory.specs.Prelude.{List, [], ◌∷◌, map, ℕ, zero, suc, ◌+◌, ◌*◌, ◌^◌, ◌≤◌, ◌<◌, arith, ℕ_discrete, dec_le, or_lt, eqb, eqb→eq}
 use Rattle.theory.specs.Prelude.{eqb_refl, T, ones, length, pow-lt}
 use Rattle.theory.specs.Set.{◌∈◌, ◌∩◌, ◌∪◌, at, ◌⊑◌, full}
@@ -144,10 +144,10 @@ perm-map f (swap x y) = swap (f x) (f y)
 perm-map f (then p q) = then (perm-map f p) (perm-map f q)
 
 pub among-perm : {l k : List ℕ} → Perm l k → (x : ℕ) → Among x l ↔ Among x k
-among-perm same x = Iff·rfl
+among-perm same x = Iff-rfl
 among-perm (skip y p) x = (⊎_elim inl (λ h. inr ((among-perm p x).0 h)), ⊎_elim inl (λ h. inr ((among-perm p x).1 h)))
 among-perm (swap y z) x = (⊎_elim (λ e. inr (inl e)) (⊎_elim inl (λ h. inr (inr h))), ⊎_elim (λ e. inr (inl e)) (⊎_elim inl (λ h. inr (inr h))))
-among-perm (then p q) x = Iff·trans (among-perm p x) (among-perm q x)
+among-perm (then p q) x = Iff-trans (among-perm p x) (among-perm q x)
 
 pub carried-perm : {l k : List ℕ} → Perm l k → (x : ℕ) → carried l x ≡ carried k x
 unfolding carried

@@ -1,6 +1,6 @@
 -- Either way round, by number: once one of two open merges is made, the other is open, the union standing in for a
 -- cluster in common. Theorem 3.6 of Fudos and Hoffmann (document 001), of numbered clusters. Assumes nothing.
-use Rattle.theory.specs.Prelude.{◌≡◌, refl, sym, ap, ◌∙◌, subst, ◌≢◌, ◌↔◌, inl, inr, Iff·trans, Iff·symm, Bool, true, false, ◌||◌, List, eqb}
+use Rattle.theory.specs.Prelude.{◌≡◌, refl, sym, ap, ◌∙◌, subst, ◌≢◌, ◌↔◌, inl, inr, Iff-trans, Iff-symm, Bool, true, false, ◌||◌, List, eqb}
 use Rattle.theory.specs.Prelude.{eqb→eq, T, ℕ, length}
 use Rattle.theory.specs.Tests.{eq_test}
 use Rattle.theory.specs.Constraints.{NotOver, Pairs}
@@ -63,12 +63,12 @@ module _ (cs : List ℕ) (fine : NotOver cs) (s : List ℕ) (g : Good cs (live s
       → OpenAt (put s m) (moved s m r)
   still_open m r o u h =
       at-numbers cs fine (put s m) (put-good cs fine s g d m o) (moved s m r) (moved_in (three s m) (three s r)) (moved-three m r o u)
-      (open-same (λ x. Iff·symm (put-live cs fine s g d m o x)) (moved_in (three s m) (three s r)) h)
+      (open-same (λ x. Iff-symm (put-live cs fine s g d m o x)) (moved_in (three s m) (three s r)) h)
 
   two-on : (m r : Merge) (o : OpenAt s m) (u : OpenAt s r) → OpenAt (put s m) (moved s m r)
       → Same (live (put (put s m) (moved s m r))) (after (after (live s) (three s m)) (moved_in (three s m) (three s r)))
   two-on m r o u h x =
-      Iff·trans (put-live cs fine (put s m) (put-good cs fine s g d m o) (put-distinct cs fine s g d m o) (moved s m r) h x)
+      Iff-trans (put-live cs fine (put s m) (put-good cs fine s g d m o) (put-distinct cs fine s g d m o) (moved s m r) h x)
       (subst (λ (t : Three). after (live (put s m)) (three (put s m) (moved s m r)) x ↔ after (after (live s) (three s m)) t x) (moved-three m r o u)
       (after_same (put-live cs fine s g d m o) (three (put s m) (moved s m r)) x))
 
@@ -90,7 +90,7 @@ module _ (cs : List ℕ) (fine : NotOver cs) (s : List ℕ) (g : Good cs (live s
           still' = q;
           same_joint = ap joint (moved-three m r o u) ∙ js;
           same_joint' = ap joint (moved-three r m u o) ∙ jt;
-          ends = λ x. Iff·trans (two-on m r o u p x) (Iff·trans (same x) (Iff·symm (two-on r m u o q x)));
+          ends = λ x. Iff-trans (two-on m r o u p x) (Iff-trans (same x) (Iff-symm (two-on r m u o q x)));
         }
   ]
 

@@ -1,5 +1,5 @@
 -- Laws of who is constrained with whom: lists that grow at their end, both ends noted, and what an element carries. Assumes nothing.
-use Rattle.theory.specs.Prelude.{◌≡◌, refl, sym, ap, ◌∙◌, subst, ◌≢◌, ◌↔◌, ◌⊎◌, inl, inr, ⊎_elim, Ne·symm, List, [], ◌∷◌, ◌++◌, ℕ, zero, suc}
+use Rattle.theory.specs.Prelude.{◌≡◌, refl, sym, ap, ◌∙◌, subst, ◌≢◌, ◌↔◌, ◌⊎◌, inl, inr, ⊎_elim, Ne-symm, List, [], ◌∷◌, ◌++◌, ℕ, zero, suc}
 use Rattle.theory.specs.Prelude.{◌+◌, ◌-◌, ◌^◌, ◌≤◌, ◌<◌, ℕ_discrete, arith, bit_or, ones, length, take, get_or, set, length-set, replicate}
 use Rattle.theory.specs.Prelude.{length-replicate, get_or-set_same, get_or-set_other, get_or-take, length-take-le}
 use Rattle.theory.specs.Set.{◌∈◌, ◌∩◌, ◌∪◌, ◌⊑◌, at}
@@ -19,6 +19,7 @@ among-append x (m ∷ cs) ds (inl e) = inl (inl e)
 among-append x (m ∷ cs) ds (inr h) = ⊎_elim (λ k. inl (inr k)) inr (among-append x cs ds h)
 
 pub among-front : (x : ℕ) (cs ds : List ℕ) → Among x cs → Among x (cs ++ ds)
+among-front x [] ds h = elim h [ ]
 among-front x (m ∷ cs) ds (inl e) = inl e
 among-front x (m ∷ cs) ds (inr h) = inr (among-front x cs ds h)
 
@@ -61,7 +62,7 @@ pair_is m x y two e f n = sym (⊑-size-≡ m (pair x y) (pair-in x y m e f) (om
 
 -- one of them is x, and the other
 pub pair-with : (m x : ℕ) → ones m ≡ 2 → x ∈ m → (y : ℕ) × (y ≢ x) × (m ≡ pair x y)
-pair-with m x two e = let o = other m x (omega arith) in (o.0, o.2, pair_is m x o.0 two e o.1 (Ne·symm o.2))
+pair-with m x two e = let o = other m x (omega arith) in (o.0, o.2, pair_is m x o.0 two e o.1 (Ne-symm o.2))
 
 pub pair-other : (x y z : ℕ) → x ≢ z → pair x y ≡ pair x z → y ≡ z
 pair-other x y z n e = ⊎_elim (λ (p : z ≡ x). absurd (n (sym p))) (λ (p : z ≡ y). sym p) (at_pair z x y (ap (at z) e ∙ (at-end x z).1))
@@ -130,7 +131,7 @@ module _ (cs near : List ℕ) (n : Near cs near) (a b : ℕ) (la : a < 64) (lb :
       | yes p ↦ subst (λ (z : ℕ). (y ∈ get_or new z 0) ↔ Among (pair z y) (cs ++ pair a b ∷ [])) (sym p) (says-end a b y la a≢b refl at_a)
       | no p ↦ elim (ℕ_discrete x b) [
         | yes q ↦ subst (λ (z : ℕ). (y ∈ get_or new z 0) ↔ Among (pair z y) (cs ++ pair a b ∷ [])) (sym q)
-            (says-end b a y lb (Ne·symm a≢b) (pair_comm a b) at_b)
+            (says-end b a y lb (Ne-symm a≢b) (pair_comm a b) at_b)
         | no q ↦ says-neither x y l p q
       ]
     ];

@@ -1,6 +1,6 @@
 -- The order of the three numbers of a merge does not matter: the merge with its numbers ascending is open where it is, has the same joint, and
 -- leaves the same clusters. Assumes nothing.
-use Rattle.theory.specs.Prelude.{◌≡◌, refl, sym, ap, ap₂, ◌∙◌, subst, ◌≢◌, Ne·symm, List, [], ◌∷◌, ◌++◌, ℕ, zero, suc, ◌≤◌, ◌<◌, min, max}
+use Rattle.theory.specs.Prelude.{◌≡◌, refl, sym, ap, ap₂, ◌∙◌, subst, ◌≢◌, Ne-symm, List, [], ◌∷◌, ◌++◌, ℕ, zero, suc, ◌≤◌, ◌<◌, min, max}
 use Rattle.theory.specs.Prelude.{arith, dec_le, ones, set}
 use Rattle.theory.specs.Set.{◌∩◌, ◌∪◌}
 use Rattle.theory.specs.Set.Laws.{at-∪, ext, ∩-comm, ∪-comm}
@@ -31,7 +31,7 @@ pub open-ab : (s : List ℕ) (i j k : ℕ) → OpenAt s (merge i j k) → OpenAt
 open-ab s i j k o =
     let e = ∩-comm (slot s j) (slot s i) in
     record {
-      i≢j = Ne·symm o.i≢j;
+      i≢j = Ne-symm o.i≢j;
       j≢k = o.i≢k;
       i≢k = o.j≢k;
       livei = o.livej;
@@ -52,7 +52,7 @@ open-bc s i j k o =
     let e = ∩-comm (slot s k) (slot s j) in
     record {
       i≢j = o.i≢k;
-      j≢k = Ne·symm o.j≢k;
+      j≢k = Ne-symm o.j≢k;
       i≢k = o.i≢j;
       livei = o.livei;
       livej = o.livek;
@@ -81,7 +81,7 @@ Apart m = (m.i ≢ m.j) × (m.j ≢ m.k) × (m.i ≢ m.k)
 pub ascends : (m : Merge) → m.i ≢ m.j → m.j ≢ m.k → m.i ≢ m.k → ((ascending m).i < (ascending m).j) × ((ascending m).j < (ascending m).k)
 unfolding Apart
 ascends m p q r =
-    let d = by-exchange Apart (λ i j k h. (Ne·symm h.0, h.2, h.1)) (λ i j k h. (h.2, Ne·symm h.1, h.0)) m (p, q, r) in
+    let d = by-exchange Apart (λ i j k h. (Ne-symm h.0, h.2, h.1)) (λ i j k h. (h.2, Ne-symm h.1, h.0)) m (p, q, r) in
     (omega (arith, (climbs m).0, d.0), omega (arith, (climbs m).1, d.1))
 
 -- ---- the same joint and the same clusters afterwards

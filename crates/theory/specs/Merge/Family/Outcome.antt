@@ -1,7 +1,7 @@
 -- Every maximal list of merges of a sheet that is not over ends in the same clusters, with the same joints and the same
 -- number of steps: Corollary 3.7 and Theorem 4.3 of Fudos and Hoffmann (document 001). More constraints never make a
 -- final cluster smaller. Assumes nothing.
-use Rattle.theory.specs.Prelude.{◌≡◌, ap, ◌∙◌, subst, refl, sym, ◌⊎◌, inl, inr, Iff·trans, ◌↔◌, ⊎_elim, Iff·rfl, List, [], ◌∷◌, ℕ, suc, length}
+use Rattle.theory.specs.Prelude.{◌≡◌, ap, ◌∙◌, subst, refl, sym, ◌⊎◌, inl, inr, Iff-trans, ◌↔◌, ⊎_elim, Iff-rfl, List, [], ◌∷◌, ℕ, suc, length}
 use Rattle.theory.specs.Set.{◌⊑◌}
 use Rattle.theory.specs.Set.Laws.{⊑_refl, ⊑_trans}
 use Rattle.theory.specs.Constraints.{NotOver, Among, Pairs, Perm}
@@ -26,11 +26,11 @@ after_same {F} {G} h t x = (go h, go (λ y. ((h y).1, (h y).0)))
 
 pub valid_same : {F G : Fam} → Same F G → (p : List Three) → ValidIn F p → ValidIn G p
 valid_same h [] v = tt
-valid_same h (t ∷ p) v = (open-same h t v.0, valid_same (after_same h t) p v.1)
+valid_same {F} {G} h (t ∷ p) v = (open-same h t v.0, valid_same {F = after F t} {G = after G t} (after_same h t) p v.1)
 
 pub final-same : {F G : Fam} → Same F G → (p : List Three) → Same (final_in F p) (final_in G p)
 final-same h [] = h
-final-same h (t ∷ p) = final-same (after_same h t) p
+final-same {F} {G} h (t ∷ p) = final-same {F = after F t} {G = after G t} (after_same h t) p
 
 pub ended_same : {F G : Fam} → Same F G → EndedIn F → EndedIn G
 unfolding EndedIn
@@ -69,7 +69,7 @@ module _ (cs : List ℕ) (fine : NotOver cs) where
     | commute n o js jt same ↦ let r = rest p (good-after cs fine g t v.0) v.1 end (moved_in t s) n in record {
       plan = moved_in s t ∷ r.plan;
       valid = (o, valid_same same r.plan r.valid);
-      ends = λ x. Iff·trans (r.ends x) (final-same same r.plan x);
+      ends = λ x. Iff-trans (r.ends x) (final-same same r.plan x);
       steps = ap suc r.steps;
       same_joints = λ x. (
         ⊎_elim (λ e. inr (inl (e ∙ sym jt))) (λ h. ⊎_elim (λ e. inl (e ∙ js)) (λ i. inr (inr i)) ((r.same_joints x).0 h)),
@@ -82,16 +82,16 @@ module _ (cs : List ℕ) (fine : NotOver cs) where
   -- Theorem 4.3: the same geometry triples (`same_joints`), whose proof also has the same length (`steps`)
   pub unique : (q p : List Three) {F : Fam} → Good cs F → ValidIn F p → EndedIn (final_in F p) → ValidIn F q → EndedIn (final_in F q) → AlikeIn F F p q
   unfolding EndedIn
-  unique [] [] g v e w f = record { finals = λ x. Iff·rfl; steps = refl; same_joints = λ x. Iff·rfl }
+  unique [] [] g v e w f = record { finals = λ x. Iff-rfl; steps = refl; same_joints = λ x. Iff-rfl }
   unique [] (t ∷ p) g v e w f = absurd (f t v.0)
   unique (s ∷ q) p {F} g v e w f =
       let r = rest p g v e s w.0 in
       let u = unique q r.plan (good-after cs fine g s w.0) r.valid (ended_same r.ends e) w.1 f in
       record {
-        finals = λ x. Iff·trans (r.ends x) (u.finals x);
+        finals = λ x. Iff-trans (r.ends x) (u.finals x);
         steps = r.steps ∙ ap suc u.steps;
         same_joints =
-            λ x. Iff·trans (r.same_joints x) (⊎_elim inl (λ i. inr ((u.same_joints x).0 i)), ⊎_elim inl (λ i. inr ((u.same_joints x).1 i)));
+            λ x. Iff-trans (r.same_joints x) (⊎_elim inl (λ i. inr ((u.same_joints x).0 i)), ⊎_elim inl (λ i. inr ((u.same_joints x).1 i)));
       }
 
   -- whatever merges came before, the family is good: Lemma 3.4 of Fudos and Hoffmann
@@ -146,7 +146,7 @@ module _ (cs : List ℕ) (pairs : Pairs cs) (fine : NotOver cs) where
       let back : Same (start ds) (start cs) = λ x. ((among-perm r x).1, (among-perm r x).0) in
       let u = unique cs fine q p (among-good cs pairs fine) v e (valid_same back q w) (ended_same (final-same back q) f) in
       record {
-        finals = λ x. Iff·trans (u.finals x) (final-same (among-perm r) q x);
+        finals = λ x. Iff-trans (u.finals x) (final-same (among-perm r) q x);
         steps = u.steps;
         same_joints = u.same_joints;
       }
