@@ -1,0 +1,42 @@
+-- `elements::read_element` meets its contract: a point and a line have no field, a circle has its radius. Assumes nothing.
+use Rattle.theory.specs.Prelude.{rules, arith, sym, ap, ◌∙◌, [], not-true, not-false, drop}
+use Rattle.sheet.specs.declared.Kind.TheVariants.{Circle}
+use Rattle.sheet.specs.Field.{refused}
+use Rattle.elements.specs.declared.fields.NumberRead.{NumberRead}
+use Rattle.elements.specs.Fields.{rule_of, as_number}
+use Rattle.elements.specs.Round.Elements.{straight-element, circle-cut, circle-out, circle-read, stored-none, stored-circle}
+use Rattle.elements.proofs.read_element.Goals as goal
+
+pub returns-then-k-lt2 : goal.returns-then-k-lt2
+returns-then-k-lt2 c = let a = c.args in
+    let x = straight-element a.k c.if-k-lt2.true (drop a.c.at a.s.now) in (x.0, x.1, stored-none x.0 a.i a.radii.now x.2)
+
+pub returns-in_default : goal.returns-in_default
+returns-in_default c = let k = c in
+    let a = k.args in
+    let g = c.enum_told.given.1 in
+    circle-cut a.k k.if-k-lt2.false (drop a.c.at a.s.now) (sym k.read_number-number.ensures.0 ∙ ap (as_number a.s.now) g
+    ∙ ap refused (sym (c.refusal.ensures ∙ ap (λ (r : NumberRead). rule_of (as_number [] r)) g)))
+
+pub overflow_cast-r : goal.overflow_cast-r
+overflow_cast-r c = let g = c.number.given in
+    omega (arith, c.read_number-number.ensures.1.below g.0.0 g.0.1.0 g.1)
+
+pub returns-then-not-radius_in_range : goal.returns-then-not-radius_in_range
+returns-then-not-radius_in_range c = let k = c in
+    let a = k.args in
+    circle-out a.k k.if-k-lt2.false (drop a.c.at a.s.now)
+    (sym k.read_number-number.ensures.0 ∙ ap (as_number a.s.now) c.number.given.1)
+    (sym c.radius_in_range.ensures ∙ not-true _ c.if-not-radius_in_range.true)
+
+pub returns : goal.returns
+returns c = let k = c in
+    let s = k in
+    let a = s.args in
+    let g = c.number.given in (
+      record { kind = Circle g.0.0 },
+      circle-read a.k k.if-k-lt2.false (drop a.c.at a.s.now)
+          (sym k.read_number-number.ensures.0 ∙ ap (as_number a.s.now) g.1)
+          (sym c.radius_in_range.ensures ∙ not-false _ c.if-not-radius_in_range.false),
+      stored-circle g.0.0 a.i a.radii.now (omega (arith, s.requires.0, s.requires.1)),
+    )

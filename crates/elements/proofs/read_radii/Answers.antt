@@ -1,0 +1,59 @@
+-- `elements::read_radii` meets its contract: i elements are read, and their radii stand. Assumes nothing.
+use Rattle.theory.specs.Prelude.{rules, ◌+◌, ◌-◌, ◌/◌, ◌≤◌, arith, ◌≡◌, length}
+use Rattle.sheet.specs.declared.Opening.TheVariants.{Pf02}
+use Rattle.sheet.specs.Facts.Laws.{kinds_of-length}
+use Rattle.elements.specs.Round.{round_number, round_kinds}
+use Rattle.elements.specs.Round.Elements.{Partway, partway-none, partway-more, partway-refused, partway_end}
+use Rattle.elements.proofs.read_radii.Goals as goal
+
+pub overflow_add-c : goal.overflow_add-c
+overflow_add-c c = omega arith
+
+pub overflow_add-c-2 : goal.overflow_add-c-2
+overflow_add-c-2 c = omega arith
+
+pub loop-i-init : goal.loop-i-init
+loop-i-init c = let a = c.args in (
+      omega arith,
+      partway-none (round_kinds a.s.now a.at a.n) a.s.now (a.at + (a.n + 3) / 4) a.radii.now c.requires.2,
+    )
+
+pub kind_of-requires : goal.kind_of-requires
+kind_of-requires c = omega arith
+
+pub read_element-got-requires : goal.read_element-got-requires
+read_element-got-requires c = (omega arith, omega arith)
+
+pub returns-in_default : goal.returns-in_default
+returns-in_default c = let r = 
+    let ks-long : length (round_kinds c.args.s.now c.args.at c.args.n) ≡ c.args.n = kinds_of-length Pf02 c.args.n (round_number c.args.s.now c.args.at c.args.n) in
+    c.read_element-got in
+    let k = c in
+    let a = k.loop-i in
+    let s = k in
+    let is = k.kind_of.ensures s.args.n k.loop-i-test.true s.requires.1 in
+    rw c.enum_told.given.1
+    (partway-refused a.invariant.1 (omega (arith, ks-long s)) is (rw c.enum_told.given.1 at r.ensures))
+
+pub overflow_add-i : goal.overflow_add-i
+overflow_add-i c = omega arith
+
+pub loop-i-smaller : goal.loop-i-smaller
+loop-i-smaller c = omega arith
+
+pub loop-i-preserved : goal.loop-i-preserved
+loop-i-preserved c = let r = 
+    let ks-long : length (round_kinds c.args.s.now c.args.at c.args.n) ≡ c.args.n = kinds_of-length Pf02 c.args.n (round_number c.args.s.now c.args.at c.args.n) in
+    c.read_element-got in
+    let k = c in
+    let a = k.loop-i in
+    let s = k in
+    let is = k.kind_of.ensures s.args.n k.loop-i-test.true s.requires.1 in
+    (omega arith, partway-more a.invariant.1 (omega (arith, ks-long s)) is (rw c.got.given.1 at r.ensures))
+
+pub returns : goal.returns
+returns c = let a = 
+    let ks-long : length (round_kinds c.args.s.now c.args.at c.args.n) ≡ c.args.n = kinds_of-length Pf02 c.args.n (round_number c.args.s.now c.args.at c.args.n) in
+    c.loop-i in
+    let s = c in
+    (a.invariant.1.es, partway_end a.invariant.1 (omega (arith, ks-long s)), a.invariant.1.stand)

@@ -1,0 +1,12 @@
+-- `engine::angled` meets its contract: what is left of the joints decides. Assumes nothing.
+use Rattle.theory.specs.Prelude.{◌≡◌, refl, sym, ap, ◌∙◌, Bool, ◌||◌, List, ◌∷◌, ℕ, suc, ◌+◌, ◌-◌, ◌≤◌, ◌<◌, arith, add-one, rules, eq-eqb, ne_eqb}
+use Rattle.theory.specs.Prelude.{length, take, drop, get_or, length-take, drop_of_length-le, drop-cons, get_or-take}
+use Rattle.theory.specs.Set.{◌∩◌}
+use Rattle.theory.specs.Verdict.{angled, all_lines}
+use Rattle.engine.proofs.angled.Given as goal
+
+abbrev pub invariant-loop-i : goal.invariant-loop-i
+invariant-loop-i l = (l.i ≤ l.steps) × (angled l.lines (take l.steps l.joints) ≡ angled l.lines (drop l.i (take l.steps l.joints)))
+
+abbrev pub decreases-loop-i : goal.decreases-loop-i
+decreases-loop-i l = l.steps - l.i

@@ -1,0 +1,37 @@
+-- `engine::ways_of` meets its contract: known only if all three parts are initial clusters. Assumes nothing.
+use Rattle.theory.specs.Prelude.{lt-ltb, le-ltb, pos, get_or, rules}
+use mir.Syntax.{w32}
+use mir.Val.{SFits}
+use mir.Facts.{to_z-of_z}
+use Rattle.engine.specs.Steps.{ways_by}
+use Rattle.engine.proofs.ways_of.Goals as goal
+
+pub returns-then-e-i : goal.returns-then-e-i
+unfolding ways_by
+returns-then-e-i c = simp (ways_by, le-ltb _ _ c.if-e-i.true)
+
+pub returns-then-e-j : goal.returns-then-e-j
+unfolding ways_by
+returns-then-e-j c = simp (ways_by, lt-ltb _ _ c.if-e-i.false, le-ltb _ _ c.if-e-j.true)
+
+pub returns-then-e-k : goal.returns-then-e-k
+unfolding ways_by
+returns-then-e-k c = simp (ways_by, lt-ltb _ _ c.if-e-i.false, lt-ltb _ _ c.if-e-j.false, le-ltb _ _ c.if-e-k.true)
+
+pub returns : goal.returns
+unfolding ways_by
+returns c = let k = c in
+    let a = k.args in
+    let x : SFits w32 (get_or a.sizes.now a.i (pos 0)) = record { sfits = c.placements-arg3.given } in
+    let y : SFits w32 (get_or a.sizes.now a.j (pos 0)) = record { sfits = c.placements-arg4.given } in
+    let z : SFits w32 (get_or a.sizes.now a.k (pos 0)) = record { sfits = c.placements-arg5.given } in
+    simp (
+      ways_by,
+      c.placements.ensures,
+      to_z-of_z x,
+      to_z-of_z y,
+      to_z-of_z z,
+      lt-ltb _ _ k.if-e-i.false,
+      lt-ltb _ _ k.if-e-j.false,
+      lt-ltb _ _ k.if-e-k.false,
+    )

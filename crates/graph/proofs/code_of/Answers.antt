@@ -1,0 +1,22 @@
+-- `graph::code_of` meets its contract: each size has its number. Assumes nothing.
+use Rattle.theory.specs.Prelude.{rules, sym, ap, ◌∙◌}
+use mir.Facts.{to_z-of_z}
+use mir.Syntax.{w32}
+use Rattle.graph.specs.Lent.{code_of}
+use Rattle.graph.proofs.code_of.Goals as goal
+
+pub returns-in-Given : goal.returns-in-Given
+returns-in-Given c = let g = c.size.given in
+    to_z-of_z {w = w32} {z = g.0.0} (search rules) ∙ sym (ap code_of g.1)
+
+pub returns-in-Missing : goal.returns-in-Missing
+returns-in-Missing c = sym (ap code_of c.enum_told.given.1)
+
+pub returns-in-Tangent : goal.returns-in-Tangent
+returns-in-Tangent c = sym (ap code_of c.enum-told2.given.1)
+
+pub returns-in-OtherTangent : goal.returns-in-OtherTangent
+returns-in-OtherTangent c = sym (ap code_of c.enum-told3.given.1)
+
+pub returns-in-Unfit : goal.returns-in-Unfit
+returns-in-Unfit c = sym (ap code_of c.enum-told4.given.1)

@@ -1,0 +1,10 @@
+-- `graph::note_ends` meets its contract: both arrays hold one constraint more. Assumes nothing.
+use borrow.Author.Rules.{rules}
+use Rattle.graph.specs.Lent.Laws.{ends_more}
+use Rattle.graph.proofs.note_ends.Goals as goal
+
+pub returns : goal.returns
+returns c = λ cs k n f g h.
+    let s = c in
+    rw (c.pair.ensures, ← f, ← g)
+    (ends_more cs k s.args.i n s.requires.0 h (c.note_pair.ensures cs k f g h.ends_noted))

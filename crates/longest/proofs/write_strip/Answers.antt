@@ -1,0 +1,22 @@
+-- `longest::write_strip` meets its contract: the blocks hold the facts of the sheet, which no rule refuses. Assumes nothing.
+use Rattle.theory.specs.Prelude.{refl, ap, ◌∙◌, ◌*◌, ◌-◌, arith, rules}
+use Rattle.space.specs.Space.{answer, after}
+use Rattle.sheet.specs.declared.Opening.TheVariants.{Pf01}
+use Rattle.sheet.specs.Facts.{Facts}
+use Rattle.sheet.specs.Encode.{sheet_bytes}
+use Rattle.longest.specs.Longest.{points}
+use Rattle.longest.specs.Longest.Block.{facts_are, no_fault}
+use Rattle.longest.proofs.write_strip.Goals as goal
+
+pub write_accepted-requires : goal.write_accepted-requires
+write_accepted-requires c = no_fault _ (search rules) (search rules) refl refl refl c.strip-constraints.ensures
+
+pub returns : goal.returns
+returns c = let strip = c.strip-constraints in
+    let args = c.args in
+    let h = c.write_accepted.ensures in
+    let e = facts_are (record { opening = Pf01; n = args.n; e = 2 * args.n - 3; elements = points 64; constraints = strip.result })
+    (omega arith) (omega arith) refl refl refl strip.ensures in (
+      h.0 ∙ ap (λ (f : Facts). answer (sheet_bytes f) args.out.now) e,
+      h.1 ∙ ap (λ (f : Facts). after (sheet_bytes f) args.out.now) e,
+    )

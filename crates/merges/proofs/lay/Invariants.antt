@@ -1,0 +1,13 @@
+-- `merges::lay` meets its contract: the clusters passed stand in the array. Assumes nothing.
+use Rattle.theory.specs.Prelude.{◌≡◌, sym, ap, ◌∙◌, List, ℕ, ◌+◌, ◌-◌, ◌≤◌, ◌<◌, arith, add-one, rules, length, get_or, set, take, length-take}
+use Rattle.theory.specs.Prelude.{take-suc}
+use Rattle.theory.specs.Block.{block}
+use Rattle.theory.specs.Block.Laws.{store-block}
+use Rattle.merges.specs.Run.{Start}
+use Rattle.merges.proofs.lay.Given as goal
+
+abbrev pub invariant-loop-i : goal.invariant-loop-i
+invariant-loop-i l = (l.i ≤ l.e) × (l.slots ≡ block 192 0 (take l.i l.start))
+
+abbrev pub decreases-loop-i : goal.decreases-loop-i
+decreases-loop-i l = l.e - l.i

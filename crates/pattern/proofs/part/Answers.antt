@@ -1,0 +1,44 @@
+-- `pattern::part` meets its contract: 11, 26 and 17 of the graph that is read. Assumes nothing.
+use Rattle.theory.specs.Prelude.{rules, ℕ, ◌≡◌, refl, subst, List}
+use Rattle.space.specs.declared.Written.{Written}
+use Rattle.theory.specs.Graph.{SizedGraph}
+use Rattle.sheet.specs.Answer.{Answers}
+use Rattle.sheet.specs.Answer.Laws.{answers-refused}
+use Rattle.part.specs.Part.{held_field, lines_field}
+use Rattle.pattern.specs.Entries.{held_sheet}
+use Rattle.pattern.specs.Entries.Reading.{FactsRead, refused-read, facts-read}
+use Rattle.pattern.specs.Entries.Parts.{part_held}
+use Rattle.pattern.proofs.part.Goals as goal
+
+-- the facts of the sheet
+read : (c : goal.After-list-arg-1)
+    → FactsRead c.args.bytes.now
+    c.got.given.0.0
+    c.read_graph-got.new.1.0
+    c.read_graph-got.new.1.1.0
+    c.read_graph-got.new.1.1.1.0
+read c =
+    facts-read _ _ _ _ _ c.read_graph-got.ensures
+    c.got.given.1
+
+-- the answer goes by the graph alone
+by-graph : (number : ℕ) {g g' : SizedGraph} {space left : List ℕ} {r : Written} → g ≡ g' → Answers (lines_field (held_field g number)) space r left
+    → Answers (lines_field (held_field g' number)) space r left
+by-graph number {space = space} {left} {r} e h = subst (λ (x : SizedGraph). Answers (lines_field (held_field x number)) space r left) e h
+
+pub read_graph-got-requires : goal.read_graph-got-requires
+read_graph-got-requires c = (refl, refl, refl)
+
+pub returns-in_default : goal.returns-in_default
+unfolding held_sheet
+returns-in_default c =     answers-refused (rw (refused-read _ _ _ _ _ c.read_graph-got.ensures c.enum_told.given.1 c.refusal.ensures))
+
+pub list-requires : goal.list-requires
+list-requires c = (read c).drawn_is
+
+pub returns : goal.returns
+returns c = let a = 
+    let read : FactsRead c.args.bytes.now c.got.given.0.0 c.read_graph-got.new.1.0 c.read_graph-got.new.1.1.0 c.read_graph-got.new.1.1.1.0 = facts-read _ _ _ _ _ c.read_graph-got.ensures c.got.given.1 in
+    c.args in
+    let f = read in
+    rw (part_held a.bytes.now a.number f.reads) (by-graph a.number f.sized_read c.list.ensures)

@@ -1,0 +1,13 @@
+-- `pattern::part_bytes` meets its contract: the count of the measure. Assumes nothing.
+use borrow.Author.Rules.{rules}
+use Rattle.pattern.specs.Entries.{part_of}
+use Rattle.pattern.specs.Entries.Parts.{bytes_counted, bytes-refused}
+use Rattle.pattern.proofs.part_bytes.Goals as goal
+
+pub returns-in-Is : goal.returns-in-Is
+returns-in-Is c = let s = c.args in
+    bytes_counted (part_of s.bytes.now s.number) c.part_size.ensures c.t.given.1
+
+pub returns-in-Refused : goal.returns-in-Refused
+returns-in-Refused c = let s = c.args in
+    bytes-refused (part_of s.bytes.now s.number) c.part_size.ensures c.k.given.1

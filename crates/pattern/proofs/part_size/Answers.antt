@@ -1,0 +1,54 @@
+-- `pattern::part_size` meets its contract: 11 and 26 of the graph that is read. Assumes nothing.
+use Rattle.theory.specs.Prelude.{rules, ℕ, ◌≡◌, refl, sym, ap, ◌∙◌, List}
+use Rattle.theory.specs.Graph.{SizedGraph}
+use Rattle.sheet.specs.Facts.{Facts}
+use Rattle.sheet.specs.Field.{value}
+use Rattle.sheet.specs.Decode.{read_sheet}
+use Rattle.sheet.specs.Graph.{sized_of}
+use Rattle.graph.specs.Lent.{sized_in}
+use Rattle.part.specs.declared.Measured.{Measured}
+use Rattle.part.specs.Part.{held_field}
+use Rattle.part.specs.Tallies.{measure_of}
+use Rattle.pattern.specs.Entries.{held_sheet, part_of}
+use Rattle.pattern.specs.Entries.Reading.{FactsRead, refused-read, facts-read}
+use Rattle.pattern.specs.Entries.Parts.{part_held}
+use Rattle.pattern.proofs.part_size.Goals as goal
+
+-- the facts of the sheet
+read : (c : goal.After-sizes-2-1)
+    → FactsRead c.args.bytes.now
+    c.got.given.0.0
+    c.read_graph-got.new.1.0
+    c.read_graph-got.new.1.1.0
+    c.read_graph-got.new.1.1.1.0
+read c =
+    facts-read _ _ _ _ _ c.read_graph-got.ensures c.got.given.1
+
+-- the graph in the arrays
+abbrev graph : tie.After-sizes2 → SizedGraph
+graph c =
+    let l = c.read_graph-got.new.1.1 in
+    sized_in c.got.given.0.0 l.0 l.1.0
+
+-- measured by the graph that is read
+measured : (bytes : List ℕ) (number : ℕ) (g : SizedGraph) {f : Facts} {rest : List ℕ} {r : Measured}
+    → r ≡ measure_of (held_field g number) → g ≡ sized_of f → read_sheet bytes ≡ value f rest → r ≡ measure_of (part_of bytes number)
+measured bytes number g is same reads =
+    is ∙ ap (λ (g : SizedGraph). measure_of (held_field g number)) same ∙ ap measure_of (sym (part_held bytes number reads))
+
+pub read_graph-got-requires : goal.read_graph-got-requires
+read_graph-got-requires c = (refl, refl, refl)
+
+pub returns-in_default : goal.returns-in_default
+unfolding held_sheet
+returns-in_default c = rw (refused-read _ _ _ _ _ c.read_graph-got.ensures c.enum_told.given.1 c.refusal.ensures)
+
+pub measure-requires : goal.measure-requires
+measure-requires c = (read c).drawn_is
+
+pub returns : goal.returns
+returns c = let f = 
+    let read : FactsRead c.args.bytes.now c.got.given.0.0 c.read_graph-got.new.1.0 c.read_graph-got.new.1.1.0 c.read_graph-got.new.1.1.1.0 = facts-read _ _ _ _ _ c.read_graph-got.ensures c.got.given.1 in
+    read in
+    let a = c.args in
+    measured a.bytes.now a.number (graph c) c.measure.ensures f.sized_read f.reads

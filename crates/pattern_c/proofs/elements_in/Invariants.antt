@@ -1,0 +1,11 @@
+-- The first i places hold the elements of the columns: `Filling`.
+use Rattle.theory.specs.Prelude.{rules, ◌-◌, arith, refl}
+use Rattle.pattern_c.specs.Columns.{element_in}
+use Rattle.pattern_c.specs.Columns.Laws.{Filling, filling-none, filling-more, filling-all}
+use Rattle.pattern_c.proofs.elements_in.Given as goal
+
+abbrev pub invariant-loop-i : goal.invariant-loop-i
+invariant-loop-i l = Filling (element_in l.kinds l.radii) 64 l.i l.elements
+
+abbrev pub decreases-loop-i : goal.decreases-loop-i
+decreases-loop-i l = 64 - l.i

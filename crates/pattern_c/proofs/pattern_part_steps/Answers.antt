@@ -1,0 +1,7 @@
+-- `pattern_c::pattern_part_steps` meets its contract: the answer is a count. Assumes nothing.
+use borrow.Author.Rules.{rules}
+use Rattle.pattern_c.specs.Numbers.Laws.{counted}
+use Rattle.pattern_c.proofs.pattern_part_steps.Goals as goal
+
+pub returns : goal.returns
+returns c = counted c.count.result _ _ (record { sfits = c.count.type-inv }) c.count.ensures c.part_steps.ensures

@@ -1,0 +1,7 @@
+-- `pattern_c::pattern_saved_steps`
+use borrow.Author.Rules.{rules}
+use Rattle.pattern_c.specs.Numbers.Laws.{counts}
+use Rattle.pattern_c.proofs.pattern_saved_steps.Goals as goal
+
+pub returns : goal.returns
+returns c = counts c.count.result _ (record { sfits = c.count.type-inv }) c.count.ensures c.saved_step_numbers.ensures

@@ -1,9 +1,0 @@
-use borrow.Author.Rules.{rules}
-use Rattle.pattern_c.specs.Numbers.Laws.{counts}
-use Rattle.pattern_c.proofs.pattern_saved_steps.Tie as tie
-
-returns : tie.Need-returns
-returns c = counts c.count.result _ (record { sfits = c.count.type-inv }) c.count.ensures c.before.before.before.saved-step-numbers.ensures
-
-pub pattern-saved-steps-spec : {M : Type 1} → Rattle.pattern_c.proofs.pattern_saved_steps.Statement.statement M
-pattern-saved-steps-spec = tie.close (tie.spec (λ c κs. search rules) (λ c κs. search rules) (λ c. search rules) returns)

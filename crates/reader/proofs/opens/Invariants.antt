@@ -1,0 +1,11 @@
+-- `reader::opens` meets its contract. Assumes nothing.
+use Rattle.theory.specs.Prelude.{◌-◌, ◌≤◌, arith, ◌≡◌, refl, ◌∙◌, rules, drop}
+use Rattle.sheet.specs.Field.{begins}
+use Rattle.reader.proofs.Opening.{begins-short, begins-differs, begins-agrees, begins-all}
+use Rattle.reader.proofs.opens.Given as goal
+
+abbrev pub invariant-loop-i : goal.invariant-loop-i
+invariant-loop-i l = (l.i ≤ 4) × (begins l.opening l.s ≡ begins (drop l.i l.opening) (drop l.i l.s))
+
+abbrev pub decreases-loop-i : goal.decreases-loop-i
+decreases-loop-i l = 4 - l.i

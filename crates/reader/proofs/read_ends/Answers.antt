@@ -1,0 +1,77 @@
+-- `reader::read_ends` meets its contract: the rules in their order, each after the bytes that it rules. Assumes nothing.
+use Rattle.theory.specs.Prelude.{◌<◌, arith, true, ◌≡◌, sym, ◌∙◌, not-true, not-false, rules}
+use Rattle.sheet.specs.Rules.Laws.{ends-true}
+use Rattle.sheet.specs.Rules.{ends_ascend}
+use Rattle.sheet.specs.Decode.{constraint}
+use Rattle.reader.proofs.Constraints.{no-ends}
+use Rattle.reader.proofs.read_ends.Goals as goal
+
+-- the ends ascend, below n and so below 64
+module _ (c : tie.Else1) where
+  ascend : ends_ascend c.args.n
+      c.start.given.0.0 c.end.given.0.0 ≡ true
+  ascend = sym c.ends_ascend.ensures ∙ not-false c.ends_ascend.result c.if-not-ends_ascend.false
+
+  small : (c.start.given.0.0 < c.end.given.0.0)
+      × (c.end.given.0.0 < 64)
+  small =
+      let h = ends-true _ _ _ ascend in
+      (h.0, omega (arith, h, c.requires))
+
+pub returns-in_default : goal.returns-in_default
+unfolding constraint
+returns-in_default c = record { result_value = λ es cs en h. rw (← c.read_byte-start.ensures, c.refusal.ensures, c.enum_told.given.1); ascending = no-ends }
+
+pub returns-in_default-end : goal.returns-in_default-end
+unfolding constraint
+returns-in_default-end c = let k = c in record { result_value = λ es cs en h.
+          rw (
+            ← k.read_byte-start.ensures,
+            k.start.given.1,
+            ← c.read_byte-end.ensures,
+            c.refusal-in_default-end.ensures,
+            c.enum-told2.given.1,
+          ); ascending = no-ends }
+
+pub returns-then-not-ends_ascend : goal.returns-then-not-ends_ascend
+unfolding constraint
+returns-then-not-ends_ascend c = let b = c in
+    let k = b in record { result_value = λ es cs en h.
+          rw (
+            ← k.read_byte-start.ensures,
+            k.start.given.1,
+            ← b.read_byte-end.ensures,
+            b.end.given.1,
+            rw en at (sym c.ends_ascend.ensures ∙ not-true c.ends_ascend.result c.if-not-ends_ascend.true),
+          ); ascending = no-ends }
+
+pub pair_stands-requires : goal.pair_stands-requires
+pair_stands-requires c = small c
+
+pub returns-then-pair_stands : goal.returns-then-pair_stands
+unfolding constraint
+returns-then-pair_stands c = let b = c in
+    let k = b in record { result_value = λ es cs en h.
+          rw (
+            ← k.read_byte-start.ensures,
+            k.start.given.1,
+            ← b.read_byte-end.ensures,
+            b.end.given.1,
+            rw en at (ascend c),
+            sym (c.pair_stands.ensures cs h) ∙ c.if-pair_stands.true,
+          ); ascending = no-ends }
+
+pub returns : goal.returns
+unfolding constraint
+returns c = let b = c in
+    let k = b in
+    let n = k.args.n in
+    let o = ends-true n k.start.given.0.0 b.end.given.0.0 (ascend c) in record { result_value = λ es cs en h.
+          rw (
+            ← k.read_byte-start.ensures,
+            k.start.given.1,
+            ← b.read_byte-end.ensures,
+            b.end.given.1,
+            rw en at (ascend c),
+            sym (c.pair_stands.ensures cs h) ∙ c.if-pair_stands.false,
+          ); ascending = record { ascend = λ x y d e. let p : k.start.given.0.0 ≡ x = cc in let q : b.end.given.0.0 ≡ y = cc in rw (← p, ← q) o } }

@@ -1,0 +1,50 @@
+-- `reader::read_size` meets its contract. Assumes nothing.
+use Rattle.theory.specs.Prelude.{◌≡◌, sym, ap, ◌∙◌, not-true, not-false, rules, drop}
+use mir.Syntax.{w32}
+use mir.Facts.{to_z-of_z}
+use Rattle.sheet.specs.Field.{value, field, signed32}
+use Rattle.sheet.specs.Rules.{size_in_range}
+use Rattle.sheet.specs.Decode.{size}
+use Rattle.elements.specs.Fields.{as_number}
+use Rattle.reader.proofs.read_size.Goals as goal
+
+-- the size that is read, and whether it lies in its range
+module _ (c : tie.After-size-in-range) where
+  number_is : field 4 (drop c.args.c.at
+      c.args.s.now)
+      ≡ value c.number.given.0.0
+      (drop c.number.given.0.1.0.at c.args.s.now)
+  number_is =
+      sym c.read_number-number.ensures.0
+      ∙ ap (as_number c.args.s.now) c.number.given.1
+
+  range : c.size_in_range.result
+      ≡ size_in_range c.args.p
+      (signed32 c.number.given.0.0)
+  range =
+      rw (to_z-of_z {w = w32} {z = c.signed-z.result} (search rules), c.signed-z.ensures) at c.size_in_range.ensures
+
+pub returns-in_default : goal.returns-in_default
+unfolding size
+returns-in_default c =     rw (
+      ← c.read_number-number.ensures.0,
+      c.refusal.ensures,
+      c.enum_told.given.1,
+    )
+
+pub signed-z-requires : goal.signed-z-requires
+signed-z-requires c = c.read_number-number.ensures.1.below _ _ c.number.given.1
+
+pub returns-then-not-size_in_range : goal.returns-then-not-size_in_range
+unfolding size
+returns-then-not-size_in_range c =     rw (number_is c, ← range c, not-true c.size_in_range.result c.if-not-size_in_range.true)
+
+pub returns : goal.returns
+unfolding size
+returns c =     rw (
+      to_z-of_z {w = w32} {z = c.signed-z.result} (search rules),
+      c.signed-z.ensures,
+      number_is c,
+      ← range c,
+      not-false c.size_in_range.result c.if-not-size_in_range.false,
+    )

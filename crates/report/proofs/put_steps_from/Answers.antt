@@ -1,0 +1,60 @@
+-- `report::put_steps_from` meets its contract: the lines of the steps from `t` on are still to be put. Assumes nothing.
+use Rattle.theory.specs.Prelude.{ℕ, ◌-◌, ◌≤◌, ◌≡◌, arith, sym, ap, subst, List}
+use Rattle.theory.specs.declared.Step.{Step}
+use Rattle.report.specs.Block.Laws.{stands-as}
+use Rattle.engine.specs.Steps.{step_at, steps_for}
+use Rattle.report.specs.Report.{step_line, step_lines}
+use Rattle.report.specs.Pieces.{Small}
+use Rattle.report.specs.Report.Laws.{steps_next, steps-none, small_at}
+use Rattle.report.specs.Block.{Stands}
+use Rattle.report.proofs.Standing.{stands}
+use Rattle.report.specs.Going.{Going}
+use Rattle.report.specs.Going.Laws.{start, put_next, put_last, place}
+use Rattle.report.proofs.put_steps_from.Goals as goal
+
+-- the steps in the arrays
+abbrev steps : tie.Start invariant-loop decreases-loop → ℕ → Step
+steps s = step_at s.args.lines s.args.e s.args.sizes.now s.args.start.now s.args.parts.now s.args.joints.now
+
+-- a step read from the arrays is small, and its line put, where that holds of the step there
+module _ (step : Step) {read : Step} (same : read ≡ step) where
+  small-read : Small step → Small read
+  small-read h = subst Small (sym same) h
+
+  line_read : {space after : List ℕ} {at next : ℕ} → Stands space at (step_line read) next after
+      → Stands space at (step_line step) next after
+  line_read p = stands-as (ap step_line same) p
+
+pub loop-t-init : goal.loop-t-init
+loop-t-init c = (omega arith, start _)
+
+pub step_at-s-requires : goal.step_at-s-requires
+step_at-s-requires c = omega arith
+
+pub put_step_line-next-requires : goal.put_step_line-next-requires
+put_step_line-next-requires c = let s = c in
+    let l = c.loop-t in (
+      s.requires.0,
+      small-read (steps s l.t) c.step_at-s.ensures
+          (small_at (steps s) s.args.first s.args.last l.t s.requires.3 l.invariant.0 c.loop-t-test.true),
+      omega (arith, place stands l.invariant.1, s.requires.4),
+    )
+
+pub overflow_add-t : goal.overflow_add-t
+overflow_add-t c = omega arith
+
+pub loop-t-smaller : goal.loop-t-smaller
+loop-t-smaller c = omega arith
+
+pub loop-t-preserved : goal.loop-t-preserved
+loop-t-preserved c = let s = c in
+    let l = c.loop-t in
+    let h = c.loop-t-test.true in (
+      omega (arith, l.invariant.0),
+      put_next stands (steps_next (steps s) s.args.last l.t h) l.invariant.1
+          (line_read (steps s l.t) c.step_at-s.ensures c.put_step_line-next.ensures),
+    )
+
+pub returns : goal.returns
+returns c = let s = c in
+    put_last stands (steps-none (steps s) s.args.last c.loop-t.t c.loop-t-test.false) c.loop-t.invariant.1

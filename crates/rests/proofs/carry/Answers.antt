@@ -1,0 +1,74 @@
+-- `rests::carry` meets its contract: after each step the words are those of the clusters that live then. Assumes nothing.
+use Rattle.theory.specs.Prelude.{◌≡◌, sym, ◌∙◌, subst, List, ℕ, ◌+◌, ◌-◌, ◌*◌, ◌≤◌, ◌<◌, arith, rules, get_or, set, take}
+use Rattle.theory.specs.Set.{◌∪◌}
+use Rattle.rests.specs.Words.{Listed, Told}
+use Rattle.rests.specs.Words.Laws.{alone-low, alone-high, below, told-start, told-next, told-end}
+use Rattle.rests.proofs.carry.Goals as goal
+
+-- one step more
+module _ {e steps t i j k : ℕ} {parts : List ℕ} (h : t < steps) (ei : i ≡ get_or parts (3 * t) 0) (ej : j ≡ get_or parts (3 * t + 1) 0)
+    (ek : k ≡ get_or parts (3 * t + 2) 0) where
+  in_use : e ≤ 125 → steps ≤ 62 → Listed e parts steps → (e + t < 192) × (i < 192) × (j < 192) × (k < 192)
+  in_use few short l = let b = below l t h in (omega arith, omega (arith, b.0), omega (arith, b.1), omega (arith, b.2))
+
+  joined : (w : ℕ) {words next : List ℕ} → e + t < 192 → next ≡ set words (e + t) (get_or words i 0 ∪ get_or words j 0 ∪ get_or words k 0)
+      → (l : Listed e parts steps) → Told w l.cs (take t l.p) words → Told w l.cs (take (t + 1) l.p) next
+  joined w {words} room are l told =
+      subst (Told w l.cs (take (t + 1) l.p))
+      (sym (are ∙ (λ z. set words (e + t) (get_or words (ei z) 0 ∪ get_or words (ej z) 0 ∪ get_or words (ek z) 0)))) (told-next l t h w words room told)
+
+-- the parts are in use
+module _ (c : tie.After-place-of3 invariant-loop decreases-loop) where
+  abbrev at : tie.At-loop invariant-loop decreases-loop
+  at = c
+
+  abbrev start : tie.Start invariant-loop decreases-loop
+  start = at
+
+  going : at.loop-t.t < start.args.steps
+  going = c.loop-t-test.true
+
+  used : (start.args.e + at.loop-t.t < 192) × (c.place_of-i.result < 192) × (c.place_of-j.result < 192)
+      × (c.place_of-k.result < 192)
+  used = in_use going c.place_of-i.ensures c.place_of-j.ensures c.place_of-k.ensures start.pre.0
+      start.pre.1 start.pre.2
+
+  one_more : (w : ℕ) {words next : List ℕ}
+      → next ≡ set words (start.args.e + at.loop-t.t) (get_or words c.place_of-i.result 0
+      ∪ get_or words c.place_of-j.result 0 ∪ get_or words c.place_of-k.result 0)
+      → (l : Listed start.args.e start.args.parts.now start.args.steps) → Told w l.cs (take at.loop-t.t l.p) words
+      → Told w l.cs (take (at.loop-t.t + 1) l.p) next
+  one_more w = joined going c.place_of-i.ensures c.place_of-j.ensures c.place_of-k.ensures w used.0
+
+pub loop-t-init : goal.loop-t-init
+loop-t-init c = let low = c.note_alone.ensures in
+    let high = c.note_alone-2.ensures in
+    let s = c in (
+      omega arith,
+      λ l. (
+        told-start l 0 _ low.long (λ n h. alone-low _ low n),
+        told-start l 1 _ high.long (alone-high _ s.args.e (omega (arith, s.requires.0)) high),
+      ),
+    )
+
+pub join-requires : goal.join-requires
+join-requires c = used c
+
+pub join-requires-in-loop-t : goal.join-requires-in-loop-t
+join-requires-in-loop-t c = used c
+
+pub loop-t-preserved : goal.loop-t-preserved
+loop-t-preserved c = let w = c in
+    let n = (at w).loop.invariant in
+    let low = c.join.ensures in
+    let high = c.join-in-loop-t.ensures in (
+      omega (arith, going w),
+      λ l. let t = n.1 l in (one_more w 0 low l t.0, one_more w 1 high l t.1),
+    )
+
+pub returns : goal.returns
+returns c l = let n = c.loop-t in
+    let t = n.invariant.1 l in
+    let h = c.loop-t-test.false in
+    let e : n.t ≡ c.args.steps = omega (arith, n.invariant.0) in
+    (told-end l 0 n.t n.low e t.0, told-end l 1 n.t n.high e t.1)

@@ -1,0 +1,8 @@
+-- `rests::join` meets its contract: what it stores is the union. Assumes nothing.
+use Rattle.theory.specs.Prelude.{refl, rules}
+use Rattle.theory.specs.Set.{◌∪◌}
+use Rattle.rests.proofs.join.Goals as goal
+
+pub returns : goal.returns
+unfolding ◌∪◌
+returns c = refl

@@ -1,0 +1,12 @@
+-- `rests::note_alone` meets its contract: the words of the numbers passed stand. Assumes nothing.
+use Rattle.theory.specs.Prelude.{◌≡◌, refl, sym, ap, ◌∙◌, List, ℕ, ◌+◌, ◌-◌, ◌^◌, ◌≤◌, ◌<◌, arith, ℕ_discrete, rules, get_or, set, length-set}
+use Rattle.theory.specs.Prelude.{get_or-set_same, get_or-set_other}
+use Rattle.theory.specs.Block.Laws.{get_or-blank}
+use Rattle.rests.specs.Words.{Alone}
+use Rattle.rests.proofs.note_alone.Given as goal
+
+abbrev pub invariant-loop-i : goal.invariant-loop-i
+invariant-loop-i l = (l.first ≤ l.i) × Alone l.first l.last l.i l.words
+
+abbrev pub decreases-loop-i : goal.decreases-loop-i
+decreases-loop-i l = l.last - l.i

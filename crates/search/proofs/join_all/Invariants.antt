@@ -1,0 +1,11 @@
+-- `search::join_all` meets its contract: the loop keeps `Begun` of the clusters passed. Assumes nothing.
+use Rattle.theory.specs.Prelude.{sym, subst, List, ℕ, ◌-◌, ◌≤◌, arith, rules}
+use Rattle.search.specs.State.{Begun}
+use Rattle.search.proofs.Starting.{begun-none, begun-next}
+use Rattle.search.proofs.join_all.Given as goal
+
+abbrev pub invariant-loop-c : goal.invariant-loop-c
+invariant-loop-c l = (l.c ≤ l.e) × Begun l.slots l.c l.links l.hold
+
+abbrev pub decreases-loop-c : goal.decreases-loop-c
+decreases-loop-c l = l.e - l.c

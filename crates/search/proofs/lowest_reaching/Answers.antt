@@ -1,0 +1,51 @@
+-- `search::lowest_reaching` meets its contract: word after word, `Swept`. Assumes nothing.
+use Rattle.theory.specs.Prelude.{◌<◌, arith, rules, trailing_le}
+use Rattle.search.proofs.Swept.{swept_none, swept-next, swept-found, swept-end}
+use Rattle.search.proofs.lowest_reaching.Goals as goal
+
+second : 1 < 3
+second = omega arith
+
+third : 2 < 3
+third = omega arith
+
+none : 192 < 192 → ⊥
+none h = omega arith
+
+pub overflow_cast-result : goal.overflow_cast-result
+overflow_cast-result c = omega (arith, trailing_le 64 c.first_reaching-a.result.rest)
+
+pub returns-then-x-ne0 : goal.returns-then-x-ne0
+returns-then-x-ne0 c = let every = swept-found (swept_none c.requires) (omega arith) c.first_reaching-a.ensures c.if-x-ne0.true _ (omega arith) in record { lowest = every.0; outs = every.1; kept = every.2 }
+
+pub overflow_cast-result-then-y-ne0 : goal.overflow_cast-result-then-y-ne0
+overflow_cast-result-then-y-ne0 c = omega (arith, trailing_le 64 c.first_reaching-b.result.rest)
+
+pub overflow_add-result : goal.overflow_add-result
+overflow_add-result c = omega (arith, trailing_le 64 c.first_reaching-b.result.rest)
+
+pub returns-then-y-ne0 : goal.returns-then-y-ne0
+returns-then-y-ne0 c = let one = let every = swept-next (swept_none c.requires) (omega arith)
+    c.first_reaching-a.ensures c.if-x-ne0.false in
+    swept-found one second c.first_reaching-b.ensures c.if-y-ne0.true _ (omega arith) in record { lowest = every.0; outs = every.1; kept = every.2 }
+
+pub overflow_cast-result-then-z-ne0 : goal.overflow_cast-result-then-z-ne0
+overflow_cast-result-then-z-ne0 c = omega (arith, trailing_le 64 c.first_reaching-c.result.rest)
+
+pub overflow_add-result-then-z-ne0 : goal.overflow_add-result-then-z-ne0
+overflow_add-result-then-z-ne0 c = omega (arith, trailing_le 64 c.first_reaching-c.result.rest)
+
+pub returns-then-z-ne0 : goal.returns-then-z-ne0
+returns-then-z-ne0 c = let one = let every = swept-next (swept_none c.requires) (omega arith)
+    c.first_reaching-a.ensures
+    c.if-x-ne0.false in
+    let two = swept-next one second c.first_reaching-b.ensures c.if-y-ne0.false in
+    swept-found two third c.first_reaching-c.ensures c.if-z-ne0.true _ (omega arith) in record { lowest = every.0; outs = every.1; kept = every.2 }
+
+pub returns : goal.returns
+returns c = let one = let every = swept-next (swept_none c.requires) (omega arith)
+    c.first_reaching-a.ensures
+    c.if-x-ne0.false in
+    let two = swept-next one second c.first_reaching-b.ensures c.if-y-ne0.false in
+    let three = swept-next two third c.first_reaching-c.ensures c.if-z-ne0.false in
+    (swept-end three, ((λ h. absurd (none h)), (three.kept, three.long))) in record { lowest = every.0; outs = every.1; kept = every.2 }

@@ -1,0 +1,28 @@
+-- `search::renew` meets its contract: what the union reaches, the elements that leave the rim, the new links, holders and waiting clusters.
+-- Assumes nothing.
+use borrow.Author.Rules.{rules}
+use Rattle.theory.specs.Set.{◌∩◌, ◌∪◌}
+use Rattle.theory.specs.Merge.{union}
+use Rattle.search.proofs.Calling.{called, holding, gone_of}
+use Rattle.search.proofs.renew.Goals as goal
+
+pub returns : goal.returns
+unfolding ◌∩◌ ◌∪◌ union
+returns c = let dead = c.three_of-dead.ensures in
+    let made = c.alone-made.ensures in
+    let near = c.image-n in
+    let edge = c.rejoin-found in
+    let j = edge.ensures.0 in
+    record {
+      links_long = j.links_long;
+      hold_long = j.hold_long;
+      todo_long = c.call_up.ensures.long;
+      linking = j.linking;
+      holding = holding dead made j.words;
+      gone = gone_of edge.ensures.1.1;
+      reached = edge.result.outs;
+      near = near.result;
+      reaches = edge.ensures.1.0;
+      nears = near.ensures;
+      calling = called dead made c.call_up.ensures;
+    }

@@ -1,0 +1,11 @@
+-- `sets::image` meets its contract: the loop keeps `Imaged`. Assumes nothing.
+use Rattle.theory.specs.Prelude.{◌<◌, arith, rules, count_trailing_zeros}
+use Rattle.sets.specs.Each.Laws.{each-lowest, each-less}
+use Rattle.sets.specs.Image.Laws.{Imaged, imaged-none, imaged-next, imaged-all}
+use Rattle.sets.proofs.image.Given as goal
+
+abbrev pub invariant-loop-rest : goal.invariant-loop-rest
+invariant-loop-rest l = Imaged l.table l.set l.rest l.all
+
+abbrev pub decreases-loop-rest : goal.decreases-loop-rest
+decreases-loop-rest l = l.rest

@@ -1,0 +1,6 @@
+-- `single` meets its contract. Assumes nothing.
+use Rattle.theory.specs.Prelude.{◌∙◌, ◌^◌, one-mul, lt-suc_self, arith, shl_exact, rules}
+use Rattle.sets.proofs.single.Goals as goal
+
+pub returns : goal.returns
+returns c = shl_exact 1 c.args.x 64 (lt-suc_self 1) (omega arith) ∙ one-mul (2 ^ c.args.x)

@@ -1,0 +1,7 @@
+-- `sheet::pair_stands` meets its contract. Assumes nothing.
+use borrow.Author.Rules.{rules}
+use Rattle.sheet.specs.Noted.Laws.{noted-says}
+use Rattle.sheet.proofs.pair_stands.Goals as goal
+
+pub returns : goal.returns
+returns c λ cs h = noted-says h c.requires.0 c.requires.1

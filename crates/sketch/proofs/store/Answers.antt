@@ -1,0 +1,8 @@
+-- `sketch::store`
+use Rattle.theory.specs.Prelude.{rules, refl}
+use Rattle.sketch.specs.Sketch.{stored}
+use Rattle.sketch.proofs.store.Goals as goal
+
+pub returns : goal.returns
+unfolding stored
+returns c = refl

@@ -1,0 +1,167 @@
+-- `seek` meets its contract. The loop's invariant: the queue has what is reached so far, none of it has a free entry, and the first p places are
+-- scanned. Assumes nothing.
+use Rattle.theory.specs.Prelude.{◌-◌, ◌≤◌, zero-lt-suc, le_refl, arith, rules}
+use Rattle.sparsity.specs.Reach.{Reached, Scanned, Shut}
+use Rattle.sparsity.specs.Reach.Laws.{begun-with, scanned-none, shut-two, reached-most, scan-fits, scan-low, mid-size, scan-reached, scan-next}
+use Rattle.sparsity.specs.Reach.Laws.{scan-below, scan-shut, opens-some, opens-none, found-first-visit, found-second-visit, found_all}
+use Rattle.sparsity.proofs.seek.Goals as goal
+
+pub bounds-queue-0 : goal.bounds-queue-0
+bounds-queue-0 c = omega arith
+
+pub bounds-queue-1 : goal.bounds-queue-1
+bounds-queue-1 c = omega arith
+
+pub loop-p-init : goal.loop-p-init
+loop-p-init c = let s = c in (
+  begun-with s.args.t1 s.args.a s.args.b s.requires.1 s.requires.2 s.requires.3 s.requires.4 c.single.result
+      c.single-2.result c.single.ensures c.single-2.ensures,
+  scanned-none s.args.t1 _ _,
+  shut-two s.args.t1 _,
+  omega arith,
+)
+
+pub bounds-queue-p : goal.bounds-queue-p
+bounds-queue-p c = omega (arith, reached-most c.loop-p.invariant.0)
+
+pub offset_bounds-own-i : goal.offset_bounds-own-i
+offset_bounds-own-i c = omega (arith, index-1-y c)
+
+pub bounds-own-i : goal.bounds-own-i
+bounds-own-i c = let s = c in
+    let l = c.loop-p in
+    scan-fits s.requires.0 l.invariant.0 l.p c.loop-p-test.true c.wide-i.ensures
+
+pub bounds-own-0 : goal.bounds-own-0
+bounds-own-0 c = omega arith
+
+pub offset_bounds-own-i-in-loop-p : goal.offset_bounds-own-i-in-loop-p
+offset_bounds-own-i-in-loop-p c = omega (arith, index-1-y c)
+
+pub bounds-own-i-in-loop-p : goal.bounds-own-i-in-loop-p
+bounds-own-i-in-loop-p c = index-1-y c
+
+pub bounds-own-1 : goal.bounds-own-1
+bounds-own-1 c = omega arith
+
+pub overflow_cast-p : goal.overflow_cast-p
+overflow_cast-p c = omega (
+  arith,
+  reached-most c.loop-p.invariant.0,
+  c.loop-p-test.true,
+)
+
+pub visit-g-requires : goal.visit-g-requires
+visit-g-requires c = let s = c in
+    let l = c.loop-p in
+    let h = c.loop-p-test.true in
+    let e = c.wide-i.ensures in
+    (scan-low s.requires.0 l.invariant.0 l.p h e 0 (zero-lt-suc 1), l.invariant.0.size)
+
+pub offset_bounds-own-j : goal.offset_bounds-own-j
+offset_bounds-own-j c = omega (arith, index-1-opens c)
+
+pub bounds-own-j : goal.bounds-own-j
+bounds-own-j c = let s = c in
+    let l = c.loop-p in
+    let h = c.loop-p-test.true in
+    let e = c.wide-i.ensures in
+    omega (arith, c.wide-j.ensures, scan-low s.requires.0 l.invariant.0 l.p h e 0 (zero-lt-suc 1))
+
+pub bounds-own-0-in-loop-p : goal.bounds-own-0-in-loop-p
+bounds-own-0-in-loop-p c = omega arith
+
+pub offset_bounds-own-j-in-loop-p : goal.offset_bounds-own-j-in-loop-p
+offset_bounds-own-j-in-loop-p c = omega (arith, index-1-opens c)
+
+pub bounds-own-j-in-loop-p : goal.bounds-own-j-in-loop-p
+bounds-own-j-in-loop-p c = index-1-opens c
+
+pub bounds-own-1-in-loop-p : goal.bounds-own-1-in-loop-p
+bounds-own-1-in-loop-p c = omega arith
+
+pub returns-then-opens-ne0 : goal.returns-then-opens-ne0
+returns-then-opens-ne0 c = let s = c in
+    let l = c.loop-p in
+    let h = c.loop-p-test.true in
+    let e = c.wide-i.ensures in
+    found-first-visit s.pre.0 l.invariant.0 l.p h e c.visit-g.ensures
+    (opens-some s.args.t1 c.wide-j.ensures c.opens.ensures c.if-opens-ne0.true)
+
+pub overflow_cast-p-in-loop-p : goal.overflow_cast-p-in-loop-p
+overflow_cast-p-in-loop-p c = omega (
+  arith,
+  reached-most c.loop-p.invariant.0,
+  c.loop-p-test.true,
+)
+
+pub visit-h-requires : goal.visit-h-requires
+visit-h-requires c = let s = c in
+    let l = c.loop-p in
+    let h = c.loop-p-test.true in
+    let e = c.wide-i.ensures in (
+      scan-low s.pre.0 l.invariant.0 l.p h e 1 (le_refl 2),
+      mid-size s.pre.0 l.invariant.0 l.p h e c.visit-g.ensures,
+    )
+
+pub offset_bounds-own-k : goal.offset_bounds-own-k
+offset_bounds-own-k c = omega (arith, index-1-opens-3 c)
+
+pub bounds-own-k : goal.bounds-own-k
+bounds-own-k c = let s = c in
+    let l = c.loop-p in
+    let h = c.loop-p-test.true in
+    let e = c.wide-i.ensures in
+    omega (arith, c.wide-k.ensures, scan-low s.pre.0 l.inv.0 l.p h e 1 (le_refl 2))
+
+pub bounds-own-0-else-opens-ne0 : goal.bounds-own-0-else-opens-ne0
+bounds-own-0-else-opens-ne0 c = omega arith
+
+pub offset_bounds-own-k-in-loop-p : goal.offset_bounds-own-k-in-loop-p
+offset_bounds-own-k-in-loop-p c = omega (arith, index-1-opens-3 c)
+
+pub bounds-own-k-else-opens-ne0 : goal.bounds-own-k-else-opens-ne0
+bounds-own-k-else-opens-ne0 c = index-1-opens-3 c
+
+pub bounds-own-1-else-opens-ne0 : goal.bounds-own-1-else-opens-ne0
+bounds-own-1-else-opens-ne0 c = omega arith
+
+pub returns-then-opens-ne0-2 : goal.returns-then-opens-ne0-2
+returns-then-opens-ne0-2 c = let s = c in
+    let l = c.loop-p in
+    let h = c.loop-p-test.true in
+    let e = c.wide-i.ensures in
+    found-second-visit s.pre.0 l.inv.0 l.p h e c.visit-g.ensures c.visit-h.ensures
+    (opens-some s.args.t1 c.wide-k.ensures c.opens-in-loop-p.ensures c.if-opens-ne0-2.true)
+
+pub overflow_add-p : goal.overflow_add-p
+overflow_add-p c = omega (
+  arith,
+  reached-most c.loop-p.invariant.0,
+  c.loop-p-test.true,
+)
+
+pub loop-p-smaller : goal.loop-p-smaller
+loop-p-smaller c = omega (
+  arith,
+  reached-most c.loop-p.invariant.0,
+  c.loop-p-test.true,
+)
+
+pub loop-p-preserved : goal.loop-p-preserved
+loop-p-preserved c = let s = c in
+    let l = c.loop-p in
+    let h = c.loop-p-test.true in
+    let e = c.wide-i.ensures in
+    let one = c.visit-g.ensures in
+    let two = c.visit-h.ensures in (
+      scan-reached s.pre.0 l.inv.0 l.p h e one two,
+      scan-next s.pre.0 l.inv.0 l.p h e one two l.inv.1,
+      scan-shut s.pre.0 l.inv.0 l.p h e one two l.inv.2
+          (opens-none s.args.t1 c.wide-j.ensures c.opens.ensures c.if-opens-ne0.false)
+          (opens-none s.args.t1 c.wide-k.ensures c.opens-in-loop-p.ensures c.if-opens-ne0-2.false),
+      scan-below s.pre.0 l.inv.0 l.p h e one two,
+    )
+
+pub returns : goal.returns
+returns c = let l = c.loop-p in found_all l.p l.invariant.0 l.invariant.1 l.invariant.2 l.invariant.3 c.loop-p-test.false

@@ -1,0 +1,10 @@
+-- `writer::put_constraint` meets its contract: ends and bit map, then the size. Assumes nothing.
+use borrow.Author.Rules.{rules}
+use Rattle.sheet.specs.Encode.{constraint_bytes}
+use Rattle.space.specs.Space.Laws.{put_as, ◌then◌}
+use Rattle.writer.proofs.put_constraint.Goals as goal
+
+pub returns : goal.returns
+unfolding constraint_bytes
+returns c = let h = c in
+    put_as (rw h.map_of.ensures) (h.put_head-next.ensures then c.put_size.ensures)

@@ -1,0 +1,15 @@
+-- `writer::put_radius` meets its contract. Assumes nothing.
+use Rattle.theory.specs.Prelude.{rules, ap}
+use Rattle.sheet.specs.Encode.{radius_bytes}
+use Rattle.space.specs.Space.Laws.{put-none}
+use Rattle.writer.proofs.put_radius.Goals as goal
+
+pub returns-in-Point : goal.returns-in-Point
+returns-in-Point c = rw (ap radius_bytes c.enum_told.given.1) (put-none _ _)
+
+pub returns-in-Line : goal.returns-in-Line
+returns-in-Line c = rw (ap radius_bytes c.enum-told2.given.1) (put-none _ _)
+
+pub returns-in-Circle : goal.returns-in-Circle
+returns-in-Circle c = let told = c.k.given in
+    rw (ap radius_bytes told.1) c.put_number.ensures

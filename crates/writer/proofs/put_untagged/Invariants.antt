@@ -1,0 +1,12 @@
+-- `writer::put_untagged` meets its contract, by the walk of `Untagged`. Assumes nothing.
+use Rattle.theory.specs.Prelude.{rules, ◌+◌, ◌-◌, ◌≤◌, ◌<◌, arith, ◌≡◌, ◌∙◌, ⊎_elim, length, length-drop}
+use Rattle.space.specs.Space.Laws.{put_as}
+use Rattle.sheet.specs.WithoutTags.{listed}
+use Rattle.writer.proofs.Untagged.{before-some, take_rest, Walk, walk_none, walk-plain, walk-tagged, walked-short, walked_all}
+use Rattle.writer.proofs.put_untagged.Given as goal
+
+abbrev pub invariant-loop-i : goal.invariant-loop-i
+invariant-loop-i l = Walk l.initial.out l.s (listed l.s) l.at l.from l.to l.i l.out
+
+abbrev pub decreases-loop-i : goal.decreases-loop-i
+decreases-loop-i l = l.e - l.i
