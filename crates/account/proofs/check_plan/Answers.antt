@@ -49,19 +49,19 @@ module _ (c : tie.After-check-saved) where
     few : (start.args.h.n ≤ 64) × (start.args.h.e ≤ 125) × (2 * run.steps ≤ start.args.h.e)
         × (run.steps ≤ 62)
     few =
-        room start.args.h start.args.start.now start.pre.sound (counted start.pre)
+        room start.args.h start.args.start.now start.requires.sound (counted start.requires)
         (c.check_saved-checked.ensures.not_over none) {run = run} merged
 
     long : (length run.joints ≡ 64) × (length run.slots ≡ 192)
     long =
-        arrays-long graph.graph.clusters start.pre.sound.simple.pairs {run = run} merged
-        (omega (arith, few, counted start.pre))
+        arrays-long graph.graph.clusters start.requires.sound.simple.pairs {run = run} merged
+        (omega (arith, few, counted start.requires))
 
     report_is : {v : Verdict} → Settled start.args.h run v
         → report_with graph v merged.p ≡ list_report graph merged.p
     report_is =
-        settled-report start.args.h start.args.start.now start.args.sizes.now start.pre.sound
-        (counted start.pre) (c.check_saved-checked.ensures.not_over none) {run = run} merged
+        settled-report start.args.h start.args.start.now start.args.sizes.now start.requires.sound
+        (counted start.requires) (c.check_saved-checked.ensures.not_over none) {run = run} merged
 
 pub returns-then-rule-ne0 : goal.returns-then-rule-ne0
 returns-then-rule-ne0 c = let asked = c in
@@ -78,7 +78,7 @@ pub put_list-requires : goal.put_list-requires
 put_list-requires c = let asked = c in
     let s = start asked in
     let none = c.if-rule-ne0.false in
-    (s.pre.sound, counted s.pre, asked.check_saved-checked.ensures.not_over none, merged asked none)
+    (s.requires.sound, counted s.requires, asked.check_saved-checked.ensures.not_over none, merged asked none)
 
 pub returns : goal.returns
 returns c = let settled = c in

@@ -23,7 +23,7 @@ module _ (c : tie.After-plan-on) where
   run_is : run ≡ (judged_of (graph start)).run
   run_is = c.plan_on.ensures
 
-  held : Held (graph start) start.pre.sound (judged_of (graph start))
+  held : Held (graph start) start.requires.sound (judged_of (graph start))
   held = judged-held _ _ refl
 
 pub plan_on-requires : goal.plan_on-requires

@@ -24,7 +24,7 @@ pub carry-requires : goal.carry-requires
 carry-requires c = let s = c in ((few s).1, (few s).3, (parts s.requires.1 s.requires.3).listed, refl, refl)
 
 pub write_report-requires : goal.write_report-requires
-write_report-requires c = let s = start c in let q = parts s.pre.1 s.pre.3 in
+write_report-requires c = let s = start c in let q = parts s.requires.1 s.requires.3 in
     let t = (made c).carry.ensures q.listed in
     let low = q.told t.0 in
     let high = q.told t.1 in record { n_bound = (
@@ -34,16 +34,16 @@ write_report-requires c = let s = start c in let q = parts s.pre.1 s.pre.3 in
         slots_long s,
         low.long,
         high.long,
-        all_small s.args.h s.args.start.now s.args.sizes.now s.pre.0 s.pre.1 s.pre.2
-            s.pre.3,
-      ); high_len_bound = not-long s.args.h s.args.start.now s.args.sizes.now s.pre.0 s.pre.1 s.pre.2
-          s.pre.3 low high s.args.verdict }
+        all_small s.args.h s.args.start.now s.args.sizes.now s.requires.0 s.requires.1 s.requires.2
+            s.requires.3,
+      ); high_len_bound = not-long s.args.h s.args.start.now s.args.sizes.now s.requires.0 s.requires.1 s.requires.2
+          s.requires.3 low high s.args.verdict }
 
 pub returns : goal.returns
 returns c m = let k = c in
     let s = start k in
-    let q = parts s.pre.1 m in
+    let q = parts s.requires.1 m in
     let t = (made k).carry.ensures q.listed in
-    let r = reported s.args.h s.args.start.now s.args.sizes.now s.pre.0 s.pre.1
-    s.pre.2 m (q.told t.0) (q.told t.1) s.args.verdict in
+    let r = reported s.args.h s.args.start.now s.args.sizes.now s.requires.0 s.requires.1
+    s.requires.2 m (q.told t.0) (q.told t.1) s.args.verdict in
     rw r at c.write_report.ensures

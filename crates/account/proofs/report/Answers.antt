@@ -20,7 +20,7 @@ module _ (c : tie.After-write-over-report-arg) where
   none : verdict_number c.judge_on-found.result.verdict ≡ 0
   none = sym c.number.ensures ∙ c.if-number-eq0.true
 
-  over : OverFound (graph start_over).graph start_over.pre.sound c.judge_on-found.ensures
+  over : OverFound (graph start_over).graph start_over.requires.sound c.judge_on-found.ensures
   over = over-found _ _ _ none
 
 -- not over
@@ -34,7 +34,7 @@ module _ (c : tie.After-put-list-arg) where
   some : verdict_number judged.judge_on-found.result.verdict ≢ 0
   some v = c.if-number-eq0.false (c.number.ensures ∙ v)
 
-  plan : PlanFound (graph start_plan).graph start_plan.pre.sound judged.judge_on-found.ensures
+  plan : PlanFound (graph start_plan).graph start_plan.requires.sound judged.judge_on-found.ensures
   plan = plan-found _ _ _ some
 
 pub judge_on-found-requires : goal.judge_on-found-requires
@@ -47,7 +47,7 @@ write_over_report-requires c = let d = (start_over c).requires in
 pub returns-then-number-eq0 : goal.returns-then-number-eq0
 returns-then-number-eq0 c = let a = c in
     let s = start_over a in
-    let r : over_report s.args.h.n s.args.h.e _ _ ≡ report_of (graph s) = rw (counted s.pre) at ((over a).report_is (graph s).sizes) in
+    let r : over_report s.args.h.n s.args.h.e _ _ ≡ report_of (graph s) = rw (counted s.requires) at ((over a).report_is (graph s).sizes) in
     rw r at c.write_over_report.ensures
 
 pub put_list-requires : goal.put_list-requires

@@ -24,21 +24,21 @@ module _ (c : tie.Else1) where
   abbrev run : Run
   run = let l = judged.judge_on-found.last.1.1.1 in run_in judged.judge_on-found.result.steps l.1.0 l.1.1.0 l.0
 
-  plan : PlanFound (graph start) start.pre.sound judged.judge_on-found.ensures
+  plan : PlanFound (graph start) start.requires.sound judged.judge_on-found.ensures
   plan = plan-found _ _ _ (λ v. c.if-number-eq0.false (c.number.ensures ∙ v))
 
   few : (start.args.h.n ≤ 64) × (start.args.h.e ≤ 125) × (2 * run.steps ≤ start.args.h.e) × (run.steps ≤ 62)
   few =
-      room start.args.h start.args.start.now start.pre.sound (counted start.pre) plan.not_over
+      room start.args.h start.args.start.now start.requires.sound (counted start.requires) plan.not_over
       {run = run} plan.merged
 
   long : (length run.joints ≡ 64) × (length run.slots ≡ 192)
   long =
-      arrays-long (graph start).clusters start.pre.sound.simple.pairs {run = run} plan.merged
-      (omega (arith, few, counted start.pre))
+      arrays-long (graph start).clusters start.requires.sound.simple.pairs {run = run} plan.merged
+      (omega (arith, few, counted start.requires))
 
-  made : Parts (counted start.pre) {run = run} plan.merged
-  made = parts (counted start.pre) {run = run} plan.merged
+  made : Parts (counted start.requires) {run = run} plan.merged
+  made = parts (counted start.requires) {run = run} plan.merged
 
 abbrev held : tie.After-carry → tie.Else1
 held c = c
@@ -70,6 +70,6 @@ returns c = let r = c in
     let k = held r in
     let s = start k in
     let t = r.carry.ensures (made k).listed in
-    let e = pairs-are (counted s.pre) {run = run k} (plan k).merged s.pre.sound.simple.pairs
+    let e = pairs-are (counted s.requires) {run = run k} (plan k).merged s.requires.sound.simple.pairs
     (few k).1 ((made k).told t.0) ((made k).told t.1) in
     rw (e, (plan k).rests_are) at c.put_rests.ensures

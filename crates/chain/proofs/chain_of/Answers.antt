@@ -18,11 +18,11 @@ module _ (c : tie.After-number) where
   graph = graph_in entry.args.h entry.args.start.now
 
   over : c.number.result ≡ 0 → over_fault graph ≡ 11
-  over e = over-fault graph entry.pre.sound c.judge_on-found.ensures (sym c.number.ensures ∙ e)
+  over e = over-fault graph entry.requires.sound c.judge_on-found.ensures (sym c.number.ensures ∙ e)
 
-  stands : c.number.result ≢ 0 → FinalsIn graph entry.pre.sound c.judge_on-found.ensures
+  stands : c.number.result ≢ 0 → FinalsIn graph entry.requires.sound c.judge_on-found.ensures
       entry.args.h.e
-  stands n = finals-in graph entry.pre.sound c.judge_on-found.ensures (counted entry.pre)
+  stands n = finals-in graph entry.requires.sound c.judge_on-found.ensures (counted entry.requires)
       (λ e. n (c.number.ensures ∙ e))
 
 -- neither is refused

@@ -29,11 +29,11 @@ loop-m-preserved c = let b = c in
     let l = (now b).loop in
     let some = b.loop-m-test.true in
     record {
-      count = omega (arith, some, l.inv.count);
-      long = length-set l.out l.i b.first_both-k.result ∙ l.inv.long;
+      count = omega (arith, some, l.invariant.count);
+      long = length-set l.out l.i b.first_both-k.result ∙ l.invariant.long;
       far = (on b).far;
       on = rw (lower-is b, add-one) (sym (ap (sets l.out l.i)
-          (way_next a.s.now a.to l.m l.a some)) ∙ l.inv.on);
+          (way_next a.s.now a.to l.m l.a some)) ∙ l.invariant.on);
     }
 
 pub shape_of-out : goal.shape_of-out

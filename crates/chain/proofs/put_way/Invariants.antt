@@ -27,15 +27,15 @@ module _ (c : tie.After-first-both invariant-loop decreases-loop) where
   lower-is : c.first_both-k.result ≡ lower
   lower-is =
       c.first_both-k.ensures
-      ∙ ap (first_both entry.args.s.now now.loop-m.a) (entry.pre.held.is entry.pre.low (now.loop-m.m - 1)
-      (omega (arith, now.loop-m.inv.count, c.loop-m-test.true)))
+      ∙ ap (first_both entry.args.s.now now.loop-m.a) (entry.requires.held.is entry.requires.low (now.loop-m.m - 1)
+      (omega (arith, now.loop-m.invariant.count, c.loop-m-test.true)))
 
   on : Onward entry.args.s.now entry.args.to (now.loop-m.m - 1) now.loop-m.a c.first_both-k.result
   on =
       subst (Onward entry.args.s.now entry.args.to (now.loop-m.m - 1) now.loop-m.a) (sym lower-is)
       (onward entry.args.s.now entry.args.to now.loop-m.m now.loop-m.a
       c.loop-m-test.true
-      now.loop-m.inv.far)
+      now.loop-m.invariant.far)
 
 abbrev pub invariant-loop-m : goal.invariant-loop-m
 invariant-loop-m l = Going l.s l.from l.to l.t l.initial.out l.out l.a l.m l.i

@@ -28,7 +28,7 @@ module _ (c : tie.After-around invariant-loop decreases-loop) where
   next : reached (args found).args.s.now (args found).args.to (suc found.loop-t.t)
       ≡ c.around-next.result
   unfolding reached
-  next = ap (λ (d : ℕ). grown (args found).args.s.now d d) (sym found.loop-t.inv.is)
+  next = ap (λ (d : ℕ). grown (args found).args.s.now d d) (sym found.loop-t.invariant.is)
       ∙ sym c.around-next.ensures
 
 pub loop-t-init : goal.loop-t-init

@@ -6,4 +6,4 @@ use Rattle.elements.proofs.kind_of.Goals as goal
 pub returns : goal.returns
 returns c = let a = c.args in
     λ n l room.
-    c.kind_in.ensures ∙ sym (round-kind a.s.now (record { each = λ i. (c.shared-slice-known2.given i).fits }) a.at n a.i l)
+    c.kind_in.ensures ∙ sym (round-kind a.s.now (record { each = λ i. (c.type_inv.s i).fits }) a.at n a.i l)

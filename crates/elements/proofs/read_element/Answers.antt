@@ -14,7 +14,7 @@ returns-then-k-lt2 c = let a = c.args in
 pub returns-in_default : goal.returns-in_default
 returns-in_default c = let k = c in
     let a = k.args in
-    let g = c.enum_told.given.1 in
+    let g = c.in_default.is in
     circle-cut a.k k.if-k-lt2.false (drop a.c.at a.s.now) (sym k.read_number-number.ensures.0 ∙ ap (as_number a.s.now) g
     ∙ ap refused (sym (c.refusal.ensures ∙ ap (λ (r : NumberRead). rule_of (as_number [] r)) g)))
 
@@ -26,17 +26,17 @@ pub returns-then-not-radius_in_range : goal.returns-then-not-radius_in_range
 returns-then-not-radius_in_range c = let k = c in
     let a = k.args in
     circle-out a.k k.if-k-lt2.false (drop a.c.at a.s.now)
-    (sym k.read_number-number.ensures.0 ∙ ap (as_number a.s.now) c.number.given.1)
+    (sym k.read_number-number.ensures.0 ∙ ap (as_number a.s.now) c.in-Value.is)
     (sym c.radius_in_range.ensures ∙ not-true _ c.if-not-radius_in_range.true)
 
 pub returns : goal.returns
 returns c = let k = c in
     let s = k in
     let a = s.args in
-    let g = c.number.given in (
-      record { kind = Circle g.0.0 },
+    (
+      record { kind = Circle c.in-Value.v },
       circle-read a.k k.if-k-lt2.false (drop a.c.at a.s.now)
-          (sym k.read_number-number.ensures.0 ∙ ap (as_number a.s.now) g.1)
+          (sym k.read_number-number.ensures.0 ∙ ap (as_number a.s.now) c.in-Value.is)
           (sym c.radius_in_range.ensures ∙ not-false _ c.if-not-radius_in_range.false),
-      stored-circle g.0.0 a.i a.radii.now (omega (arith, s.requires.0, s.requires.1)),
+      stored-circle c.in-Value.v a.i a.radii.now (omega (arith, s.requires.0, s.requires.1)),
     )

@@ -32,8 +32,8 @@ returns-in_default c = let r =
     let a = k.loop-i in
     let s = k in
     let is = k.kind_of.ensures s.args.n k.loop-i-test.true s.requires.1 in
-    rw c.enum_told.given.1
-    (partway-refused a.invariant.1 (omega (arith, ks-long s)) is (rw c.enum_told.given.1 at r.ensures))
+    rw c.in_default.is
+    (partway-refused a.invariant.1 (omega (arith, ks-long s)) is (rw c.in_default.is at r.ensures))
 
 pub overflow_add-i : goal.overflow_add-i
 overflow_add-i c = omega arith
@@ -49,7 +49,7 @@ loop-i-preserved c = let r =
     let a = k.loop-i in
     let s = k in
     let is = k.kind_of.ensures s.args.n k.loop-i-test.true s.requires.1 in
-    (omega arith, partway-more a.invariant.1 (omega (arith, ks-long s)) is (rw c.got.given.1 at r.ensures))
+    (omega arith, partway-more a.invariant.1 (omega (arith, ks-long s)) is (rw c.in-Value.is at r.ensures))
 
 pub returns : goal.returns
 returns c = let a = 

@@ -57,7 +57,7 @@ returns-in_default c = let r =
     let d = r in
     let k = d in
     let a = k.args in
-    let g = c.enum_told.given.1 in
+    let g = c.in_default.is in
     round-known a.s.now a.c.at a.n (room k) (used k) (sym (sets d).known_is)
     ∙ (rw g at r.read_radii-end.ensures)
     ∙ ap refused (sym (c.refusal.ensures ∙ ap (λ (p : PlaceRead). rule_of (as_place [] p)) g))
@@ -71,6 +71,6 @@ returns c = let r =
     let d = r in
     let k = d in
     let a = k.args in
-    let g = c.end.given.1 in
-    round_whole a.s.now a.c.at a.n c.end.given.0.0 (room k) (used k) (sets d)
+    let g = c.in-Value.is in
+    round_whole a.s.now a.c.at a.n c.in-Value.after (room k) (used k) (sets d)
     (rw g at r.read_radii-end.ensures)

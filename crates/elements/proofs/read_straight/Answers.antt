@@ -12,7 +12,7 @@ read_number-number-requires c = omega arith
 pub returns-in_default : goal.returns-in_default
 returns-in_default c = let k = c in
     let a = k.args in
-    let g = c.enum_told.given.1 in
+    let g = c.in_default.is in
     λ radii. straight-cut a.n (drop a.c.at a.s.now) (sym k.read_number-number.ensures.0 ∙ ap (as_number a.s.now) g
     ∙ ap refused (sym (c.refusal.ensures ∙ ap (λ (r : NumberRead). rule_of (as_number [] r)) g)))
 
@@ -21,17 +21,17 @@ returns-then-not-bits_used c = let k = c in
     let a = k.args in
     let h = sym c.bits_used.ensures ∙ not-true c.bits_used.result c.if-not-bits_used.true in
     λ radii. straight-unused a.n (drop a.c.at a.s.now)
-    (sym k.read_number-number.ensures.0 ∙ ap (as_number a.s.now) k.number.given.1) h
+    (sym k.read_number-number.ensures.0 ∙ ap (as_number a.s.now) k.in-Value.is) h
 
 pub returns : goal.returns
 returns c = let k = c in
     let a = k.args in
     let h = sym c.bits_used.ensures ∙ not-false c.bits_used.result c.if-not-bits_used.false in
-    let m = k.number.given.0.0 in
+    let m = k.in-Value.m in
     λ radii. (
       straight a.n m,
       straight-whole a.n (drop a.c.at a.s.now)
-          (sym k.read_number-number.ensures.0 ∙ ap (as_number a.s.now) k.number.given.1) h,
+          (sym k.read_number-number.ensures.0 ∙ ap (as_number a.s.now) k.in-Value.is) h,
       straight-length a.n m,
       straight-kinds a.n m radii (ltb-true _ _ h),
     )

@@ -6,6 +6,6 @@ use Rattle.elements.proofs.round_bits_used.Goals as goal
 
 pub returns : goal.returns
 returns c = let k = c in
-    let all : Bytes k.args.s.now = record { each = λ i. (c.shared-slice-known2.given i).fits } in
+    let all : Bytes k.args.s.now = record { each = λ i. (c.type_inv.s i).fits } in
     ap (λ (b : ℕ). eqb (b / 2 ^ (2 * ((k.args.n - 1) % 4 + 1))) 0) c.wide.ensures
     ∙ sym (last-used k.args.s.now all k.args.at k.args.n k.requires.0 k.requires.1)

@@ -13,13 +13,13 @@ lines-three (suc (suc zero)) a b c = absurd (c refl)
 lines-three (suc (suc (suc k))) a b c = refl
 
 pub returns-in-0 : goal.returns-in-0
-returns-in-0 c = sym (ap with_lines c.in_default.keys1)
+returns-in-0 c = sym (ap with_lines c.in-0.is)
 
 pub returns-in-1 : goal.returns-in-1
-returns-in-1 c = sym (ap with_lines c.in_default.keys2)
+returns-in-1 c = sym (ap with_lines c.in-1.is)
 
 pub returns-in-2 : goal.returns-in-2
-returns-in-2 c = sym (ap with_lines c.in_default.keys3)
+returns-in-2 c = sym (ap with_lines c.in-2.is)
 
 pub returns-in_default : goal.returns-in_default
 returns-in_default c = sym (lines-three _ c.in_default.rest.0.0.1 c.in_default.rest.0.1 c.in_default.rest.1)

@@ -8,7 +8,7 @@ pub returns-in-Ppp : goal.returns-in-Ppp
 unfolding placed
 returns-in-Ppp c = let f = c.ranges in
     simp (
-      c.enum_told.given.1,
+      c.in-Ppp.is,
       c.triangle.ensures,
       c.type_size.ensures.0,
       c.size_of-in-Ppp.ensures.0,
@@ -21,12 +21,12 @@ returns-in-Ppp c = let f = c.ranges in
 pub returns-in-Ppl : goal.returns-in-Ppl
 unfolding placed
 returns-in-Ppl c = let f = c.ranges in
-    simp (c.enum-told2.given.1, c.strip_of.ensures, to_z-of_z f.x, to_z-of_z f.y, to_z-of_z f.z)
+    simp (c.in-Ppl.is, c.strip_of.ensures, to_z-of_z f.x, to_z-of_z f.y, to_z-of_z f.z)
 
 pub returns-in-Pll : goal.returns-in-Pll
 unfolding placed
-returns-in-Pll c = simp c.enum-told3.given.1
+returns-in-Pll c = simp c.in-Pll.is
 
 pub returns-in-Lll : goal.returns-in-Lll
 unfolding placed
-returns-in-Lll c = simp c.enum-told4.given.1
+returns-in-Lll c = simp c.in-Lll.is

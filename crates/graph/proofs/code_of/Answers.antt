@@ -10,13 +10,13 @@ returns-in-Given c = let g = c.size.given in
     to_z-of_z {w = w32} {z = g.0.0} (search rules) ∙ sym (ap code_of g.1)
 
 pub returns-in-Missing : goal.returns-in-Missing
-returns-in-Missing c = sym (ap code_of c.enum_told.given.1)
+returns-in-Missing c = sym (ap code_of c.in-Missing.is)
 
 pub returns-in-Tangent : goal.returns-in-Tangent
-returns-in-Tangent c = sym (ap code_of c.enum-told2.given.1)
+returns-in-Tangent c = sym (ap code_of c.in-Tangent.is)
 
 pub returns-in-OtherTangent : goal.returns-in-OtherTangent
-returns-in-OtherTangent c = sym (ap code_of c.enum-told3.given.1)
+returns-in-OtherTangent c = sym (ap code_of c.in-OtherTangent.is)
 
 pub returns-in-Unfit : goal.returns-in-Unfit
-returns-in-Unfit c = sym (ap code_of c.enum-told4.given.1)
+returns-in-Unfit c = sym (ap code_of c.in-Unfit.is)

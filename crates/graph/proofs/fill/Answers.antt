@@ -18,24 +18,24 @@ abbrev zeros : Constraint
 zeros = record { first = 0; second = 0; size = Given (pos 0) }
 
 module _ (c : tie.Start invariant-loop decreases-loop) where
-  long : (length c.args.t1.elements ≡ 64) × (length c.args.t1.constraints ≡ 200)
+  long : (length c.args.s.elements ≡ 64) × (length c.args.s.constraints ≡ 200)
   long = (
-    sym (length-map c.args.t1.elements _) ∙ c.well-formed.0.1.1.1.1.1.0.1.0.1,
-    sym (length-map c.args.t1.constraints _) ∙ c.well-formed.0.1.1.1.1.1.1.0.1.0.1,
+    sym (length-map c.args.s.elements _) ∙ c.well-formed.0.1.1.1.1.1.0.1.0.1,
+    sym (length-map c.args.s.constraints _) ∙ c.well-formed.0.1.1.1.1.1.1.0.1.0.1,
   )
 
-  accepted : Accepted (facts_of c.args.t1)
-  accepted = facts_of-accepted c.args.t1 long.0 long.1 c.requires.0
+  accepted : Accepted (facts_of c.args.s)
+  accepted = facts_of-accepted c.args.s long.0 long.1 c.requires.0
 
-  few : (c.args.t1.n ≤ 64) × (c.args.t1.e ≤ 200)
-  few = let h = sheet_fault-none c.args.t1 c.requires.0 in (elements-most _ h.elements_fit, constraints-most _ h.constraints_fit)
+  few : (c.args.s.n ≤ 64) × (c.args.s.e ≤ 200)
+  few = let h = sheet_fault-none c.args.s c.requires.0 in (elements-most _ h.elements_fit, constraints-most _ h.constraints_fit)
 
-  counted : length (take c.args.t1.e c.args.t1.constraints) ≡ c.args.t1.e
-  counted = length-take-le c.args.t1.e c.args.t1.constraints (rw long.1 few.1)
+  counted : length (take c.args.s.e c.args.s.constraints) ≡ c.args.s.e
+  counted = length-take-le c.args.s.e c.args.s.constraints (rw long.1 few.1)
 
-  unpacks : (i : ℕ) → i < c.args.t1.e → Unpacks (get_or c.args.t1.constraints i zeros)
+  unpacks : (i : ℕ) → i < c.args.s.e → Unpacks (get_or c.args.s.constraints i zeros)
   unpacks i l =
-      let s = c.args.t1 in
+      let s = c.args.s in
       rw (get_or-take s.e s.constraints i zeros l) at (accepted-unpack (facts_of s) i zeros accepted (rw counted l))
 
 pub loop-i-init : goal.loop-i-init
@@ -58,7 +58,7 @@ overflow_add-i c = omega (arith, few c)
 pub loop-i-preserved : goal.loop-i-preserved
 loop-i-preserved c = let s = c in
     let a = c.loop-i in
-    let cs = s.args.t1.constraints in
+    let cs = s.args.s.constraints in
     let i : a.i < length cs = omega (arith, few s, (long s).1) in (
       omega arith,
       rw (add-one, take-suc cs a.i zeros i)
@@ -78,9 +78,9 @@ kinds_of-kinds-requires c = ((few c).0, c.requires.4)
 pub returns : goal.returns
 returns c = let s = c in
     let a = c.loop-i in
-    let same : a.i ≡ s.args.t1.e = omega arith in
-    let n : length (take s.args.t1.n s.args.t1.elements) ≡ s.args.t1.n =
-    length-take-le s.args.t1.n s.args.t1.elements (rw (long s).0 (few s).0) in
+    let same : a.i ≡ s.args.s.e = omega arith in
+    let n : length (take s.args.s.n s.args.s.elements) ≡ s.args.s.n =
+    length-take-le s.args.s.n s.args.s.elements (rw (long s).0 (few s).0) in
     record {
       accepted = accepted s;
       opening_is = refl;

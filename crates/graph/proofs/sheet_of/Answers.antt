@@ -13,7 +13,7 @@ use Rattle.graph.specs.Lent.Laws.{pair-in-start, code-in-codes, accepted-unpack}
 use Rattle.graph.proofs.sheet_of.Goals as goal
 
 pub loop-i-init : goal.loop-i-init
-loop-i-init c record { turns = omega arith; places = refl; blank = refl; out = λ f near in-arrays = refl }
+loop-i-init c = record { turns = omega arith; places = refl; blank = refl; out = λ f near in-arrays. refl }
 
 pub loop-i-preserved : goal.loop-i-preserved
 loop-i-preserved c = let s = c in

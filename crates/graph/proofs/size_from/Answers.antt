@@ -8,7 +8,7 @@ use Rattle.graph.specs.Lent.Laws.{code-missing, code-tangent, code_other, code-g
 use Rattle.graph.proofs.size_from.Goals as goal
 
 pub returns-then-code-eq0 : goal.returns-then-code-eq0
-returns-then-code-eq0 c λ s h e = sym (code-missing s h e (sym (to_z-of_z c.ranges.code) ∙ ap (to_z w32) c.if-code-eq0.true))
+returns-then-code-eq0 c = λ s h e. sym (code-missing s h e (sym (to_z-of_z c.ranges.code) ∙ ap (to_z w32) c.if-code-eq0.true))
 
 pub returns-then-code-eq-TANGENT : goal.returns-then-code-eq-TANGENT
 returns-then-code-eq-TANGENT c = λ s h e. sym (code-tangent s h e (sym (to_z-of_z c.ranges.code) ∙ ap (to_z w32) c.if-code-eq-TANGENT.true))

@@ -39,14 +39,14 @@ returns-in-Given c = let g = c.size.given in
     to_z-of_z {w = w32} {z = g.0.0} (search rules) ∙ sym (ap (size_of c.args.j c.args.k) g.1)
 
 pub returns-in-Missing : goal.returns-in-Missing
-returns-in-Missing c = sym (ap (size_of c.args.j c.args.k) c.enum_told.given.1)
+returns-in-Missing c = sym (ap (size_of c.args.j c.args.k) c.in-Missing.is)
 
 pub returns-in-Tangent : goal.returns-in-Tangent
 returns-in-Tangent c = let a = c in
     let is : c.radius_of.result + c.radius_of-in-Tangent.result ≡ radius_of a.args.j + radius_of a.args.k =
     rw (c.radius_of.ensures, c.radius_of-in-Tangent.ensures) in
     to_z_pos w32 (omega (arith, is, a.requires)) ∙ ap pos is
-    ∙ sym (ap (size_of a.args.j a.args.k) c.enum-told2.given.1)
+    ∙ sym (ap (size_of a.args.j a.args.k) c.in-Tangent.is)
 
 pub returns-then-both_circles : goal.returns-then-both_circles
 returns-then-both_circles c = let a = c in
@@ -54,15 +54,15 @@ returns-then-both_circles c = let a = c in
     let is : c.apart.result ≡ (radius_of a.args.j - radius_of a.args.k) + (radius_of a.args.k - radius_of a.args.j) =
     c.apart.ensures ∙ rw (c.radius_of-then-both_circles.ensures, c.radius_of-then-both_circles-2.ensures) in
     to_z_pos w32 (omega (arith, is, a.requires)) ∙ ap pos is
-    ∙ sym (ap (size_of a.args.j a.args.k) c.enum-told3.given.1
+    ∙ sym (ap (size_of a.args.j a.args.k) c.in-OtherTangent.is
     ∙ other_is (is_circle a.args.j && is_circle a.args.k) _ _ (sym b.ensures ∙ c.if-both_circles.true))
 
 pub returns-else-both_circles : goal.returns-else-both_circles
 returns-else-both_circles c = let a = c in
     let b = c.both_circles in
-    to_z-of_z (sub-result c) ∙ negated (small-sum c) ∙ ap (λ (n : ℕ). neg_ℤ (pos n)) (sum_is c)
-    ∙ sym (ap (size_of a.args.j a.args.k) c.enum-told3.given.1
+    to_z-of_z (overflow_sub-result c) ∙ negated (small-sum c) ∙ ap (λ (n : ℕ). neg_ℤ (pos n)) (sum_is c)
+    ∙ sym (ap (size_of a.args.j a.args.k) c.in-OtherTangent.is
     ∙ other-not (is_circle a.args.j && is_circle a.args.k) _ _ (sym b.ensures ∙ c.if-both_circles.false))
 
 pub returns-in-Unfit : goal.returns-in-Unfit
-returns-in-Unfit c = sym (ap (size_of c.args.j c.args.k) c.enum-told4.given.1)
+returns-in-Unfit c = sym (ap (size_of c.args.j c.args.k) c.in-Unfit.is)

@@ -12,15 +12,15 @@ read_held-got-requires c = (refl, refl, refl, refl)
 
 pub returns-in_default : goal.returns-in_default
 returns-in_default c =     answers-refused
-    (items_refused _ _ _ _ _ final_clusters _ c.read_held-got.ensures c.enum_told.given.1 c.refusal.ensures)
+    (items_refused _ _ _ _ _ final_clusters _ c.read_held-got.ensures c.in_default.is c.refusal.ensures)
 
 pub clusters-requires : goal.clusters-requires
 clusters-requires c = 
-    let facts : FactsIn (held_record c.args.lent.now) c.got.given.0.0 c.read_held-got.new.1.0 c.read_held-got.new.1.1.0 c.read_held-got.new.1.1.1.0 c.read_held-got.new.1.1.1.1.0 = facts-in _ _ _ _ c.read_held-got.ensures c.got.given.1 in
+    let facts : FactsIn (held_record c.args.lent.now) c.in-Value.front c.read_held-got.new.1.0 c.read_held-got.new.1.1.0 c.read_held-got.new.1.1.1.0 c.read_held-got.new.1.1.1.1.0 = facts-in _ _ _ _ c.read_held-got.ensures c.in-Value.is in
     head-drawn facts c.head_of.ensures
 
 pub returns : goal.returns
 returns c = let f = 
-    let facts : FactsIn (held_record c.args.lent.now) c.got.given.0.0 c.read_held-got.new.1.0 c.read_held-got.new.1.1.0 c.read_held-got.new.1.1.1.0 c.read_held-got.new.1.1.1.1.0 = facts-in _ _ _ _ c.read_held-got.ensures c.got.given.1 in
+    let facts : FactsIn (held_record c.args.lent.now) c.in-Value.front c.read_held-got.new.1.0 c.read_held-got.new.1.1.0 c.read_held-got.new.1.1.1.0 c.read_held-got.new.1.1.1.1.0 = facts-in _ _ _ _ c.read_held-got.ensures c.in-Value.is in
     facts in
     answers-items c.clusters.ensures (items-are f c.head_of.ensures final_clusters)

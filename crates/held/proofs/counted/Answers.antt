@@ -4,7 +4,7 @@ use Rattle.held.specs.Held.Laws.{count_read}
 use Rattle.held.proofs.counted.Goals as goal
 
 pub returns-in-Value : goal.returns-in-Value
-returns-in-Value c = sym (ap count_read c.got.given.1)
+returns-in-Value c = sym (ap count_read c.in-Value.is)
 
 pub returns-in-Refused : goal.returns-in-Refused
-returns-in-Refused c = sym (ap count_read c.got2.given.1)
+returns-in-Refused c = sym (ap count_read c.in-Refused.is)

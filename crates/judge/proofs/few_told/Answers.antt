@@ -15,9 +15,9 @@ returns-then-h c =     let (d, few) = c.requires in
 
 pub returns-in-First : goal.returns-in-First
 returns-in-First c =     first-tells _ c.requires.0.sound
-    (sym c.over_of.ensures ∙ c.constraint.given.1)
+    (sym c.over_of.ensures ∙ c.in-First.is)
 
 pub returns-in-Fine : goal.returns-in-Fine
 returns-in-Fine c =     let (d, few) = c.requires in
-    let q = sym c.over_of.ensures ∙ c.enum_told.given.1 in
+    let q = sym c.over_of.ensures ∙ c.in-Fine.is in
     fine-tells _ d.sound q (sym (fewer-is _ d.sound few q (λ e. c.if-h.false (omega (arith, e, counted d)))))

@@ -12,12 +12,12 @@ merge_into-steps-requires c = let s = c in (s.requires.0, s.requires.2)
 pub settle-verdict-requires : goal.settle-verdict-requires
 settle-verdict-requires c = let k = c in
     let s = entry k in
-    asked s.args.h s.pre.0 s.pre.1 k.merge_into-steps.ensures
+    asked s.args.h s.requires.0 s.requires.1 k.merge_into-steps.ensures
 
 pub one_left-requires : goal.one_left-requires
-one_left-requires c = (settle-requires c ([], ([], tt))).0
+one_left-requires c = (settle-verdict-requires c.before ([], ([], tt))).0
 
 pub returns : goal.returns
 returns c = let k = c in
     let s = entry k in
-    merged-found s.args.h s.pre.0 s.pre.1 k.merge_into-steps.ensures c.settle-verdict.ensures c.one_left.ensures
+    merged-found s.args.h s.requires.0 s.requires.1 k.merge_into-steps.ensures c.settle-verdict.ensures c.one_left.ensures

@@ -21,7 +21,7 @@ returns-then-one_left c = let s = c in
     sym (one-fault _ d.sound s.requires.1 (one-left-true _ _ (sym c.one_left.ensures ∙ c.if-one_left.true) ∙ sym (counted d)))
 
 pub returns-in-First : goal.returns-in-First
-returns-in-First c = sym (first-fault _ (sym c.over_of.ensures ∙ c.enum_told.given.1))
+returns-in-First c = sym (first-fault _ (sym c.over_of.ensures ∙ c.in-First.is))
 
 pub returns-in-Fine : goal.returns-in-Fine
-returns-in-Fine c = sym (fine-fault _ (sym c.over_of.ensures ∙ c.enum-told2.given.1))
+returns-in-Fine c = sym (fine-fault _ (sym c.over_of.ensures ∙ c.in-Fine.is))

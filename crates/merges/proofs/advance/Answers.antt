@@ -25,7 +25,7 @@ returns-in_default c = let w = c.loop-steps.invariant.0 in
     record {
       running = running_kept w f.1.0 f.1.1;
       within = c.loop-steps.invariant.1;
-      stops = inr (running-ended w (λ ready. ap hit_of (sym c.enum_told.given.1) ∙ f.0 ready));
+      stops = inr (running-ended w (λ ready. ap hit_of (sym c.in_default.is) ∙ f.0 ready));
     }
 
 pub offset_bounds-slots-i : goal.offset_bounds-slots-i
@@ -75,7 +75,7 @@ renew-rim-requires c = let h =
 
 pub step-requires : goal.step-requires
 step-requires c = let h = 
-    let tested : let d = c in let m = c.hit.given.0 in Tested d.loop-steps.slots (d.args.e + d.loop-steps.steps) (At m.0 m.1.0 m.1.1.0) = subst (Tested _ _) c.hit.given.1 c.first_open-hit.ensures.0 in
+    let tested : let d = c in let m = c.hit.given.0 in Tested d.loop-steps.slots (d.args.e + d.loop-steps.steps) (At m.0 m.1.0 m.1.1.0) = subst (Tested _ _) c.in-At.is c.first_open-hit.ensures.0 in
     let room : c.loop-steps.steps < 62 = λ = let o. tested in running-fewer c.loop-steps.invariant.0 _ _ _ o.0 o.1 o.3 in
     let few : c.args.e + c.loop-steps.steps ≤ 187 = omega (arith, c.requires.0, running-few c.loop-steps.invariant.0) in
     let in_use : let d = c in let u = d.args.e + d.loop-steps.steps in let m = c.hit.given.0 in (m.0 < u) × (m.1.0 < u) × (m.1.1.0 < u) × (u < 192) = λ = let o = tested c in let f. few in (omega (arith, o.0, o.1, o.2), omega (arith, o.1, o.2), o.2, omega (arith, f)) in
@@ -84,20 +84,20 @@ step-requires c = let h =
 
 pub overflow_add-steps : goal.overflow_add-steps
 overflow_add-steps c = 
-    let tested : let d = c in let m = c.hit.given.0 in Tested d.loop-steps.slots (d.args.e + d.loop-steps.steps) (At m.0 m.1.0 m.1.1.0) = subst (Tested _ _) c.hit.given.1 c.first_open-hit.ensures.0 in
+    let tested : let d = c in let m = c.hit.given.0 in Tested d.loop-steps.slots (d.args.e + d.loop-steps.steps) (At m.0 m.1.0 m.1.1.0) = subst (Tested _ _) c.in-At.is c.first_open-hit.ensures.0 in
     let room : c.loop-steps.steps < 62 = λ = let o. tested in running-fewer c.loop-steps.invariant.0 _ _ _ o.0 o.1 o.3 in
     omega (arith, room)
 
 pub loop-steps-preserved : goal.loop-steps-preserved
 unfolding running_kept
 loop-steps-preserved c = let h = 
-    let tested : let d = c in let m = c.hit.given.0 in Tested d.loop-steps.slots (d.args.e + d.loop-steps.steps) (At m.0 m.1.0 m.1.1.0) = subst (Tested _ _) c.hit.given.1 c.first_open-hit.ensures.0 in
+    let tested : let d = c in let m = c.hit.given.0 in Tested d.loop-steps.slots (d.args.e + d.loop-steps.steps) (At m.0 m.1.0 m.1.1.0) = subst (Tested _ _) c.in-At.is c.first_open-hit.ensures.0 in
     c in
     let o = tested h in
     let w = h.loop-steps.invariant.0 in
     let f = h.first_open-hit.ensures.1 in (
       running-next (running_kept w f.1.0 f.1.1) _ _ _ o.0 o.1 o.3
-          (λ fine. ap hit_of (sym h.hit.given.1) ∙ f.0 (w.ready fine)) c.renew-rim.ensures c.step.ensures,
+          (λ fine. ap hit_of (sym h.in-At.is) ∙ f.0 (w.ready fine)) c.renew-rim.ensures c.step.ensures,
       search rules,
     )
 

@@ -27,7 +27,7 @@ module _ (c : tie.After-first-open) where
       ∙ ap is_some (c.first_open.ensures.1.0 ready ∙ first-of-same _ (final cs p) (slots_same w))
 
 pub returns-in-At : goal.returns-in-At
-returns-in-At c = told c c.enum_told.given.1
+returns-in-At c = told c c.in-At.is
 
 pub returns-in-Nothing : goal.returns-in-Nothing
-returns-in-Nothing c = told c c.enum-told2.given.1
+returns-in-Nothing c = told c c.in-Nothing.is

@@ -20,8 +20,8 @@ module _ (c : tie.After-whole2) where
   abbrev listed : tie.After-put-cluster
   listed = c
 
-  has : Had (held_field graph entry.args.c) c.got.given.0.0
-  has = had _ listed.put_cluster-got.ensures.measured c.got.given.1
+  has : Had (held_field graph entry.args.c) c.in-Is.t
+  has = had _ listed.put_cluster-got.ensures.measured c.in-Is.is
 
   short : length (step_lines has.steps) ≤ 3534
   short = listed.put_cluster-got.ensures.short has.steps has.rest has.gives
@@ -42,4 +42,4 @@ returns-in-Refused c = let s = c in
     let g = sized_in s.args.h s.args.start.now s.args.sizes.now in
     answers-refused
     (ap lines_field
-    (not-had (held_field g s.args.c) c.put_cluster-got.ensures.measured c.got2.given.1))
+    (not-had (held_field g s.args.c) c.put_cluster-got.ensures.measured c.in-Refused.is))

@@ -24,7 +24,7 @@ module _ (c : tie.After-judge-on) where
   over v = ap (λ (k : ℕ). by_rule k (cluster_field graph entry.args.c)) (found-over graph.graph c.judge_on-found.ensures v)
 
   plan : verdict_number c.judge_on-found.result.verdict ≢ 0 → PlanFound graph.graph c.judge_on-found.ensures
-  plan v = found-plan graph.graph c.judge_on-found.ensures entry.pre.sound v
+  plan v = found-plan graph.graph c.judge_on-found.ensures entry.requires.sound v
 
 -- not over
 module _ (c : tie.Else1) where

@@ -14,13 +14,13 @@ use Rattle.pattern.proofs.check_plan.Goals as goal
 -- the facts of the sheet
 read : (c : goal.After-check_plan-arg-1)
     → FactsRead c.args.bytes.now
-    c.got.given.0.0
+    c.in-Value.head
     c.read_graph-got.new.1.0
     c.read_graph-got.new.1.1.0
     c.read_graph-got.new.1.1.1.0
 read c =
     facts-read _ _ _ _ _ c.read_graph-got.ensures
-    c.got.given.1
+    c.in-Value.is
 
 -- the answer goes by the graph alone
 by-graph : (plan : List ℕ) {g g' : SizedGraph} {space left : List ℕ} {r : Written} → g ≡ g'
@@ -33,7 +33,7 @@ read_graph-got-requires c = (refl, refl, refl)
 
 pub returns-in_default : goal.returns-in_default
 unfolding held_sheet
-returns-in_default c =     answers-refused (rw (refused-read _ _ _ _ _ c.read_graph-got.ensures c.enum_told.given.1 c.refusal.ensures))
+returns-in_default c =     answers-refused (rw (refused-read _ _ _ _ _ c.read_graph-got.ensures c.in_default.is c.refusal.ensures))
 
 pub check_plan-requires : goal.check_plan-requires
 check_plan-requires c = (read c).drawn_is
@@ -41,7 +41,7 @@ check_plan-requires c = (read c).drawn_is
 pub returns : goal.returns
 unfolding held_sheet
 returns c = let a = 
-    let read : FactsRead c.args.bytes.now c.got.given.0.0 c.read_graph-got.new.1.0 c.read_graph-got.new.1.1.0 c.read_graph-got.new.1.1.1.0 = facts-read _ _ _ _ _ c.read_graph-got.ensures c.got.given.1 in
+    let read : FactsRead c.args.bytes.now c.in-Value.head c.read_graph-got.new.1.0 c.read_graph-got.new.1.1.0 c.read_graph-got.new.1.1.1.0 = facts-read _ _ _ _ _ c.read_graph-got.ensures c.in-Value.is in
     c.args in
     let f = read in
     rw (

@@ -15,10 +15,10 @@ use Rattle.pattern.proofs.hold_in.Goals as goal
 -- the facts of the sheet
 read : (c : goal.After-start-2-1)
     → SheetFound c.args.bytes.now
-    c.got.given.0.0
+    c.in-Value.front
     c.read_codes-got.new.1.0 c.read_codes-got.new.1.1.0
     c.read_codes-got.new.1.1.1.0 c.read_codes-got.new.1.1.1.1.0
-read c = sheet-found _ _ _ _ _ _ c.read_codes-got.ensures c.got.given.1
+read c = sheet-found _ _ _ _ _ _ c.read_codes-got.ensures c.in-Value.is
 
 module _ (c : tie.After-sheet-of) where
   abbrev sheet_read : tie.After-start2
@@ -36,7 +36,7 @@ read_codes-got-requires c = (refl, refl, refl, refl)
 
 pub returns-in_default : goal.returns-in_default
 unfolding held_sheet
-returns-in_default c =     answers-refused (rw (refused-sheet _ _ _ _ _ _ c.read_codes-got.ensures c.enum_told.given.1 c.refusal.ensures))
+returns-in_default c =     answers-refused (rw (refused-sheet _ _ _ _ _ _ c.read_codes-got.ensures c.in_default.is c.refusal.ensures))
 
 pub over_fault-fault-requires : goal.over_fault-fault-requires
 over_fault-fault-requires c = rw c.head_of.ensures (read c).drawn_is
@@ -44,14 +44,14 @@ over_fault-fault-requires c = rw c.head_of.ensures (read c).drawn_is
 pub returns-then-fault-ne0 : goal.returns-then-fault-ne0
 unfolding held_sheet
 returns-then-fault-ne0 c = let f = 
-    let read : SheetFound c.args.bytes.now c.got.given.0.0 c.read_codes-got.new.1.0 c.read_codes-got.new.1.1.0 c.read_codes-got.new.1.1.1.0 c.read_codes-got.new.1.1.1.1.0 = sheet-found _ _ _ _ _ _ c.read_codes-got.ensures c.got.given.1 in
+    let read : SheetFound c.args.bytes.now c.in-Value.front c.read_codes-got.new.1.0 c.read_codes-got.new.1.1.0 c.read_codes-got.new.1.1.1.0 c.read_codes-got.new.1.1.1.1.0 = sheet-found _ _ _ _ _ _ c.read_codes-got.ensures c.in-Value.is in
     let over-is : c.over_fault-fault.result ≡ over_fault (graph_of (read c).facts) = λ = let f. read in c.over_fault-fault.ensures ∙ ap over_fault (ap (λ (h : Head). graph_in h c.read_codes-got.new.1.1.0) c.head_of.ensures ∙ f.graph_read) in
     read in
     answers-refused (rw (f.reads, rule-some (value f.facts f.rest) _ over-is c.if-fault-ne0.true))
 
 pub sheet_of-sheet-requires : goal.sheet_of-sheet-requires
 sheet_of-sheet-requires c = 
-    let read : SheetFound c.args.bytes.now c.got.given.0.0 c.read_codes-got.new.1.0 c.read_codes-got.new.1.1.0 c.read_codes-got.new.1.1.1.0 c.read_codes-got.new.1.1.1.1.0 = sheet-found _ _ _ _ _ _ c.read_codes-got.ensures c.got.given.1 in
+    let read : SheetFound c.args.bytes.now c.in-Value.front c.read_codes-got.new.1.0 c.read_codes-got.new.1.1.0 c.read_codes-got.new.1.1.1.0 c.read_codes-got.new.1.1.1.1.0 = sheet-found _ _ _ _ _ _ c.read_codes-got.ensures c.in-Value.is in
     let d = read.drawn_is in (d.sound.most, d.few)
 
 pub write-requires : goal.write-requires
@@ -60,7 +60,7 @@ write-requires c = no_fault c
 pub returns : goal.returns
 unfolding held_sheet
 returns c = let o = 
-    let read : SheetFound c.args.bytes.now c.got.given.0.0 c.read_codes-got.new.1.0 c.read_codes-got.new.1.1.0 c.read_codes-got.new.1.1.1.0 c.read_codes-got.new.1.1.1.1.0 = sheet-found _ _ _ _ _ _ c.read_codes-got.ensures c.got.given.1 in
+    let read : SheetFound c.args.bytes.now c.in-Value.front c.read_codes-got.new.1.0 c.read_codes-got.new.1.1.0 c.read_codes-got.new.1.1.1.0 c.read_codes-got.new.1.1.1.1.0 = sheet-found _ _ _ _ _ _ c.read_codes-got.ensures c.in-Value.is in
     let over-is : c.over_fault-fault.result ≡ over_fault (graph_of (read c).facts) = λ = let f. read in c.over_fault-fault.ensures ∙ ap over_fault (ap (λ (h : Head). graph_in h c.read_codes-got.new.1.1.0) c.head_of.ensures ∙ f.graph_read) in
     c in
     let f = read (sheet_read o) in

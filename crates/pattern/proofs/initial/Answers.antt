@@ -14,18 +14,18 @@ module _ (c : tie.After-put-all64-arg) where
   abbrev words : tie.After-read-graph
   words = c
 
-  read : FactsRead start.args.bytes.now c.got.given.0.0 words.read_graph-got.last.1.0
+  read : FactsRead start.args.bytes.now c.in-Value.head words.read_graph-got.last.1.0
       words.read_graph-got.last.1.1.0 words.read_graph-got.last.1.1.1.0
-  read = facts-read _ _ _ _ _ words.read_graph-got.ensures c.got.given.1
+  read = facts-read _ _ _ _ _ words.read_graph-got.ensures c.in-Value.is
 
-  within : c.got.given.0.0.e ≤ length words.read_graph-got.last.1.1.0
+  within : c.in-Value.head.e ≤ length words.read_graph-got.last.1.1.0
   within = omega (arith, read.drawn_is.few, read.drawn_is.places)
 
 pub read_graph-got-requires : goal.read_graph-got-requires
 read_graph-got-requires c = (refl, refl, refl)
 
 pub returns-in_default : goal.returns-in_default
-returns-in_default c =     answers-refused (rw (refused-read _ _ _ _ _ c.read_graph-got.ensures c.enum_told.given.1 c.refusal.ensures))
+returns-in_default c =     answers-refused (rw (refused-read _ _ _ _ _ c.read_graph-got.ensures c.in_default.is c.refusal.ensures))
 
 pub slice_bounds-start-end : goal.slice_bounds-start-end
 slice_bounds-start-end c = within c

@@ -25,8 +25,8 @@ overflow_add-result-in-Pf02-3 c = let m =
 
 pub returns-in-Pf01 : goal.returns-in-Pf01
 returns-in-Pf01 c = let h = c.args.h in
-    sym (ap (λ (o : Opening). 6 + kind_bytes o h.n + 4 * ones h.kinds.circles) c.enum_told.given.1)
+    sym (ap (λ (o : Opening). 6 + kind_bytes o h.n + 4 * ones h.kinds.circles) c.in-Pf01.is)
 
 pub returns-in-Pf02 : goal.returns-in-Pf02
 returns-in-Pf02 c = let h = c.args.h in
-    sym (ap (λ (o : Opening). 6 + kind_bytes o h.n + 4 * ones h.kinds.circles) c.enum-told2.given.1)
+    sym (ap (λ (o : Opening). 6 + kind_bytes o h.n + 4 * ones h.kinds.circles) c.in-Pf02.is)

@@ -13,13 +13,13 @@ use Rattle.pattern.proofs.part.Goals as goal
 -- the facts of the sheet
 read : (c : goal.After-list-arg-1)
     → FactsRead c.args.bytes.now
-    c.got.given.0.0
+    c.in-Value.head
     c.read_graph-got.new.1.0
     c.read_graph-got.new.1.1.0
     c.read_graph-got.new.1.1.1.0
 read c =
     facts-read _ _ _ _ _ c.read_graph-got.ensures
-    c.got.given.1
+    c.in-Value.is
 
 -- the answer goes by the graph alone
 by-graph : (number : ℕ) {g g' : SizedGraph} {space left : List ℕ} {r : Written} → g ≡ g' → Answers (lines_field (held_field g number)) space r left
@@ -31,14 +31,14 @@ read_graph-got-requires c = (refl, refl, refl)
 
 pub returns-in_default : goal.returns-in_default
 unfolding held_sheet
-returns-in_default c =     answers-refused (rw (refused-read _ _ _ _ _ c.read_graph-got.ensures c.enum_told.given.1 c.refusal.ensures))
+returns-in_default c =     answers-refused (rw (refused-read _ _ _ _ _ c.read_graph-got.ensures c.in_default.is c.refusal.ensures))
 
 pub list-requires : goal.list-requires
 list-requires c = (read c).drawn_is
 
 pub returns : goal.returns
 returns c = let a = 
-    let read : FactsRead c.args.bytes.now c.got.given.0.0 c.read_graph-got.new.1.0 c.read_graph-got.new.1.1.0 c.read_graph-got.new.1.1.1.0 = facts-read _ _ _ _ _ c.read_graph-got.ensures c.got.given.1 in
+    let read : FactsRead c.args.bytes.now c.in-Value.head c.read_graph-got.new.1.0 c.read_graph-got.new.1.1.0 c.read_graph-got.new.1.1.1.0 = facts-read _ _ _ _ _ c.read_graph-got.ensures c.in-Value.is in
     c.args in
     let f = read in
     rw (part_held a.bytes.now a.number f.reads) (by-graph a.number f.sized_read c.list.ensures)

@@ -17,18 +17,18 @@ use Rattle.pattern.proofs.part_size.Goals as goal
 -- the facts of the sheet
 read : (c : goal.After-sizes-2-1)
     → FactsRead c.args.bytes.now
-    c.got.given.0.0
+    c.in-Value.head
     c.read_graph-got.new.1.0
     c.read_graph-got.new.1.1.0
     c.read_graph-got.new.1.1.1.0
 read c =
-    facts-read _ _ _ _ _ c.read_graph-got.ensures c.got.given.1
+    facts-read _ _ _ _ _ c.read_graph-got.ensures c.in-Value.is
 
 -- the graph in the arrays
 abbrev graph : tie.After-sizes2 → SizedGraph
 graph c =
     let l = c.read_graph-got.new.1.1 in
-    sized_in c.got.given.0.0 l.0 l.1.0
+    sized_in c.in-Value.head l.0 l.1.0
 
 -- measured by the graph that is read
 measured : (bytes : List ℕ) (number : ℕ) (g : SizedGraph) {f : Facts} {rest : List ℕ} {r : Measured}
@@ -41,14 +41,14 @@ read_graph-got-requires c = (refl, refl, refl)
 
 pub returns-in_default : goal.returns-in_default
 unfolding held_sheet
-returns-in_default c = rw (refused-read _ _ _ _ _ c.read_graph-got.ensures c.enum_told.given.1 c.refusal.ensures)
+returns-in_default c = rw (refused-read _ _ _ _ _ c.read_graph-got.ensures c.in_default.is c.refusal.ensures)
 
 pub measure-requires : goal.measure-requires
 measure-requires c = (read c).drawn_is
 
 pub returns : goal.returns
 returns c = let f = 
-    let read : FactsRead c.args.bytes.now c.got.given.0.0 c.read_graph-got.new.1.0 c.read_graph-got.new.1.1.0 c.read_graph-got.new.1.1.1.0 = facts-read _ _ _ _ _ c.read_graph-got.ensures c.got.given.1 in
+    let read : FactsRead c.args.bytes.now c.in-Value.head c.read_graph-got.new.1.0 c.read_graph-got.new.1.1.0 c.read_graph-got.new.1.1.1.0 = facts-read _ _ _ _ _ c.read_graph-got.ensures c.in-Value.is in
     read in
     let a = c.args in
     measured a.bytes.now a.number (graph c) c.measure.ensures f.sized_read f.reads

@@ -29,11 +29,11 @@ pub read_graph-got-requires : goal.read_graph-got-requires
 read_graph-got-requires c = (refl, refl, refl)
 
 pub returns-in_default : goal.returns-in_default
-returns-in_default c =     answers-refused (rw (refused-read _ _ _ _ _ c.read_graph-got.ensures c.enum_told.given.1 c.refusal.ensures))
+returns-in_default c =     answers-refused (rw (refused-read _ _ _ _ _ c.read_graph-got.ensures c.in_default.is c.refusal.ensures))
 
 pub plan_on-steps-requires : goal.plan_on-steps-requires
 plan_on-steps-requires c = 
-    let read : FactsRead c.args.bytes.now c.got.given.0.0 c.read_graph-got.new.1.0 c.read_graph-got.new.1.1.0 c.read_graph-got.new.1.1.1.0 = facts-read _ _ _ _ _ c.read_graph-got.ensures c.got.given.1 in
+    let read : FactsRead c.args.bytes.now c.in-Value.head c.read_graph-got.new.1.0 c.read_graph-got.new.1.1.0 c.read_graph-got.new.1.1.1.0 = facts-read _ _ _ _ _ c.read_graph-got.ensures c.in-Value.is in
     (read.drawn_is, record { slots_blank = refl; parts_blank = refl; joints_blank = refl })
 
 pub overflow_mul-count : goal.overflow_mul-count
@@ -47,7 +47,7 @@ slice_bounds-put_all16-end c = sym (long c)
 
 pub returns : goal.returns
 returns c = let k = 
-    let read : FactsRead c.args.bytes.now c.got.given.0.0 c.read_graph-got.new.1.0 c.read_graph-got.new.1.1.0 c.read_graph-got.new.1.1.1.0 = facts-read _ _ _ _ _ c.read_graph-got.ensures c.got.given.1 in
+    let read : FactsRead c.args.bytes.now c.in-Value.head c.read_graph-got.new.1.0 c.read_graph-got.new.1.1.0 c.read_graph-got.new.1.1.1.0 = facts-read _ _ _ _ _ c.read_graph-got.ensures c.in-Value.is in
     c in
     answers-items c.put_all16.ensures
     (rw (read (lent k)).reads (ap (λ (l : List ℕ). value l []) (sym (held k).plan_is)))

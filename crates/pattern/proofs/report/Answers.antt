@@ -11,32 +11,32 @@ use Rattle.pattern.proofs.report.Goals as goal
 -- the facts of the sheet
 read : (c : goal.After-report-arg-1)
     → FactsRead c.args.bytes.now
-    c.got.given.0.0
+    c.in-Value.head
     c.read_graph-got.new.1.0
     c.read_graph-got.new.1.1.0
     c.read_graph-got.new.1.1.1.0
 read c =
     facts-read _ _ _ _ _ c.read_graph-got.ensures
-    c.got.given.1
+    c.in-Value.is
 
 -- the graph in the arrays
 abbrev graph : tie.After-report-arg → SizedGraph
 graph c =
     let l = c.read_graph-got.new.1.1 in
-    sized_in c.got.given.0.0 l.0 l.1.0
+    sized_in c.in-Value.head l.0 l.1.0
 
 pub read_graph-got-requires : goal.read_graph-got-requires
 read_graph-got-requires c = (refl, refl, refl)
 
 pub returns-in_default : goal.returns-in_default
-returns-in_default c =     answers-refused (rw (refused-read _ _ _ _ _ c.read_graph-got.ensures c.enum_told.given.1 c.refusal.ensures))
+returns-in_default c =     answers-refused (rw (refused-read _ _ _ _ _ c.read_graph-got.ensures c.in_default.is c.refusal.ensures))
 
 pub report-requires : goal.report-requires
 report-requires c = (read c).drawn_is
 
 pub returns : goal.returns
 returns c = let k = 
-    let read : FactsRead c.args.bytes.now c.got.given.0.0 c.read_graph-got.new.1.0 c.read_graph-got.new.1.1.0 c.read_graph-got.new.1.1.1.0 = facts-read _ _ _ _ _ c.read_graph-got.ensures c.got.given.1 in
+    let read : FactsRead c.args.bytes.now c.in-Value.head c.read_graph-got.new.1.0 c.read_graph-got.new.1.1.0 c.read_graph-got.new.1.1.1.0 = facts-read _ _ _ _ _ c.read_graph-got.ensures c.in-Value.is in
     c in
     let f = read k in
     answers-items {items = report_of (graph k)} c.report.ensures

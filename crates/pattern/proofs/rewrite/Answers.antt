@@ -8,26 +8,26 @@ use Rattle.pattern.proofs.rewrite.Goals as goal
 -- the facts of the sheet
 read : (c : goal.In-Value)
     → SheetFound c.args.bytes.now
-    c.got.given.0.0
+    c.in-Value.front
     c.read_codes-got.new.1.0 c.read_codes-got.new.1.1.0
     c.read_codes-got.new.1.1.1.0 c.read_codes-got.new.1.1.1.1.0
-read c = sheet-found _ _ _ _ _ _ c.read_codes-got.ensures c.got.given.1
+read c = sheet-found _ _ _ _ _ _ c.read_codes-got.ensures c.in-Value.is
 
 pub read_codes-got-requires : goal.read_codes-got-requires
 read_codes-got-requires c = (refl, refl, refl, refl)
 
 pub returns-in_default : goal.returns-in_default
-returns-in_default c =     answers-refused (rw (refused-sheet _ _ _ _ _ _ c.read_codes-got.ensures c.enum_told.given.1 c.refusal.ensures))
+returns-in_default c =     answers-refused (rw (refused-sheet _ _ _ _ _ _ c.read_codes-got.ensures c.in_default.is c.refusal.ensures))
 
 pub length_before-requires : goal.length_before-requires
 length_before-requires c = (read c).drawn_is.sound.most
 
 pub write_untagged-requires : goal.write_untagged-requires
 write_untagged-requires c = 
-    let read : SheetFound c.args.bytes.now c.got.given.0.0 c.read_codes-got.new.1.0 c.read_codes-got.new.1.1.0 c.read_codes-got.new.1.1.1.0 c.read_codes-got.new.1.1.1.1.0 = sheet-found _ _ _ _ _ _ c.read_codes-got.ensures c.got.given.1 in
+    let read : SheetFound c.args.bytes.now c.in-Value.front c.read_codes-got.new.1.0 c.read_codes-got.new.1.1.0 c.read_codes-got.new.1.1.1.0 c.read_codes-got.new.1.1.1.1.0 = sheet-found _ _ _ _ _ _ c.read_codes-got.ensures c.in-Value.is in
     c.length_before.ensures ∙ before-found read
 
 pub returns : goal.returns
 returns c = 
-    let read : SheetFound c.args.bytes.now c.got.given.0.0 c.read_codes-got.new.1.0 c.read_codes-got.new.1.1.0 c.read_codes-got.new.1.1.1.0 c.read_codes-got.new.1.1.1.1.0 = sheet-found _ _ _ _ _ _ c.read_codes-got.ensures c.got.given.1 in
+    let read : SheetFound c.args.bytes.now c.in-Value.front c.read_codes-got.new.1.0 c.read_codes-got.new.1.1.0 c.read_codes-got.new.1.1.1.0 c.read_codes-got.new.1.1.1.1.0 = sheet-found _ _ _ _ _ _ c.read_codes-got.ensures c.in-Value.is in
     answers-items c.write_untagged.ensures (rw read.reads)

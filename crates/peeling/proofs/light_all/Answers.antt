@@ -7,7 +7,7 @@ use Rattle.peeling.proofs.light_all.Goals as goal
 use Rattle.peeling.proofs.light_all.Goals.{else-without_lowest-eq0, then-without_lowest-eq0}
 
 pub loop-x-init : goal.loop-x-init
-loop-x-init c (omega arith, light-none c.args.near.now (full c.args.n), λ y l z = absurd (omega arith))
+loop-x-init c = (omega arith, light-none c.args.near.now (full c.args.n), λ y l z. absurd (omega arith))
 
 pub offset_bounds-near-i : goal.offset_bounds-near-i
 offset_bounds-near-i c = omega (arith, c.wide-i.ensures)

@@ -9,7 +9,7 @@ use Rattle.peeling.proofs.light_of.Goals as goal
 use Rattle.peeling.proofs.light_of.Goals.{else-without_lowest-eq0, then-without_lowest-eq0}
 
 pub loop-m-init : goal.loop-m-init
-loop-m-init c (c.requires, light-none c.args.near.now c.args.left, λ y o z = absurd (omega (arith, o.0, o.1)))
+loop-m-init c = (c.requires, light-none c.args.near.now c.args.left, λ y o z. absurd (omega (arith, o.0, o.1)))
 
 pub single-bit-requires : goal.single-bit-requires
 single-bit-requires c = c.lowest-x.ensures.0
@@ -32,7 +32,7 @@ overflow_sub-m c = omega (
 pub loop-m-smaller : goal.loop-m-smaller
 loop-m-smaller c = omega (
   arith,
-  sub-m c,
+  overflow_sub-m c,
   c.single-bit.ensures,
   pow_pos c.lowest-x.result,
 )

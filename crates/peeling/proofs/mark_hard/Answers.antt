@@ -29,7 +29,7 @@ pub bounds-start-c : goal.bounds-start-c
 bounds-start-c c =     omega (arith, c.loop-c-test.true, c.loop-c.invariant.0, c.requires.0.few)
 
 pub bounds-needs-c : goal.bounds-needs-c
-bounds-needs-c c = element-copy-out-pair c
+bounds-needs-c c = bounds-start-c c.before.before.before.before
 
 pub drop_pair-left-requires : goal.drop_pair-left-requires
 drop_pair-left-requires c = let s = c in

@@ -10,7 +10,7 @@ use Rattle.peeling.specs.Hard.Laws.{shown-next}
 use Rattle.peeling.proofs.shrink.Goals as goal
 
 pub loop-todo-init : goal.loop-todo-init
-loop-todo-init c (c.requires, λ real s p = (p, s))
+loop-todo-init c = (c.requires, λ real s p. (p, s))
 
 pub single-bit-requires : goal.single-bit-requires
 single-bit-requires c = c.lowest-x.ensures.0

@@ -12,7 +12,7 @@ one_more near n i e z b = record { none = λ x l m. by x l m (ℕ_discrete x i) 
     by x l m (no q) = b.none x (omega (arith, e, q)) m
 
 pub loop-n-init : goal.loop-n-init
-loop-n-init c (omega arith, omega arith, record { none = λ x l m = absurd (omega arith) })
+loop-n-init c = (omega arith, omega arith, record { none = λ x l m. absurd (omega arith) })
 
 pub overflow_sub-n : goal.overflow_sub-n
 overflow_sub-n c = omega (arith, c.loop-n-test.true)

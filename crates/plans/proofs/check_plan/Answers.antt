@@ -32,14 +32,14 @@ module _ (c : tie.After-ascend invariant-loop decreases-loop) where
   none_here : 0 ≡ step_fault turn.loop-at.slots (next turn)
   none_here = sym c.if-rule-ne0.false ∙ fault-is c
 
-  opens : OpenAt (final (take (start turn).args.e (start turn).args.start.now) turn.loop-at.inv.p) (next turn)
-  opens = open-here turn.loop-at.inv none_here
+  opens : OpenAt (final (take (start turn).args.e (start turn).args.start.now) turn.loop-at.invariant.p) (next turn)
+  opens = open-here turn.loop-at.invariant none_here
 
   up : ascending (next turn) ≡ as_merge c.ascend-p.result
   up = sym (c.ascend-p.ensures ∙ ap ascending (named-is c))
 
   few : turn.loop-at.steps < most_steps
-  few = going-fewer turn.loop-at.inv.going opens up
+  few = going-fewer turn.loop-at.invariant.going opens up
 
 pub lay-requires : goal.lay-requires
 lay-requires c = let s = c in (s.requires.0, s.requires.1.slots_blank)
@@ -57,7 +57,7 @@ fault_at-rule-requires c = slots_long c.loop-at.invariant.going.clusters
 pub returns-then-rule-ne0 : goal.returns-then-rule-ne0
 returns-then-rule-ne0 c = let k = here c in
     let t = c.loop-at-test.true in
-    checks k.loop-at.inv (λ fine. refuses k.loop-at.inv (mult k) t (fault-is c) c.if-rule-ne0.true) (λ z. absurd (c.if-rule-ne0.true z))
+    checks k.loop-at.invariant (λ fine. refuses k.loop-at.invariant (mult k) t (fault-is c) c.if-rule-ne0.true) (λ z. absurd (c.if-rule-ne0.true z))
 
 pub step-requires : goal.step-requires
 step-requires c = let a = c in

@@ -49,8 +49,8 @@ returns-in_default c = let r = c in
     let a = (begin r).args in
     rw (
       no-size-by a.j a.k a.map (drop a.c.at a.s.now) (allowed (else1 r)) (differ r)
-          (sym (announced r) ∙ ap (as_size a.s.now) c.enum_told.given.1),
-      c.enum_told.given.1,
+          (sym (announced r) ∙ ap (as_size a.s.now) c.in_default.is),
+      c.in_default.is,
     )
 
 pub pass_tag-requires : goal.pass_tag-requires
@@ -61,5 +61,5 @@ returns c = let z = c in
     let r = z in
     let a = (begin r).args in
     rw (size-by a.j a.k a.map (drop a.c.at a.s.now) (allowed (else1 r)) (differ r)
-    (sym (announced r) ∙ ap (as_size a.s.now) z.sized.given.1))
-    (rw (to_z-of_z {w = w32} {z = z.sized.given.0.0} (search rules)) at c.pass_tag.ensures)
+    (sym (announced r) ∙ ap (as_size a.s.now) z.in-Value.is))
+    (rw (to_z-of_z {w = w32} {z = z.in-Value.z} (search rules)) at c.pass_tag.ensures)

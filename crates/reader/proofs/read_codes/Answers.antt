@@ -15,11 +15,11 @@ module _ (c : tie.After-read-constraints-arg4) where
   begun = c
 
   abbrev head : Front
-  head = c.front.given.0.0
+  head = c.in-Value.h
 
   follows : Follows (read_sheet begun.args.s.now) begun.args.s.now
-      begun.read_front-front.last.1.0 head c.front.given.0.1.0
-  follows = told begun c.front.given.1
+      begun.read_front-front.last.1.0 head c.in-Value.c
+  follows = told begun c.in-Value.is
 
 -- the constraints after it
 module _ (c : tie.After-read-constraints) where
@@ -30,7 +30,7 @@ module _ (c : tie.After-read-constraints) where
   bytes = (begun fronted).args.s.now
 
   read : ListRead (constraints (follows fronted).elements (head fronted).e []
-      (drop fronted.front.given.0.1.0.at bytes)) c.read_constraints-rest.result
+      (drop fronted.in-Value.c.at bytes)) c.read_constraints-rest.result
       c.read_constraints-rest.new.1.1.1.1.1.1.1.0 c.read_constraints-rest.new.1.1.1.1.1.1.1.1.0
       c.read_constraints-rest.new.1.1.1.1.1.1.1.1.1.0
   read =
@@ -56,8 +56,7 @@ read_constraints-rest-requires c = ((follows c).most, omega arith, (follows c).f
 
 pub returns-in_default-rest : goal.returns-in_default-rest
 returns-in_default-rest c = let k = c in
-    let t = c.enum-told3.given in
-    list-refused (follows k) (read k) t.0.0 t.1 ∙ ap refused (sym (c.refusal-in_default-rest.ensures ∙ ap outcome_number t.1))
+    list-refused (follows k) (read k) c.in_default-rest.field-0 c.in_default-rest.is ∙ ap refused (sym (c.refusal-in_default-rest.ensures ∙ ap outcome_number c.in_default-rest.is))
 
 pub returns : goal.returns
-returns c = let k = c in list_read (follows k) (read k) (all k) c.enum-told2.given.1
+returns c = let k = c in list_read (follows k) (read k) (all k) c.in-Accepted.is

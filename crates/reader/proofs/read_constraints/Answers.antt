@@ -44,8 +44,8 @@ from_ends c = c
 
 abbrev rest : tie.After-known-told invariant-loop decreases-loop → List Element → Field Size
 rest c es =
-    dimension (kind_at es c.ends.given.0.0) (kind_at es c.ends.given.0.1.0)
-    (drop c.ends.given.0.1.1.0.at (from_ends c).args.s.now)
+    dimension (kind_at es c.in-Value.a) (kind_at es c.in-Value.b)
+    (drop c.in-Value.c1.at (from_ends c).args.s.now)
 
 -- a size is what was read of it
 module _ (x : Field Size) (s : List ℕ) {r : SizeRead} (reads : as_size s r ≡ code_in x) where
@@ -56,7 +56,7 @@ module _ (x : Field Size) (s : List ℕ) {r : SizeRead} (reads : as_size s r ≡
   as-sized e = sized x (sym reads ∙ ap (as_size s) e)
 
 pub loop-i-init : goal.loop-i-init
-loop-i-init c (c.before.requires.1, λ es done en el n h = record { read = done; count = n; holds = h; left = refl })
+loop-i-init c = (c.requires.1, λ es done en el n h. record { read = done; count = n; holds = h; left = refl })
 
 pub read_ends-ends-requires : goal.read_ends-ends-requires
 read_ends-ends-requires c = c.requires.0
@@ -67,20 +67,19 @@ returns-in_default c =
     λ es done en el n h.
     let a = c in
     let g : Given a = record { es = es; done = done; n_is = en; kinds_in = el; count = n; holds = h } in
-    let t = c.enum_told.given in
-    rw (c.refusal.ensures ∙ ap ends_rule t.1)
+    rw (c.refusal.ensures ∙ ap ends_rule c.in_default.is)
     (stopped (turn a g) c.loop-i-test.true
-    (ends-are g ∙ ap (as_ends es a.args.s.now) t.1))
+    (ends-are g ∙ ap (as_ends es a.args.s.now) c.in_default.is))
 
 pub note_ends-requires : goal.note_ends-requires
 note_ends-requires c = 
-    let below : (c.ends.given.0.0 < c.ends.given.0.1.0) × (c.ends.given.0.1.0 < 64) = λ = let o. c.read_ends-ends.ensures.1.ascend _ _ _ c.ends.given.1 in (o.0, omega (arith, o.1, c.requires.0)) in
+    let below : (c.in-Value.a < c.in-Value.b) × (c.in-Value.b < 64) = λ = let o. c.read_ends-ends.ensures.1.ascend _ _ _ c.in-Value.is in (o.0, omega (arith, o.1, c.requires.0)) in
     let room : (from_ends c).loop.i < 200 = omega (arith, c.loop-i-test.true, (from_ends c).requires.2) in
     let k = c in (room k, (below k).0, (below k).1)
 
 pub read_dimension-sized-requires : goal.read_dimension-sized-requires
 read_dimension-sized-requires c = 
-    let below : (c.ends.given.0.0 < c.ends.given.0.1.0) × (c.ends.given.0.1.0 < 64) = λ = let o. c.read_ends-ends.ensures.1.ascend _ _ _ c.ends.given.1 in (o.0, omega (arith, o.1, c.requires.0)) in
+    let below : (c.in-Value.a < c.in-Value.b) × (c.in-Value.b < 64) = λ = let o. c.read_ends-ends.ensures.1.ascend _ _ _ c.in-Value.is in (o.0, omega (arith, o.1, c.requires.0)) in
     let k = c in (omega (arith, below k), (below k).1)
 
 pub returns-in_default-sized : goal.returns-in_default-sized
@@ -91,11 +90,10 @@ returns-in_default-sized c =
     let a = from_ends k in
     let g : Given a = record { es = es; done = done; n_is = en; kinds_in = el; count = n; holds = h } in
     let s = a.args.s.now in
-    let t = c.enum-told2.given in
-    rw (c.refusal-in_default-sized.ensures ∙ ap size_rule t.1)
+    rw (c.refusal-in_default-sized.ensures ∙ ap size_rule c.in_default-sized.is)
     (stopped (turn a g) k.loop-i-test.true
-    (ends-are k g ∙ ap (as_ends es s) k.ends.given.1
-    ∙ rw (as-refused (rest k es) s (c.read_dimension-sized.ensures es el) t.1)))
+    (ends-are k g ∙ ap (as_ends es s) k.in-Value.is
+    ∙ rw (as-refused (rest k es) s (c.read_dimension-sized.ensures es el) c.in_default-sized.is)))
 
 pub note_code-requires : goal.note_code-requires
 note_code-requires c = 
@@ -121,14 +119,14 @@ loop-i-preserved c = let z =
           let g : Given a = record { es = es; done = done; n_is = en; kinds_in = el; count = n; holds = h } in
           let s = a.args.s.now in
           let d = z.read_dimension-sized in
-          let y = as-sized (rest k es) s (d.ensures es el) z.sized.given.1 in
+          let y = as-sized (rest k es) s (d.ensures es el) z.in-Value-sized.is in
           let this : Constraint =
-          record { first = k.ends.given.0.0; second = k.ends.given.0.1.0; size = y.size } in
-          one_more (turn a g) more (ends-are k g ∙ ap (as_ends es s) k.ends.given.1
-          ∙ ap (between k.ends.given.0.0 k.ends.given.0.1.0) y.was)
+          record { first = k.in-Value.a; second = k.in-Value.b; size = y.size } in
+          one_more (turn a g) more (ends-are k g ∙ ap (as_ends es s) k.in-Value.is
+          ∙ ap (between k.in-Value.a k.in-Value.b) y.was)
           (in-arrays (noted.note_ends.ensures (turn a g).read this (turn a g).count refl refl (ends-in (turn a g).holds))
           (c.note_code.ensures (turn a g).read this (turn a g).count
-          (y.is ∙ sym (to_z-of_z {w = w32} {z = z.sized.given.0.0} (search rules))) (codes-in (turn a g).holds))),
+          (y.is ∙ sym (to_z-of_z {w = w32} {z = z.in-Value-sized.z} (search rules))) (codes-in (turn a g).holds))),
     )
 
 pub returns-then-end-s : goal.returns-then-end-s

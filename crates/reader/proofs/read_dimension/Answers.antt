@@ -12,7 +12,7 @@ returns-in_default c = λ es h.
       dimension-is (kind_at es s.args.a) (kind_at es s.args.b) _,
       ← c.read_byte-third.ensures,
       c.refusal.ensures,
-      c.enum_told.given.1,
+      c.in_default.is,
     )
 
 pub returns : goal.returns
@@ -22,7 +22,7 @@ returns c = λ es h.
     rw (
       dimension-is (kind_at es s.args.a) (kind_at es s.args.b) _,
       ← m.read_byte-third.ensures,
-      m.third.given.1,
+      m.in-Value.is,
       ← kind-in h s.args.a,
       ← kind-in h s.args.b,
       ← c.kind_at-j.ensures,

@@ -9,28 +9,28 @@ use Rattle.reader.proofs.read_ends.Goals as goal
 -- the ends ascend, below n and so below 64
 module _ (c : tie.Else1) where
   ascend : ends_ascend c.args.n
-      c.start.given.0.0 c.end.given.0.0 ≡ true
+      c.in-Value.a c.in-Value-end.b ≡ true
   ascend = sym c.ends_ascend.ensures ∙ not-false c.ends_ascend.result c.if-not-ends_ascend.false
 
-  small : (c.start.given.0.0 < c.end.given.0.0)
-      × (c.end.given.0.0 < 64)
+  small : (c.in-Value.a < c.in-Value-end.b)
+      × (c.in-Value-end.b < 64)
   small =
       let h = ends-true _ _ _ ascend in
       (h.0, omega (arith, h, c.requires))
 
 pub returns-in_default : goal.returns-in_default
 unfolding constraint
-returns-in_default c = record { result_value = λ es cs en h. rw (← c.read_byte-start.ensures, c.refusal.ensures, c.enum_told.given.1); ascending = no-ends }
+returns-in_default c = record { result_value = λ es cs en h. rw (← c.read_byte-start.ensures, c.refusal.ensures, c.in_default.is); ascending = no-ends }
 
 pub returns-in_default-end : goal.returns-in_default-end
 unfolding constraint
 returns-in_default-end c = let k = c in record { result_value = λ es cs en h.
           rw (
             ← k.read_byte-start.ensures,
-            k.start.given.1,
+            k.in-Value.is,
             ← c.read_byte-end.ensures,
             c.refusal-in_default-end.ensures,
-            c.enum-told2.given.1,
+            c.in_default-end.is,
           ); ascending = no-ends }
 
 pub returns-then-not-ends_ascend : goal.returns-then-not-ends_ascend
@@ -39,9 +39,9 @@ returns-then-not-ends_ascend c = let b = c in
     let k = b in record { result_value = λ es cs en h.
           rw (
             ← k.read_byte-start.ensures,
-            k.start.given.1,
+            k.in-Value.is,
             ← b.read_byte-end.ensures,
-            b.end.given.1,
+            b.in-Value-end.is,
             rw en at (sym c.ends_ascend.ensures ∙ not-true c.ends_ascend.result c.if-not-ends_ascend.true),
           ); ascending = no-ends }
 
@@ -54,9 +54,9 @@ returns-then-pair_stands c = let b = c in
     let k = b in record { result_value = λ es cs en h.
           rw (
             ← k.read_byte-start.ensures,
-            k.start.given.1,
+            k.in-Value.is,
             ← b.read_byte-end.ensures,
-            b.end.given.1,
+            b.in-Value-end.is,
             rw en at (ascend c),
             sym (c.pair_stands.ensures cs h) ∙ c.if-pair_stands.true,
           ); ascending = no-ends }
@@ -66,12 +66,12 @@ unfolding constraint
 returns c = let b = c in
     let k = b in
     let n = k.args.n in
-    let o = ends-true n k.start.given.0.0 b.end.given.0.0 (ascend c) in record { result_value = λ es cs en h.
+    let o = ends-true n k.in-Value.a b.in-Value-end.b (ascend c) in record { result_value = λ es cs en h.
           rw (
             ← k.read_byte-start.ensures,
-            k.start.given.1,
+            k.in-Value.is,
             ← b.read_byte-end.ensures,
-            b.end.given.1,
+            b.in-Value-end.is,
             rw en at (ascend c),
             sym (c.pair_stands.ensures cs h) ∙ c.if-pair_stands.false,
-          ); ascending = record { ascend = λ x y d e. let p : k.start.given.0.0 ≡ x = cc in let q : b.end.given.0.0 ≡ y = cc in rw (← p, ← q) o } }
+          ); ascending = record { ascend = λ x y d e. let p : k.in-Value.a ≡ x = cc in let q : b.in-Value-end.b ≡ y = cc in rw (← p, ← q) o } }

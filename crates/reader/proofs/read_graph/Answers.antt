@@ -30,12 +30,12 @@ returns-in_default c = let t = c.enum_told.given in
 
 pub measure-requires : goal.measure-requires
 measure-requires c = let t = told c
-    c.got.given.1 in
+    c.in-Value.is in
     (t.0, _, t.3)
 
 pub returns : goal.returns
 returns c = let r = c in
-    let t = told r c.got.given.1 in (
+    let t = told r c.in-Value.is in (
       t.0,
       t.1,
       t.2,

@@ -28,10 +28,10 @@ returns-in_default c = let t = c.enum_told.given in
     ∙ sym (ap as_reading (told c t.1 ∙ ap refused (sym (c.refusal.ensures ∙ ap codes_rule t.1))))
 
 pub sheet_of-sheet-requires : goal.sheet_of-sheet-requires
-sheet_of-sheet-requires c = let t = told c c.got.given.1 in
+sheet_of-sheet-requires c = let t = told c c.in-Value.is in
     let d = drawn-in t.3 in (d.sound.most, d.few)
 
 pub returns : goal.returns
 returns c = let k = c in
-    let t = told k k.got.given.1 in
+    let t = told k k.in-Value.is in
     rw (t.2, c.sheet_of-sheet.ensures t.0 _ t.3)

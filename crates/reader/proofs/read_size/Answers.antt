@@ -12,15 +12,15 @@ use Rattle.reader.proofs.read_size.Goals as goal
 module _ (c : tie.After-size-in-range) where
   number_is : field 4 (drop c.args.c.at
       c.args.s.now)
-      ≡ value c.number.given.0.0
-      (drop c.number.given.0.1.0.at c.args.s.now)
+      ≡ value c.in-Value.u
+      (drop c.in-Value.after.at c.args.s.now)
   number_is =
       sym c.read_number-number.ensures.0
-      ∙ ap (as_number c.args.s.now) c.number.given.1
+      ∙ ap (as_number c.args.s.now) c.in-Value.is
 
   range : c.size_in_range.result
       ≡ size_in_range c.args.p
-      (signed32 c.number.given.0.0)
+      (signed32 c.in-Value.u)
   range =
       rw (to_z-of_z {w = w32} {z = c.signed-z.result} (search rules), c.signed-z.ensures) at c.size_in_range.ensures
 
@@ -29,11 +29,11 @@ unfolding size
 returns-in_default c =     rw (
       ← c.read_number-number.ensures.0,
       c.refusal.ensures,
-      c.enum_told.given.1,
+      c.in_default.is,
     )
 
 pub signed-z-requires : goal.signed-z-requires
-signed-z-requires c = c.read_number-number.ensures.1.below _ _ c.number.given.1
+signed-z-requires c = c.read_number-number.ensures.1.below _ _ c.in-Value.is
 
 pub returns-then-not-size_in_range : goal.returns-then-not-size_in_range
 unfolding size

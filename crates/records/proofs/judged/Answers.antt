@@ -5,4 +5,4 @@ use Rattle.records.specs.Record.{place_judged}
 use Rattle.records.proofs.judged.Goals as goal
 
 pub returns-in-Refused : goal.returns-in-Refused
-returns-in-Refused c = sym (ap (λ (w : Written). place_judged w c.args.answer) c.written.given.1)
+returns-in-Refused c = sym (ap (λ (w : Written). place_judged w c.args.answer) c.in-Refused.is)

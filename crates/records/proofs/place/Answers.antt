@@ -19,7 +19,7 @@ module _ (c : tie.After-place-next) where
   abbrev start : tie.Start
   start = told
 
-  placed : PlacedIn (read told).facts start.args.c start.args.held told.got.given.0.0 c.place_next-answer.result
+  placed : PlacedIn (read told).facts start.args.c start.args.held told.in-Value.front c.place_next-answer.result
       c.place_next-answer.new.1.0 c.place_next-answer.new.1.1.0 c.place_next-answer.new.1.1.1.0
       told.read-got.last.1.1.1.1.0
   placed = c.place_next-answer.ensures (read told).facts (read told).sheet_in
@@ -35,7 +35,7 @@ module _ (c : tie.After-enum-told2) where
   more-in : SheetIn (extended old (start next).args.c) (with_more (told next).got.given.0.0)
       next.place_next-answer.last.1.0 next.place_next-answer.last.1.1.0 next.place_next-answer.last.1.1.1.0
       (told next).read.last.1.1.1.1.0
-  more-in = (placed next).holds (placed-none _ _ _ (read (told next)).reads (placed next).answer_is c.enum-told2.given.1)
+  more-in = (placed next).holds (placed-none _ _ _ (read (told next)).reads (placed next).answer_is c.in-Is.is)
 
 module _ (c : tie.After-sheet-of) where
   abbrev taken : tie.After-enum-told2
@@ -51,22 +51,22 @@ pub read-got-requires : goal.read-got-requires
 read-got-requires c = (refl, refl, refl, refl)
 
 pub returns-in_default : goal.returns-in_default
-returns-in_default c = placed-unread _ _ _ (read-refused _ _ _ _ c.read-got.ensures c.enum_told.given.1 c.refusal.ensures)
+returns-in_default c = placed-unread _ _ _ (read-refused _ _ _ _ c.read-got.ensures c.in_default.is c.refusal.ensures)
 
 pub place_next-answer-requires : goal.place_next-answer-requires
 place_next-answer-requires c = 
-    let read : FactsIn (record_sheet c.args.lent.now) c.got.given.0.0 c.read-got.new.1.0 c.read-got.new.1.1.0 c.read-got.new.1.1.1.0 c.read-got.new.1.1.1.1.0 = facts-in _ _ _ _ c.read-got.ensures c.got.given.1 in
+    let read : FactsIn (record_sheet c.args.lent.now) c.in-Value.front c.read-got.new.1.0 c.read-got.new.1.1.0 c.read-got.new.1.1.1.0 c.read-got.new.1.1.1.1.0 = facts-in _ _ _ _ c.read-got.ensures c.in-Value.is in
     let f = read in (f.facts, f.sheet_in)
 
 pub returns-in_default-answer : goal.returns-in_default-answer
 returns-in_default-answer c = let k = 
-    let read : FactsIn (record_sheet c.args.lent.now) c.got.given.0.0 c.read-got.new.1.0 c.read-got.new.1.1.0 c.read-got.new.1.1.1.0 c.read-got.new.1.1.1.1.0 = facts-in _ _ _ _ c.read-got.ensures c.got.given.1 in
+    let read : FactsIn (record_sheet c.args.lent.now) c.in-Value.front c.read-got.new.1.0 c.read-got.new.1.1.0 c.read-got.new.1.1.1.0 c.read-got.new.1.1.1.1.0 = facts-in _ _ _ _ c.read-got.ensures c.in-Value.is in
     c in
-    placed-refused _ _ _ (read (told k)).reads (placed k).answer_is c.enum-told3.given.1
+    placed-refused _ _ _ (read (told k)).reads (placed k).answer_is c.in_default-answer.is
 
 pub overflow_add-next : goal.overflow_add-next
 overflow_add-next c = 
-    let read : FactsIn (record_sheet c.args.lent.now) c.got.given.0.0 c.read-got.new.1.0 c.read-got.new.1.1.0 c.read-got.new.1.1.1.0 c.read-got.new.1.1.1.1.0 = facts-in _ _ _ _ c.read-got.ensures c.got.given.1 in
+    let read : FactsIn (record_sheet c.args.lent.now) c.in-Value.front c.read-got.new.1.0 c.read-got.new.1.1.0 c.read-got.new.1.1.1.0 c.read-got.new.1.1.1.1.0 = facts-in _ _ _ _ c.read-got.ensures c.in-Value.is in
     omega (arith, (drawn-in (read (told (next c))).sheet_in).few)
 
 pub sheet_of-more-requires : goal.sheet_of-more-requires
@@ -77,7 +77,7 @@ write-requires c = no_fault c
 
 pub returns : goal.returns
 returns c = let o = 
-    let read : FactsIn (record_sheet c.args.lent.now) c.got.given.0.0 c.read-got.new.1.0 c.read-got.new.1.1.0 c.read-got.new.1.1.1.0 c.read-got.new.1.1.1.1.0 = facts-in _ _ _ _ c.read-got.ensures c.got.given.1 in
+    let read : FactsIn (record_sheet c.args.lent.now) c.in-Value.front c.read-got.new.1.0 c.read-got.new.1.1.0 c.read-got.new.1.1.1.0 c.read-got.new.1.1.1.1.0 = facts-in _ _ _ _ c.read-got.ensures c.in-Value.is in
     c in
     let k = next (taken o) in
     placed-taken _ _ _ (read (told k)).reads (placed k).answer_is (taken o).enum-told2.given.1 (sheet-is o) c.write.ensures

@@ -56,8 +56,8 @@ pub returns-then-room-end : goal.returns-then-room-end
 returns-then-room-end c = record-cut _ (two c) (omega (arith, c.if-room-end.true, count c))
 
 pub returns-in_default : goal.returns-in_default
-returns-in_default c = whole c ∙ ap as27 (told_of c c.enum_told.given.1)
+returns-in_default c = whole c ∙ ap as27 (told_of c c.in_default.is)
 
 pub returns : goal.returns
-returns c =     let (f, rest, q, a) = told_of c c.got.given.1 in
+returns c =     let (f, rest, q, a) = told_of c c.in-Value.is in
     (f, rest, whole c ∙ ap as27 q, a)

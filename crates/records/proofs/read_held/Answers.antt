@@ -12,7 +12,7 @@ use Rattle.records.proofs.read_held.Goals as goal
 
 pub returns-in_default : goal.returns-in_default
 returns-in_default c = let r = c.read-got in
-    let is = c.enum_told.given.1 in
+    let is = c.in_default.is in
     subst (λ (y : CodesRead). SheetRead (held_record c.args.lent.now) y
     r.new.1.0 r.new.1.1.0 r.new.1.1.1.0 r.new.1.1.1.1.0) (sym is)
     (held-unread _ (subst (λ (y : CodesRead). SheetRead (record_sheet c.args.lent.now) y
@@ -20,18 +20,18 @@ returns-in_default c = let r = c.read-got in
 
 pub over_fault-requires : goal.over_fault-requires
 over_fault-requires c = 
-    let read : FactsIn (record_sheet c.args.lent.now) c.got.given.0.0 c.read-got.new.1.0 c.read-got.new.1.1.0 c.read-got.new.1.1.1.0 c.read-got.new.1.1.1.1.0 = facts-in _ _ _ _ c.read-got.ensures c.got.given.1 in
+    let read : FactsIn (record_sheet c.args.lent.now) c.in-Value.front c.read-got.new.1.0 c.read-got.new.1.1.0 c.read-got.new.1.1.1.0 c.read-got.new.1.1.1.1.0 = facts-in _ _ _ _ c.read-got.ensures c.in-Value.is in
     rw c.head_of.ensures (drawn-in read.sheet_in)
 
 pub returns-then-over_fault-ne0 : goal.returns-then-over_fault-ne0
 returns-then-over_fault-ne0 c = 
-    let read : FactsIn (record_sheet c.args.lent.now) c.got.given.0.0 c.read-got.new.1.0 c.read-got.new.1.1.0 c.read-got.new.1.1.1.0 c.read-got.new.1.1.1.1.0 = facts-in _ _ _ _ c.read-got.ensures c.got.given.1 in
+    let read : FactsIn (record_sheet c.args.lent.now) c.in-Value.front c.read-got.new.1.0 c.read-got.new.1.1.0 c.read-got.new.1.1.1.0 c.read-got.new.1.1.1.1.0 = facts-in _ _ _ _ c.read-got.ensures c.in-Value.is in
     let over-is : c.over_fault.result ≡ over_fault (graph_of (read c).facts) = λ = let k. c in let f = read k in c.over_fault.ensures ∙ ap (λ (h : Head). over_fault (graph_in h k.read-got.new.1.1.0)) c.head_of.ensures ∙ ap over_fault (graph_is f.sheet_in) in
     held-over _ read.reads (λ e. c.if-over_fault-ne0.true (over-is ∙ e))
 
 pub returns : goal.returns
 returns c = let f = 
-    let read : FactsIn (record_sheet c.args.lent.now) c.got.given.0.0 c.read-got.new.1.0 c.read-got.new.1.1.0 c.read-got.new.1.1.1.0 c.read-got.new.1.1.1.1.0 = facts-in _ _ _ _ c.read-got.ensures c.got.given.1 in
+    let read : FactsIn (record_sheet c.args.lent.now) c.in-Value.front c.read-got.new.1.0 c.read-got.new.1.1.0 c.read-got.new.1.1.1.0 c.read-got.new.1.1.1.1.0 = facts-in _ _ _ _ c.read-got.ensures c.in-Value.is in
     let over-is : c.over_fault.result ≡ over_fault (graph_of (read c).facts) = λ = let k. c in let f = read k in c.over_fault.ensures ∙ ap (λ (h : Head). over_fault (graph_in h k.read-got.new.1.1.0)) c.head_of.ensures ∙ ap over_fault (graph_is f.sheet_in) in
     read in
     (f.facts, _, held-value _ f.reads (sym over-is ∙ c.if-over_fault-ne0.false), f.sheet_in)

@@ -25,11 +25,11 @@ read_held-got-requires c = (refl, refl, refl, refl)
 
 pub returns-in_default : goal.returns-in_default
 returns-in_default c =     answers-refused
-    (sheet-refused _ (read-refused _ _ _ _ c.read_held-got.ensures c.enum_told.given.1 c.refusal.ensures))
+    (sheet-refused _ (read-refused _ _ _ _ c.read_held-got.ensures c.in_default.is c.refusal.ensures))
 
 pub sheet_of-held-requires : goal.sheet_of-held-requires
 sheet_of-held-requires c = 
-    let read : FactsIn (held_record c.args.lent.now) c.got.given.0.0 c.read_held-got.new.1.0 c.read_held-got.new.1.1.0 c.read_held-got.new.1.1.1.0 c.read_held-got.new.1.1.1.1.0 = facts-in _ _ _ _ c.read_held-got.ensures c.got.given.1 in
+    let read : FactsIn (held_record c.args.lent.now) c.in-Value.front c.read_held-got.new.1.0 c.read_held-got.new.1.1.0 c.read_held-got.new.1.1.1.0 c.read_held-got.new.1.1.1.1.0 = facts-in _ _ _ _ c.read_held-got.ensures c.in-Value.is in
     let d = drawn-in read.sheet_in in (d.sound.most, d.few)
 
 pub write_accepted-requires : goal.write_accepted-requires
@@ -37,6 +37,6 @@ write_accepted-requires c = no_fault c
 
 pub returns : goal.returns
 returns c = let o = 
-    let read : FactsIn (held_record c.args.lent.now) c.got.given.0.0 c.read_held-got.new.1.0 c.read_held-got.new.1.1.0 c.read_held-got.new.1.1.1.0 c.read_held-got.new.1.1.1.1.0 = facts-in _ _ _ _ c.read_held-got.ensures c.got.given.1 in
+    let read : FactsIn (held_record c.args.lent.now) c.in-Value.front c.read_held-got.new.1.0 c.read_held-got.new.1.1.0 c.read_held-got.new.1.1.1.0 c.read_held-got.new.1.1.1.1.0 = facts-in _ _ _ _ c.read_held-got.ensures c.in-Value.is in
     c in
     answers-items c.write_accepted.ensures (sheet-value _ (read (told o)).reads (sheet-is o))

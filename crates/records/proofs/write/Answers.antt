@@ -12,18 +12,18 @@ returns-then-out-lt2 c = let f = facts_of c.args.s in
 
 pub returns-in_default : goal.returns-in_default
 returns-in_default c = let a = c.args in
-    record-refused (facts_of a.s) a.out.now c.if-out-lt2.false c.write_accepted-written.ensures c.enum_told.given.1
+    record-refused (facts_of a.s) a.out.now c.if-out-lt2.false c.write_accepted-written.ensures c.in_default.is
 
 pub overflow_add-result : goal.overflow_add-result
 overflow_add-result c = let s = c in
     omega (
       arith,
-      record-counted s.args.s s.requires s.args.out.now c.write_accepted-written.ensures c.written.given.1,
+      record-counted s.args.s s.requires s.args.out.now c.write_accepted-written.ensures c.in-Done.is,
       c.put_byte-front.ensures.next_is,
       c.put_byte-second.ensures.next_is,
     )
 
 pub returns : goal.returns
 returns c = let a = c.args in
-    record-done (facts_of a.s) a.out.now c.if-out-lt2.false c.write_accepted-written.ensures c.written.given.1
+    record-done (facts_of a.s) a.out.now c.if-out-lt2.false c.write_accepted-written.ensures c.in-Done.is
     c.put_byte-second.ensures c.put_byte-front.ensures

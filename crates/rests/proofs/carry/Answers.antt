@@ -30,8 +30,8 @@ module _ (c : tie.After-place-of3 invariant-loop decreases-loop) where
 
   used : (start.args.e + at.loop-t.t < 192) × (c.place_of-i.result < 192) × (c.place_of-j.result < 192)
       × (c.place_of-k.result < 192)
-  used = in_use going c.place_of-i.ensures c.place_of-j.ensures c.place_of-k.ensures start.pre.0
-      start.pre.1 start.pre.2
+  used = in_use going c.place_of-i.ensures c.place_of-j.ensures c.place_of-k.ensures start.requires.0
+      start.requires.1 start.requires.2
 
   one_more : (w : ℕ) {words next : List ℕ}
       → next ≡ set words (start.args.e + at.loop-t.t) (get_or words c.place_of-i.result 0

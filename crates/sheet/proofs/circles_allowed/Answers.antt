@@ -6,7 +6,7 @@ use Rattle.sheet.proofs.circles_allowed.Goals as goal
 
 pub returns-in-Pf01 : goal.returns-in-Pf01
 returns-in-Pf01 c = λ es e.
-    ap (λ m. eqb m 0) e ∙ straight-allowed es ∙ sym (ap (λ o. kinds_allowed o es) c.enum_told.given.1)
+    ap (λ m. eqb m 0) e ∙ straight-allowed es ∙ sym (ap (λ o. kinds_allowed o es) c.in-Pf01.is)
 
 pub returns-in-Pf02 : goal.returns-in-Pf02
-returns-in-Pf02 c λ es e. sym (ap (λ o = kinds_allowed o es) c.enum-told2.given.1 ∙ all-allowed es)
+returns-in-Pf02 c = λ es e. sym (ap (λ o. kinds_allowed o es) c.in-Pf02.is ∙ all-allowed es)

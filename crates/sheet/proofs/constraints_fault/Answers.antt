@@ -25,30 +25,30 @@ module _ (c : tie.After-constraint-fault invariant-loop decreases-loop) where
   start = at_loop
 
   abbrev this : Constraint
-  this = get_or start.args.t1 at_loop.loop-i.i zeros
+  this = get_or start.args.cs at_loop.loop-i.i zeros
 
   fault : (es : List Element) → start.args.n ≡ length es → KindsIn es start.args.kinds start.args.radii.now
-      → c.constraint_fault-k.result ≡ constraint_fault es (take at_loop.loop-i.i start.args.t1) this
-  fault es p q = c.constraint_fault-k.ensures es _ p q at_loop.loop-i.inv.1
+      → c.constraint_fault-k.result ≡ constraint_fault es (take at_loop.loop-i.i start.args.cs) this
+  fault es p q = c.constraint_fault-k.ensures es _ p q at_loop.loop-i.invariant.1
 
   -- the ends of one that has none ascend, below 64
   below : c.constraint_fault-k.result ≡ 0 → (this.first < this.second) × (this.second < 64)
   unfolding constraint_fault
   below e =
-      let k = start.pre.2 in
+      let k = start.requires.2 in
       let h = ends-true _ _ _ (unless-none (ends_ascend (length k.0) this.first this.second) 5 _ (sym (fault k.0 k.1 k.2) ∙ e)).0 in
-      (h.0, omega (arith, h, start.pre.1, k.1))
+      (h.0, omega (arith, h, start.requires.1, k.1))
 
 pub loop-i-init : goal.loop-i-init
-loop-i-init c (search rules, noted-none, λ es p q = refl)
+loop-i-init c = (search rules, noted-none, λ es p q. refl)
 
 pub returns-then-k-ne0 : goal.returns-then-k-ne0
 returns-then-k-ne0 c = 
-    let room : c.args.e ≤ length c.args.t1 = let l : length c.args.t1 ≡ 200 = search rules in rw l c.requires.0 in
+    let room : c.args.e ≤ length c.args.cs = let l : length c.args.cs ≡ 200 = search rules in rw l c.requires.0 in
     λ es p q.
     let f = c in
     let a = (at_loop f).loop in
-    sym (a.inv.2 es p q ∙ faults-turn es _ _ _ (room (start f)) zeros f.loop-i-test.true
+    sym (a.invariant.2 es p q ∙ faults-turn es _ _ _ (room (start f)) zeros f.loop-i-test.true
     ∙ rw (← fault f es p q) (or_else_some _ _ c.if-k-ne0.true))
 
 pub note_pair-requires : goal.note_pair-requires
@@ -56,7 +56,7 @@ note_pair-requires c = below c c.if-k-ne0.false
 
 pub loop-i-preserved : goal.loop-i-preserved
 loop-i-preserved c = let f = 
-    let room : c.args.e ≤ length c.args.t1 = let l : length c.args.t1 ≡ 200 = search rules in rw l c.requires.0 in
+    let room : c.args.e ≤ length c.args.cs = let l : length c.args.cs ≡ 200 = search rules in rw l c.requires.0 in
     c in
     let a = (at_loop f).loop in
     let s = (start f).args in
@@ -64,15 +64,15 @@ loop-i-preserved c = let f =
     let h = f.loop-i-test.true in
     let i : a.i < length cs = omega (arith, room (start f)) in (
       omega arith,
-      rw (add-one, take-suc cs a.i zeros i) (c.note_pair.ensures (take a.i cs) (get_or cs a.i zeros) refl refl a.inv.1),
-      λ es p q. a.inv.2 es p q ∙ faults-turn es cs s.e a.i (room (start f)) zeros h
+      rw (add-one, take-suc cs a.i zeros i) (c.note_pair.ensures (take a.i cs) (get_or cs a.i zeros) refl refl a.invariant.1),
+      λ es p q. a.invariant.2 es p q ∙ faults-turn es cs s.e a.i (room (start f)) zeros h
           ∙ ap (λ (k : ℕ). or_else k (constraints_fault es (take (a.i + 1) cs) (drop (a.i + 1) (take s.e cs))))
           (sym (fault f es p q) ∙ c.if-k-ne0.false),
     )
 
 pub returns : goal.returns
 returns c = 
-    let room : c.args.e ≤ length c.args.t1 = let l : length c.args.t1 ≡ 200 = search rules in rw l c.requires.0 in
+    let room : c.args.e ≤ length c.args.cs = let l : length c.args.cs ≡ 200 = search rules in rw l c.requires.0 in
     λ es p q.
     let a = c.loop-i in
     sym (a.invariant.2 es p q ∙ faults-spent es _ _ _ room _ c.loop-i-test.false)

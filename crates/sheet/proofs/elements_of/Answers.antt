@@ -15,7 +15,7 @@ module _ (elements es : List Element) (i : ℕ) (room : i < length elements) (be
   one_more e = rw (add-one, take-suc-set elements i (get_or es i blank_element) room, take-suc es i blank_element below, e)
 
 pub loop-i-init : goal.loop-i-init
-loop-i-init c (search rules, refl, λ es l ks = refl, refl)
+loop-i-init c = (search rules, refl, λ es l ks. refl, refl)
 
 pub overflow_cast-i : goal.overflow_cast-i
 overflow_cast-i c = omega arith

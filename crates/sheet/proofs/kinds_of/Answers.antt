@@ -10,8 +10,8 @@ use Rattle.sheet.specs.Facts.Laws.{turn, spent, set_of-below}
 use Rattle.sheet.proofs.kinds_of.Goals as goal
 use Rattle.sheet.proofs.kinds_of.Invariants.{RadiiFrom}
 
-room : (c : goal.Start) → c.args.n ≤ length c.args.t1
-room c = let l : length c.args.t1 ≡ 64 = search rules in rw l c.requires.0
+room : (c : goal.Start) → c.args.n ≤ length c.args.elements
+room c = let l : length c.args.elements ≡ 64 = search rules in rw l c.requires.0
 
 bit_le : (b : Bool) → bit_of b ≤ 1
 bit_le true = omega arith
@@ -53,47 +53,47 @@ none_from es n radii long k from e =
 
 pub loop-i-init : goal.loop-i-init
 unfolding set_of
-loop-i-init c = let s = spent c.args.t1 c.args.n c.args.n (omega arith) (room c) in (
+loop-i-init c = let s = spent c.args.elements c.args.n c.args.n (omega arith) (room c) in (
       omega arith,
       sym (ap (set_of is_line) s),
       sym (ap (set_of is_circle) s),
       c.requires.1,
-      none_from (take c.args.n c.args.t1) c.args.n c.args.radii.now
-          (omega (arith, length-take-le c.args.n c.args.t1 (room c))),
+      none_from (take c.args.n c.args.elements) c.args.n c.args.radii.now
+          (omega (arith, length-take-le c.args.n c.args.elements (room c))),
     )
 
 pub overflow_mul-lines : goal.overflow_mul-lines
 overflow_mul-lines c = 
-    let room : c.args.n ≤ length c.args.t1 = let l : length c.args.t1 ≡ 64 = search rules in rw l c.requires.0 in
-    let fits : (is : Kind → Bool) → 2 * set_of is (drop c.loop-i.i (take c.args.n c.args.t1)) + 1 < 2 ^ 64 = λ is = let s. c in small s.args.t1 s.args.n c.loop-i.i c.loop-i-test.true c.loop-i.invariant.0 (room s) s.requires.0 is in
+    let room : c.args.n ≤ length c.args.elements = let l : length c.args.elements ≡ 64 = search rules in rw l c.requires.0 in
+    let fits : (is : Kind → Bool) → 2 * set_of is (drop c.loop-i.i (take c.args.n c.args.elements)) + 1 < 2 ^ 64 = λ is = let s. c in small s.args.elements s.args.n c.loop-i.i c.loop-i-test.true c.loop-i.invariant.0 (room s) s.requires.0 is in
     omega (arith, fits is_line, c.loop-i.invariant.1)
 
 pub overflow_add-lines : goal.overflow_add-lines
 overflow_add-lines c = let t = 
-    let room : c.args.n ≤ length c.args.t1 = let l : length c.args.t1 ≡ 64 = search rules in rw l c.requires.0 in
-    let fits : (is : Kind → Bool) → 2 * set_of is (drop c.loop-i.i (take c.args.n c.args.t1)) + 1 < 2 ^ 64 = λ is = let s. c in small s.args.t1 s.args.n c.loop-i.i c.loop-i-test.true c.loop-i.invariant.0 (room s) s.requires.0 is in
+    let room : c.args.n ≤ length c.args.elements = let l : length c.args.elements ≡ 64 = search rules in rw l c.requires.0 in
+    let fits : (is : Kind → Bool) → 2 * set_of is (drop c.loop-i.i (take c.args.n c.args.elements)) + 1 < 2 ^ 64 = λ is = let s. c in small s.args.elements s.args.n c.loop-i.i c.loop-i-test.true c.loop-i.invariant.0 (room s) s.requires.0 is in
     c in
     omega (arith, fits t is_line, t.loop-i.invariant.1, c.bit_of.ensures, bit_le c.is_a_line.result)
 
 pub overflow_mul-circles : goal.overflow_mul-circles
 overflow_mul-circles c = 
-    let room : c.args.n ≤ length c.args.t1 = let l : length c.args.t1 ≡ 64 = search rules in rw l c.requires.0 in
-    let fits : (is : Kind → Bool) → 2 * set_of is (drop c.loop-i.i (take c.args.n c.args.t1)) + 1 < 2 ^ 64 = λ is = let s. c in small s.args.t1 s.args.n c.loop-i.i c.loop-i-test.true c.loop-i.invariant.0 (room s) s.requires.0 is in
+    let room : c.args.n ≤ length c.args.elements = let l : length c.args.elements ≡ 64 = search rules in rw l c.requires.0 in
+    let fits : (is : Kind → Bool) → 2 * set_of is (drop c.loop-i.i (take c.args.n c.args.elements)) + 1 < 2 ^ 64 = λ is = let s. c in small s.args.elements s.args.n c.loop-i.i c.loop-i-test.true c.loop-i.invariant.0 (room s) s.requires.0 is in
     let t = c in omega (arith, fits t is_circle, t.loop-i.invariant.2)
 
 pub overflow_add-circles : goal.overflow_add-circles
 overflow_add-circles c = let t = 
-    let room : c.args.n ≤ length c.args.t1 = let l : length c.args.t1 ≡ 64 = search rules in rw l c.requires.0 in
-    let fits : (is : Kind → Bool) → 2 * set_of is (drop c.loop-i.i (take c.args.n c.args.t1)) + 1 < 2 ^ 64 = λ is = let s. c in small s.args.t1 s.args.n c.loop-i.i c.loop-i-test.true c.loop-i.invariant.0 (room s) s.requires.0 is in
+    let room : c.args.n ≤ length c.args.elements = let l : length c.args.elements ≡ 64 = search rules in rw l c.requires.0 in
+    let fits : (is : Kind → Bool) → 2 * set_of is (drop c.loop-i.i (take c.args.n c.args.elements)) + 1 < 2 ^ 64 = λ is = let s. c in small s.args.elements s.args.n c.loop-i.i c.loop-i-test.true c.loop-i.invariant.0 (room s) s.requires.0 is in
     c in
     omega (arith, fits t is_circle, t.loop-i.invariant.2, c.bit_of-in-loop-i.ensures, bit_le c.is_circle.result)
 
 pub loop-i-preserved : goal.loop-i-preserved
 loop-i-preserved c = let a = 
-    let room : c.args.n ≤ length c.args.t1 = let l : length c.args.t1 ≡ 64 = search rules in rw l c.requires.0 in
+    let room : c.args.n ≤ length c.args.elements = let l : length c.args.elements ≡ 64 = search rules in rw l c.requires.0 in
     c.loop-i in
     let s = c in
-    let l = s.args.t1 in
+    let l = s.args.elements in
     let n = s.args.n in
     let t = c.loop-i-test.true in (
       omega arith,

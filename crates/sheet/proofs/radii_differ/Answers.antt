@@ -5,4 +5,4 @@ use Rattle.sheet.proofs.radii_differ.Goals as goal
 
 pub returns-in-OtherTangent : goal.returns-in-OtherTangent
 returns-in-OtherTangent c = let a = c.args in
-    ap not c.same_radii.ensures ∙ sym (ap (radii_differ a.j a.k) c.enum-told4.given.1)
+    ap not c.same_radii.ensures ∙ sym (ap (radii_differ a.j a.k) c.in-OtherTangent.is)

@@ -11,13 +11,13 @@ loop-i-init c = (search rules, refl)
 
 pub returns-then-not-radius_in_range : goal.returns-then-not-radius_in_range
 returns-then-not-radius_in_range c = let t = 
-    let room : c.args.n ≤ length c.args.t1 = let l : length c.args.t1 ≡ 64 = search rules in rw l c.requires in
+    let room : c.args.n ≤ length c.args.elements = let l : length c.args.elements ≡ 64 = search rules in rw l c.requires in
     c in
     let a = t.loop-i in
     let s = t in
     rw (
       a.invariant.1,
-      radii-turn s.args.t1 s.args.n a.i blank_element (room s) t.loop-i-test.true,
+      radii-turn s.args.elements s.args.n a.i blank_element (room s) t.loop-i-test.true,
       sym c.is_circle.ensures ∙ c.if-is_circle.true,
       ← c.radius_of.ensures,
       sym c.radius_in_range.ensures ∙ not-true _ c.if-not-radius_in_range.true,
@@ -31,19 +31,19 @@ loop-i-smaller c = omega arith
 
 pub loop-i-preserved : goal.loop-i-preserved
 loop-i-preserved c = let t = 
-    let room : c.args.n ≤ length c.args.t1 = let l : length c.args.t1 ≡ 64 = search rules in rw l c.requires in
+    let room : c.args.n ≤ length c.args.elements = let l : length c.args.elements ≡ 64 = search rules in rw l c.requires in
     c in
     let a = t.loop-i in
     let s = t in
     let k = c.is_circle.ensures in (
       omega arith,
-      a.invariant.1 ∙ radii-turn s.args.t1 s.args.n a.i blank_element (room s) t.loop-i-test.true
+      a.invariant.1 ∙ radii-turn s.args.elements s.args.n a.i blank_element (room s) t.loop-i-test.true
           ∙ elim c.if-is_circle.branch [ then-is_circle w ↦ rw (sym k ∙ w.if-is_circle.true, ← w.1.ensures, sym w.2.ensures ∙ not-false _ w.3.left) | else-is_circle w ↦ rw (sym k ∙ w.left) ],
     )
 
 pub returns : goal.returns
 returns c = let a = 
-    let room : c.args.n ≤ length c.args.t1 = let l : length c.args.t1 ≡ 64 = search rules in rw l c.requires in
+    let room : c.args.n ≤ length c.args.elements = let l : length c.args.elements ≡ 64 = search rules in rw l c.requires in
     c.loop-i in
     let s = c in
-    sym (a.invariant.1 ∙ radii-spent s.args.t1 s.args.n a.i blank_element (room s) c.loop-i-test.false)
+    sym (a.invariant.1 ∙ radii-spent s.args.elements s.args.n a.i blank_element (room s) c.loop-i-test.false)

@@ -10,28 +10,28 @@ by z p = size_in_range p z
 
 pub returns-in-Points : goal.returns-in-Points
 returns-in-Points c = let s = c in
-    (rw (to_z-of_z s.ranges.z) at c.within.ensures) ∙ sym (ap (by s.args.z) c.enum_told.given.1)
+    (rw (to_z-of_z s.ranges.z) at c.within.ensures) ∙ sym (ap (by s.args.z) c.in-Points.is)
 
 pub returns-then-within : goal.returns-then-within
 returns-then-within c = let s = c in
-    rw (ap (by s.args.z) c.enum-told2.given.1, sym (rw (to_z-of_z s.ranges.z) at c.within-in-PointLine.ensures) ∙ c.if-within.true)
+    rw (ap (by s.args.z) c.in-PointLine.is, sym (rw (to_z-of_z s.ranges.z) at c.within-in-PointLine.ensures) ∙ c.if-within.true)
 
 pub returns-else-within : goal.returns-else-within
 returns-else-within c = let s = c in
     rw (
-      ap (by s.args.z) c.enum-told2.given.1,
+      ap (by s.args.z) c.in-PointLine.is,
       sym (rw (to_z-of_z s.ranges.z) at c.within-in-PointLine.ensures) ∙ c.if-within.false,
     )
     (rw (to_z-of_z s.ranges.z) at c.within-else-within.ensures)
 
 pub returns-then-within-2 : goal.returns-then-within-2
 returns-then-within-2 c = let s = c in
-    rw (ap (by s.args.z) c.enum-told3.given.1, sym (rw (to_z-of_z s.ranges.z) at c.within-in-Lines.ensures) ∙ c.if-within-2.true)
+    rw (ap (by s.args.z) c.in-Lines.is, sym (rw (to_z-of_z s.ranges.z) at c.within-in-Lines.ensures) ∙ c.if-within-2.true)
 
 pub returns-else-within-2 : goal.returns-else-within-2
 returns-else-within-2 c = let s = c in
     rw (
-      ap (by s.args.z) c.enum-told3.given.1,
+      ap (by s.args.z) c.in-Lines.is,
       sym (rw (to_z-of_z s.ranges.z) at c.within-in-Lines.ensures) ∙ c.if-within-2.false,
     )
     (rw (to_z-of_z s.ranges.z) at c.within-else-within-2.ensures)

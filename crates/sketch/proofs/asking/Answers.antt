@@ -10,7 +10,7 @@ use Rattle.sketch.specs.Placing.Laws.{place-asked}
 use Rattle.sketch.proofs.asking.Goals as goal
 
 pub returns-then-sheet_fault-ne0 : goal.returns-then-sheet_fault-ne0
-returns-then-sheet_fault-ne0 c sym (ask-unsound _ _ (λ e = c.if-sheet_fault-ne0.true (c.sheet_fault.ensures ∙ e)))
+returns-then-sheet_fault-ne0 c = sym (ask-unsound _ _ (λ e. c.if-sheet_fault-ne0.true (c.sheet_fault.ensures ∙ e)))
 
 pub fill-front-requires : goal.fill-front-requires
 fill-front-requires c = (sym c.sheet_fault.ensures ∙ c.if-sheet_fault-ne0.false, refl, refl, refl, refl)

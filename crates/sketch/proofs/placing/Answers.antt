@@ -35,7 +35,7 @@ module _ (c : tie.After-enum-told) where
   judged = c
 
   none : place_rule (start judged).args.s (start judged).args.c (start judged).args.held ≡ 0
-  none = is-placed (start judged).args.s _ _ (sym (answered judged) ∙ c.enum_told.given.1)
+  none = is-placed (start judged).args.s _ _ (sym (answered judged) ∙ c.in-Is.is)
 
   long : length (start judged).args.s.constraints ≡ 200
   long = sym (length-map (start judged).args.s.constraints _) ∙ (start judged).good.0.1.1.1.1.1.1.0.1.0.1
@@ -67,7 +67,7 @@ place_next-answer-requires c = (_, c.fill-front.ensures)
 pub returns-in_default : goal.returns-in_default
 returns-in_default c = let k = c in
     let a = (start k).args in
-    both (answered k) (sym (not-placed a.s a.c a.held (sym (answered k) ∙ c.enum-told2.given.1)))
+    both (answered k) (sym (not-placed a.s a.c a.held (sym (answered k) ∙ c.in_default.is)))
 
 pub store-sketch-requires : goal.store-sketch-requires
 store-sketch-requires c = room c

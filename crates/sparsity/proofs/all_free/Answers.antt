@@ -27,4 +27,4 @@ loop-x-preserved c = let l = c.loop-x in (
 )
 
 pub returns : goal.returns
-returns c let l = c.before.loop in subst (λ (n : ℕ) = FreeBelow n l.own) (omega arith) l.invariant.1
+returns c = let l = c.loop-x in subst (λ (n : ℕ). FreeBelow n l.own) (omega arith) l.invariant.1

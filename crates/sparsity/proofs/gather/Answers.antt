@@ -13,7 +13,7 @@ pub loop-t-init : goal.loop-t-init
 loop-t-init c = let s = c in (again-refl s.args.a s.args.b s.requires.0, s.requires.4)
 
 pub offset_bounds-t-i : goal.offset_bounds-t-i
-offset_bounds-t-i c = omega (arith, index-1-free-of c)
+offset_bounds-t-i c = omega (arith, bounds-t-i c)
 
 pub bounds-t-i : goal.bounds-t-i
 bounds-t-i c = omega (arith, c.wide-i.ensures, c.requires.1)
@@ -22,16 +22,16 @@ pub bounds-t-0 : goal.bounds-t-0
 bounds-t-0 c = omega arith
 
 pub offset_bounds-t-i-in-loop-t : goal.offset_bounds-t-i-in-loop-t
-offset_bounds-t-i-in-loop-t c = mul-free-of c
+offset_bounds-t-i-in-loop-t c = offset_bounds-t-i c.before
 
 pub bounds-t-i-in-loop-t : goal.bounds-t-i-in-loop-t
-bounds-t-i-in-loop-t c = index-1-free-of c
+bounds-t-i-in-loop-t c = bounds-t-i c.before
 
 pub bounds-t-1 : goal.bounds-t-1
 bounds-t-1 c = omega arith
 
 pub offset_bounds-t-j : goal.offset_bounds-t-j
-offset_bounds-t-j c = omega (arith, index-1-free-of-3 c)
+offset_bounds-t-j c = omega (arith, bounds-t-j c)
 
 pub bounds-t-j : goal.bounds-t-j
 bounds-t-j c = omega (arith, c.wide-j.ensures, c.requires.2)
@@ -40,10 +40,10 @@ pub bounds-t-0-in-loop-t : goal.bounds-t-0-in-loop-t
 bounds-t-0-in-loop-t c = omega arith
 
 pub offset_bounds-t-j-in-loop-t : goal.offset_bounds-t-j-in-loop-t
-offset_bounds-t-j-in-loop-t c = mul-free-of-3 c
+offset_bounds-t-j-in-loop-t c = offset_bounds-t-j c.before
 
 pub bounds-t-j-in-loop-t : goal.bounds-t-j-in-loop-t
-bounds-t-j-in-loop-t c = index-1-free-of-3 c
+bounds-t-j-in-loop-t c = bounds-t-j c.before
 
 pub bounds-t-1-in-loop-t : goal.bounds-t-1-in-loop-t
 bounds-t-1-in-loop-t c = omega arith
@@ -101,7 +101,7 @@ pub bounds-queue-to : goal.bounds-queue-to
 bounds-queue-to c = let w = c.loop-to.invariant in omega (arith, w.1.inside, w.0.room)
 
 pub offset_bounds-t-x : goal.offset_bounds-t-x
-offset_bounds-t-x c = omega (arith, index-1-one-if-same c)
+offset_bounds-t-x c = omega (arith, bounds-t-x c)
 
 pub bounds-t-x : goal.bounds-t-x
 bounds-t-x c = let w = c.loop-to.invariant in
@@ -112,7 +112,7 @@ pub bounds-t-1-in-loop-to : goal.bounds-t-1-in-loop-to
 bounds-t-1-in-loop-to c = omega arith
 
 pub offset_bounds-t-y : goal.offset_bounds-t-y
-offset_bounds-t-y c = omega (arith, index-1-one-if-same-2 c)
+offset_bounds-t-y c = omega (arith, bounds-t-y c)
 
 pub bounds-t-y : goal.bounds-t-y
 bounds-t-y c = let w = c.loop-to.invariant in
@@ -122,7 +122,7 @@ pub bounds-t-1-in-loop-to-2 : goal.bounds-t-1-in-loop-to-2
 bounds-t-1-in-loop-to-2 c = omega arith
 
 pub offset_bounds-t-x-in-loop-to : goal.offset_bounds-t-x-in-loop-to
-offset_bounds-t-x-in-loop-to c = omega (arith, index-1-t c)
+offset_bounds-t-x-in-loop-to c = omega (arith, bounds-t-x-in-loop-to c)
 
 pub bounds-t-x-in-loop-to : goal.bounds-t-x-in-loop-to
 bounds-t-x-in-loop-to c = let w = c.loop-to.invariant in
@@ -132,7 +132,7 @@ pub bounds-t-s : goal.bounds-t-s
 bounds-t-s c = omega (arith, same_bit _ _ _ c.one_if_same-s.ensures)
 
 pub offset_bounds-t-y-in-loop-to : goal.offset_bounds-t-y-in-loop-to
-offset_bounds-t-y-in-loop-to c = omega (arith, index-1-t-2 c)
+offset_bounds-t-y-in-loop-to c = omega (arith, bounds-t-y-in-loop-to c)
 
 pub bounds-t-y-in-loop-to : goal.bounds-t-y-in-loop-to
 bounds-t-y-in-loop-to c = let w = c.loop-to.invariant in

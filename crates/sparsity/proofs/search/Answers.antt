@@ -27,7 +27,7 @@ module _ (c : tie.In-loop invariant-loop decreases-loop) where
   uses = c.loop-c.invariant.1
 
   noted : Noted (take begin.args.e begin.args.start.now) number 1 (get_or begin.args.rules.now number 0)
-  noted = begin.pre.2 number below
+  noted = begin.requires.2 number below
 
 -- what is known of its ends, once all numbers are read
 module _ (c : tie.After-wide3 invariant-loop decreases-loop) where
@@ -84,8 +84,8 @@ pub loop-c-preserved-then-pair-core : goal.loop-c-preserved-then-pair-core
 loop-c-preserved-then-pair-core c = let w = c in
     let s = begin w in (
       omega (arith, below w),
-      rw add-one (using-skip s.pre.1 (number w) (in_list s.pre.0 (below w))
-          (told-out (standing-item s.pre.0 (number w) (below w)) c.if-pair-core.true) (uses w)),
+      rw add-one (using-skip s.requires.1 (number w) (in_list s.requires.0 (below w))
+          (told-out (standing-item s.requires.0 (number w) (below w)) c.if-pair-core.true) (uses w)),
       w.loop-c.invariant.2,
     )
 
@@ -143,18 +143,18 @@ pub gather-t-requires : goal.gather-t-requires
 gather-t-requires c = let q = read c in
     let l = (taken q).loop in
     let b = (ends q).other-end.ensures in
-    (l.inv.1.table, low q, b.0, b.2, l.inv.2)
+    (l.invariant.1.table, low q, b.0, b.2, l.invariant.2)
 
 pub returns-then-over-ne0 : goal.returns-then-over-ne0
 returns-then-over-ne0 c = let q = read c in
     let w = taken q in
     let s = begin w in
     let a = (ends q).lowest.ensures in
-    let i = told_in (standing-item s.pre.0 (number w) (below w)) (within q) in
+    let i = told_in (standing-item s.requires.0 (number w) (below w)) (within q) in
     λ n below-n.
-    answer-first s.pre.0.simple n below-n
-    (first-at s.pre.1 (number w) (in_list s.pre.0 (below w))
-    (ends_at s.pre.0 (below w) refl (a.0, a.1) (ends q).other-end.ensures) i (uses w) (need-noted q) c.gather-t.ensures.0
+    answer-first s.requires.0.simple n below-n
+    (first-at s.requires.1 (number w) (in_list s.requires.0 (below w))
+    (ends_at s.requires.0 (below w) refl (a.0, a.1) (ends q).other-end.ensures) i (uses w) (need-noted q) c.gather-t.ensures.0
     c.if-over-ne0.true)
 
 pub offset_bounds-own-i-in-loop-c-2 : goal.offset_bounds-own-i-in-loop-c-2
@@ -204,13 +204,13 @@ pub loop-c-smaller : goal.loop-c-smaller
 loop-c-smaller c = omega (arith, below (taken (kept c)))
 
 pub loop-c-preserved : goal.loop-c-preserved
-loop-c-preserved c = let q = kept c in let w = taken q in let s = begin w in let lc = in_list s.pre.0 (below w) in
+loop-c-preserved c = let q = kept c in let w = taken q in let s = begin w in let lc = in_list s.requires.0 (below w) in
     let cs = take s.args.e s.args.start.now in
     let u = s.args.core in
     let a = (ends q).lowest in
     let b = (ends q).other-end in
-    let pair = ends_at s.pre.0 (below w) refl (a.ensures.0, a.ensures.1) b.ensures in
-    let i = told_in (standing-item s.pre.0 (number w) (below w)) (within q) in
+    let pair = ends_at s.requires.0 (below w) refl (a.ensures.0, a.ensures.1) b.ensures in
+    let i = told_in (standing-item s.requires.0 (number w) (below w)) (within q) in
     let need = q.wide-need.result in
     let v = c.if-free_of-need in
     let free = c in
@@ -218,7 +218,7 @@ loop-c-preserved c = let q = kept c in let w = taken q in let s = begin w in let
     let y = q.wide-j.ensures in
     let k : Ready (take (number w) cs) u need a.result b.result v.own =
     ⊎_elim
-    (λ o. subst (Ready (take (number w) cs) u need a.result b.result) (sym o.6) (ready-gathered s.pre.1 (number w) lc pair i (uses w)
+    (λ o. subst (Ready (take (number w) cs) u need a.result b.result) (sym o.6) (ready-gathered s.requires.1 (number w) lc pair i (uses w)
     o.4.ensures.0 o.5.left))
     (λ o. subst (Ready (take (number w) cs) u need a.result b.result) (sym o.1)
     (ready-now (uses w) x y free.Free-of.ensures.0 free.free_of-in-loop-c.ensures.0 (omega (arith, o.0.left))))
@@ -226,8 +226,8 @@ loop-c-preserved c = let q = kept c in let w = taken q in let s = begin w in let
     let p = c.place-k.ensures.0 v.own (ap (λ (x : ℕ). entry v.own x 0) (sym x)) (ap (λ (x : ℕ). entry v.own x 1) (sym x))
     (ap (λ (x : ℕ). entry v.own x 0) (sym y)) (ready-some (need-noted q) k) in (
       omega (arith, below w),
-      rw add-one (using-next s.pre.1 (number w) lc pair i k (need-noted q) p),
-      ⊎_elim (λ o. lent_by o.7 o.8 o.4.ensures.1) (λ o. lent_by o.2 o.3 w.loop-c.inv.2) v.branch,
+      rw add-one (using-next s.requires.1 (number w) lc pair i k (need-noted q) p),
+      ⊎_elim (λ o. lent_by o.7 o.8 o.4.ensures.1) (λ o. lent_by o.2 o.3 w.loop-c.invariant.2) v.branch,
     )
 
 pub returns : goal.returns

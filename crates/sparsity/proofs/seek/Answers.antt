@@ -14,10 +14,10 @@ bounds-queue-1 c = omega arith
 
 pub loop-p-init : goal.loop-p-init
 loop-p-init c = let s = c in (
-  begun-with s.args.t1 s.args.a s.args.b s.requires.1 s.requires.2 s.requires.3 s.requires.4 c.single.result
+  begun-with s.args.own s.args.a s.args.b s.requires.1 s.requires.2 s.requires.3 s.requires.4 c.single.result
       c.single-2.result c.single.ensures c.single-2.ensures,
-  scanned-none s.args.t1 _ _,
-  shut-two s.args.t1 _,
+  scanned-none s.args.own _ _,
+  shut-two s.args.own _,
   omega arith,
 )
 
@@ -25,7 +25,7 @@ pub bounds-queue-p : goal.bounds-queue-p
 bounds-queue-p c = omega (arith, reached-most c.loop-p.invariant.0)
 
 pub offset_bounds-own-i : goal.offset_bounds-own-i
-offset_bounds-own-i c = omega (arith, index-1-y c)
+offset_bounds-own-i c = omega (arith, bounds-own-i c)
 
 pub bounds-own-i : goal.bounds-own-i
 bounds-own-i c = let s = c in
@@ -36,10 +36,10 @@ pub bounds-own-0 : goal.bounds-own-0
 bounds-own-0 c = omega arith
 
 pub offset_bounds-own-i-in-loop-p : goal.offset_bounds-own-i-in-loop-p
-offset_bounds-own-i-in-loop-p c = omega (arith, index-1-y c)
+offset_bounds-own-i-in-loop-p c = omega (arith, bounds-own-i c.before.before)
 
 pub bounds-own-i-in-loop-p : goal.bounds-own-i-in-loop-p
-bounds-own-i-in-loop-p c = index-1-y c
+bounds-own-i-in-loop-p c = bounds-own-i c.before.before
 
 pub bounds-own-1 : goal.bounds-own-1
 bounds-own-1 c = omega arith
@@ -59,7 +59,7 @@ visit-g-requires c = let s = c in
     (scan-low s.requires.0 l.invariant.0 l.p h e 0 (zero-lt-suc 1), l.invariant.0.size)
 
 pub offset_bounds-own-j : goal.offset_bounds-own-j
-offset_bounds-own-j c = omega (arith, index-1-opens c)
+offset_bounds-own-j c = omega (arith, bounds-own-j c)
 
 pub bounds-own-j : goal.bounds-own-j
 bounds-own-j c = let s = c in
@@ -72,10 +72,10 @@ pub bounds-own-0-in-loop-p : goal.bounds-own-0-in-loop-p
 bounds-own-0-in-loop-p c = omega arith
 
 pub offset_bounds-own-j-in-loop-p : goal.offset_bounds-own-j-in-loop-p
-offset_bounds-own-j-in-loop-p c = omega (arith, index-1-opens c)
+offset_bounds-own-j-in-loop-p c = omega (arith, bounds-own-j c.before)
 
 pub bounds-own-j-in-loop-p : goal.bounds-own-j-in-loop-p
-bounds-own-j-in-loop-p c = index-1-opens c
+bounds-own-j-in-loop-p c = bounds-own-j c.before
 
 pub bounds-own-1-in-loop-p : goal.bounds-own-1-in-loop-p
 bounds-own-1-in-loop-p c = omega arith
@@ -85,8 +85,8 @@ returns-then-opens-ne0 c = let s = c in
     let l = c.loop-p in
     let h = c.loop-p-test.true in
     let e = c.wide-i.ensures in
-    found-first-visit s.pre.0 l.invariant.0 l.p h e c.visit-g.ensures
-    (opens-some s.args.t1 c.wide-j.ensures c.opens.ensures c.if-opens-ne0.true)
+    found-first-visit s.requires.0 l.invariant.0 l.p h e c.visit-g.ensures
+    (opens-some s.args.own c.wide-j.ensures c.opens.ensures c.if-opens-ne0.true)
 
 pub overflow_cast-p-in-loop-p : goal.overflow_cast-p-in-loop-p
 overflow_cast-p-in-loop-p c = omega (
@@ -100,28 +100,28 @@ visit-h-requires c = let s = c in
     let l = c.loop-p in
     let h = c.loop-p-test.true in
     let e = c.wide-i.ensures in (
-      scan-low s.pre.0 l.invariant.0 l.p h e 1 (le_refl 2),
-      mid-size s.pre.0 l.invariant.0 l.p h e c.visit-g.ensures,
+      scan-low s.requires.0 l.invariant.0 l.p h e 1 (le_refl 2),
+      mid-size s.requires.0 l.invariant.0 l.p h e c.visit-g.ensures,
     )
 
 pub offset_bounds-own-k : goal.offset_bounds-own-k
-offset_bounds-own-k c = omega (arith, index-1-opens-3 c)
+offset_bounds-own-k c = omega (arith, bounds-own-k c)
 
 pub bounds-own-k : goal.bounds-own-k
 bounds-own-k c = let s = c in
     let l = c.loop-p in
     let h = c.loop-p-test.true in
     let e = c.wide-i.ensures in
-    omega (arith, c.wide-k.ensures, scan-low s.pre.0 l.inv.0 l.p h e 1 (le_refl 2))
+    omega (arith, c.wide-k.ensures, scan-low s.requires.0 l.invariant.0 l.p h e 1 (le_refl 2))
 
 pub bounds-own-0-else-opens-ne0 : goal.bounds-own-0-else-opens-ne0
 bounds-own-0-else-opens-ne0 c = omega arith
 
 pub offset_bounds-own-k-in-loop-p : goal.offset_bounds-own-k-in-loop-p
-offset_bounds-own-k-in-loop-p c = omega (arith, index-1-opens-3 c)
+offset_bounds-own-k-in-loop-p c = omega (arith, bounds-own-k c.before)
 
 pub bounds-own-k-else-opens-ne0 : goal.bounds-own-k-else-opens-ne0
-bounds-own-k-else-opens-ne0 c = index-1-opens-3 c
+bounds-own-k-else-opens-ne0 c = bounds-own-k c.before
 
 pub bounds-own-1-else-opens-ne0 : goal.bounds-own-1-else-opens-ne0
 bounds-own-1-else-opens-ne0 c = omega arith
@@ -131,8 +131,8 @@ returns-then-opens-ne0-2 c = let s = c in
     let l = c.loop-p in
     let h = c.loop-p-test.true in
     let e = c.wide-i.ensures in
-    found-second-visit s.pre.0 l.inv.0 l.p h e c.visit-g.ensures c.visit-h.ensures
-    (opens-some s.args.t1 c.wide-k.ensures c.opens-in-loop-p.ensures c.if-opens-ne0-2.true)
+    found-second-visit s.requires.0 l.invariant.0 l.p h e c.visit-g.ensures c.visit-h.ensures
+    (opens-some s.args.own c.wide-k.ensures c.opens-in-loop-p.ensures c.if-opens-ne0-2.true)
 
 pub overflow_add-p : goal.overflow_add-p
 overflow_add-p c = omega (
@@ -155,12 +155,12 @@ loop-p-preserved c = let s = c in
     let e = c.wide-i.ensures in
     let one = c.visit-g.ensures in
     let two = c.visit-h.ensures in (
-      scan-reached s.pre.0 l.inv.0 l.p h e one two,
-      scan-next s.pre.0 l.inv.0 l.p h e one two l.inv.1,
-      scan-shut s.pre.0 l.inv.0 l.p h e one two l.inv.2
-          (opens-none s.args.t1 c.wide-j.ensures c.opens.ensures c.if-opens-ne0.false)
-          (opens-none s.args.t1 c.wide-k.ensures c.opens-in-loop-p.ensures c.if-opens-ne0-2.false),
-      scan-below s.pre.0 l.inv.0 l.p h e one two,
+      scan-reached s.requires.0 l.invariant.0 l.p h e one two,
+      scan-next s.requires.0 l.invariant.0 l.p h e one two l.invariant.1,
+      scan-shut s.requires.0 l.invariant.0 l.p h e one two l.invariant.2
+          (opens-none s.args.own c.wide-j.ensures c.opens.ensures c.if-opens-ne0.false)
+          (opens-none s.args.own c.wide-k.ensures c.opens-in-loop-p.ensures c.if-opens-ne0-2.false),
+      scan-below s.requires.0 l.invariant.0 l.p h e one two,
     )
 
 pub returns : goal.returns

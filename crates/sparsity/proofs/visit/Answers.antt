@@ -21,7 +21,7 @@ bounds-from-k c = let s = c in
     (misses-at s.args.y s.args.f.seen c.single-bit.result c.single-bit.ensures c.if-f-bit-ne0.false)
 
 pub overflow_add-result : goal.overflow_add-result
-overflow_add-result c = omega (arith, element-write-queue c)
+overflow_add-result c = omega (arith, bounds-from-k c.before)
 
 pub returns : goal.returns
 unfolding ◌∪◌

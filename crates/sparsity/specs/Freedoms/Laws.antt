@@ -1,7 +1,7 @@
 -- What the table of freedoms says of a set, and the table at the start. Assumes nothing.
 use Rattle.theory.specs.Prelude.{◌≡◌, refl, sym, ap, ◌∙◌, subst, ◌≢◌, ◌⊎◌, inl, inr, List, [], ◌∷◌, ℕ, zero, suc, ◌+◌, ◌*◌, ◌^◌, ◌≤◌, ◌<◌}
 use Rattle.theory.specs.Prelude.{zero-add, zero-lt-suc, not-suc-le-zero, le_of_suc-le-suc, le_refl, arith, ℕ_discrete, ones, length, get_or, set}
-use Rattle.theory.specs.Prelude.{length-set, replicate, length-replicate, get_d_replicate, get_or-set_same, get_or-set_other}
+use Rattle.theory.specs.Prelude.{length-set, replicate, length-replicate, get_or-replicate, get_or-set_same, get_or-set_other}
 use Rattle.theory.specs.Set.{◌∈◌, at}
 use Rattle.theory.specs.Set.Laws.{at-le, bit}
 use Rattle.theory.specs.Constraints.{carried}
@@ -64,7 +64,7 @@ module _ (own : List (List ℕ)) (a : ℕ) (la : a < 2 ^ 64) where
 pub free-none : FreeBelow 0 (replicate 64 (replicate 2 0))
 free-none = record {
   rows = length-replicate {A = List ℕ} 64 (replicate 2 0);
-  two = λ x l. ap length (get_d_replicate 64 x (replicate 2 0) [] l);
+  two = λ x l. ap length (get_or-replicate 64 x (replicate 2 0) [] l);
   own_free = λ x s l h. absurd (not-suc-le-zero l);
 }
 

@@ -26,10 +26,10 @@ module _ (c : tie.Else1) where
       run_in j.result.steps l.1.0 l.1.1.0 l.0
 
   found : PlanFound (graph start).graph c.judge_on-found.ensures
-  found = found-plan _ _ start.pre.sound (λ v. c.if-number-eq0.false (c.number.ensures ∙ v))
+  found = found-plan _ _ start.requires.sound (λ v. c.if-number-eq0.false (c.number.ensures ∙ v))
 
   abbrev merged : Merged (graph start).graph.clusters run
-  merged = plan_merged (graph start).graph start.pre.sound {run = run} found.run_is
+  merged = plan_merged (graph start).graph start.requires.sound {run = run} found.run_is
 
 pub judge_on-found-requires : goal.judge_on-found-requires
 judge_on-found-requires c = (c.requires, record { slots_blank = refl; parts_blank = refl; joints_blank = refl })
@@ -43,7 +43,7 @@ returns-then-number-eq0 c = let j = c in
 pub steps_of-steps-requires : goal.steps_of-steps-requires
 steps_of-steps-requires c = let k = c in
     let s = start k in
-    let few = room s.args.h s.args.start.now s.pre.sound (counted s.pre) (found k).not_over
+    let few = room s.args.h s.args.start.now s.requires.sound (counted s.requires) (found k).not_over
     {run = run k} (merged k) in
     (few.1, few.3)
 
@@ -52,5 +52,5 @@ unfolding plan_steps
 returns c = let k = c in
     let s = start k in
     as-listed
-    (listed-are s.args.h s.args.start.now s.args.sizes.now s.pre.sound (counted s.pre)
+    (listed-are s.args.h s.args.start.now s.args.sizes.now s.requires.sound (counted s.requires)
     (found k).not_over {run = run k} (merged k) c.steps_of-steps.ensures) (rule-none _ (found k).none)

@@ -10,7 +10,7 @@ overflow_mul-count c = omega (arith, c.at_most_62-count.ensures)
 pub returns-then-out-count : goal.returns-then-out-count
 returns-then-out-count c = 
     let long : length c.args.f.list ≡ 62 = sym (length-map c.args.f.list (T.the_type).to) ∙ c.well-formed.0.1.1.1.0.1.0.1 in
-    numbers-short _ long _ c.answer.given.1
+    numbers-short _ long _ c.in-Done.is
     c.at_most_62-count.ensures c.if-out-count.true
 
 pub put_records-next-requires : goal.put_records-next-requires
@@ -20,6 +20,6 @@ pub returns : goal.returns
 returns c = let k = 
     let long : length c.args.f.list ≡ 62 = sym (length-map c.args.f.list (T.the_type).to) ∙ c.well-formed.0.1.1.1.0.1.0.1 in
     c in
-    numbers-put _ (long k) _ k.answer.given.1
+    numbers-put _ (long k) _ k.in-Done.is
     k.at_most_62-count.ensures k.if-out-count.false
     c.put_records-next.ensures

@@ -25,8 +25,8 @@ bounds-f-i c = omega arith
 pub put_record-next-requires : goal.put_record-next-requires
 put_record-next-requires c = let s = c in
     let l = c.loop-i in
-    let xs = take s.args.count s.args.t2.list in
-    omega (arith, place puts l.invariant.1, length-numbers xs, length-take s.args.count s.args.t2.list, s.requires)
+    let xs = take s.args.count s.args.f.list in
+    omega (arith, place puts l.invariant.1, length-numbers xs, length-take s.args.count s.args.f.list, s.requires)
 
 pub overflow_add-i : goal.overflow_add-i
 overflow_add-i c = omega arith
@@ -36,11 +36,11 @@ loop-i-smaller c = omega arith
 
 pub loop-i-preserved : goal.loop-i-preserved
 loop-i-preserved c = let s = 
-    let long : c.args.count ≤ length c.args.t2.list = omega (arith, length-map c.args.t2.list (T.the_type).to, c.well-formed.1.0.1.1.1.0.1.0.1, c.requires) in
+    let long : c.args.count ≤ length c.args.f.list = omega (arith, length-map c.args.f.list (T.the_type).to, c.well-formed.1.0.1.1.1.0.1.0.1, c.requires) in
     c in
     let l = c.loop-i in (
       omega arith,
-      put_next puts (numbers-next s.args.t2.list s.args.count l.i _ (long s) c.loop-i-test.true)
+      put_next puts (numbers-next s.args.f.list s.args.count l.i _ (long s) c.loop-i-test.true)
           l.invariant.1
           c.put_record-next.ensures,
     )
@@ -50,4 +50,4 @@ shape_of-out c = (returns c).length_is
 
 pub returns : goal.returns
 returns c = let a = c.args in
-    put_last puts (numbers-none a.t2.list a.count c.loop-i.i c.loop-i-test.false) c.loop-i.invariant.1
+    put_last puts (numbers-none a.f.list a.count c.loop-i.i c.loop-i-test.false) c.loop-i.invariant.1

@@ -51,7 +51,7 @@ steps_of-steps-requires c = let asked = c in
     let none = c.if-rule-ne0.false in
     let s = start asked in
     let k = asked.check_saved-checked.ensures in
-    let few = room s.args.h s.args.start.now s.pre.sound (counted s.pre) (k.not_over none)
+    let few = room s.args.h s.args.start.now s.requires.sound (counted s.requires) (k.not_over none)
     {run = run asked} (k.merged none) in
     (few.1, few.3)
 
@@ -61,6 +61,6 @@ returns c = let asked = c in
     let s = start asked in
     let k = asked.check_saved-checked.ensures in
     as-listed
-    (listed-are s.args.h s.args.start.now s.args.sizes.now s.pre.sound (counted s.pre)
+    (listed-are s.args.h s.args.start.now s.args.sizes.now s.requires.sound (counted s.requires)
     (k.not_over none) {run = run asked} (k.merged none) c.steps_of-steps.ensures)
     (field_is (graph asked) s.args.plan.now k none)

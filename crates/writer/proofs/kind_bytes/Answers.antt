@@ -5,7 +5,7 @@ use Rattle.sheet.specs.Field.{kind_bytes}
 use Rattle.writer.proofs.kind_bytes.Goals as goal
 
 pub returns-in-Pf01 : goal.returns-in-Pf01
-returns-in-Pf01 c sym (ap (λ (o : Opening) = kind_bytes o c.args.n) c.enum_told.given.1)
+returns-in-Pf01 c = sym (ap (λ (o : Opening). kind_bytes o c.args.n) c.in-Pf01.is)
 
 pub returns-in-Pf02 : goal.returns-in-Pf02
-returns-in-Pf02 c sym (ap (λ (o : Opening) = kind_bytes o c.args.n) c.enum-told2.given.1)
+returns-in-Pf02 c = sym (ap (λ (o : Opening). kind_bytes o c.args.n) c.in-Pf02.is)

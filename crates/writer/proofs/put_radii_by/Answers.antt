@@ -5,4 +5,4 @@ use Rattle.writer.proofs.Spread.{no-radii}
 use Rattle.writer.proofs.put_radii_by.Goals as goal
 
 pub returns-in-Pf01 : goal.returns-in-Pf01
-returns-in-Pf01 c =     put_as (sym (no-radii _ (rw c.enum_told.given.1 at c.requires.2))) (put-none _ _)
+returns-in-Pf01 c =     put_as (sym (no-radii _ (rw c.in-Pf01.is at c.requires.2))) (put-none _ _)

@@ -5,10 +5,10 @@ use Rattle.space.specs.Space.Laws.{put-none}
 use Rattle.writer.proofs.put_radius.Goals as goal
 
 pub returns-in-Point : goal.returns-in-Point
-returns-in-Point c = rw (ap radius_bytes c.enum_told.given.1) (put-none _ _)
+returns-in-Point c = rw (ap radius_bytes c.in-Point.is) (put-none _ _)
 
 pub returns-in-Line : goal.returns-in-Line
-returns-in-Line c = rw (ap radius_bytes c.enum-told2.given.1) (put-none _ _)
+returns-in-Line c = rw (ap radius_bytes c.in-Line.is) (put-none _ _)
 
 pub returns-in-Circle : goal.returns-in-Circle
 returns-in-Circle c = let told = c.k.given in

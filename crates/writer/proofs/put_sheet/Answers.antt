@@ -16,13 +16,13 @@ module _ (n : tie.After-put-front invariant-loop decreases-loop) where
 
   few : n.put_front-a1.result ≤ 277
   few =
-      let s = start.args.t2 in
-      let h : length (take s.n s.elements) ≤ 64 = omega (arith, length-take s.n s.elements, start.pre.0) in
-      omega (arith, n.put_front-a1.ensures.next_is, front_length s.opening (take s.n s.elements) s.n start.pre.0 h)
+      let s = start.args.s in
+      let h : length (take s.n s.elements) ≤ 64 = omega (arith, length-take s.n s.elements, start.requires.0) in
+      omega (arith, n.put_front-a1.ensures.next_is, front_length s.opening (take s.n s.elements) s.n start.requires.0 h)
 
 -- the lengths of the blocks
-long-elements : (c : goal.Start) → length c.args.t2.elements ≡ 64
-long-elements c = sym (length-map c.args.t2.elements _) ∙ c.well-formed.1.0.1.1.1.1.1.0.1.0.1
+long-elements : (c : goal.Start) → length c.args.s.elements ≡ 64
+long-elements c = sym (length-map c.args.s.elements _) ∙ c.well-formed.1.0.1.1.1.1.1.0.1.0.1
 
 -- the place after the last constraint
 abbrev from_end : tie.After-loop invariant-loop decreases-loop → tie.After-put-front invariant-loop decreases-loop
@@ -34,12 +34,12 @@ all c =
     let n = from_end c in
     let s = start n in
     let a = c.loop-i in
-    let last : a.i ≡ s.args.t2.e = omega arith in
-    let n_is : length (take s.args.t2.n s.args.t2.elements) ≡ s.args.t2.n =
-    length-take-le _ _ (omega (arith, long-elements s, s.pre.0)) in
-    let e-is : length (take s.args.t2.e s.args.t2.constraints) ≡ s.args.t2.e =
-    length-take-le _ _ (omega (arith, long-constraints s, s.pre.1)) in
-    sheet-put (facts_of s.args.t2) s.args.t2.n s.args.t2.e n_is e-is n.put_front-a1.ensures
+    let last : a.i ≡ s.args.s.e = omega arith in
+    let n_is : length (take s.args.s.n s.args.s.elements) ≡ s.args.s.n =
+    length-take-le _ _ (omega (arith, long-elements s, s.requires.0)) in
+    let e-is : length (take s.args.s.e s.args.s.constraints) ≡ s.args.s.e =
+    length-take-le _ _ (omega (arith, long-constraints s, s.requires.1)) in
+    sheet-put (facts_of s.args.s) s.args.s.n s.args.s.e n_is e-is n.put_front-a1.ensures
     c.put_byte-at.ensures (rw last at a.invariant.1)
 
 pub put_front-a1-requires : goal.put_front-a1-requires
@@ -54,13 +54,13 @@ loop-i-init c = (search rules, put-none _ _)
 
 pub put_constraint-at-requires : goal.put_constraint-at-requires
 put_constraint-at-requires c = let a = 
-    let long-constraints : length c.args.t2.constraints ≡ 200 = sym (length-map c.args.t2.constraints _) ∙ c.well-formed.1.0.1.1.1.1.1.1.0.1.0.1 in
+    let long-constraints : length c.args.s.constraints ≡ 200 = sym (length-map c.args.s.constraints _) ∙ c.well-formed.1.0.1.1.1.1.1.1.0.1.0.1 in
     c.loop-i in
     let b = c in
     let n = b in
     let s = start n in
-    let cs = s.args.t2.constraints in
-    let short : a.i ≤ length cs = omega (arith, long-constraints s, s.pre.1, c.loop-i-test.true) in
+    let cs = s.args.s.constraints in
+    let short : a.i ≤ length cs = omega (arith, long-constraints s, s.requires.1, c.loop-i-test.true) in
     omega (
       arith,
       few n,
@@ -68,17 +68,17 @@ put_constraint-at-requires c = let a =
       a.invariant.1.next_is,
       constraints-length (take a.i cs),
       length-take-le a.i cs short,
-      s.pre.1,
+      s.requires.1,
     )
 
 pub loop-i-preserved : goal.loop-i-preserved
 loop-i-preserved c = let a = 
-    let long-constraints : length c.args.t2.constraints ≡ 200 = sym (length-map c.args.t2.constraints _) ∙ c.well-formed.1.0.1.1.1.1.1.1.0.1.0.1 in
+    let long-constraints : length c.args.s.constraints ≡ 200 = sym (length-map c.args.s.constraints _) ∙ c.well-formed.1.0.1.1.1.1.1.1.0.1.0.1 in
     c.loop-i in
     let s = start c in
-    let h : a.i + 1 ≤ length s.args.t2.constraints =
-    omega (arith, long-constraints s, s.pre.1, c.loop-i-test.true) in
-    (omega arith, put_as (sym (constraints-more s.args.t2.constraints a.i _ h)) (a.invariant.1 then c.put_constraint-at.ensures))
+    let h : a.i + 1 ≤ length s.args.s.constraints =
+    omega (arith, long-constraints s, s.requires.1, c.loop-i-test.true) in
+    (omega arith, put_as (sym (constraints-more s.args.s.constraints a.i _ h)) (a.invariant.1 then c.put_constraint-at.ensures))
 
 pub shape_of-out : goal.shape_of-out
 shape_of-out c = (all c).length_is

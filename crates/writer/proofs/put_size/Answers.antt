@@ -13,16 +13,16 @@ returns-in-Given c = let told = c.size.given in
 
 pub returns-in-Missing : goal.returns-in-Missing
 unfolding size_bytes
-returns-in-Missing c = rw (ap size_bytes c.enum_told.given.1) (put-none _ _)
+returns-in-Missing c = rw (ap size_bytes c.in-Missing.is) (put-none _ _)
 
 pub returns-in-Tangent : goal.returns-in-Tangent
 unfolding size_bytes
-returns-in-Tangent c = rw (ap size_bytes c.enum-told2.given.1) (put-none _ _)
+returns-in-Tangent c = rw (ap size_bytes c.in-Tangent.is) (put-none _ _)
 
 pub returns-in-OtherTangent : goal.returns-in-OtherTangent
 unfolding size_bytes
-returns-in-OtherTangent c = rw (ap size_bytes c.enum-told3.given.1) (put-none _ _)
+returns-in-OtherTangent c = rw (ap size_bytes c.in-OtherTangent.is) (put-none _ _)
 
 pub returns-in-Unfit : goal.returns-in-Unfit
 unfolding size_bytes
-returns-in-Unfit c = rw (ap size_bytes c.enum-told4.given.1) (put-none _ _)
+returns-in-Unfit c = rw (ap size_bytes c.in-Unfit.is) (put-none _ _)

@@ -9,6 +9,6 @@ returns c = let least =     c.least-last.ensures in
     let s =
     c
     in
-    put_as (rw (least, cut-least s.args.s.now (s.args.at + 3) s.args.size (omega (arith, s.pre.2))) (rw append_assoc))
+    put_as (rw (least, cut-least s.args.s.now (s.args.at + 3) s.args.size (omega (arith, s.requires.2))) (rw append_assoc))
     (c.put_text-a1.ensures
     then c.put_byte-a2.ensures then c.put_text.ensures)

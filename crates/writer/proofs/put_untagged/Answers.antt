@@ -11,7 +11,7 @@ overflow_sub-head c = omega (arith, c.requires, before-some c.args.s.now)
 
 pub loop-i-init : goal.loop-i-init
 loop-i-init c = let s = c in
-    rw s.requires (walk_none s.args.out.now s.args.s.now (c.shared-slice-known.given 4).fits)
+    rw s.requires (walk_none s.args.out.now s.args.s.now (c.type_inv.s 4).fits)
 
 pub put_text-requires : goal.put_text-requires
 put_text-requires c =     rw (take_rest c.args.s.now

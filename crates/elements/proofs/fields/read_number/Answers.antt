@@ -25,7 +25,7 @@ byte-below : (c : goal.After-wide) → c.wide.result < 256
 byte-below c =
     omega (
       arith,
-      c.shared-slice-known2.given
+      c.type_inv.s
           (c.args.c.at + (c.loop-i.i - 1)),
     )
 
