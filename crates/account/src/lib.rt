@@ -1,5 +1,8 @@
 // The report of a constraint graph in lent arrays: for the engine's plan, and for a saved plan that is accepted; its final clusters, and what they rest
 // on. Contracts cite specs/Account.antt and specs/Resting.antt.
+
+#![tactic(auto)]
+
 ghost use Rattle.std.specs.Prelude.{◌≡◌, [], ◌∷◌, ◌+◌, ◌≤◌, ◌<◌, ◌^◌, length, take};
 ghost use Rattle.theory.specs.Constraints.{NotOver};
 ghost use Rattle.graph.specs.Lent.{graph_in, sized_in, Sound, Drawn};

@@ -2,6 +2,9 @@
 // the lent space: a report's as text, other bytes in hexadecimal. A line has the letter of an entry point, the room lent,
 // a list of 16-bit numbers and a list of bytes, in hexadecimal, lowest byte first, with one space between. Where the text
 // starts with the line "2", the answers go to standard error.
+
+#![tactic(auto)]
+
 mod lent;
 mod said;
 mod text;

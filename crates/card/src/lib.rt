@@ -1,4 +1,7 @@
 // The card of five points: the verdict of every set of distances among them. Document 02, 2026-10. Contracts cite specs/Card.antt.
+
+#![tactic(auto)]
+
 ghost use Rattle.std.specs.Prelude.{◌≡◌, ◌<◌, ◌%◌, T};
 ghost use Rattle.theory.specs.declared.Verdict.{Verdict};
 ghost use Rattle.card.specs.Card.{set_verdict, initial, all_right};

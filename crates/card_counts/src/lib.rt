@@ -1,4 +1,7 @@
 // How many sets of distances among two to five points have each verdict. Document 02, 2026-10. Contracts cite specs/Counts.antt.
+
+#![tactic(auto)]
+
 ghost use Rattle.std.specs.Prelude.{◌≡◌};
 ghost use Rattle.card_counts.specs.Counts.{counts_lines};
 

@@ -2,6 +2,9 @@
 // by layer, the clusters whose shared set (2026-09) with what was reached is not empty; then from the start the lowest
 // cluster of each layer.
 // Contracts cite specs/Layers.antt and specs/Answer.antt.
+
+#![tactic(auto)]
+
 ghost use Rattle.std.specs.Prelude.{◌≡◌, ◌^◌, ◌≤◌, ◌<◌, length};
 ghost use Rattle.std.proofs.lemmas.List.Edits.{sets};
 ghost use Rattle.sheet.specs.Graph.{over_fault};

@@ -1,4 +1,7 @@
 // What the programs share: reading the input, printing an answer, and the numbers of a saved plan.
+
+#![tactic(auto)]
+
 ghost use Rattle.std.specs.Prelude.{◌≡◌, ◌+◌, ◌*◌, ◌≤◌, ◌++◌, length, take, drop};
 ghost use Rattle.io.specs.Counts.{IsPrefixLen};
 ghost use Rattle.console.specs.Numbers.{numbers_for};

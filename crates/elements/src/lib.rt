@@ -1,5 +1,8 @@
 // The elements of a sheet, read: their kinds, one field, and the radii of circles. Document 01, "The sheet in bytes"; document 02, 2026-01. Contracts
 // cite the decoding of the crate `sheet` and, for what an answer says, specs/Answers.antt. The module `fields` reads one field.
+
+#![tactic(auto)]
+
 ghost use Rattle.std.specs.Prelude.{◌≡◌, ◌&&◌, List, ℕ, ◌+◌, ◌*◌, ◌/◌, ◌%◌, ◌<◌, ◌≤◌, eqb, ltb, length, drop, get_or};
 ghost use Rattle.theory.specs.Set.{at as digit};
 ghost use Rattle.sheet.specs.declared.Opening.TheVariants.{Pf01, Pf02};

@@ -1,5 +1,8 @@
 // The engine: the verdict of a list of merges, and its steps with their kinds and placements. Contracts cite theory's definitions and this crate's
 // specs.
+
+#![tactic(auto)]
+
 mod rings;
 
 ghost use Rattle.std.specs.Prelude.{◌≡◌, List, [], ◌∷◌, ℕ, ◌+◌, ◌*◌, ◌≤◌, ◌<◌, ◌^◌, length, take, replicate, nat_abs, ◌-ℤ◌};

@@ -1,6 +1,9 @@
 // The constraint graph of a sheet in lent arrays of numbers: its adjacency, for each element the set of the elements
 // that it is constrained with; start, the initial clusters; sizes. A sheet by value is packed into them and out again.
 // Contracts cite this crate's specs.
+
+#![tactic(auto)]
+
 ghost use Rattle.std.specs.Prelude.{◌≡◌, ◌&&◌, List, ◌∷◌, [], ◌++◌, ℕ, ◌+◌, ◌-◌, ◌<◌, ◌≤◌, pos, length, replicate};
 ghost use Rattle.theory.specs.Constraints.{pair};
 ghost use Rattle.sheet.specs.Facts.{Facts, is_circle, radius_of, facts_of, sheet_of};

@@ -1,5 +1,8 @@
 // What is asked of a held sketch beside one constraint more: how many constraints it holds, its clusters, and what they rest on; by value, and in a
 // record of lent bytes. Document 02, 2026-04 and 2026-05. Contracts cite specs/Held.antt.
+
+#![tactic(auto)]
+
 ghost use Rattle.std.specs.Prelude.{◌≡◌, pos, length, replicate};
 ghost use Rattle.sheet.specs.Answer.{Answers};
 ghost use Rattle.reader.specs.Answers.{SheetRead};

@@ -1,4 +1,7 @@
 // The judgement of a constraint graph in lent arrays. Contracts cite theory's definitions.
+
+#![tactic(auto)]
+
 ghost use Rattle.std.specs.Prelude.{◌≡◌, List, ℕ, ◌+◌, ◌*◌, ◌≤◌, take};
 ghost use Rattle.std.specs.Int.Count.{ones};
 ghost use Rattle.theory.specs.Graph.{Graph, finding_of, verdict_of};

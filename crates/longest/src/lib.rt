@@ -1,4 +1,7 @@
 // The sheet with the longest plan: document 02, 2026-12. Contracts cite specs/Longest.antt.
+
+#![tactic(auto)]
+
 ghost use Rattle.std.specs.Prelude.{◌≡◌, ◌+◌, ◌*◌, ◌≤◌, ◌<◌, take};
 ghost use Rattle.sheet.specs.Encode.{sheet_bytes};
 ghost use Rattle.sheet.specs.Answer.{Answers};

@@ -1,5 +1,8 @@
 // Merges of three clusters, masks by number in arrays: the engine's plan of a start, and merges made one by one on arrays that a caller lends.
 // Contracts cite specs/Run.antt and specs/Going.antt. The crate `search` finds the first open merge; its arrays stay in here (specs/Search.antt).
+
+#![tactic(auto)]
+
 ghost use Rattle.std.specs.Prelude.{◌≡◌, List, ℕ, ◌≤◌, ◌<◌, length, take, replicate};
 ghost use Rattle.theory.specs.Block.{block};
 ghost use Rattle.theory.specs.Constraints.{NotOver};

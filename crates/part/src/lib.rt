@@ -1,5 +1,8 @@
 // The steps of one cluster of a graph's plan: each part's steps before the step that uses it. Document 02, 2026-14. Contracts cite specs/Part.antt,
 // specs/Tallies.antt.
+
+#![tactic(auto)]
+
 ghost use Rattle.std.specs.Prelude.{◌≡◌, ◌+◌, ◌≤◌, ◌<◌};
 ghost use Rattle.sheet.specs.Answer.{Answers};
 ghost use Rattle.graph.specs.Lent.{sized_in, Drawn};

@@ -1,4 +1,7 @@
 // The public crate: every entry point that a user calls, each with its whole contract and no precondition. specs/ says what each answers.
+
+#![tactic(auto)]
+
 ghost use Rattle.std.specs.Prelude.{◌≡◌, [], ◌∷◌, ◌+◌, ◌*◌, ◌%◌, ◌≤◌};
 ghost use Rattle.theory.specs.Set.{◌∩◌};
 ghost use Rattle.space.specs.Space.{answer, after};

@@ -1,5 +1,8 @@
 // The entry points for C: numbers and slices alone, each slice a pointer and a length. include/pattern.h declares them. An answer is the count of
 // items written, or minus the number of the rule that refuses; specs/ says it.
+
+#![tactic(auto)]
+
 ghost use Rattle.std.specs.Prelude.{◌≡◌, pos, get_or, ◌%◌};
 ghost use Rattle.theory.specs.Set.{◌∩◌};
 ghost use Rattle.judge.specs.Judged.{plan_numbers, final_clusters};

@@ -3,6 +3,9 @@
 // three at each element: the core tells all that is to be known of "over" (document 01, "Verdict names: over"). The
 // graph is given by its adjacency; the elements to be taken away are a work list. The contracts cite this crate's
 // `Core`.
+
+#![tactic(auto)]
+
 ghost use Rattle.std.specs.Prelude.{◌≡◌, ◌≢◌, List, ℕ, suc, ◌≤◌, ◌<◌, length, take, get_or};
 ghost use Rattle.std.specs.Int.Count.{ones};
 ghost use Rattle.theory.specs.Set.{◌∈◌, ◌⊑◌, at, full};

@@ -1,6 +1,9 @@
 // The reader of a sheet: document 01, "The sheet in bytes" and "Refused", rules 1 to 10; document 02, 2026-01, rules 18 to 20.
 // Each field read answers a value with the next cursor or the number of the rule that refuses it. Contracts cite the decoding of
 // the crate `sheet` and, for what an answer says, specs/Answers.antt.
+
+#![tactic(auto)]
+
 ghost use Rattle.std.specs.Prelude.{◌≡◌, List, ◌≤◌, ◌<◌, ◌-◌, ◌^◌, eqb, pos, length, drop, replicate};
 ghost use Rattle.sheet.specs.Facts.{kind_at};
 ghost use Rattle.sheet.specs.Facts.Kinds.{KindsIn};

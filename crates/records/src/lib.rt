@@ -1,5 +1,8 @@
 // A held sketch in bytes that its owner lends: the record for C. Document 02, 2026-05. specs/Record.antt says how it is laid out, and what asking and
 // placing answer and leave in it.
+
+#![tactic(auto)]
+
 ghost use Rattle.std.specs.Prelude.{◌≡◌, ◌<◌, pos, length, replicate};
 ghost use Rattle.space.specs.Space.{answer, after};
 ghost use Rattle.sheet.specs.Facts.{facts_of};

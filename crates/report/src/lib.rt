@@ -1,5 +1,8 @@
 // The report's bytes, line by line, into a block that has room for every report, and then into lent space. Each function puts its bytes from a place
 // on and answers the place after them; what stands beyond that place is not told. Contracts cite specs/Report.antt, specs/Block.antt.
+
+#![tactic(auto)]
+
 ghost use Rattle.std.specs.Prelude.{◌≡◌, [], ◌∷◌, ◌++◌, ◌+◌, ◌*◌, ◌<◌, ◌≤◌, ◌^◌, length, take};
 ghost use Rattle.space.specs.Space.{answer, after};
 ghost use Rattle.space.specs.Text.{decimal};

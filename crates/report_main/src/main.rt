@@ -1,4 +1,7 @@
 // Reads a sheet from standard input, at most 2,079 bytes, and prints its report; of a refused one the line "refused" and the rule's number.
+
+#![tactic(auto)]
+
 use libc::STDIN_FILENO;
 
 // Room for the longest report: rule 17 is never met.

@@ -1,5 +1,8 @@
 // What clusters rest on: the constraint numbers that they came from, carried along a list of merges. Document 02, 2026-04. Contracts cite
 // `theory` Rests and specs/Words.antt.
+
+#![tactic(auto)]
+
 ghost use Rattle.std.specs.Prelude.{◌≡◌, ◌+◌, ◌≤◌, ◌<◌, get_or, set, replicate};
 ghost use Rattle.theory.specs.Set.{◌∪◌};
 ghost use Rattle.merges.specs.Run.{most_constraints, most_steps, places};

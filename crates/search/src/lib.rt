@@ -1,6 +1,9 @@
 // The search for the first open merge: for each element the clusters that hold it and the elements that share a cluster with it; the rim, the
 // elements that two living clusters may share; and the clusters that wait to be looked at. All of it lies in arrays that the caller lends.
 // Contracts cite specs/State.antt and specs/Words.antt.
+
+#![tactic(auto)]
+
 ghost use Rattle.std.specs.Prelude.{◌≡◌, ◌≢◌, ℕ, ◌+◌, ◌*◌, ◌≤◌, ◌<◌, length, replicate};
 ghost use Rattle.theory.specs.Set.{◌∈◌, ◌∩◌};
 ghost use Rattle.theory.specs.Merge.{slot, Part, merge as numbers};

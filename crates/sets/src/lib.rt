@@ -1,4 +1,7 @@
 // Sets of elements as 64-bit numbers, element x being digit x: how every crate above makes them and takes them apart. Contracts cite theory's Set.
+
+#![tactic(auto)]
+
 ghost use Rattle.std.specs.Prelude.{◌≡◌, ◌-◌, ◌^◌, ◌<◌, min};
 ghost use Rattle.std.specs.Int.Count.{count_trailing_zeros};
 ghost use Rattle.theory.specs.Set.{◌∈◌, ◌∩◌, full};

@@ -1,5 +1,8 @@
 // The facts of a pattern sheet, and the rules that refuse them: document 01, "The sheet in bytes" and "Refused".
 // Reader, writer and sketch share the rules here; contracts cite the definitions of specs/Rules.antt.
+
+#![tactic(auto)]
+
 ghost use Rattle.std.specs.Prelude.{◌≡◌, ◌&&◌, ◌||◌, List, [], ◌∷◌, ◌++◌, ◌^◌, ◌<◌, ◌≤◌, eqb, ltb, length, take};
 ghost use Rattle.theory.specs.Set.{at};
 ghost use Rattle.theory.specs.Block.{block};

@@ -1,5 +1,8 @@
 // A held sketch: asking what one constraint more would do, and placing it. Document 01, "A held sketch"; document 02, 2026-05. specs/Sketch.antt says
 // which rule refuses, what is answered and what the sketch is then.
+
+#![tactic(auto)]
+
 ghost use Rattle.std.specs.Prelude.{◌≡◌, ◌<◌};
 ghost use Rattle.sheet.specs.Facts.{Facts};
 ghost use Rattle.sheet.specs.Rules.{or_else};

@@ -1,5 +1,8 @@
 // Writing into lent space. Each function puts its items from a place on and answers the place after them; where they have no room it stores nothing
 // of them, so that a call over no space measures. Contracts cite specs/Space.antt and specs/Text.antt.
+
+#![tactic(auto)]
+
 ghost use Rattle.std.specs.Prelude.{◌≡◌, [], ◌∷◌, ◌+◌, ◌<◌, ◌^◌, length};
 ghost use Rattle.space.specs.Space.{Put, answer, after};
 ghost use Rattle.space.specs.Text.{digit as digitCode, decimal};

@@ -3,6 +3,9 @@
 // two entries for each element: an entry of x holds x while that freedom is free, and else the other end of the
 // constraint that uses it, so that the used entries are directed edges. The contracts cite theory's `Over` and this
 // crate's specs.
+
+#![tactic(auto)]
+
 ghost use Rattle.std.specs.Prelude.{◌≡◌, ◌≢◌, List, ℕ, ◌+◌, ◌≤◌, ◌<◌, take, get_or};
 ghost use Rattle.std.specs.Int.Count.{ones};
 ghost use Rattle.theory.specs.Constraints.{pair, Below};

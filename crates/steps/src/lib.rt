@@ -1,5 +1,8 @@
 // The plan as a list of step records that a caller lends (document 02, 2026-04): the steps by value from a graph in lent arrays, and one thin walk
 // that fills the list. Contracts cite specs/Records.antt.
+
+#![tactic(auto)]
+
 ghost use Rattle.std.specs.Prelude.{◌≡◌, [], ◌+◌, ◌<◌, ◌≤◌, ◌^◌, min, length, take};
 ghost use Rattle.graph.specs.Lent.{graph_in, sized_in, Drawn};
 ghost use Rattle.space.specs.Space.{Put};

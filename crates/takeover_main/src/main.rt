@@ -1,5 +1,8 @@
 // Takes over a saved plan. The arguments name two files: a sheet, and a plan of 16-bit numbers, lowest byte first, three a step. Prints the report
 // for that plan, or the line "refused" and the rule's number.
+
+#![tactic(auto)]
+
 use libc::STDERR_FILENO;
 
 // Room for the longest report: rule 17 is never met.

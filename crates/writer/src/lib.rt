@@ -1,5 +1,8 @@
 // The writer of a sheet: document 01, "The sheet in bytes" and "Refused". Each function puts its bytes from a place on and answers the place after
 // them; a call over no space measures. Contracts cite the encoding of the crate `sheet`, `Put` of `space`, and specs/Write.antt.
+
+#![tactic(auto)]
+
 ghost use Rattle.std.specs.Prelude.{◌≡◌, [], ◌∷◌, ◌++◌, true, ◌+◌, ◌-◌, ◌≤◌, ◌<◌, ◌^◌, min, length, take, drop, get_or};
 ghost use Rattle.sheet.specs.Facts.{kind_base, kind_digit, kinds_number, facts_of};
 ghost use Rattle.sheet.specs.Field.{digits, unsigned32, kind_bytes as kindBytesOf, opening_bytes as openingBytesOf};

@@ -11,22 +11,22 @@ use Rattle.space.specs.Text.Laws.{decimal-1, decimal-2, decimal-3}
 use Rattle.space.proofs.put_decimal.Goals as goal
 
 pub put_byte-requires : goal.put_byte-requires
-put_byte-requires c = 
+put_byte-requires c =
     let one : decimal c.args.n ≡ digit c.args.n ∷ [] = decimal-1 c.args.n c.if-n-lt10.true in
     omega (arith, ap length one)
 
 pub returns-then-n-lt10 : goal.returns-then-n-lt10
-returns-then-n-lt10 c = 
+returns-then-n-lt10 c =
     let one : decimal c.args.n ≡ digit c.args.n ∷ [] = decimal-1 c.args.n c.if-n-lt10.true in
     put_as (cc one) c.put_byte.ensures
 
 pub put_byte-a1-requires : goal.put_byte-a1-requires
-put_byte-a1-requires c = 
+put_byte-a1-requires c =
     let two : decimal c.args.n ≡ digit (c.args.n / 10) ∷ digit (c.args.n % 10) ∷ [] = decimal-2 c.args.n c.if-n-lt10.false c.if-n-lt100.true in
     omega (arith, ap length two)
 
 pub put_byte-requires-then-n-lt100 : goal.put_byte-requires-then-n-lt100
-put_byte-requires-then-n-lt100 c = 
+put_byte-requires-then-n-lt100 c =
     let two : decimal c.args.n ≡ digit (c.args.n / 10) ∷ digit (c.args.n % 10) ∷ [] = decimal-2 c.args.n c.if-n-lt10.false c.if-n-lt100.true in
     omega (
       arith,
@@ -35,18 +35,18 @@ put_byte-requires-then-n-lt100 c =
     )
 
 pub returns-then-n-lt100 : goal.returns-then-n-lt100
-returns-then-n-lt100 c = 
+returns-then-n-lt100 c =
     let two : decimal c.args.n ≡ digit (c.args.n / 10) ∷ digit (c.args.n % 10) ∷ [] = decimal-2 c.args.n c.if-n-lt10.false c.if-n-lt100.true in
     put_as (cc two)
     (c.put_byte-a1.ensures then c.put_byte-then-n-lt100.ensures)
 
 pub put_byte-a1-requires-2 : goal.put_byte-a1-requires-2
-put_byte-a1-requires-2 c = 
+put_byte-a1-requires-2 c =
     let three : decimal c.args.n ≡ digit (c.args.n / 100) ∷ digit (c.args.n / 10 % 10) ∷ digit (c.args.n % 10) ∷ [] = decimal-3 c.args.n c.if-n-lt10.false c.if-n-lt100.false in
     omega (arith, ap length three)
 
 pub put_byte-a2-requires : goal.put_byte-a2-requires
-put_byte-a2-requires c = 
+put_byte-a2-requires c =
     let three : decimal c.args.n ≡ digit (c.args.n / 100) ∷ digit (c.args.n / 10 % 10) ∷ digit (c.args.n % 10) ∷ [] = decimal-3 c.args.n c.if-n-lt10.false c.if-n-lt100.false in
     omega (
       arith,
@@ -55,7 +55,7 @@ put_byte-a2-requires c =
     )
 
 pub put_byte-requires-2 : goal.put_byte-requires-2
-put_byte-requires-2 c = 
+put_byte-requires-2 c =
     let three : decimal c.args.n ≡ digit (c.args.n / 100) ∷ digit (c.args.n / 10 % 10) ∷ digit (c.args.n % 10) ∷ [] = decimal-3 c.args.n c.if-n-lt10.false c.if-n-lt100.false in
     omega (
       arith,
@@ -65,7 +65,7 @@ put_byte-requires-2 c =
     )
 
 pub returns : goal.returns
-returns c = 
+returns c =
     let three : decimal c.args.n ≡ digit (c.args.n / 100) ∷ digit (c.args.n / 10 % 10) ∷ digit (c.args.n % 10) ∷ [] = decimal-3 c.args.n c.if-n-lt10.false c.if-n-lt100.false in
     put_as (cc three)
     (c.put_byte-a1-2.ensures
