@@ -3,8 +3,9 @@
 #![tactic(auto)]
 
 use space::Written;
+use std::io;
 
-fn main() {
+fn main(rt: HostRuntime) -> io::Result<()> {
     let lines = card_counts::lines();
-    console::print(Written::Done(162), &lines);
+    console::print(&rt, Written::Done(162), &lines)
 }

@@ -2,19 +2,15 @@
 
 #![tactic(auto)]
 
-use libc::STDIN_FILENO;
+use std::io;
 
 // Room for the longest report: rule 17 is never met.
 const ROOM: usize = 4667;
 
-fn main() {
+fn main(rt: HostRuntime) -> io::Result<()> {
     let mut sheet = [0u8; 2079];
-    let input = console::read(STDIN_FILENO, b"standard input", &mut sheet);
-    if !input.whole {
-        return;
-    }
-    let n = input.count;
+    let n = console::read(&mut rt.reader(), &mut sheet)?;
     let mut out = [0u8; ROOM];
     let written = pattern::report(&sheet[..n], &mut out);
-    console::print(written, &out);
+    console::print(&rt, written, &out)
 }

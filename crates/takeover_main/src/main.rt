@@ -3,7 +3,8 @@
 
 #![tactic(auto)]
 
-use libc::STDERR_FILENO;
+use std::env;
+use std::io;
 
 // Room for the longest report: rule 17 is never met.
 const ROOM: usize = 4667;
@@ -12,41 +13,28 @@ const ROOM: usize = 4667;
 const NUMBERS: usize = 32768;
 
 // Checks the plan in a file's bytes against a sheet, and prints the answer.
-fn take_over(sheet: &[u8], file: &[u8]) {
+fn take_over(rt: &(impl Print + Eprint), sheet: &[u8], file: &[u8]) -> io::Result<()> {
     if file.len() % 2 != 0 {
-        io::write_all(
-            STDERR_FILENO,
-            b"plan: the file has an odd number of bytes, and a plan is 16-bit numbers\n",
-        );
-        return;
+        return eprintln!(rt; "plan: the file has an odd number of bytes, and a plan is 16-bit numbers");
     }
     if file.len() >= 65536 {
-        io::write_all(STDERR_FILENO, b"plan: the file is too long for a plan\n");
-        return;
+        return eprintln!(rt; "plan: the file is too long for a plan");
     }
     let mut plan = [0u16; NUMBERS];
     let count = console::numbers(file, &mut plan);
     let mut out = [0u8; ROOM];
     let written = pattern::check_plan(sheet, &plan[..count], &mut out);
-    console::print(written, &out);
+    console::print(rt, written, &out)
 }
 
-fn main() {
-    if os::arg_count() != 3 {
-        io::write_all(STDERR_FILENO, b"usage: takeover_main SHEET PLAN\n");
-        return;
-    }
+fn main(rt: HostRuntime) -> io::Result<()> {
+    let mut names = env::args(&rt)?;
+    let (Some(_), Some(first), Some(second), None) = (names.next(), names.next(), names.next(), names.next()) else {
+        return eprintln!(rt; "usage: takeover_main SHEET PLAN");
+    };
     let mut sheet = [0u8; 2079];
-    let first = console::read_file(1, &mut sheet);
-    if !first.whole {
-        return;
-    }
-    let mut file = io::large_buffer();
-    let second = console::read_file(2, &mut file);
-    if !second.whole {
-        return;
-    }
-    let n = first.count;
-    let m = second.count;
-    take_over(&sheet[..n], &file[..m]);
+    let n = console::read_file(&rt, first.as_str(), &mut sheet)?;
+    let mut file = [0u8; 65536];
+    let m = console::read_file(&rt, second.as_str(), &mut file)?;
+    take_over(&rt, &sheet[..n], &file[..m])
 }

@@ -1,11 +1,7 @@
 -- The first i places hold the first i numbers: `Filling`, which ends where the list has no place left or the file no number.
-use borrow.Author.Rules.{rules}
 use Prim.Native.Nat.{◌-◌}
-use native.Mathlib.Omega.{arith}
-use mathlib.Core.Logic.{inl, inr}
 use lib.ListN.{length}
-use Rattle.console.specs.Numbers.Laws.{Filling, filling-none, filling-more, filled}
-use Rattle.console.proofs.Counting.{counts}
+use Rattle.console.specs.Numbers.Laws.{Filling}
 use Rattle.console.proofs.numbers.Given as goal
 
 abbrev pub invariant-loop-i : goal.invariant-loop-i
