@@ -44,6 +44,7 @@ module _ (es : List Element) where
   fresh : (cs done : List Constraint) → constraints_fault es done cs ≡ 0 → (a b : ℕ) → a < b → stands done a b ≡ true
       → Among (pair a b) (map cluster_of cs) → ⊥
   unfolding constraints_fault
+  fresh [] done e a b h s i = elim i [ ]
   fresh (c ∷ cs) done e a b h s (inl q) =
       let t = taken es done c (none-else (constraint_fault es done c) (constraints_fault es (done ++ c ∷ []) cs) e).0 in
       let p = pair_one a b c.first c.second h (ends-true (length es) c.first c.second t.ends-ascend).0 q in

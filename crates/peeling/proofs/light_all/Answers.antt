@@ -29,11 +29,11 @@ loop-x-preserved c = let s = c in
     let p = c.without_lowest in
     let q = c.without_lowest-in-loop-x in (
       omega arith,
-      elim c.if-without_lowest-eq0.branch [ then-without_lowest-eq0 w ↦ light-all-code near s.args.n l.todo l.invariant.1 c.loop-x-test.true i.ensures w.1.ensures
-          (two-most (get_or near i.result 0) p.result q.result p.ensures q.ensures w.if-without_lowest-eq0.true) w.2 | else-without_lowest-eq0 w ↦ light-same near (full s.args.n) w.1 l.invariant.1 ],
+      elim c.if-without_lowest-eq0.branch [ then-without_lowest-eq0 w ↦ light-all-code near s.args.n l.todo l.invariant.1 c.loop-x-test.true i.ensures w.single-todo.ensures
+          (two-most (get_or near i.result 0) p.result q.result p.ensures q.ensures w.if-without_lowest-eq0.true) w.todo-is | else-without_lowest-eq0 w ↦ light-same near (full s.args.n) w.todo-is l.invariant.1 ],
       λ y o. heavy-tried (λ z. z < l.x) (λ z. 3 ≤ ones (get_or near z 0)) l.todo l.x l.invariant.2
-          (elim c.if-without_lowest-eq0.branch [ then-without_lowest-eq0 w ↦ inl (w.2 ∙ ap (bit_or l.todo) w.1.ensures) | else-without_lowest-eq0 w ↦ inr (
-            w.1,
+          (elim c.if-without_lowest-eq0.branch [ then-without_lowest-eq0 w ↦ inl (w.todo-is ∙ ap (bit_or l.todo) w.single-todo.ensures) | else-without_lowest-eq0 w ↦ inr (
+            w.todo-is,
             subst (λ (k : ℕ). 3 ≤ ones (get_or near k 0)) i.ensures
                 (three-least (get_or near i.result 0) p.result q.result p.ensures q.ensures w.if-without_lowest-eq0.false),
           ) ])

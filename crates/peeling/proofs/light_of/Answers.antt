@@ -49,11 +49,11 @@ loop-m-preserved c = let a = c.args in
       ⊑_trans (subst (λ (z : ℕ). l.m - z ⊑ l.m) (sym b.ensures) (less-sub x.result l.m x.ensures.1)) l.invariant.0,
       elim c.if-without_lowest-eq0.branch [ then-without_lowest-eq0 w ↦ light-code a.near.now a.left l.todo l.invariant.1
           (omega (arith, l.invariant.0.le x.result, x.ensures.1, at-le x.result a.left)) i.ensures b.ensures
-          (two-most (bit_and (get_or a.near.now i.result 0) a.left) p.result q.result p.ensures q.ensures w.if-without_lowest-eq0.true) w.1 | else-without_lowest-eq0 w ↦ light-same a.near.now a.left w.1 l.invariant.1 ],
+          (two-most (bit_and (get_or a.near.now i.result 0) a.left) p.result q.result p.ensures q.ensures w.if-without_lowest-eq0.true) w.todo-is | else-without_lowest-eq0 w ↦ light-same a.near.now a.left w.todo-is l.invariant.1 ],
       λ y o. heavy-tried (λ z. (z ∈ a.who) × (at z l.m ≡ 0)) (λ z. 3 ≤ ones (bit_and (get_or a.near.now z 0) a.left))
           l.todo x.result l.invariant.2
-          (elim c.if-without_lowest-eq0.branch [ then-without_lowest-eq0 w ↦ inl (w.1 ∙ ap (bit_or l.todo) b.ensures) | else-without_lowest-eq0 w ↦ inr (
-            w.1,
+          (elim c.if-without_lowest-eq0.branch [ then-without_lowest-eq0 w ↦ inl (w.todo-is ∙ ap (bit_or l.todo) b.ensures) | else-without_lowest-eq0 w ↦ inr (
+            w.todo-is,
             subst (λ (k : ℕ). 3 ≤ ones (bit_and (get_or a.near.now k 0) a.left)) i.ensures
                 (three-least (bit_and (get_or a.near.now i.result 0) a.left) p.result q.result p.ensures q.ensures w.if-without_lowest-eq0.false),
           ) ])

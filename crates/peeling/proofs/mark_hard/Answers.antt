@@ -29,7 +29,7 @@ pub bounds-start-c : goal.bounds-start-c
 bounds-start-c c =     omega (arith, c.loop-c-test.true, c.loop-c.invariant.0, c.requires.0.few)
 
 pub bounds-needs-c : goal.bounds-needs-c
-bounds-needs-c c = bounds-start-c c.before.before.before.before
+bounds-needs-c c =     omega (arith, c.loop-c-test.true, c.loop-c.invariant.0, c.requires.0.few)
 
 pub drop_pair-left-requires : goal.drop_pair-left-requires
 drop_pair-left-requires c = let s = c in
@@ -59,7 +59,7 @@ loop-c-preserved-then-pair-left c = let s = c in
       omega (arith, l.invariant.0),
       c.drop_pair-left.ensures cs s.requires.0.simple k (in_list s.requires.0 lt) (sym (standing-item s.requires.0 k lt))
           (subst (λ (z : ℕ). Left cs z l.rest l.left) up l.invariant.1),
-      marks-hard (subst (λ (z : ℕ). Marks cs z s.args.rules.now l.rules) up l.invariant.2) (omega (arith, lt, s.requires.0.few)),
+      marks-hard (subst (λ (z : ℕ). Marks cs z s.args.needs.now l.needs) up l.invariant.2) (omega (arith, lt, s.requires.0.few)),
     )
 
 pub loop-c-smaller : goal.loop-c-smaller
@@ -76,11 +76,11 @@ loop-c-preserved c = let s = c in
     let lk = in_list s.requires.0 lt in (
       omega (arith, l.invariant.0),
       left-skip cs s.requires.0.simple k lk w,
-      marks-easy (subst (λ (z : ℕ). Marks cs z s.args.rules.now l.rules) up l.invariant.2)
+      marks-easy (subst (λ (z : ℕ). Marks cs z s.args.needs.now l.needs) up l.invariant.2)
           (left-harmless cs s.requires.0.simple w k (le_refl (suc k)) lk (told-out (standing-item s.requires.0 k lt) c.if-pair-left.false)),
     )
 
 pub returns : goal.returns
 returns c = let s = c in
     let l = c.loop-c in
-    subst (λ (z : ℕ). Marks (take s.args.e s.args.start.now) z s.args.rules.now l.rules) (omega (arith, c.loop-c-test.false)) l.invariant.2
+    subst (λ (z : ℕ). Marks (take s.args.e s.args.start.now) z s.args.needs.now l.needs) (omega (arith, c.loop-c-test.false)) l.invariant.2

@@ -40,8 +40,8 @@ loop-rest-preserved c = let a = c.args in
     let s = c.loop-rest-test.true in
     let m = c.joined-v in
     let next = bit_and l.rest (l.rest - 1) in
-    elim c.if-v-best.branch [ then-v-best w ↦ subst (Leading (λ y. Joined a.hold.now (linked a.links.now y ∩ a.x) y) a.o next) (sym w.1)
-    (leading-new l.invariant s m.ensures.0 m.ensures.1 w.if-v-best.true) | else-v-best w ↦ subst (Leading (λ y. Joined a.hold.now (linked a.links.now y ∩ a.x) y) a.o next) (sym w.1)
+    elim c.if-v-best.branch [ then-v-best w ↦ subst (Leading (λ y. Joined a.hold.now (linked a.links.now y ∩ a.x) y) a.o next) (sym w.best-is)
+    (leading-new l.invariant s m.ensures.0 m.ensures.1 w.if-v-best.true) | else-v-best w ↦ subst (Leading (λ y. Joined a.hold.now (linked a.links.now y ∩ a.x) y) a.o next) (sym w.best-is)
     (leading-same l.invariant s m.ensures.0 (omega (arith, w.if-v-best.false))) ]
 
 pub returns : goal.returns

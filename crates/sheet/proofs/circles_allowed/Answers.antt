@@ -1,5 +1,5 @@
 -- `sheet::circles_allowed` meets its contract: PF01 allows no circle. Assumes nothing.
-use Rattle.theory.specs.Prelude.{rules, sym, ap, ◌∙◌, eqb}
+use Rattle.theory.specs.Prelude.{sym, ap, ◌∙◌, eqb}
 use Rattle.sheet.specs.Rules.{kinds_allowed}
 use Rattle.sheet.specs.Rules.Kinds.{straight-allowed, all-allowed}
 use Rattle.sheet.proofs.circles_allowed.Goals as goal

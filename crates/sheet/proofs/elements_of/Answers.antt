@@ -1,11 +1,10 @@
 -- `sheet::elements_of` meets its contract: the elements before i stand, the places from i on are blank. Assumes nothing.
-use Rattle.theory.specs.Prelude.{rules, ℕ, ◌+◌, ◌-◌, ◌<◌, ◌≤◌, add-one, arith, ◌≡◌, refl, ap, ◌∙◌, List, length, take, drop, set, get_or, replicate}
+use Rattle.theory.specs.Prelude.{rules, ℕ, ◌+◌, ◌<◌, ◌≤◌, add-one, arith, ◌≡◌, refl, ap, ◌∙◌, List, length, take, set, get_or}
 use Rattle.theory.specs.Prelude.{length-set, take-suc-set, take-suc, take_all}
 use Rattle.sheet.specs.declared.Kind.{Kind}
 use Rattle.sheet.specs.declared.Element.{Element}
 use Rattle.theory.specs.Block.{block}
 use Rattle.sheet.specs.Facts.{blank_element}
-use Rattle.sheet.specs.Facts.Kinds.{KindsIn}
 use Rattle.sheet.specs.Facts.Laws.{still-blank, filled, kind-in}
 use Rattle.sheet.proofs.elements_of.Goals as goal
 

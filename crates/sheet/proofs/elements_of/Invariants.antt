@@ -1,16 +1,12 @@
 -- `sheet::elements_of` meets its contract: the elements before i stand, the places from i on are blank. Assumes nothing.
-use Rattle.theory.specs.Prelude.{rules, ℕ, ◌+◌, ◌-◌, ◌<◌, ◌≤◌, add-one, arith, ◌≡◌, refl, ap, ◌∙◌, List, length, take, drop, set, get_or, replicate}
-use Rattle.theory.specs.Prelude.{length-set, take-suc-set, take-suc, take_all}
-use Rattle.sheet.specs.declared.Kind.{Kind}
+use Rattle.theory.specs.Prelude.{◌-◌, ◌≤◌, ◌≡◌, List, length, take, drop, replicate}
 use Rattle.sheet.specs.declared.Element.{Element}
-use Rattle.theory.specs.Block.{block}
 use Rattle.sheet.specs.Facts.{blank_element}
 use Rattle.sheet.specs.Facts.Kinds.{KindsIn}
-use Rattle.sheet.specs.Facts.Laws.{still-blank, filled, kind-in}
 use Rattle.sheet.proofs.elements_of.Given as goal
 
 abbrev pub invariant-loop-i : goal.invariant-loop-i
-invariant-loop-i l =     (l.i ≤ l.n) × (length l.elements ≡ 64) × ((es : List Element) → length es ≡ l.n → KindsIn es l.kinds l.radii → take l.i l.elements ≡ take l.i es)
+invariant-loop-i l = (l.i ≤ l.n) × (length l.elements ≡ 64) × ((es : List Element) → length es ≡ l.n → KindsIn es l.kinds l.radii → take l.i l.elements ≡ take l.i es)
     × (drop l.i l.elements ≡ replicate (64 - l.i) blank_element)
 
 abbrev pub decreases-loop-i : goal.decreases-loop-i

@@ -1,5 +1,4 @@
 -- `sheet::has` meets its contract: a bit of the number. Assumes nothing.
-use borrow.Author.Rules.{rules}
 use Rattle.theory.specs.Set.Laws.{at-div}
 use Rattle.sheet.proofs.has.Goals as goal
 

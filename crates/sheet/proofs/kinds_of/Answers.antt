@@ -10,9 +10,6 @@ use Rattle.sheet.specs.Facts.Laws.{turn, spent, set_of-below}
 use Rattle.sheet.proofs.kinds_of.Goals as goal
 use Rattle.sheet.proofs.kinds_of.Invariants.{RadiiFrom}
 
-room : (c : goal.Start) → c.args.n ≤ length c.args.elements
-room c = let l : length c.args.elements ≡ 64 = search rules in rw l c.requires.0
-
 bit_le : (b : Bool) → bit_of b ≤ 1
 bit_le true = omega arith
 bit_le false = omega arith
@@ -53,61 +50,67 @@ none_from es n radii long k from e =
 
 pub loop-i-init : goal.loop-i-init
 unfolding set_of
-loop-i-init c = let s = spent c.args.elements c.args.n c.args.n (omega arith) (room c) in (
+loop-i-init c =
+    let long : length c.args.elements ≡ 64 = search rules in
+    let room : c.args.n ≤ length c.args.elements = rw long c.requires.0 in
+    let s = spent c.args.elements c.args.n c.args.n (omega arith) room in (
       omega arith,
       sym (ap (set_of is_line) s),
       sym (ap (set_of is_circle) s),
       c.requires.1,
       none_from (take c.args.n c.args.elements) c.args.n c.args.radii.now
-          (omega (arith, length-take-le c.args.n c.args.elements (room c))),
+          (omega (arith, length-take-le c.args.n c.args.elements room)),
     )
 
 pub overflow_mul-lines : goal.overflow_mul-lines
-overflow_mul-lines c = 
-    let room : c.args.n ≤ length c.args.elements = let l : length c.args.elements ≡ 64 = search rules in rw l c.requires.0 in
-    let fits : (is : Kind → Bool) → 2 * set_of is (drop c.loop-i.i (take c.args.n c.args.elements)) + 1 < 2 ^ 64 = λ is = let s. c in small s.args.elements s.args.n c.loop-i.i c.loop-i-test.true c.loop-i.invariant.0 (room s) s.requires.0 is in
-    omega (arith, fits is_line, c.loop-i.invariant.1)
+overflow_mul-lines c =
+    let long : length c.args.elements ≡ 64 = search rules in
+    let room : c.args.n ≤ length c.args.elements = rw long c.requires.0 in
+    let fits = small c.args.elements c.args.n c.loop-i.i c.loop-i-test.true c.loop-i.invariant.0 room c.requires.0 is_line in
+    omega (arith, fits, c.loop-i.invariant.1)
 
 pub overflow_add-lines : goal.overflow_add-lines
-overflow_add-lines c = let t = 
-    let room : c.args.n ≤ length c.args.elements = let l : length c.args.elements ≡ 64 = search rules in rw l c.requires.0 in
-    let fits : (is : Kind → Bool) → 2 * set_of is (drop c.loop-i.i (take c.args.n c.args.elements)) + 1 < 2 ^ 64 = λ is = let s. c in small s.args.elements s.args.n c.loop-i.i c.loop-i-test.true c.loop-i.invariant.0 (room s) s.requires.0 is in
-    c in
-    omega (arith, fits t is_line, t.loop-i.invariant.1, c.bit_of.ensures, bit_le c.is_a_line.result)
+overflow_add-lines c =
+    let long : length c.args.elements ≡ 64 = search rules in
+    let room : c.args.n ≤ length c.args.elements = rw long c.requires.0 in
+    let fits = small c.args.elements c.args.n c.loop-i.i c.loop-i-test.true c.loop-i.invariant.0 room c.requires.0 is_line in
+    omega (arith, fits, c.loop-i.invariant.1, c.bit_of.ensures, bit_le c.is_line.result)
 
 pub overflow_mul-circles : goal.overflow_mul-circles
-overflow_mul-circles c = 
-    let room : c.args.n ≤ length c.args.elements = let l : length c.args.elements ≡ 64 = search rules in rw l c.requires.0 in
-    let fits : (is : Kind → Bool) → 2 * set_of is (drop c.loop-i.i (take c.args.n c.args.elements)) + 1 < 2 ^ 64 = λ is = let s. c in small s.args.elements s.args.n c.loop-i.i c.loop-i-test.true c.loop-i.invariant.0 (room s) s.requires.0 is in
-    let t = c in omega (arith, fits t is_circle, t.loop-i.invariant.2)
+overflow_mul-circles c =
+    let long : length c.args.elements ≡ 64 = search rules in
+    let room : c.args.n ≤ length c.args.elements = rw long c.requires.0 in
+    let fits = small c.args.elements c.args.n c.loop-i.i c.loop-i-test.true c.loop-i.invariant.0 room c.requires.0 is_circle in
+    omega (arith, fits, c.loop-i.invariant.2)
 
 pub overflow_add-circles : goal.overflow_add-circles
-overflow_add-circles c = let t = 
-    let room : c.args.n ≤ length c.args.elements = let l : length c.args.elements ≡ 64 = search rules in rw l c.requires.0 in
-    let fits : (is : Kind → Bool) → 2 * set_of is (drop c.loop-i.i (take c.args.n c.args.elements)) + 1 < 2 ^ 64 = λ is = let s. c in small s.args.elements s.args.n c.loop-i.i c.loop-i-test.true c.loop-i.invariant.0 (room s) s.requires.0 is in
-    c in
-    omega (arith, fits t is_circle, t.loop-i.invariant.2, c.bit_of-in-loop-i.ensures, bit_le c.is_circle.result)
+overflow_add-circles c =
+    let long : length c.args.elements ≡ 64 = search rules in
+    let room : c.args.n ≤ length c.args.elements = rw long c.requires.0 in
+    let fits = small c.args.elements c.args.n c.loop-i.i c.loop-i-test.true c.loop-i.invariant.0 room c.requires.0 is_circle in
+    omega (arith, fits, c.loop-i.invariant.2, c.bit_of-in-loop-i.ensures, bit_le c.is_circle.result)
 
 pub loop-i-preserved : goal.loop-i-preserved
-loop-i-preserved c = let a = 
-    let room : c.args.n ≤ length c.args.elements = let l : length c.args.elements ≡ 64 = search rules in rw l c.requires.0 in
-    c.loop-i in
-    let s = c in
-    let l = s.args.elements in
-    let n = s.args.n in
+loop-i-preserved c =
+    let long : length c.args.elements ≡ 64 = search rules in
+    let room : c.args.n ≤ length c.args.elements = rw long c.requires.0 in
+    let a = c.loop-i in
+    let l = c.args.elements in
+    let n = c.args.n in
     let t = c.loop-i-test.true in (
       omega arith,
-      rw (c.bit_of.ensures, c.is_a_line.ensures, a.invariant.1)
-          (sym (one_more l n a.i t a.invariant.0 (room s) is_line)),
+      rw (c.bit_of.ensures, c.is_line.ensures, a.invariant.1)
+          (sym (one_more l n a.i t a.invariant.0 room is_line)),
       rw (c.bit_of-in-loop-i.ensures, c.is_circle.ensures, a.invariant.2)
-          (sym (one_more l n a.i t a.invariant.0 (room s) is_circle)),
+          (sym (one_more l n a.i t a.invariant.0 room is_circle)),
       rw length-set a.invariant.3,
       rw c.radius_of.ensures
-          (radius-more l n a.i t a.invariant.0 (room s) a.radii (rw a.invariant.3 s.requires.0) a.invariant.4),
+          (radius-more l n a.i t a.invariant.0 room a.radii (rw a.invariant.3 c.requires.0) a.invariant.4),
     )
 
 pub returns : goal.returns
-returns c = let a = c.loop-i in
+returns c =
+    let a = c.loop-i in
     let z : a.i ≡ 0 = omega arith in
     record {
       lines_are = rw z at a.invariant.1;

@@ -1,5 +1,5 @@
 -- `sheet::note_pair` meets its contract: each end is noted at the other. Assumes nothing.
-use Rattle.theory.specs.Prelude.{rules, ◌<◌, ◌^◌, one-mul, mod-eq_of_lt, arith, pow-lt}
+use Rattle.theory.specs.Prelude.{◌<◌, ◌^◌, one-mul, mod-eq_of_lt, arith, pow-lt}
 use Rattle.sheet.specs.Noted.Laws.{noted_more}
 use Rattle.sheet.proofs.note_pair.Goals as goal
 

@@ -1,5 +1,4 @@
 -- `sheet::pair_stands` meets its contract. Assumes nothing.
-use borrow.Author.Rules.{rules}
 use Rattle.sheet.specs.Noted.Laws.{noted-says}
 use Rattle.sheet.proofs.pair_stands.Goals as goal
 

@@ -1,5 +1,5 @@
 -- `sheet::radii_differ` meets its contract: only the other contact asks for the radii. Assumes nothing.
-use Rattle.theory.specs.Prelude.{rules, sym, ap, ◌∙◌, not}
+use Rattle.theory.specs.Prelude.{sym, ap, ◌∙◌, not}
 use Rattle.sheet.specs.Rules.{radii_differ}
 use Rattle.sheet.proofs.radii_differ.Goals as goal
 

@@ -1,8 +1,6 @@
 -- `sheet::radii_in_range` meets its contract: the circles before i have radii in range. Assumes nothing.
-use Rattle.theory.specs.Prelude.{rules, ◌-◌, ◌≤◌, arith, ◌≡◌, refl, sym, ◌∙◌, ⊎_elim, not-true, not-false, length, take, drop}
-use Rattle.sheet.specs.Facts.{blank_element}
+use Rattle.theory.specs.Prelude.{◌-◌, ◌≤◌, ◌≡◌, take, drop}
 use Rattle.sheet.specs.Rules.{radii_in_range}
-use Rattle.sheet.specs.Rules.Kinds.{radii-turn, radii-spent}
 use Rattle.sheet.proofs.radii_in_range.Given as goal
 
 abbrev pub invariant-loop-i : goal.invariant-loop-i

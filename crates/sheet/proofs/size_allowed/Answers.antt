@@ -1,5 +1,5 @@
 -- `sheet::size_allowed` meets its contract: rule 8 case by case. Assumes nothing.
-use Rattle.theory.specs.Prelude.{rules, sym, ap, ◌∙◌}
+use Rattle.theory.specs.Prelude.{sym, ap, ◌∙◌}
 use Rattle.sheet.specs.Rules.{size_allowed}
 use Rattle.sheet.proofs.size_allowed.Goals as goal
 

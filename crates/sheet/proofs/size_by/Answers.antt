@@ -1,5 +1,5 @@
 -- `sheet::size_by` meets its contract: the maps that say something, one after another. Assumes nothing.
-use Rattle.theory.specs.Prelude.{rules, eq-eqb, ne_eqb}
+use Rattle.theory.specs.Prelude.{eq-eqb, ne_eqb}
 use mir.Facts.{to_z-of_z}
 use Rattle.sheet.specs.Rules.{size_by}
 use Rattle.sheet.proofs.size_by.Goals as goal
@@ -18,18 +18,18 @@ returns-then-m-eq4 c = rw (ne_eqb _ _ c.if-m-eq0.false, ne_eqb _ _ c.if-m-eq1.fa
 
 pub returns-then-m-eq12 : goal.returns-then-m-eq12
 unfolding size_by
-returns-then-m-eq12 c =     rw (
-      ne_eqb _ _ c.if-m-eq0.false,
-      ne_eqb _ _ c.if-m-eq1.false,
-      ne_eqb _ _ c.if-m-eq4.false,
-      eq-eqb _ _ c.if-m-eq12.true,
-    )
+returns-then-m-eq12 c = rw (
+  ne_eqb _ _ c.if-m-eq0.false,
+  ne_eqb _ _ c.if-m-eq1.false,
+  ne_eqb _ _ c.if-m-eq4.false,
+  eq-eqb _ _ c.if-m-eq12.true,
+)
 
 pub returns : goal.returns
 unfolding size_by
-returns c =     rw (
-      ne_eqb _ _ c.if-m-eq0.false,
-      ne_eqb _ _ c.if-m-eq1.false,
-      ne_eqb _ _ c.if-m-eq4.false,
-      ne_eqb _ _ c.if-m-eq12.false,
-    )
+returns c = rw (
+  ne_eqb _ _ c.if-m-eq0.false,
+  ne_eqb _ _ c.if-m-eq1.false,
+  ne_eqb _ _ c.if-m-eq4.false,
+  ne_eqb _ _ c.if-m-eq12.false,
+)

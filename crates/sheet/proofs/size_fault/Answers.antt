@@ -1,24 +1,24 @@
 -- `sheet::size_fault` meets its contract: the rules in their order. Assumes nothing.
-use Rattle.theory.specs.Prelude.{rules, not-true, not-false, sym, ◌∙◌}
+use Rattle.theory.specs.Prelude.{sym, ◌∙◌}
 use Rattle.sheet.specs.Rules.{size_fault}
 use Rattle.sheet.proofs.size_fault.Goals as goal
 
 pub returns-then-not-size_allowed : goal.returns-then-not-size_allowed
 unfolding size_fault
-returns-then-not-size_allowed c = rw (sym c.size_allowed.ensures ∙ not-true _ c.if-not-size_allowed.true)
+returns-then-not-size_allowed c = rw (sym c.size_allowed.ensures ∙ c.if-not-size_allowed.true)
 
 pub returns-then-not-radii_differ : goal.returns-then-not-radii_differ
 unfolding size_fault
-returns-then-not-radii_differ c =     rw (
-      sym c.size_allowed.ensures ∙ not-false _ c.if-not-size_allowed.false,
-      sym c.radii_differ.ensures ∙ not-true _ c.if-not-radii_differ.true,
-    )
+returns-then-not-radii_differ c = rw (
+  sym c.size_allowed.ensures ∙ c.if-not-size_allowed.false,
+  sym c.radii_differ.ensures ∙ c.if-not-radii_differ.true,
+)
 
 pub returns : goal.returns
 unfolding size_fault
-returns c =     c.range_fault.ensures
+returns c = c.range_fault.ensures
     ∙ rw (
       c.pair_of.ensures,
-      sym c.size_allowed.ensures ∙ not-false _ c.if-not-size_allowed.false,
-      sym c.radii_differ.ensures ∙ not-false _ c.if-not-radii_differ.false,
+      sym c.size_allowed.ensures ∙ c.if-not-size_allowed.false,
+      sym c.radii_differ.ensures ∙ c.if-not-radii_differ.false,
     )

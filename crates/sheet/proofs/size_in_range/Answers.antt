@@ -1,5 +1,5 @@
 -- `sheet::size_in_range` meets its contract: the ranges of each kind of pair. Assumes nothing.
-use Rattle.theory.specs.Prelude.{sym, ap, ◌∙◌, rules, ℤ, Bool}
+use Rattle.theory.specs.Prelude.{sym, ap, ◌∙◌, ℤ, Bool}
 use mir.Facts.{to_z-of_z}
 use Rattle.sheet.specs.declared.PairKind.{PairKind}
 use Rattle.sheet.specs.Rules.{size_in_range}

@@ -28,6 +28,7 @@ stands-among (c ∷ cs) a b e = first (eqb c.first a && eqb c.second b) refl e (
 
 among-stands : (cs : List Constraint) (a b : ℕ) → Ascend 64 cs → a < b → Among (pair a b) (map cluster_of cs) → stands cs a b ≡ true
 unfolding stands
+among-stands [] a b s l h = elim h [ ]
 among-stands (c ∷ cs) a b s l (inl e) =
     let same = pair_one a b c.first c.second l s.0 e in
     rw (eq-eqb c.first a (sym same.0), eq-eqb c.second b (sym same.1))

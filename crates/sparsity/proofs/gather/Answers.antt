@@ -12,44 +12,8 @@ use Rattle.sparsity.proofs.gather.Goals as goal
 pub loop-t-init : goal.loop-t-init
 loop-t-init c = let s = c in (again-refl s.args.a s.args.b s.requires.0, s.requires.4)
 
-pub offset_bounds-t-i : goal.offset_bounds-t-i
-offset_bounds-t-i c = omega (arith, bounds-t-i c)
-
-pub bounds-t-i : goal.bounds-t-i
-bounds-t-i c = omega (arith, c.wide-i.ensures, c.requires.1)
-
-pub bounds-t-0 : goal.bounds-t-0
-bounds-t-0 c = omega arith
-
-pub offset_bounds-t-i-in-loop-t : goal.offset_bounds-t-i-in-loop-t
-offset_bounds-t-i-in-loop-t c = offset_bounds-t-i c.before
-
-pub bounds-t-i-in-loop-t : goal.bounds-t-i-in-loop-t
-bounds-t-i-in-loop-t c = bounds-t-i c.before
-
-pub bounds-t-1 : goal.bounds-t-1
-bounds-t-1 c = omega arith
-
-pub offset_bounds-t-j : goal.offset_bounds-t-j
-offset_bounds-t-j c = omega (arith, bounds-t-j c)
-
-pub bounds-t-j : goal.bounds-t-j
-bounds-t-j c = omega (arith, c.wide-j.ensures, c.requires.2)
-
-pub bounds-t-0-in-loop-t : goal.bounds-t-0-in-loop-t
-bounds-t-0-in-loop-t c = omega arith
-
-pub offset_bounds-t-j-in-loop-t : goal.offset_bounds-t-j-in-loop-t
-offset_bounds-t-j-in-loop-t c = offset_bounds-t-j c.before
-
-pub bounds-t-j-in-loop-t : goal.bounds-t-j-in-loop-t
-bounds-t-j-in-loop-t c = bounds-t-j c.before
-
-pub bounds-t-1-in-loop-t : goal.bounds-t-1-in-loop-t
-bounds-t-1-in-loop-t c = omega arith
-
 pub overflow_add-free_of : goal.overflow_add-free_of
-overflow_add-free_of c = omega (arith, c.Free-of.ensures.1, c.free_of-in-loop-t.ensures.1)
+overflow_add-free_of c = omega (arith, c.free_of.ensures.1, c.free_of-in-loop-t.ensures.1)
 
 pub seek-found-requires : goal.seek-found-requires
 seek-found-requires c = let l = c.loop-t in
@@ -58,7 +22,7 @@ seek-found-requires c = let l = c.loop-t in
 
 pub returns-then-found-p : goal.returns-then-found-p
 returns-then-found-p c = let l = c.loop-t in
-    let fa = free-count l.t c.wide-i.ensures c.Free-of.ensures.0 in
+    let fa = free-count l.t c.wide-i.ensures c.free_of.ensures.0 in
     let fb = free-count l.t c.wide-j.ensures c.free_of-in-loop-t.ensures.0 in
     let f = c.seek-found.ensures in (
       record {
@@ -74,7 +38,7 @@ loop-to-init c = let w = way_of c.loop-t.invariant.0.table c.seek-found.ensures 
 
 pub loop-t-smaller : goal.loop-t-smaller
 loop-t-smaller c = let l = c.loop-t in
-    let fa = free-count l.t c.wide-i.ensures c.Free-of.ensures.0 in
+    let fa = free-count l.t c.wide-i.ensures c.free_of.ensures.0 in
     let fb = free-count l.t c.wide-j.ensures c.free_of-in-loop-t.ensures.0 in
     let r = c.seek-found.ensures.reached in
     omega (
@@ -100,29 +64,14 @@ bounds-queue-back c = let w = c.loop-to.invariant in
 pub bounds-queue-to : goal.bounds-queue-to
 bounds-queue-to c = let w = c.loop-to.invariant in omega (arith, w.1.inside, w.0.room)
 
-pub offset_bounds-t-x : goal.offset_bounds-t-x
-offset_bounds-t-x c = omega (arith, bounds-t-x c)
-
 pub bounds-t-x : goal.bounds-t-x
 bounds-t-x c = let w = c.loop-to.invariant in
     x_fits w.0 w.1 c.loop-to-test.true c.wide-back.ensures
     c.wide-x.ensures
 
-pub bounds-t-1-in-loop-to : goal.bounds-t-1-in-loop-to
-bounds-t-1-in-loop-to c = omega arith
-
-pub offset_bounds-t-y : goal.offset_bounds-t-y
-offset_bounds-t-y c = omega (arith, bounds-t-y c)
-
 pub bounds-t-y : goal.bounds-t-y
 bounds-t-y c = let w = c.loop-to.invariant in
     y-fits w.0 w.1 c.loop-to-test.true c.wide-back.ensures c.wide-y.ensures
-
-pub bounds-t-1-in-loop-to-2 : goal.bounds-t-1-in-loop-to-2
-bounds-t-1-in-loop-to-2 c = omega arith
-
-pub offset_bounds-t-x-in-loop-to : goal.offset_bounds-t-x-in-loop-to
-offset_bounds-t-x-in-loop-to c = omega (arith, bounds-t-x-in-loop-to c)
 
 pub bounds-t-x-in-loop-to : goal.bounds-t-x-in-loop-to
 bounds-t-x-in-loop-to c = let w = c.loop-to.invariant in
@@ -130,9 +79,6 @@ bounds-t-x-in-loop-to c = let w = c.loop-to.invariant in
 
 pub bounds-t-s : goal.bounds-t-s
 bounds-t-s c = omega (arith, same_bit _ _ _ c.one_if_same-s.ensures)
-
-pub offset_bounds-t-y-in-loop-to : goal.offset_bounds-t-y-in-loop-to
-offset_bounds-t-y-in-loop-to c = omega (arith, bounds-t-y-in-loop-to c)
 
 pub bounds-t-y-in-loop-to : goal.bounds-t-y-in-loop-to
 bounds-t-y-in-loop-to c = let w = c.loop-to.invariant in
@@ -160,7 +106,7 @@ loop-to-preserved c = let t = c.loop-to.t in
 
 pub returns : goal.returns
 returns c = let l = c.loop-t in
-    let fa = free-count l.t c.wide-i.ensures c.Free-of.ensures.0 in
+    let fa = free-count l.t c.wide-i.ensures c.free_of.ensures.0 in
     let fb = free-count l.t c.wide-j.ensures c.free_of-in-loop-t.ensures.0
     in
     (record { again = l.invariant.0; enough = λ z. omega (arith, fa, fb, c.loop-t-test.false); stuck = λ z. absurd (z refl) }, l.invariant.1)

@@ -6,12 +6,6 @@ use Rattle.sparsity.specs.Reach.Laws.{begun-with, scanned-none, shut-two, reache
 use Rattle.sparsity.specs.Reach.Laws.{scan-below, scan-shut, opens-some, opens-none, found-first-visit, found-second-visit, found_all}
 use Rattle.sparsity.proofs.seek.Goals as goal
 
-pub bounds-queue-0 : goal.bounds-queue-0
-bounds-queue-0 c = omega arith
-
-pub bounds-queue-1 : goal.bounds-queue-1
-bounds-queue-1 c = omega arith
-
 pub loop-p-init : goal.loop-p-init
 loop-p-init c = let s = c in (
   begun-with s.args.own s.args.a s.args.b s.requires.1 s.requires.2 s.requires.3 s.requires.4 c.single.result
@@ -24,25 +18,15 @@ loop-p-init c = let s = c in (
 pub bounds-queue-p : goal.bounds-queue-p
 bounds-queue-p c = omega (arith, reached-most c.loop-p.invariant.0)
 
-pub offset_bounds-own-i : goal.offset_bounds-own-i
-offset_bounds-own-i c = omega (arith, bounds-own-i c)
-
 pub bounds-own-i : goal.bounds-own-i
 bounds-own-i c = let s = c in
     let l = c.loop-p in
     scan-fits s.requires.0 l.invariant.0 l.p c.loop-p-test.true c.wide-i.ensures
 
-pub bounds-own-0 : goal.bounds-own-0
-bounds-own-0 c = omega arith
-
-pub offset_bounds-own-i-in-loop-p : goal.offset_bounds-own-i-in-loop-p
-offset_bounds-own-i-in-loop-p c = omega (arith, bounds-own-i c.before.before)
-
 pub bounds-own-i-in-loop-p : goal.bounds-own-i-in-loop-p
-bounds-own-i-in-loop-p c = bounds-own-i c.before.before
-
-pub bounds-own-1 : goal.bounds-own-1
-bounds-own-1 c = omega arith
+bounds-own-i-in-loop-p c = let s = c in
+    let l = c.loop-p in
+    scan-fits s.requires.0 l.invariant.0 l.p c.loop-p-test.true c.wide-i.ensures
 
 pub overflow_cast-p : goal.overflow_cast-p
 overflow_cast-p c = omega (
@@ -58,9 +42,6 @@ visit-g-requires c = let s = c in
     let e = c.wide-i.ensures in
     (scan-low s.requires.0 l.invariant.0 l.p h e 0 (zero-lt-suc 1), l.invariant.0.size)
 
-pub offset_bounds-own-j : goal.offset_bounds-own-j
-offset_bounds-own-j c = omega (arith, bounds-own-j c)
-
 pub bounds-own-j : goal.bounds-own-j
 bounds-own-j c = let s = c in
     let l = c.loop-p in
@@ -68,17 +49,12 @@ bounds-own-j c = let s = c in
     let e = c.wide-i.ensures in
     omega (arith, c.wide-j.ensures, scan-low s.requires.0 l.invariant.0 l.p h e 0 (zero-lt-suc 1))
 
-pub bounds-own-0-in-loop-p : goal.bounds-own-0-in-loop-p
-bounds-own-0-in-loop-p c = omega arith
-
-pub offset_bounds-own-j-in-loop-p : goal.offset_bounds-own-j-in-loop-p
-offset_bounds-own-j-in-loop-p c = omega (arith, bounds-own-j c.before)
-
 pub bounds-own-j-in-loop-p : goal.bounds-own-j-in-loop-p
-bounds-own-j-in-loop-p c = bounds-own-j c.before
-
-pub bounds-own-1-in-loop-p : goal.bounds-own-1-in-loop-p
-bounds-own-1-in-loop-p c = omega arith
+bounds-own-j-in-loop-p c = let s = c in
+    let l = c.loop-p in
+    let h = c.loop-p-test.true in
+    let e = c.wide-i.ensures in
+    omega (arith, c.wide-j.ensures, scan-low s.requires.0 l.invariant.0 l.p h e 0 (zero-lt-suc 1))
 
 pub returns-then-opens-ne0 : goal.returns-then-opens-ne0
 returns-then-opens-ne0 c = let s = c in
@@ -104,9 +80,6 @@ visit-h-requires c = let s = c in
       mid-size s.requires.0 l.invariant.0 l.p h e c.visit-g.ensures,
     )
 
-pub offset_bounds-own-k : goal.offset_bounds-own-k
-offset_bounds-own-k c = omega (arith, bounds-own-k c)
-
 pub bounds-own-k : goal.bounds-own-k
 bounds-own-k c = let s = c in
     let l = c.loop-p in
@@ -114,17 +87,12 @@ bounds-own-k c = let s = c in
     let e = c.wide-i.ensures in
     omega (arith, c.wide-k.ensures, scan-low s.requires.0 l.invariant.0 l.p h e 1 (le_refl 2))
 
-pub bounds-own-0-else-opens-ne0 : goal.bounds-own-0-else-opens-ne0
-bounds-own-0-else-opens-ne0 c = omega arith
-
-pub offset_bounds-own-k-in-loop-p : goal.offset_bounds-own-k-in-loop-p
-offset_bounds-own-k-in-loop-p c = omega (arith, bounds-own-k c.before)
-
 pub bounds-own-k-else-opens-ne0 : goal.bounds-own-k-else-opens-ne0
-bounds-own-k-else-opens-ne0 c = bounds-own-k c.before
-
-pub bounds-own-1-else-opens-ne0 : goal.bounds-own-1-else-opens-ne0
-bounds-own-1-else-opens-ne0 c = omega arith
+bounds-own-k-else-opens-ne0 c = let s = c in
+    let l = c.loop-p in
+    let h = c.loop-p-test.true in
+    let e = c.wide-i.ensures in
+    omega (arith, c.wide-k.ensures, scan-low s.requires.0 l.invariant.0 l.p h e 1 (le_refl 2))
 
 pub returns-then-opens-ne0-2 : goal.returns-then-opens-ne0-2
 returns-then-opens-ne0-2 c = let s = c in

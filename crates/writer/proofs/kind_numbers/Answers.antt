@@ -6,35 +6,32 @@ use Rattle.writer.proofs.Spread.{front-least, rest-least, allowed-take, rest-few
 use Rattle.writer.proofs.kind_numbers.Goals as goal
 
 pub kinds_number-low-requires : goal.kinds_number-low-requires
-kinds_number-low-requires c = let s = c in
-    let m : min s.args.n c.kinds_in_eight.result ≤ s.args.n = omega arith in (
+kinds_number-low-requires c =
+    let m : min c.args.n c.kinds_in_eight.result ≤ c.args.n = omega arith in (
       omega arith,
       omega arith,
       omega (arith, c.least-split.ensures, c.kinds_in_eight.ensures),
-      rw (c.least-split.ensures, ← take-take (min s.args.n c.kinds_in_eight.result) s.args.n s.args.elements m)
-          (allowed-take s.args.o (min s.args.n c.kinds_in_eight.result) (take s.args.n s.args.elements) s.requires.1),
+      rw (c.least-split.ensures, ← take-take (min c.args.n c.kinds_in_eight.result) c.args.n c.args.elements m)
+          (allowed-take c.args.o (min c.args.n c.kinds_in_eight.result) (take c.args.n c.args.elements) c.requires.1),
     )
 
 pub kinds_number-high-requires : goal.kinds_number-high-requires
-kinds_number-high-requires c = let s = c in
-    let l = c in (
-      omega (arith, l.least-split.ensures),
-      s.requires.0,
-      rw (l.least-split.ensures, l.kinds_in_eight.ensures) (rest-few s.args.o s.args.n s.requires.0),
-      s.requires.1,
-    )
+kinds_number-high-requires c = (
+  omega (arith, c.least-split.ensures),
+  c.requires.0,
+  rw (c.least-split.ensures, c.kinds_in_eight.ensures) (rest-few c.args.o c.args.n c.requires.0),
+  c.requires.1,
+)
 
 pub returns : goal.returns
-returns c = let l = 
+returns c =
     let room : c.args.n ≤ length c.args.elements = let l : length c.args.elements ≡ 64 = search rules in rw l c.requires.0 in
-    c in
-    let s = l in
-    let split : l.least-split.result ≡ min s.args.n (kinds_in_eight s.args.o) = rw (← l.kinds_in_eight.ensures) l.least-split.ensures in
+    let split : c.least-split.result ≡ min c.args.n (kinds_in_eight c.args.o) = rw (← c.kinds_in_eight.ensures) c.least-split.ensures in
     record {
       low_is =
           c.kinds_number-low.ensures
-          ∙ ap (kinds_number s.args.o) (rw split (front-least s.args.elements s.args.n (kinds_in_eight s.args.o) (room s)));
+          ∙ ap (kinds_number c.args.o) (rw split (front-least c.args.elements c.args.n (kinds_in_eight c.args.o) room));
       high_is =
           c.kinds_number-high.ensures
-          ∙ ap (kinds_number s.args.o) (rw split (rest-least s.args.elements s.args.n (kinds_in_eight s.args.o) (room s)));
+          ∙ ap (kinds_number c.args.o) (rw split (rest-least c.args.elements c.args.n (kinds_in_eight c.args.o) room));
     }

@@ -8,41 +8,42 @@ use Rattle.writer.proofs.kinds_number.Goals as goal
 
 pub loop-i-init : goal.loop-i-init
 unfolding kinds_number
-loop-i-init c = let s = 
-    let room : c.args.to ≤ length c.args.elements = let l : length c.args.elements ≡ 64 = search rules in rw l c.requires.1 in
-    c in (
-      s.requires.0,
+loop-i-init c =
+    let room : c.args.to ≤ length c.args.elements = let l : length c.args.elements ≡ 64 = search rules in rw l c.requires.1 in (
+      c.requires.0,
       omega arith,
-      λ o base. sym (ap (kinds_number o) (spent s.args.elements s.args.to s.args.to (omega arith) (room s))),
+      λ o base. sym (ap (kinds_number o) (spent c.args.elements c.args.to c.args.to (omega arith) room)),
     )
 
 pub overflow_mul-u : goal.overflow_mul-u
-overflow_mul-u c = 
+overflow_mul-u c =
     let room : c.args.to ≤ length c.args.elements = let l : length c.args.elements ≡ 64 = search rules in rw l c.requires.1 in
-    let fits : c.kind_base-base.result * c.loop-i.u + kind_digit (get_or c.args.elements (c.loop-i.i - 1) blank_element).kind < 2 ^ 64 = λ = let a. c.loop-i in let b = c.kind_base-base.ensures in let s = c in rw (a.invariant.2 s.args.o b, b) (more-fits s.args.o s.args.elements s.args.from s.args.to a.i c.loop-i-test.true a.invariant.1 (room s) s.requires.2 s.requires.3) in
+    let fits : c.kind_base-base.result * c.loop-i.u + kind_digit (get_or c.args.elements (c.loop-i.i - 1) blank_element).kind < 2 ^ 64 =
+    rw (c.loop-i.invariant.2 c.args.o c.kind_base-base.ensures, c.kind_base-base.ensures)
+    (more-fits c.args.o c.args.elements c.args.from c.args.to c.loop-i.i c.loop-i-test.true c.loop-i.invariant.1 room c.requires.2 c.requires.3) in
     omega (arith, fits)
 
 pub overflow_add-u : goal.overflow_add-u
-overflow_add-u c = 
+overflow_add-u c =
     let room : c.args.to ≤ length c.args.elements = let l : length c.args.elements ≡ 64 = search rules in rw l c.requires.1 in
-    let fits : c.kind_base-base.result * c.loop-i.u + kind_digit (get_or c.args.elements (c.loop-i.i - 1) blank_element).kind < 2 ^ 64 = λ = let a. c.loop-i in let b = c.kind_base-base.ensures in let s = c in rw (a.invariant.2 s.args.o b, b) (more-fits s.args.o s.args.elements s.args.from s.args.to a.i c.loop-i-test.true a.invariant.1 (room s) s.requires.2 s.requires.3) in
+    let fits : c.kind_base-base.result * c.loop-i.u + kind_digit (get_or c.args.elements (c.loop-i.i - 1) blank_element).kind < 2 ^ 64 =
+    rw (c.loop-i.invariant.2 c.args.o c.kind_base-base.ensures, c.kind_base-base.ensures)
+    (more-fits c.args.o c.args.elements c.args.from c.args.to c.loop-i.i c.loop-i-test.true c.loop-i.invariant.1 room c.requires.2 c.requires.3) in
     omega (arith, fits, c.kind_digit.ensures)
 
 pub loop-i-preserved : goal.loop-i-preserved
-loop-i-preserved c = let t = 
+loop-i-preserved c =
     let room : c.args.to ≤ length c.args.elements = let l : length c.args.elements ≡ 64 = search rules in rw l c.requires.1 in
-    c in
-    let a = t.loop-i in
-    let s = t in (
+    let a = c.loop-i in (
       omega arith,
       omega arith,
       λ o base.
           rw (c.kind_digit.ensures, a.invariant.2 o base, base)
-          (sym (one_more o s.args.elements s.args.from s.args.to a.i t.loop-i-test.true a.invariant.1 (room s))),
+          (sym (one_more o c.args.elements c.args.from c.args.to a.i c.loop-i-test.true a.invariant.1 room)),
     )
 
 pub returns : goal.returns
-returns c = let a = c.loop-i in
-    let s = c in
-    let last : a.i ≡ s.args.from = omega arith in
-    rw last at (a.invariant.2 s.args.o c.kind_base-base.ensures)
+returns c =
+    let a = c.loop-i in
+    let last : a.i ≡ c.args.from = omega arith in
+    rw last at (a.invariant.2 c.args.o c.kind_base-base.ensures)

@@ -13,20 +13,18 @@ unfolding radii_bytes
 loop-i-init c = (search rules, put-none _ _)
 
 pub put_radius-next-requires : goal.put_radius-next-requires
-put_radius-next-requires c = let a = 
+put_radius-next-requires c =
     let room : c.args.n ≤ length c.args.elements = let l : length c.args.elements ≡ 64 = search rules in rw l c.requires.1 in
-    c.loop-i in
-    let s = c in
-    let short : length (take a.i s.args.elements) ≡ a.i = length-take-le a.i s.args.elements (omega (arith, room s)) in
-    omega (arith, a.invariant.1.next_is, radii-most (take a.i s.args.elements) (omega (arith, s.requires.1)), s.requires.0)
+    let a = c.loop-i in
+    let short : length (take a.i c.args.elements) ≡ a.i = length-take-le a.i c.args.elements (omega (arith, room)) in
+    omega (arith, a.invariant.1.next_is, radii-most (take a.i c.args.elements) (omega (arith, c.requires.1)), c.requires.0)
 
 pub loop-i-preserved : goal.loop-i-preserved
-loop-i-preserved c = let a = 
+loop-i-preserved c =
     let room : c.args.n ≤ length c.args.elements = let l : length c.args.elements ≡ 64 = search rules in rw l c.requires.1 in
-    c.loop-i in
-    let s = c in
-    let h : a.i + 1 ≤ length s.args.elements = omega (arith, room s) in
-    (omega arith, put_as (sym (radii-more s.args.elements a.i blank_element h)) (a.invariant.1 then c.put_radius-next.ensures))
+    let a = c.loop-i in
+    let h : a.i + 1 ≤ length c.args.elements = omega (arith, room) in
+    (omega arith, put_as (sym (radii-more c.args.elements a.i blank_element h)) (a.invariant.1 then c.put_radius-next.ensures))
 
 pub shape_of-out : goal.shape_of-out
 shape_of-out c = c.loop-i.invariant.1.length_is

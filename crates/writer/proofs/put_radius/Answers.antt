@@ -11,5 +11,4 @@ pub returns-in-Line : goal.returns-in-Line
 returns-in-Line c = rw (ap radius_bytes c.in-Line.is) (put-none _ _)
 
 pub returns-in-Circle : goal.returns-in-Circle
-returns-in-Circle c = let told = c.k.given in
-    rw (ap radius_bytes told.1) c.put_number.ensures
+returns-in-Circle c = rw (ap radius_bytes c.in-Circle.is) c.put_number.ensures

@@ -8,8 +8,8 @@ use Rattle.writer.proofs.put_size.Goals as goal
 
 pub returns-in-Given : goal.returns-in-Given
 unfolding size_bytes
-returns-in-Given c = let told = c.size.given in
-    rw (ap size_bytes told.1) (put_as (cc (to_z-of_z {w = w32} {z = told.0.0} (search rules))) c.put_number.ensures)
+returns-in-Given c =
+    rw (ap size_bytes c.in-Given.is) (put_as (cc (to_z-of_z {w = w32} {z = c.in-Given.z} (search rules))) c.put_number.ensures)
 
 pub returns-in-Missing : goal.returns-in-Missing
 unfolding size_bytes

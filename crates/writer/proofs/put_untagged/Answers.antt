@@ -32,14 +32,16 @@ put_tagged-to-requires c = let w = c.loop-i.invariant in
     (w.to_in, w.passed, omega arith, omega (arith, c.if-map-eq1.true), omega arith)
 
 pub loop-i-preserved : goal.loop-i-preserved
-loop-i-preserved c = let a = 
+loop-i-preserved c =
     let counted : c.byte_at-e.result ≡ listed c.args.s.now = c.byte_at-e.ensures ∙ rw c.requires in
-    c.loop-i in
-    let more : a.i < listed c.args.s.now =
-    rw (← counted) c.loop-i-test.true in
-    let room : a.at + 3 ≤ length c.args.s.now =
-    omega (arith, c.if-s-at.false) in
-    elim c.if-map-eq1.branch [ then-map-eq1 t ↦ rw (t.6, t.7, t.8, t.9, t.5.ensures) (walk-tagged a.invariant more room t.if-map-eq1.true t.2.ensures) | else-map-eq1 t ↦ rw (t.1, t.2, t.3, t.4) (walk-plain a.invariant more room (omega (arith, t.if-map-eq1.false))) ]
+    let a = c.loop-i in
+    let more : a.i < listed c.args.s.now = rw (← counted) c.loop-i-test.true in
+    let room : a.at + 3 ≤ length c.args.s.now = omega (arith, c.if-s-at.false) in
+    elim c.if-map-eq1.branch [
+      then-map-eq1 t ↦
+          rw (t.at-is, t.from-is, t.to-is, t.out-is, t.least-from.ensures) (walk-tagged a.invariant more room t.if-map-eq1.true t.put_tagged-to.ensures)
+    | else-map-eq1 t ↦ rw (t.at-is, t.from-is, t.to-is, t.out-is) (walk-plain a.invariant more room (omega (arith, t.if-map-eq1.false)))
+    ]
 
 pub put_text-requires-2 : goal.put_text-requires-2
 put_text-requires-2 c =     rw (take_rest c.args.s.now c.loop-i.from) (omega (

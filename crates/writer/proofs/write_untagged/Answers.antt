@@ -11,18 +11,17 @@ returns-then-s-out c =     put-done (le_trans (without_tags-length c.args.s.now)
     c.if-s-out.true) c.put_untagged-written.ensures
 
 pub returns-then-out-length : goal.returns-then-out-length
-returns-then-out-length c = let a = 
-    let none : c.put_untagged-length.new.0 ≡ [] = none_left c.put_untagged-length.ensures in
-    c.args in
-    let p = c in
-    let h : length a.out.now < length (without_tags a.s.now) = rw (none p, p.put_untagged-length.ensures.next_is, zero-add) at c.if-out-length.true in
-    rw (none p) (put_refused (without_tags a.s.now) a.out.now h)
+returns-then-out-length c =
+    let none : c.put_untagged-length.new.out ≡ [] = none_left c.put_untagged-length.ensures in
+    let a = c.args in
+    let h : length a.out.now < length (without_tags a.s.now) =
+    rw (none, c.put_untagged-length.ensures.next_is, zero-add) at c.if-out-length.true in
+    rw none (put_refused (without_tags a.s.now) a.out.now h)
 
 pub returns-else-out-length : goal.returns-else-out-length
-returns-else-out-length c = let a = 
-    let none : c.put_untagged-length.new.0 ≡ [] = none_left c.put_untagged-length.ensures in
-    c.args in
-    let p = c in
+returns-else-out-length c =
+    let none : c.put_untagged-length.new.out ≡ [] = none_left c.put_untagged-length.ensures in
+    let a = c.args in
     let h : length (without_tags a.s.now) ≤ length a.out.now =
-    rw (none p, p.put_untagged-length.ensures.next_is, zero-add) at c.if-out-length.false in
-    put-done h (rw (none p) at c.put_untagged-written-else-out-length.ensures)
+    rw (none, c.put_untagged-length.ensures.next_is, zero-add) at c.if-out-length.false in
+    put-done h (rw none at c.put_untagged-written-else-out-length.ensures)
