@@ -35,8 +35,9 @@ need:
 proved: $(PROVED)
 
 ifneq ($(KIT),)
-$(PROVED): crates.txt $(shell find crates -name must-fail -prune -o -print) | need
-	rt staticlib pattern_c
+$(PROVED): crates.txt $(shell find crates -name must-fail -prune -o -name out -prune -o -print) | need
+	cd crates/pattern_exports && rt lib
+	install -D -m 644 crates/pattern_exports/out/libpattern_exports.a $@
 else
 $(PROVED): $(wildcard objects/$(HOST)/libpattern_c.a objects/SHA256SUMS) | need
 	@cd objects && sha256sum --check --quiet SHA256SUMS

@@ -1,4 +1,4 @@
-//! Links the static library that `rt staticlib pattern_c` leaves under the repository's root.
+//! Links the static library that `make proved` leaves under the repository's root.
 
 use std::path::PathBuf;
 

@@ -4,6 +4,7 @@ use crate::said::{
 };
 use crate::text::{constraint_of, least, number, some};
 use space::Written;
+use std::io;
 use steps::{Filled, Listing};
 use theory::{ELEMENTS, JointKind, STEPS, Step, Ways};
 
@@ -20,22 +21,36 @@ fn in_bytes(entry: u8, numbers: &[u16], bytes: &[u8], out: &mut [u8]) -> Written
     }
 }
 
-fn on_bytes(to: i32, text: bool, entry: u8, numbers: &[u16], bytes: &[u8], out: &mut [u8]) {
-    say_written(to, in_bytes(entry, numbers, bytes, out));
-    say_bytes(to, text, out);
+fn on_bytes(
+    to: &impl Print,
+    text: bool,
+    entry: u8,
+    numbers: &[u16],
+    bytes: &[u8],
+    out: &mut [u8],
+) -> io::Result<()> {
+    say_written(to, in_bytes(entry, numbers, bytes, out))?;
+    say_bytes(to, text, out)
 }
 
-pub fn lend_bytes(to: i32, text: bool, entry: u8, room: usize, numbers: &[u16], bytes: &[u8]) {
+pub fn lend_bytes(
+    to: &impl Print,
+    text: bool,
+    entry: u8,
+    room: usize,
+    numbers: &[u16],
+    bytes: &[u8],
+) -> io::Result<()> {
     let mut out = [170u8; 4096];
     let n = least(room, 4096);
-    on_bytes(to, text, entry, numbers, bytes, &mut out[0..n]);
+    on_bytes(to, text, entry, numbers, bytes, &mut out[0..n])
 }
 
-pub fn part(to: i32, room: usize, numbers: &[u16], bytes: &[u8]) {
+pub fn part(to: &impl Print, room: usize, numbers: &[u16], bytes: &[u8]) -> io::Result<()> {
     let c = number(numbers, 0);
-    say_written(to, pattern::part_steps(bytes, c));
-    say_written(to, pattern::part_bytes(bytes, c));
-    lend_bytes(to, true, b'P', room, numbers, bytes);
+    say_written(to, pattern::part_steps(bytes, c))?;
+    say_written(to, pattern::part_bytes(bytes, c))?;
+    lend_bytes(to, true, b'P', room, numbers, bytes)
 }
 
 // ---- 16-bit numbers
@@ -49,15 +64,27 @@ fn in_shorts(entry: u8, numbers: &[u16], bytes: &[u8], out: &mut [u16]) -> i32 {
     }
 }
 
-fn on_shorts(to: i32, entry: u8, numbers: &[u16], bytes: &[u8], out: &mut [u16]) {
-    say_signed(to, in_shorts(entry, numbers, bytes, out));
-    say_shorts(to, out);
+fn on_shorts(
+    to: &impl Print,
+    entry: u8,
+    numbers: &[u16],
+    bytes: &[u8],
+    out: &mut [u16],
+) -> io::Result<()> {
+    say_signed(to, in_shorts(entry, numbers, bytes, out))?;
+    say_shorts(to, out)
 }
 
-pub fn lend_shorts(to: i32, entry: u8, room: usize, numbers: &[u16], bytes: &[u8]) {
+pub fn lend_shorts(
+    to: &impl Print,
+    entry: u8,
+    room: usize,
+    numbers: &[u16],
+    bytes: &[u8],
+) -> io::Result<()> {
     let mut out = [170u16; 4096];
     let n = least(room, 4096);
-    on_shorts(to, entry, numbers, bytes, &mut out[0..n]);
+    on_shorts(to, entry, numbers, bytes, &mut out[0..n])
 }
 
 // ---- 64-bit numbers
@@ -99,22 +126,41 @@ fn in_longs(entry: u8, numbers: &[u16], bytes: &[u8], out: &mut [u64]) -> Writte
     }
 }
 
-fn on_longs(to: i32, entry: u8, numbers: &[u16], bytes: &[u8], out: &mut [u64]) {
-    say_written(to, in_longs(entry, numbers, bytes, out));
-    say_longs(to, out);
+fn on_longs(
+    to: &impl Print,
+    entry: u8,
+    numbers: &[u16],
+    bytes: &[u8],
+    out: &mut [u64],
+) -> io::Result<()> {
+    say_written(to, in_longs(entry, numbers, bytes, out))?;
+    say_longs(to, out)
 }
 
-pub fn lend_longs(to: i32, entry: u8, room: usize, numbers: &[u16], bytes: &[u8]) {
+pub fn lend_longs(
+    to: &impl Print,
+    entry: u8,
+    room: usize,
+    numbers: &[u16],
+    bytes: &[u8],
+) -> io::Result<()> {
     let mut out = [170u64; 4096];
     let n = least(room, 4096);
-    on_longs(to, entry, numbers, bytes, &mut out[0..n]);
+    on_longs(to, entry, numbers, bytes, &mut out[0..n])
 }
 
 // ---- a sheet in columns
 
 // The bytes are the kinds and the columns of k first ends, second ends and maps; the numbers the opening, n, e, k, the
 // radius of each circle, the size of each constraint, and how many sizes there are.
-fn write(to: i32, numbers: &[u16], bytes: &[u8], radii: &[u32], sizes: &[i32], out: &mut [u8]) {
+fn write(
+    to: &impl Print,
+    numbers: &[u16],
+    bytes: &[u8],
+    radii: &[u32],
+    sizes: &[i32],
+    out: &mut [u8],
+) -> io::Result<()> {
     let n = number(numbers, 1);
     let k = number(numbers, 3);
     let answer = pattern_c::pattern_write(
@@ -129,46 +175,52 @@ fn write(to: i32, numbers: &[u16], bytes: &[u8], radii: &[u32], sizes: &[i32], o
         sizes,
         out,
     );
-    say_signed(to, answer);
-    say(to, b" ");
-    say_bytes(to, false, out);
+    say_signed(to, answer)?;
+    say(to, b" ")?;
+    say_bytes(to, false, out)
 }
 
-pub fn lend_columns(to: i32, room: usize, numbers: &[u16], bytes: &[u8]) {
+pub fn lend_columns(to: &impl Print, room: usize, numbers: &[u16], bytes: &[u8]) -> io::Result<()> {
     let radii = [number(numbers, 4) as u32; ELEMENTS];
     let sizes = [number(numbers, 5) as i32; 256];
     let mut out = [170u8; 4096];
     let k = least(number(numbers, 6), 256);
     let n = least(room, 4096);
-    write(to, numbers, bytes, &radii, &sizes[0..k], &mut out[0..n]);
+    write(to, numbers, bytes, &radii, &sizes[0..k], &mut out[0..n])
 }
 
 // ---- a held sketch
 
 // Asked and placed in a sketch by value, by the number told.
-pub fn by_value(to: i32, told: usize, numbers: &[u16], bytes: &[u8]) {
+pub fn by_value(to: &impl Print, told: usize, numbers: &[u16], bytes: &[u8]) -> io::Result<()> {
     let c = constraint_of(numbers);
     let read = pattern::read(bytes);
     let sketch = read.sheet;
-    say_judgement(to, sketch::asking(sketch, c));
+    say_judgement(to, sketch::asking(sketch, c))?;
     let placed = sketch::placing(sketch, c, told);
     let answer = placed.answer;
-    say_judgement(to, answer);
+    say_judgement(to, answer)?;
     let after = placed.sketch;
-    say_sheet(to, after);
+    say_sheet(to, after)
 }
 
 // Asked and placed in a record that holds the sheet.
-fn in_record(to: i32, told: usize, numbers: &[u16], bytes: &[u8], lent: &mut [u8]) {
+fn in_record(
+    to: &impl Print,
+    told: usize,
+    numbers: &[u16],
+    bytes: &[u8],
+    lent: &mut [u8],
+) -> io::Result<()> {
     let c = constraint_of(numbers);
     pattern::hold_in(bytes, lent);
-    say_judgement(to, pattern::ask_in(lent, c));
-    say_judgement(to, pattern::place_in(lent, c, told));
-    say_bytes(to, false, lent);
+    say_judgement(to, pattern::ask_in(lent, c))?;
+    say_judgement(to, pattern::place_in(lent, c, told))?;
+    say_bytes(to, false, lent)
 }
 
-pub fn record(to: i32, told: usize, numbers: &[u16], bytes: &[u8]) {
+pub fn record(to: &impl Print, told: usize, numbers: &[u16], bytes: &[u8]) -> io::Result<()> {
     let mut lent = [170u8; 4096];
     let n = least(bytes.len(), 4080) + 16;
-    in_record(to, told, numbers, bytes, &mut lent[0..n]);
+    in_record(to, told, numbers, bytes, &mut lent[0..n])
 }

@@ -12,11 +12,18 @@ mod text;
 use crate::lent::{by_value, lend_bytes, lend_columns, lend_longs, lend_shorts, part, record};
 use crate::said::{say, say_bytes, say_number, say_reading, say_signed, say_written};
 use crate::text::{byte, list, number, short};
-use libc::{STDERR_FILENO, STDIN_FILENO, STDOUT_FILENO};
 use space::Written;
+use std::io;
 
 // A call, by its letter.
-fn call(to: i32, entry: u8, room: usize, numbers: &[u16], bytes: &[u8]) {
+fn call(
+    rt: &impl Print,
+    to: &impl Print,
+    entry: u8,
+    room: usize,
+    numbers: &[u16],
+    bytes: &[u8],
+) -> io::Result<()> {
     match entry {
         b'd' => say_reading(to, pattern::read(bytes)),
         b'h' => say_reading(to, pattern::hold(bytes)),
@@ -25,16 +32,16 @@ fn call(to: i32, entry: u8, room: usize, numbers: &[u16], bytes: &[u8]) {
         b'e' => say_written(to, pattern::held_count_in(bytes)),
         b'N' => {
             let lines = card_counts::lines();
-            say_bytes(to, true, &lines);
+            say_bytes(to, true, &lines)
         }
         b'R' => {
-            console::print(Written::Refused((room % 256) as u8), bytes);
-            say(to, b"printed");
+            console::print(rt, Written::Refused((room % 256) as u8), bytes)?;
+            say(to, b"printed")
         }
         b'S' => {
             let a = number(numbers, 0);
             let b = number(numbers, 1);
-            say_number(to, b"shared ", pattern::shared(a as u64, b as u64));
+            say_number(to, b"shared ", pattern::shared(a as u64, b as u64))
         }
         b's' => by_value(to, room, numbers, bytes),
         b'a' => record(to, room, numbers, bytes),
@@ -51,44 +58,48 @@ fn call(to: i32, entry: u8, room: usize, numbers: &[u16], bytes: &[u8]) {
 }
 
 // The call that stands here; answers where the next line starts.
-fn line(to: i32, text: &[u8], at: usize) -> usize {
+fn line(rt: &impl Print, to: &impl Print, text: &[u8], at: usize) -> io::Result<usize> {
     let mut lent = [0u8; 2];
-    let mut pairs = io::buffer();
-    let mut bytes = io::buffer();
+    let mut pairs = [0u8; 4096];
+    let mut bytes = [0u8; 4096];
     let mut numbers = [0u16; 2048];
-    let room = list(text, std::num::wrapping_add_usize(at, 2), &mut lent);
+    let room = list(text, at.wrapping_add(2), &mut lent);
     let second = list(text, room.next, &mut pairs);
     let third = list(text, second.next, &mut bytes);
     let i = second.count;
     let j = third.count;
     let k = console::numbers(&pairs[..i], &mut numbers);
-    call(to, byte(text, at), short(&lent), &numbers[..k], &bytes[..j]);
-    say(to, b"\n");
-    third.next
+    call(
+        rt,
+        to,
+        byte(text, at),
+        short(&lent),
+        &numbers[..k],
+        &bytes[..j],
+    )?;
+    say(to, b"\n")?;
+    Ok(third.next)
 }
 
 // Each line in turn, while the text goes on.
-fn lines(to: i32, text: &[u8], from: usize) {
+fn lines(rt: &impl Print, to: &impl Print, text: &[u8], from: usize) -> io::Result<()> {
     let mut at = from;
     while at < text.len() {
-        let next = line(to, text, at);
+        let next = line(rt, to, text, at)?;
         if next <= at {
-            return;
+            return Ok(());
         }
         at = next;
     }
+    Ok(())
 }
 
-fn start(text: &[u8]) {
-    if byte(text, 0) == b'2' {
-        lines(STDERR_FILENO, text, 2);
+fn main(rt: HostRuntime) -> io::Result<()> {
+    let mut text = [0u8; 65536];
+    let n = console::read(&mut rt.reader(), &mut text)?;
+    if byte(&text[..n], 0) == b'2' {
+        lines(&rt, &rt.stderr(), &text[..n], 2)
     } else {
-        lines(STDOUT_FILENO, text, 0);
+        lines(&rt, &rt.stdout(), &text[..n], 0)
     }
-}
-
-fn main() {
-    let mut text = io::large_buffer();
-    let n = io::read_full(STDIN_FILENO, &mut text);
-    start(&text[..n]);
 }

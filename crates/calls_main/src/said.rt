@@ -3,30 +3,31 @@ use reader::{Outcome, Reading};
 use sheet::Sheet;
 use sketch::Judgement;
 use space::Written;
+use std::io;
 
-pub fn say(to: i32, text: &[u8]) {
-    io::write_all(to, text);
+pub fn say(to: &impl Print, text: &[u8]) -> io::Result<()> {
+    to.write_all(text)
 }
 
-pub fn say_number(to: i32, text: &[u8], n: u64) {
-    io::write_all(to, text);
-    io::print_decimal(to, n);
+pub fn say_number(to: &impl Print, text: &[u8], n: u64) -> io::Result<()> {
+    to.write_all(text)?;
+    to.print(n)
 }
 
-pub fn say_written(to: i32, w: Written) {
+pub fn say_written(to: &impl Print, w: Written) -> io::Result<()> {
     match w {
-        Written::Done(n) => say_number(to, b"done ", n as u64),
-        Written::Refused(k) => say_number(to, b"refused ", k as u64),
+        Written::Done(n) => say_number(to, b"done ", n as u64)?,
+        Written::Refused(k) => say_number(to, b"refused ", k as u64)?,
     }
-    say(to, b" ");
+    say(to, b" ")
 }
 
-pub fn say_judgement(to: i32, j: Judgement) {
+pub fn say_judgement(to: &impl Print, j: Judgement) -> io::Result<()> {
     match j {
-        Judgement::Is(v) => say_number(to, b"verdict ", v.number() as u64),
-        Judgement::Refused(k) => say_number(to, b"refused ", k as u64),
+        Judgement::Is(v) => say_number(to, b"verdict ", v.number() as u64)?,
+        Judgement::Refused(k) => say_number(to, b"refused ", k as u64)?,
     }
-    say(to, b" ");
+    say(to, b" ")
 }
 
 // A number without its sign.
@@ -39,12 +40,12 @@ fn magnitude(z: i32) -> u32 {
 }
 
 // What a function for C answers.
-pub fn say_signed(to: i32, z: i32) {
+pub fn say_signed(to: &impl Print, z: i32) -> io::Result<()> {
     let m = magnitude(z) as u64;
     if z < 0 {
-        say_number(to, b"answer -", m);
+        say_number(to, b"answer -", m)
     } else {
-        say_number(to, b"answer ", m);
+        say_number(to, b"answer ", m)
     }
 }
 
@@ -59,69 +60,58 @@ fn letter(b: u8) -> u8 {
     }
 }
 
-fn say_byte(to: i32, text: bool, b: u8) {
+fn say_byte(to: &impl Print, text: bool, b: u8) -> io::Result<()> {
     if text {
         let l = [letter(b); 1];
-        say(to, &l);
+        say(to, &l)
     } else {
-        io::print_hex(to, b as u64, 2);
+        print!(to; "{b:02x}")
     }
 }
 
-pub fn say_bytes(to: i32, text: bool, space: &[u8]) {
-    let mut i: usize = 0;
-    while i < space.len() {
-        say_byte(to, text, space[i]);
-        i += 1;
+pub fn say_bytes(to: &impl Print, text: bool, space: &[u8]) -> io::Result<()> {
+    for b in space {
+        say_byte(to, text, *b)?;
     }
+    Ok(())
 }
 
-fn say_short(to: i32, n: u16) {
-    say_number(to, b" ", n as u64);
+pub fn say_shorts(to: &impl Print, space: &[u16]) -> io::Result<()> {
+    for n in space {
+        say_number(to, b" ", *n as u64)?;
+    }
+    Ok(())
 }
 
-pub fn say_shorts(to: i32, space: &[u16]) {
-    let mut i: usize = 0;
-    while i < space.len() {
-        say_short(to, space[i]);
-        i += 1;
+pub fn say_longs(to: &impl Print, space: &[u64]) -> io::Result<()> {
+    for n in space {
+        say_number(to, b" ", *n)?;
     }
-}
-
-pub fn say_longs(to: i32, space: &[u64]) {
-    let mut i: usize = 0;
-    while i < space.len() {
-        say_number(to, b" ", space[i]);
-        i += 1;
-    }
+    Ok(())
 }
 
 // ---- a sheet
 
 // A sheet, written again: its bytes, or the rule that refuses it.
-fn say_sheet_on(to: i32, s: Sheet, out: &mut [u8]) {
+fn say_sheet_on(to: &impl Print, s: Sheet, out: &mut [u8]) -> io::Result<()> {
     let written = pattern::write(s, out);
-    say_written(to, written);
-    let Written::Done(n) = written else {
-        return;
-    };
-    if n <= out.len() {
-        say_bytes(to, false, &out[0..n]);
+    say_written(to, written)?;
+    match written {
+        Written::Done(n) if n <= out.len() => say_bytes(to, false, &out[..n]),
+        _ => Ok(()),
     }
 }
 
-pub fn say_sheet(to: i32, s: Sheet) {
+pub fn say_sheet(to: &impl Print, s: Sheet) -> io::Result<()> {
     let mut out = [0u8; 4096];
-    say_sheet_on(to, s, &mut out);
+    say_sheet_on(to, s, &mut out)
 }
 
-pub fn say_reading(to: i32, r: Reading) {
-    let outcome = r.outcome;
-    match outcome {
+pub fn say_reading(to: &impl Print, r: Reading) -> io::Result<()> {
+    match r.outcome {
         Outcome::Accepted => {
-            say(to, b"accepted ");
-            let sheet = r.sheet;
-            say_sheet(to, sheet);
+            say(to, b"accepted ")?;
+            say_sheet(to, r.sheet)
         }
         Outcome::Refused(k) => say_number(to, b"refused ", k as u64),
     }

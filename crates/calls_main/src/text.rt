@@ -1,6 +1,5 @@
 // The text of the calls: the lists that a line has, and what is made of their items.
-ghost use Rattle.std.specs.Prelude.{◌≤◌};
-ghost use Rattle.io.specs.Counts.{IsPrefixLen};
+ghost use Rattle.std.specs.Prelude.{◌≤◌, length};
 
 use sheet::Constraint;
 
@@ -69,7 +68,7 @@ pub struct Taken {
 
 // The list in hexadecimal that stands here, up to a space or the end of the line, to the front of a buffer.
 pub fn list(text: &[u8], from: usize, out: &mut [u8]) -> Taken
-    ensures { IsPrefixLen result.count out.new }
+    ensures { result.count ≤ length out.new }
 {
     let mut n: usize = 0;
     let mut at = from;
@@ -77,17 +76,17 @@ pub fn list(text: &[u8], from: usize, out: &mut [u8]) -> Taken
         if byte(text, at) <= b' ' {
             return Taken {
                 count: n,
-                next: std::num::wrapping_add_usize(at, 1),
+                next: at.wrapping_add(1),
             };
         }
-        let low = std::num::wrapping_add_usize(at, 1);
+        let low = at.wrapping_add(1);
         out[n] = pair(byte(text, at), byte(text, low));
         n += 1;
-        at = std::num::wrapping_add_usize(at, 2);
+        at = at.wrapping_add(2);
     }
     Taken {
         count: n,
-        next: std::num::wrapping_add_usize(at, 1),
+        next: at.wrapping_add(1),
     }
 }
 
