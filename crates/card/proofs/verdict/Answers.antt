@@ -1,5 +1,4 @@
 -- `card::verdict` meets its contract: the entry's letter names the verdict. Assumes nothing.
-use borrow.Author.Rules.{rules}
 use Rattle.card.proofs.verdict.Goals as goal
 
 pub returns : goal.returns

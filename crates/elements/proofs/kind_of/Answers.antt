@@ -1,5 +1,5 @@
 -- `elements::kind_of` meets its contract: the element's byte is one of the number's. Assumes nothing.
-use Rattle.theory.specs.Prelude.{rules, sym, ◌∙◌}
+use Rattle.theory.specs.Prelude.{sym, ◌∙◌}
 use Rattle.elements.specs.Round.Laws.{round-kind}
 use Rattle.elements.proofs.kind_of.Goals as goal
 

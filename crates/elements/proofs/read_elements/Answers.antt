@@ -1,5 +1,4 @@
 -- `elements::read_elements` meets its contract: the opening decides. Assumes nothing.
-use borrow.Author.Rules.{rules}
 use Rattle.elements.proofs.read_elements.Goals as goal
 
 pub returns-in-Pf01 : goal.returns-in-Pf01

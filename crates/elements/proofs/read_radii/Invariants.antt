@@ -1,9 +1,7 @@
 -- `elements::read_radii` meets its contract: i elements are read, and their radii stand. Assumes nothing.
-use Rattle.theory.specs.Prelude.{rules, ◌+◌, ◌-◌, ◌/◌, ◌≤◌, arith, ◌≡◌, length}
-use Rattle.sheet.specs.declared.Opening.TheVariants.{Pf02}
-use Rattle.sheet.specs.Facts.Laws.{kinds_of-length}
-use Rattle.elements.specs.Round.{round_number, round_kinds}
-use Rattle.elements.specs.Round.Elements.{Partway, partway-none, partway-more, partway-refused, partway_end}
+use Rattle.theory.specs.Prelude.{◌+◌, ◌-◌, ◌/◌, ◌≤◌}
+use Rattle.elements.specs.Round.{round_kinds}
+use Rattle.elements.specs.Round.Elements.{Partway}
 use Rattle.elements.proofs.read_radii.Given as goal
 
 abbrev pub invariant-loop-i : goal.invariant-loop-i

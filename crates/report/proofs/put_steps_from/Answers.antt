@@ -12,10 +12,6 @@ use Rattle.report.specs.Going.{Going}
 use Rattle.report.specs.Going.Laws.{start, put_next, put_last, place}
 use Rattle.report.proofs.put_steps_from.Goals as goal
 
--- the steps in the arrays
-abbrev steps : tie.Start invariant-loop decreases-loop → ℕ → Step
-steps s = step_at s.args.lines s.args.e s.args.sizes.now s.args.start.now s.args.parts.now s.args.joints.now
-
 -- a step read from the arrays is small, and its line put, where that holds of the step there
 module _ (step : Step) {read : Step} (same : read ≡ step) where
   small-read : Small step → Small read
@@ -32,12 +28,14 @@ pub step_at-s-requires : goal.step_at-s-requires
 step_at-s-requires c = omega arith
 
 pub put_step_line-next-requires : goal.put_step_line-next-requires
-put_step_line-next-requires c = let s = c in
-    let l = c.loop-t in (
-      s.requires.0,
-      small-read (steps s l.t) c.step_at-s.ensures
-          (small_at (steps s) s.args.first s.args.last l.t s.requires.3 l.invariant.0 c.loop-t-test.true),
-      omega (arith, place stands l.invariant.1, s.requires.4),
+put_step_line-next-requires c =
+    let a = c.args in
+    let l = c.loop-t in
+    let steps : ℕ → Step = step_at a.lines a.e a.sizes.now a.start.now a.parts.now a.joints.now in (
+      c.requires.0,
+      small-read (steps l.t) c.step_at-s.ensures
+          (small_at steps a.first a.last l.t c.requires.3 l.invariant.0 c.loop-t-test.true),
+      omega (arith, place stands l.invariant.1, c.requires.4),
     )
 
 pub overflow_add-t : goal.overflow_add-t
@@ -47,14 +45,18 @@ pub loop-t-smaller : goal.loop-t-smaller
 loop-t-smaller c = omega arith
 
 pub loop-t-preserved : goal.loop-t-preserved
-loop-t-preserved c = let s = c in
+loop-t-preserved c =
+    let a = c.args in
     let l = c.loop-t in
-    let h = c.loop-t-test.true in (
+    let steps : ℕ → Step = step_at a.lines a.e a.sizes.now a.start.now a.parts.now a.joints.now in (
       omega (arith, l.invariant.0),
-      put_next stands (steps_next (steps s) s.args.last l.t h) l.invariant.1
-          (line_read (steps s l.t) c.step_at-s.ensures c.put_step_line-next.ensures),
+      put_next stands (steps_next steps a.last l.t c.loop-t-test.true) l.invariant.1
+          (line_read (steps l.t) c.step_at-s.ensures c.put_step_line-next.ensures),
     )
 
 pub returns : goal.returns
-returns c = let s = c in
-    put_last stands (steps-none (steps s) s.args.last c.loop-t.t c.loop-t-test.false) c.loop-t.invariant.1
+returns c =
+    let a = c.args in
+    put_last stands
+    (steps-none (step_at a.lines a.e a.sizes.now a.start.now a.parts.now a.joints.now) a.last c.loop-t.t c.loop-t-test.false)
+    c.loop-t.invariant.1
