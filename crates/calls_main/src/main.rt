@@ -17,7 +17,7 @@ use std::io;
 
 // A call, by its letter.
 fn call(
-    rt: &impl Print,
+    rt: &(impl Print + Eprint + Alloc),
     to: &impl Print,
     entry: u8,
     room: usize,
@@ -58,7 +58,12 @@ fn call(
 }
 
 // The call that stands here; answers where the next line starts.
-fn line(rt: &impl Print, to: &impl Print, text: &[u8], at: usize) -> io::Result<usize> {
+fn line(
+    rt: &(impl Print + Eprint + Alloc),
+    to: &impl Print,
+    text: &[u8],
+    at: usize,
+) -> io::Result<usize> {
     let mut lent = [0u8; 2];
     let mut pairs = [0u8; 4096];
     let mut bytes = [0u8; 4096];
@@ -82,7 +87,12 @@ fn line(rt: &impl Print, to: &impl Print, text: &[u8], at: usize) -> io::Result<
 }
 
 // Each line in turn, while the text goes on.
-fn lines(rt: &impl Print, to: &impl Print, text: &[u8], from: usize) -> io::Result<()> {
+fn lines(
+    rt: &(impl Print + Eprint + Alloc),
+    to: &impl Print,
+    text: &[u8],
+    from: usize,
+) -> io::Result<()> {
     let mut at = from;
     while at < text.len() {
         let next = line(rt, to, text, at)?;

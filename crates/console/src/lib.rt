@@ -21,17 +21,35 @@ fn refusal(rule: u8, out: &mut [u8; 12]) -> usize
     put_byte(out, a2, b'\n')
 }
 
+// Says on standard error that a reading or a writing of that name failed, and why.
+pub fn fail(rt: &(impl Eprint + Alloc), name: &str, error: &io::Error) -> io::Result<()> {
+    let text = format!(in rt.alloc(); "{error}")?;
+    let cause = match text.as_str().find(" (os error ") {
+        Some(at) => &text.as_str()[..at],
+        None => text.as_str(),
+    };
+    eprintln!(rt; "{name}: {cause}")
+}
+
+// Writes bytes to standard output; where that fails, says so on standard error.
+fn put(rt: &(impl Print + Eprint + Alloc), bytes: &[u8]) -> io::Result<()> {
+    match rt.write_all(bytes) {
+        Ok(()) => Ok(()),
+        Err(error) => fail(rt, "standard output", &error),
+    }
+}
+
 // Prints that line.
-fn refuse(rt: &impl Print, rule: u8) -> io::Result<()> {
+fn refuse(rt: &(impl Print + Eprint + Alloc), rule: u8) -> io::Result<()> {
     let mut line: [u8; 12] = [0; 12];
     let n = refusal(rule, &mut line);
-    rt.write_all(&line[..n])
+    put(rt, &line[..n])
 }
 
 // Prints what was written into lent space, or the line "refused" and the rule's number.
-pub fn print(rt: &impl Print, written: Written, out: &[u8]) -> io::Result<()> {
+pub fn print(rt: &(impl Print + Eprint + Alloc), written: Written, out: &[u8]) -> io::Result<()> {
     match written {
-        Written::Done(n) if n <= out.len() => rt.write_all(&out[..n]),
+        Written::Done(n) if n <= out.len() => put(rt, &out[..n]),
         Written::Done(_) => Ok(()),
         Written::Refused(rule) => refuse(rt, rule),
     }

@@ -9,7 +9,10 @@ const ROOM: usize = 4667;
 
 fn main(rt: HostRuntime) -> io::Result<()> {
     let mut sheet = [0u8; 2079];
-    let n = console::read(&mut rt.reader(), &mut sheet)?;
+    let n = match console::read(&mut rt.reader(), &mut sheet) {
+        Ok(n) => n,
+        Err(error) => return console::fail(&rt, "standard input", &error),
+    };
     let mut out = [0u8; ROOM];
     let written = pattern::report(&sheet[..n], &mut out);
     console::print(&rt, written, &out)

@@ -3,8 +3,7 @@
 
 #![tactic(auto)]
 
-use std::env;
-use std::io;
+use std::{env, io};
 
 // Room for the longest report: rule 17 is never met.
 const ROOM: usize = 4667;
@@ -13,9 +12,11 @@ const ROOM: usize = 4667;
 const NUMBERS: usize = 32768;
 
 // Checks the plan in a file's bytes against a sheet, and prints the answer.
-fn take_over(rt: &(impl Print + Eprint), sheet: &[u8], file: &[u8]) -> io::Result<()> {
+fn take_over(rt: &(impl Print + Eprint + Alloc), sheet: &[u8], file: &[u8]) -> io::Result<()> {
     if file.len() % 2 != 0 {
-        return eprintln!(rt; "plan: the file has an odd number of bytes, and a plan is 16-bit numbers");
+        return eprintln!(rt;
+            "plan: the file has an odd number of bytes, and a plan is 16-bit numbers"
+        );
     }
     if file.len() >= 65536 {
         return eprintln!(rt; "plan: the file is too long for a plan");
@@ -29,12 +30,23 @@ fn take_over(rt: &(impl Print + Eprint), sheet: &[u8], file: &[u8]) -> io::Resul
 
 fn main(rt: HostRuntime) -> io::Result<()> {
     let mut names = env::args(&rt)?;
-    let (Some(_), Some(first), Some(second), None) = (names.next(), names.next(), names.next(), names.next()) else {
+    let (Some(_), Some(first), Some(second), None) = (
+        names.next(),
+        names.next(),
+        names.next(),
+        names.next(),
+    ) else {
         return eprintln!(rt; "usage: takeover_main SHEET PLAN");
     };
     let mut sheet = [0u8; 2079];
-    let n = console::read_file(&rt, first.as_str(), &mut sheet)?;
+    let n = match console::read_file(&rt, first.as_str(), &mut sheet) {
+        Ok(n) => n,
+        Err(error) => return console::fail(&rt, first.as_str(), &error),
+    };
     let mut file = [0u8; 65536];
-    let m = console::read_file(&rt, second.as_str(), &mut file)?;
+    let m = match console::read_file(&rt, second.as_str(), &mut file) {
+        Ok(m) => m,
+        Err(error) => return console::fail(&rt, second.as_str(), &error),
+    };
     take_over(&rt, &sheet[..n], &file[..m])
 }
