@@ -7,7 +7,7 @@ use Rattle.account.specs.Resting.Laws.{pairs_next}
 use Rattle.account.proofs.put_pairs.Given as goal
 
 abbrev pub invariant-loop-c : goal.invariant-loop-c
-invariant-loop-c l =     (l.c ≤ l.used) × (l.next ≤ 2 * l.c) × Put l.initial.out 0 (pairs_in (take l.c l.slots) (take l.c l.low) (take l.c l.high)) l.next l.out
+invariant-loop-c l = (l.c ≤ l.used) × (l.next ≤ 2 * l.c) × Put l.initial.out 0 (pairs_in (take l.c l.slots) (take l.c l.low) (take l.c l.high)) l.next l.out
 
 abbrev pub decreases-loop-c : goal.decreases-loop-c
 decreases-loop-c l = l.used - l.c

@@ -35,7 +35,7 @@ returns-then-number-eq0 c =
     let d = c.requires in
     let o = over d c.judge_on-found.ensures (sym c.number.ensures ∙ c.if-number-eq0.true) in
     let r : over_report a.h.n a.h.e _ _ ≡ report_of (sized_in a.h a.start.now a.sizes.now) =
-        rw (counted d) at (o.report_is (take a.h.e a.sizes.now)) in
+    rw (counted d) at (o.report_is (take a.h.e a.sizes.now)) in
     (rw r at c.write_over_report.ensures.answers, rw r at c.write_over_report.ensures.leaves)
 
 pub put_list-requires : goal.put_list-requires

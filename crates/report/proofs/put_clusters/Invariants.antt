@@ -10,7 +10,7 @@ use Rattle.report.specs.Going.Laws.{start, put_next, put_last, place}
 use Rattle.report.proofs.put_clusters.Given as goal
 
 abbrev pub invariant-loop-c : goal.invariant-loop-c
-invariant-loop-c l =     (l.c ≤ l.used) × Going Stands l.initial.out l.at (cluster_lines 0 (take l.used l.slots) (take l.used (wide l.low l.high))) l.out l.next
+invariant-loop-c l = (l.c ≤ l.used) × Going Stands l.initial.out l.at (cluster_lines 0 (take l.used l.slots) (take l.used (wide l.low l.high))) l.out l.next
     (cluster_lines l.c (drop l.c (take l.used l.slots)) (drop l.c (take l.used (wide l.low l.high))))
 
 abbrev pub decreases-loop-c : goal.decreases-loop-c

@@ -35,9 +35,9 @@ loop-rest-smaller c = let l = c.loop-rest in omega (arith, and_le_r l.rest (l.re
 
 pub loop-rest-preserved : goal.loop-rest-preserved
 loop-rest-preserved c = let l = c.loop-rest in (
-      omega (arith, and_le_l l.rest (l.rest - 1)),
-      put_next stands (above-lowest _ l.rest l.invariant.0 c.loop-rest-test.true) l.invariant.1 c.put_number-next.ensures.0,
-    )
+  omega (arith, and_le_l l.rest (l.rest - 1)),
+  put_next stands (above-lowest _ l.rest l.invariant.0 c.loop-rest-test.true) l.invariant.1 c.put_number-next.ensures.0,
+)
 
 pub returns : goal.returns
 returns c = let a = c.args in

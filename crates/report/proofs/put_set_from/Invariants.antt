@@ -11,7 +11,7 @@ use Rattle.report.specs.Going.Laws.{start, put_next, put_last, place}
 use Rattle.report.proofs.put_set_from.Given as goal
 
 abbrev pub invariant-loop-rest : goal.invariant-loop-rest
-invariant-loop-rest l =     (l.rest < 2 ^ 64) × Going Stands l.initial.out l.at (numbers (above l.first (elements l.set))) l.out l.next (numbers (above l.first (elements l.rest)))
+invariant-loop-rest l = (l.rest < 2 ^ 64) × Going Stands l.initial.out l.at (numbers (above l.first (elements l.set))) l.out l.next (numbers (above l.first (elements l.rest)))
 
 abbrev pub decreases-loop-rest : goal.decreases-loop-rest
 decreases-loop-rest l = l.rest
