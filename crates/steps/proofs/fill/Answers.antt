@@ -1,5 +1,5 @@
 -- `steps::fill` meets its contract: as many records as are taken are stored, and the rest of the list is as it was. Assumes nothing.
-use Rattle.theory.specs.Prelude.{◌≡◌, ap, ◌∙◌, ℕ, ◌≤◌, arith, List, length}
+use Rattle.theory.specs.Prelude.{◌≡◌, ap, ◌∙◌, ◌≤◌, arith, List, length}
 use Rattle.theory.specs.declared.Step.{Step}
 use Rattle.steps.specs.declared.Listing.{Listing}
 use Rattle.steps.specs.declared.Taken.{Taken}
@@ -8,8 +8,8 @@ use Rattle.steps.specs.Records.Laws.{taken-small}
 use Rattle.steps.proofs.Stores.{stores, length-stores, stores-is}
 use Rattle.steps.proofs.fill.Goals as goal
 
-small : {len k count : ℕ} {t : Taken} → t ≡ taken_of len k count → (t.n ≤ 62) × (t.n ≤ len)
-small {len} {k} {count} e = rw e (taken-small len k count)
+small : (xs : List Step) (l : Listing) {t : Taken} → t ≡ taken_of (length xs) l.rule l.count → (t.n ≤ 62) × (t.n ≤ length xs)
+small xs l e = rw e (taken-small (length xs) l.rule l.count)
 
 -- all the records that are taken are stored
 all-stored : (xs : List Step) (l : Listing) {t : Taken} → length l.steps ≡ 62 → t ≡ taken_of (length xs) l.rule l.count
@@ -21,14 +21,14 @@ all-stored xs l {t} long e =
     ∙ stores-is l.steps unset xs (taken_of (length xs) l.rule l.count).n (omega (arith, few.0, long)) few.1
 
 pub record_at-requires : goal.record_at-requires
-record_at-requires c = let few = small c.taking-t.ensures in omega (arith, few.0)
+record_at-requires c = let few = small c.args.out.now c.args.l c.taking-t.ensures in omega (arith, few.0)
 
 pub offset_bounds-out-i : goal.offset_bounds-out-i
-offset_bounds-out-i c = let few = small c.taking-t.ensures in omega (arith, few.0)
+offset_bounds-out-i c = let few = small c.args.out.now c.args.l c.taking-t.ensures in omega (arith, few.0)
 
 pub bounds-out-i : goal.bounds-out-i
 bounds-out-i c =
-    let few = small c.taking-t.ensures in
+    let few = small c.args.out.now c.args.l c.taking-t.ensures in
     omega (arith, few.1, ap length c.loop-i.invariant.1, length-stores c.args.l.steps unset c.args.out.now c.loop-i.i)
 
 pub returns : goal.returns
