@@ -1,12 +1,10 @@
 -- `report::put_set_from` meets its contract: the elements of `rest` are still to be put. Assumes nothing.
-use Rattle.theory.specs.Prelude.{rules, ℕ, ◌-◌, ◌^◌, ◌<◌, arith, ap, ◌∙◌, and_le_l, and_le_r, trailing_le}
+use Rattle.theory.specs.Prelude.{rules, ℕ, ◌-◌, arith, ap, ◌∙◌, and_le_l, and_le_r, trailing_le}
 use Rattle.report.specs.Elements.{elements}
 use Rattle.report.specs.Pieces.{numbers, above}
 use Rattle.report.specs.Report.Laws.{above-lowest, above-none}
 use Rattle.report.specs.Report.Length.{above_most}
-use Rattle.report.specs.Block.{Stands}
 use Rattle.report.proofs.Standing.{stands}
-use Rattle.report.specs.Going.{Going}
 use Rattle.report.specs.Going.Laws.{start, put_next, put_last, place}
 use Rattle.report.proofs.put_set_from.Goals as goal
 

@@ -1,5 +1,5 @@
 -- `report::write_over_report` meets its contract: the buffer has room for every such report. Assumes nothing.
-use Rattle.theory.specs.Prelude.{rules, ℕ, arith, replicate, length-replicate}
+use Rattle.theory.specs.Prelude.{ℕ, arith, replicate, length-replicate}
 use Rattle.report.specs.Report.{over_report}
 use Rattle.report.specs.Block.{block}
 use Rattle.report.specs.Block.Buffered.{buffered}
