@@ -15,9 +15,7 @@ put_part-a-requires t c =
     let b = c.requires.e_bound in
     let h = turn.made-of b.2 c.if-c-e.false c.step_at-s.ensures in (
       omega (arith, turn.i_below h, c.decreases),
-      (b.0, omega (arith, turn.i_below h, b.1), turn.i_lower h),
-      turn.i-room h c.requires.room,
-      c.requires.numerals,
+      ((b.0, omega (arith, turn.i_below h, b.1), turn.i_lower h), (turn.i-room h c.requires.room, c.requires.numerals)),
     )
 
 pub put_part-b-requires : goal.put_part-b-requires
@@ -25,9 +23,7 @@ put_part-b-requires t c =
     let b = c.requires.e_bound in
     let h = turn.made-of b.2 c.if-c-e.false c.step_at-s.ensures in (
       omega (arith, turn.j_below h, c.decreases),
-      (b.0, omega (arith, turn.j_below h, b.1), turn.j_lower h),
-      turn.j-room h c.requires.room c.put_part-a.ensures,
-      c.requires.numerals,
+      ((b.0, omega (arith, turn.j_below h, b.1), turn.j_lower h), (turn.j-room h c.requires.room c.put_part-a.ensures, c.requires.numerals)),
     )
 
 pub put_part-d-requires : goal.put_part-d-requires
@@ -35,9 +31,7 @@ put_part-d-requires t c =
     let b = c.requires.e_bound in
     let h = turn.made-of b.2 c.if-c-e.false c.step_at-s.ensures in (
       omega (arith, turn.k_below h, c.decreases),
-      (b.0, omega (arith, turn.k_below h, b.1), turn.k_lower h),
-      turn.k-room h c.requires.room c.put_part-a.ensures c.put_part-b.ensures,
-      c.requires.numerals,
+      ((b.0, omega (arith, turn.k_below h, b.1), turn.k_lower h), (turn.k-room h c.requires.room c.put_part-a.ensures c.put_part-b.ensures, c.requires.numerals)),
     )
 
 -- its own step
@@ -57,7 +51,7 @@ put_steps_from-next-requires t c =
 pub overflow_add-result : goal.overflow_add-result
 overflow_add-result t c =
     let h = turn.made-of c.requires.e_bound.2 c.if-c-e.false c.step_at-s.ensures in
-    turn.one_more h c.requires.room c.put_part-a.ensures c.put_part-b.ensures c.put_part-d.ensures
+    omega (arith, turn.one_more h c.requires.room c.put_part-a.ensures c.put_part-b.ensures c.put_part-d.ensures)
 
 pub returns : goal.returns
 returns t c =
