@@ -19,6 +19,9 @@ pub record Made (e : ℕ) (step : ℕ → Step) (c : ℕ) (s : Step) : Type 0 wh
   pub made : e ≤ c
   pub is : s ≡ step (c - e)
 
+pub made-of : {e : ℕ} {step : ℕ → Step} {c : ℕ} {s : Step} → Lower e step c → e ≤ c → s ≡ step (c - e) → Made e step c s
+made-of low made is = record { low = low; made = made; is = is }
+
 module _ {e : ℕ} {step : ℕ → Step} {c : ℕ} {s : Step} (h : Made e step c s) where
   abbrev of : ℕ → List Step
   of = part_steps_of e step

@@ -1,5 +1,5 @@
 -- `account::check_plan` meets its contract: the rule that refuses the plan, else the report of its merges with their own verdict. Assumes nothing.
-use Rattle.theory.specs.Prelude.{rules, ◌*◌, ◌≤◌, arith, ◌≡◌, ◌≢◌, sym, ap, ◌∙◌, List, [], ℕ, length}
+use Rattle.theory.specs.Prelude.{rules, ◌*◌, ◌≤◌, arith, ◌≡◌, ◌≢◌, sym, ap, ◌∙◌, List, [], ℕ, ℤ, length, take}
 use Rattle.theory.specs.Merge.{Merge}
 use Rattle.theory.specs.Graph.{SizedGraph}
 use Rattle.theory.specs.declared.Verdict.{Verdict}
@@ -7,7 +7,8 @@ use Rattle.sheet.specs.Field.{value, refused}
 use Rattle.sheet.specs.Answer.{by_rule}
 use Rattle.sheet.specs.Answer.Laws.{rule-none, rule-some, answers-refused, answers-items}
 use Rattle.sheet.specs.Graph.{over_fault}
-use Rattle.graph.specs.Lent.{sized_in}
+use Rattle.graph.specs.declared.Head.{Head}
+use Rattle.graph.specs.Lent.{graph_in, sized_in, Drawn}
 use Rattle.graph.specs.Lent.Sheets.{counted}
 use Rattle.merges.specs.Run.{Run, run_in, Merged}
 use Rattle.judge.specs.Judged.Laws.{arrays-long, Settled}
@@ -30,60 +31,45 @@ module _ (g : SizedGraph) (l : List ℕ) {r : Checked} {parts joints slots : Lis
       saved-rule g.graph l _ ∙ rule-none _ (sym k.rule_is ∙ none)
       ∙ ap (λ (p : List Merge). value (list_report g p) []) (sym (k.saved none))
 
--- the plan is checked
-module _ (c : tie.After-check-saved) where
-  abbrev start : tie.Start
-  start = c
-
-  abbrev graph : SizedGraph
-  graph = sized_in start.args.h start.args.start.now start.args.sizes.now
-
+-- a plan that no rule refuses
+module _ {h : Head} {near start l : List ℕ} (d : Drawn h near start) {r : Checked} {parts joints slots : List ℕ}
+    (k : SavedIn (graph_in h start) l r parts joints slots) (none : r.rule ≡ 0) where
   abbrev run : Run
-  run = let l = c.check_saved-checked.new.1.1.1.1 in run_in c.check_saved-checked.result.steps l.1.0 l.1.1.0 l.0
+  run = run_in r.steps parts joints slots
 
-  -- no rule refuses it
-  module _ (none : c.check_saved-checked.result.rule ≡ 0) where
-    abbrev merged : Merged graph.graph.clusters run
-    merged = c.check_saved-checked.ensures.merged none
+  few : (h.n ≤ 64) × (h.e ≤ 125) × (2 * r.steps ≤ h.e) × (r.steps ≤ 62)
+  few = room h start d.sound (counted d) (k.not_over none) {run = run} (k.merged none)
 
-    few : (start.args.h.n ≤ 64) × (start.args.h.e ≤ 125) × (2 * run.steps ≤ start.args.h.e)
-        × (run.steps ≤ 62)
-    few =
-        room start.args.h start.args.start.now start.requires.sound (counted start.requires)
-        (c.check_saved-checked.ensures.not_over none) {run = run} merged
+  long : (length joints ≡ 64) × (length slots ≡ 192)
+  long = arrays-long (take h.e start) d.sound.simple.pairs {run = run} (k.merged none) (omega (arith, few, counted d))
 
-    long : (length run.joints ≡ 64) × (length run.slots ≡ 192)
-    long =
-        arrays-long graph.graph.clusters start.requires.sound.simple.pairs {run = run} merged
-        (omega (arith, few, counted start.requires))
-
-    report_is : {v : Verdict} → Settled start.args.h run v
-        → report_with graph v merged.p ≡ list_report graph merged.p
-    report_is =
-        settled-report start.args.h start.args.start.now start.args.sizes.now start.requires.sound
-        (counted start.requires) (c.check_saved-checked.ensures.not_over none) {run = run} merged
+  report_is : (sizes : List ℤ) {v : Verdict} → Settled h run v
+      → report_with (sized_in h start sizes) v (k.merged none).p ≡ list_report (sized_in h start sizes) (k.merged none).p
+  report_is sizes = settled-report h start sizes d.sound (counted d) (k.not_over none) {run = run} (k.merged none)
 
 pub returns-then-rule-ne0 : goal.returns-then-rule-ne0
-returns-then-rule-ne0 c = let asked = c in
+returns-then-rule-ne0 c =
+    let a = c.args in
     answers-refused
-    (field-refused (graph asked) (start asked).args.plan.now asked.check_saved-checked.ensures c.if-rule-ne0.true)
+    (field-refused (sized_in a.h a.start.now a.sizes.now) a.plan.now c.check_saved-checked.ensures c.if-rule-ne0.true)
 
 pub settle-verdict-requires : goal.settle-verdict-requires
-settle-verdict-requires c = let asked = c in
-    let none = c.if-rule-ne0.false in
-    let f = few asked none in
-    (omega (arith, f), f.2, f.0, omega (arith, f), (long asked none).0, (long asked none).1)
+settle-verdict-requires c =
+    let f = few c.requires c.check_saved-checked.ensures c.if-rule-ne0.false in
+    let l = long c.requires c.check_saved-checked.ensures c.if-rule-ne0.false in
+    (omega (arith, f), f.2, f.0, omega (arith, f), l.0, l.1)
 
 pub put_list-requires : goal.put_list-requires
-put_list-requires c = let asked = c in
-    let s = start asked in
+put_list-requires c =
     let none = c.if-rule-ne0.false in
-    (s.requires.sound, counted s.requires, asked.check_saved-checked.ensures.not_over none, merged asked none)
+    let k = c.check_saved-checked.ensures in
+    (c.requires.sound, counted c.requires, k.not_over none, k.merged none)
 
 pub returns : goal.returns
-returns c = let settled = c in
-    let asked = settled in
-    let none = settled.if-rule-ne0.false in
-    let w = c.put_list.ensures (merged asked none) in
-    answers-items (rw (report_is asked none settled.settle-verdict.ensures) at w)
-    (field_is (graph asked) (start asked).args.plan.now asked.check_saved-checked.ensures none)
+returns c =
+    let a = c.args in
+    let none = c.if-rule-ne0.false in
+    let k = c.check_saved-checked.ensures in
+    let w = c.put_list.ensures (k.merged none) in
+    answers-items (rw (report_is c.requires k none a.sizes.now c.settle-verdict.ensures) at w)
+    (field_is (sized_in a.h a.start.now a.sizes.now) a.plan.now k none)

@@ -1,59 +1,50 @@
 -- `account::report` meets its contract: the verdict's number tells which report the definition gives. Assumes nothing.
-use Rattle.theory.specs.Prelude.{rules, arith, ◌≡◌, ◌≢◌, refl, sym, ◌∙◌}
+use Rattle.theory.specs.Prelude.{rules, arith, ◌≡◌, ◌≢◌, refl, sym, ◌∙◌, List, ℕ, take}
 use Rattle.theory.specs.Verdict.{verdict_number}
-use Rattle.theory.specs.Graph.{SizedGraph}
-use Rattle.graph.specs.Lent.{sized_in}
+use Rattle.graph.specs.declared.Head.{Head}
+use Rattle.graph.specs.Lent.{graph_in, sized_in, Drawn}
 use Rattle.graph.specs.Lent.Sheets.{counted}
+use Rattle.judge.specs.declared.Found.{Found}
+use Rattle.judge.specs.Found.{JudgedIn}
 use Rattle.report.specs.Report.{over_report}
 use Rattle.account.specs.Account.{report_of}
 use Rattle.account.specs.Account.Answers.{OverFound, over-found, PlanFound, plan-found}
 use Rattle.account.proofs.report.Goals as goal
 
-abbrev graph : tie.Start → SizedGraph
-graph s = sized_in s.args.h s.args.start.now s.args.sizes.now
+-- what is found tells whether the sheet is over
+module _ {h : Head} {near start : List ℕ} (d : Drawn h near start) {f : Found} {parts joints slots : List ℕ}
+    (j : JudgedIn (graph_in h start) f parts joints slots) where
+  over : verdict_number f.verdict ≡ 0 → OverFound (graph_in h start) d.sound j
+  over = over-found _ _ _
 
--- over
-module _ (c : tie.After-write-over-report-arg) where
-  abbrev start_over : tie.Start
-  start_over = c
-
-  none : verdict_number c.judge_on-found.result.verdict ≡ 0
-  none = sym c.number.ensures ∙ c.if-number-eq0.true
-
-  over : OverFound (graph start_over).graph start_over.requires.sound c.judge_on-found.ensures
-  over = over-found _ _ _ none
-
--- not over
-module _ (c : tie.After-put-list-arg) where
-  abbrev start_plan : tie.Start
-  start_plan = c
-
-  abbrev judged : tie.After-judge-on
-  judged = c
-
-  some : verdict_number judged.judge_on-found.result.verdict ≢ 0
-  some v = c.if-number-eq0.false (c.number.ensures ∙ v)
-
-  plan : PlanFound (graph start_plan).graph start_plan.requires.sound judged.judge_on-found.ensures
-  plan = plan-found _ _ _ some
+  plan : verdict_number f.verdict ≢ 0 → PlanFound (graph_in h start) d.sound j
+  plan = plan-found _ _ _
 
 pub judge_on-found-requires : goal.judge_on-found-requires
 judge_on-found-requires c = (c.requires, record { slots_blank = refl; parts_blank = refl; joints_blank = refl })
 
 pub write_over_report-requires : goal.write_over_report-requires
-write_over_report-requires c = let d = (start_over c).requires in
-    (omega (arith, d.sound.most), omega (arith, d.few), omega (arith, (over c).first_below, counted d, d.few))
+write_over_report-requires c =
+    let d = c.requires in
+    let o = over d c.judge_on-found.ensures (sym c.number.ensures ∙ c.if-number-eq0.true) in
+    (omega (arith, d.sound.most), omega (arith, d.few), omega (arith, o.first_below, counted d, d.few))
 
 pub returns-then-number-eq0 : goal.returns-then-number-eq0
-returns-then-number-eq0 c = let a = c in
-    let s = start_over a in
-    let r : over_report s.args.h.n s.args.h.e _ _ ≡ report_of (graph s) = rw (counted s.requires) at ((over a).report_is (graph s).sizes) in
-    rw r at c.write_over_report.ensures
+returns-then-number-eq0 c =
+    let a = c.args in
+    let d = c.requires in
+    let o = over d c.judge_on-found.ensures (sym c.number.ensures ∙ c.if-number-eq0.true) in
+    let r : over_report a.h.n a.h.e _ _ ≡ report_of (sized_in a.h a.start.now a.sizes.now) =
+    rw (counted d) at (o.report_is (take a.h.e a.sizes.now)) in
+    (rw r at c.write_over_report.ensures.answers, rw r at c.write_over_report.ensures.leaves)
 
 pub put_list-requires : goal.put_list-requires
-put_list-requires c = let d = (start_plan c).requires in (d.sound, counted d, (plan c).not_over, (plan c).merged)
+put_list-requires c =
+    let d = c.requires in
+    let p = plan d c.judge_on-found.ensures (λ v. c.if-number-eq0.false (c.number.ensures ∙ v)) in
+    (d.sound, counted d, p.not_over, p.merged)
 
 pub returns : goal.returns
-returns c = let a = c in
-    let s = start_plan a in
-    rw ((plan a).report_is (graph s).sizes) at (c.put_list.ensures (plan a).merged)
+returns c =
+    let p = plan c.requires c.judge_on-found.ensures (λ v. c.if-number-eq0.false (c.number.ensures ∙ v)) in
+    rw (p.report_is (take c.args.h.e c.args.sizes.now)) at (c.put_list.ensures p.merged)

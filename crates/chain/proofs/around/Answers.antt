@@ -17,8 +17,8 @@ loop-i-preserved c = let a = c.args in
     let low : l.i < length a.s.now = c.loop-i-test.true in
     let e = c.shared.ensures in (
       omega arith,
-      elim c.if-shared-ne0.branch [ then-shared-ne0 w ↦ ap (grown (drop (l.i + 1) a.s.now) a.d) w.1
-          ∙ sym (grown-yes a.s.now a.d l.all l.i low (word-shares e w.if-shared-ne0.true)) ∙ l.invariant.1 | else-shared-ne0 w ↦ ap (grown (drop (l.i + 1) a.s.now) a.d) w.1
+      elim c.if-shared-ne0.branch [ then-shared-ne0 w ↦ ap (grown (drop (l.i + 1) a.s.now) a.d) w.all-is
+          ∙ sym (grown-yes a.s.now a.d l.all l.i low (word-shares e w.if-shared-ne0.true)) ∙ l.invariant.1 | else-shared-ne0 w ↦ ap (grown (drop (l.i + 1) a.s.now) a.d) w.all-is
           ∙ sym (grown-no a.s.now a.d l.all l.i low (word-apart e w.if-shared-ne0.false)) ∙ l.invariant.1 ],
     )
 

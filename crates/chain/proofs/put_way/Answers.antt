@@ -1,38 +1,49 @@
 -- `chain::put_way` meets its contract: what is left of the way makes the rest of the space. Assumes nothing.
 use Rattle.theory.specs.Prelude.{◌≡◌, refl, sym, ap, ◌∙◌, subst, List, ℕ, ◌+◌, ◌-◌, ◌^◌, arith, rules, add-one}
-use Rattle.theory.specs.Prelude.{length, sets, length-set}
+use Rattle.theory.specs.Prelude.{◌≢◌, length, get_or, sets, length-set}
 use Rattle.chain.specs.Layers.{reached, first_both, way}
-use Rattle.chain.specs.Kept.{Far}
+use Rattle.chain.specs.Kept.{Far, Measured}
 use Rattle.chain.specs.Layers.Laws.{Onward, onward, way_next}
 use Rattle.chain.proofs.put_way.Goals as goal
-use Rattle.chain.proofs.put_way.Invariants.{entry, now, lower-is, on}
+use Rattle.chain.proofs.put_way.Invariants.{Going}
+
+-- the cluster that comes next
+module _ {s : List ℕ} {u v t : ℕ} {layers space : List ℕ} (p : Measured s u v t layers space) {out₀ out : List ℕ}
+    {a m i k : ℕ} (g : Going s u v t out₀ out a m i) (some : m ≢ 0) (is : k ≡ first_both s a (get_or layers (m - 1) 0)) where
+  lower-is : k ≡ first_both s a (reached s v (m - 1))
+  lower-is = is ∙ ap (first_both s a) (p.held.is p.low (m - 1) (omega (arith, g.count, some)))
+
+  on : Onward s v (m - 1) a k
+  on = subst (Onward s v (m - 1) a) (sym lower-is) (onward s v m a some g.far)
 
 pub loop-m-init : goal.loop-m-init
 loop-m-init c = let p = c.requires in
     let e = c.single-a.ensures in record { count = omega arith; long = refl; far = rw e p.far; on = rw e }
 
 pub overflow_cast-out : goal.overflow_cast-out
-overflow_cast-out c = omega (arith, (on c).low, (entry c).requires.clusters)
+overflow_cast-out c =
+    omega (arith, (on c.requires c.loop-m.invariant c.loop-m-test.true c.first_both-k.ensures).low, c.requires.clusters)
 
 pub bounds-out-i : goal.bounds-out-i
-bounds-out-i c = omega (arith, (now c).loop.invariant.count, (now c).loop.invariant.long, (entry c).requires.room, c.loop-m-test.true)
+bounds-out-i c = let g = c.loop-m.invariant in omega (arith, g.count, g.long, c.requires.room, c.loop-m-test.true)
 
 pub offset_bounds-s-k : goal.offset_bounds-s-k
-offset_bounds-s-k c = omega (arith, (on c).low, (entry c).requires.clusters)
+offset_bounds-s-k c =
+    omega (arith, (on c.requires c.loop-m.invariant c.loop-m-test.true c.first_both-k.ensures).low, c.requires.clusters)
 
 pub bounds-s-k : goal.bounds-s-k
-bounds-s-k c = (on c).low
+bounds-s-k c = (on c.requires c.loop-m.invariant c.loop-m-test.true c.first_both-k.ensures).low
 
 pub loop-m-preserved : goal.loop-m-preserved
-loop-m-preserved c = let b = c in
-    let a = (entry b).args in
-    let l = (now b).loop in
-    let some = b.loop-m-test.true in
+loop-m-preserved c = let a = c.args in
+    let l = c.loop-m in
+    let some = c.loop-m-test.true in
+    let e = c.first_both-k.ensures in
     record {
       count = omega (arith, some, l.invariant.count);
-      long = length-set l.out l.i b.first_both-k.result ∙ l.invariant.long;
-      far = (on b).far;
-      on = rw (lower-is b, add-one) (sym (ap (sets l.out l.i)
+      long = length-set l.out l.i c.first_both-k.result ∙ l.invariant.long;
+      far = (on c.requires l.invariant some e).far;
+      on = rw (lower-is c.requires l.invariant some e, add-one) (sym (ap (sets l.out l.i)
           (way_next a.s.now a.to l.m l.a some)) ∙ l.invariant.on);
     }
 

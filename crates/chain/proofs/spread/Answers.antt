@@ -9,27 +9,13 @@ use Rattle.chain.specs.Layers.Laws.{distance-last}
 use Rattle.chain.proofs.spread.Goals as goal
 
 -- what the start shares with the layers so far
-module _ (c : tie.After-shared invariant-loop decreases-loop) where
-  abbrev args : tie.Start invariant-loop decreases-loop
-  args = c
-
-  shared-is : c.shared.result ≡ 2 ^ args.args.from ∩ reached args.args.s.now args.args.to
-      c.loop-t.t
-  shared-is =
-      c.shared.ensures ∙ ap (λ (x : ℕ). x ∩ c.loop-t.d)
-      c.single-start.ensures
-      ∙ ap (λ (x : ℕ). 2 ^ args.args.from ∩ x) c.loop-t.invariant.is
+shared-is : {a b x y r : ℕ} → r ≡ a ∩ b → a ≡ x → b ≡ y → r ≡ x ∩ y
+shared-is e p q = cc
 
 -- the layer that comes next
-module _ (c : tie.After-around invariant-loop decreases-loop) where
-  abbrev found : tie.After-shared invariant-loop decreases-loop
-  found = c
-
-  next : reached (args found).args.s.now (args found).args.to (suc found.loop-t.t)
-      ≡ c.around-next.result
-  unfolding reached
-  next = ap (λ (d : ℕ). grown (args found).args.s.now d d) (sym found.loop-t.invariant.is)
-      ∙ sym c.around-next.ensures
+next : (s : List ℕ) (v t : ℕ) {d r : ℕ} → r ≡ grown s d d → d ≡ reached s v t → reached s v (suc t) ≡ r
+unfolding reached
+next s v t e f = ap (λ (d : ℕ). grown s d d) (sym f) ∙ sym e
 
 pub loop-t-init : goal.loop-t-init
 unfolding reached
@@ -42,31 +28,31 @@ loop-t-init c = record {
 }
 
 pub returns-then-shared-ne0 : goal.returns-then-shared-ne0
-returns-then-shared-ne0 c = let a = (args c).args in
+returns-then-shared-ne0 c = let a = c.args in
     let l = c.loop-t in
     let here = distance-here a.s.now a.to a.from l.t c.loop-t-test.true
-    (word-shares (shared-is c) c.if-shared-ne0.true) in
+    (word-shares (shared-is c.shared.ensures c.single-start.ensures l.invariant.is) c.if-shared-ne0.true) in
     (sym here ∙ l.invariant.on, record { is = λ low. l.invariant.held })
 
 pub returns-then-next-d : goal.returns-then-next-d
-returns-then-next-d c = let a = (args c).args in
+returns-then-next-d c = let a = c.args in
     let l = c.loop-t in
     let low = c.loop-t-test.true in
     let none = distance_none a.s.now a.to a.from (64 - l.t) l.t
-    (next c ∙ c.if-next-d.true ∙ l.invariant.is)
-    (word-apart (shared-is c) c.if-shared-ne0.false) in
+    (next a.s.now a.to l.t c.around-next.ensures l.invariant.is ∙ c.if-next-d.true ∙ l.invariant.is)
+    (word-apart (shared-is c.shared.ensures c.single-start.ensures l.invariant.is) c.if-shared-ne0.false) in
     (omega (arith, none, l.invariant.on, low), record { is = λ low. absurd (omega arith) })
 
 pub loop-t-preserved : goal.loop-t-preserved
-loop-t-preserved c = let a = (args c).args in
+loop-t-preserved c = let a = c.args in
     let l = c.loop-t in
     let low = c.loop-t-test.true in
     let later = distance-later a.s.now a.to a.from l.t low
-    (word-apart (shared-is c) c.if-shared-ne0.false) in
+    (word-apart (shared-is c.shared.ensures c.single-start.ensures l.invariant.is) c.if-shared-ne0.false) in
     record {
       low = omega arith;
       long = length-set l.layers l.t l.d ∙ l.invariant.long;
-      is = sym (next c) ∙ ap (reached a.s.now a.to) (sym (add-one l.t));
+      is = sym (next a.s.now a.to l.t c.around-next.ensures l.invariant.is) ∙ ap (reached a.s.now a.to) (sym (add-one l.t));
       held = λ m h. elim (ℕ_discrete m l.t) [
         | yes e ↦ rw e (get_or-set_same l.layers l.t l.d 0 (omega (arith, l.invariant.long, low)) ∙ l.invariant.is)
         | no n ↦ get_or-set_other l.layers l.t m l.d 0 n ∙ l.invariant.held m (omega (arith, n, h))

@@ -10,7 +10,7 @@ returns-in-Ppp c = let f = c.ranges in
     simp (
       c.in-Ppp.is,
       c.triangle.ensures,
-      c.type_size.ensures.0,
+      c.size_of.ensures.0,
       c.size_of-in-Ppp.ensures.0,
       c.size_of-in-Ppp-2.ensures.0,
       to_z-of_z f.x,

@@ -1,23 +1,21 @@
 -- `engine::put_clusters` meets its contract: measured over no space, then written. Assumes nothing.
-use Rattle.theory.specs.Prelude.{rules, ◌≡◌, [], ◌≤◌, ◌<◌, zero-add, length, take}
+use Rattle.theory.specs.Prelude.{◌≡◌, [], ◌≤◌, ◌<◌, zero-add, length, take}
 use Rattle.space.specs.Space.Laws.{none_left, put_refused, put-done}
 use Rattle.engine.specs.Lists.{living_of}
 use Rattle.engine.proofs.put_clusters.Goals as goal
 
 pub returns-then-out-count : goal.returns-then-out-count
-returns-then-out-count c = let a = 
-    let none : c.put_all_living-count.new.0 ≡ [] = none_left c.put_all_living-count.ensures in
-    c.args in
-    let p = c in
+returns-then-out-count c =
+    let a = c.args in
+    let none : c.put_all_living-count.new.out ≡ [] = none_left c.put_all_living-count.ensures in
     let h : length a.out.now < length (living_of (take a.used a.slots.now)) =
-    rw (none p, p.put_all_living-count.ensures.next_is, zero-add) at c.if-out-count.true in
-    rw (none p) (put_refused (living_of (take a.used a.slots.now)) a.out.now h)
+    rw (none, c.put_all_living-count.ensures.next_is, zero-add) at c.if-out-count.true in
+    rw none (put_refused (living_of (take a.used a.slots.now)) a.out.now h)
 
 pub returns-else-out-count : goal.returns-else-out-count
-returns-else-out-count c = let a = 
-    let none : c.put_all_living-count.new.0 ≡ [] = none_left c.put_all_living-count.ensures in
-    c.args in
-    let p = c in
+returns-else-out-count c =
+    let a = c.args in
+    let none : c.put_all_living-count.new.out ≡ [] = none_left c.put_all_living-count.ensures in
     let h : length (living_of (take a.used a.slots.now)) ≤ length a.out.now =
-    rw (none p, p.put_all_living-count.ensures.next_is, zero-add) at c.if-out-count.false in
-    put-done h (rw (none p) at c.put_all_living-written.ensures)
+    rw (none, c.put_all_living-count.ensures.next_is, zero-add) at c.if-out-count.false in
+    put-done h (rw none at c.put_all_living-written.ensures)

@@ -14,7 +14,7 @@ returns-then-a-lines-eq0 c = let f = c.ranges in
       eq-eqb _ _ c.if-a-lines-eq0.true,
       c.against.ensures,
       c.apart.ensures,
-      c.type_size.ensures.0,
+      c.size_of.ensures.0,
       to_z-of_z f.x,
       to_z-of_z f.y,
       to_z-of_z f.z,

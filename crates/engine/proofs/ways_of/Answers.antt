@@ -1,5 +1,5 @@
 -- `engine::ways_of` meets its contract: known only if all three parts are initial clusters. Assumes nothing.
-use Rattle.theory.specs.Prelude.{lt-ltb, le-ltb, pos, get_or, rules}
+use Rattle.theory.specs.Prelude.{lt-ltb, le-ltb, pos, get_or, arith}
 use mir.Syntax.{w32}
 use mir.Val.{SFits}
 use mir.Facts.{to_z-of_z}
@@ -20,18 +20,18 @@ returns-then-e-k c = simp (ways_by, lt-ltb _ _ c.if-e-i.false, lt-ltb _ _ c.if-e
 
 pub returns : goal.returns
 unfolding ways_by
-returns c = let k = c in
-    let a = k.args in
-    let x : SFits w32 (get_or a.sizes.now a.i (pos 0)) = record { sfits = c.placements-arg3.given } in
-    let y : SFits w32 (get_or a.sizes.now a.j (pos 0)) = record { sfits = c.placements-arg4.given } in
-    let z : SFits w32 (get_or a.sizes.now a.k (pos 0)) = record { sfits = c.placements-arg5.given } in
+returns c =
+    let a = c.args in
+    let x : SFits w32 (get_or a.sizes.now a.i (pos 0)) = record { sfits = omega arith } in
+    let y : SFits w32 (get_or a.sizes.now a.j (pos 0)) = record { sfits = omega arith } in
+    let z : SFits w32 (get_or a.sizes.now a.k (pos 0)) = record { sfits = omega arith } in
     simp (
       ways_by,
       c.placements.ensures,
       to_z-of_z x,
       to_z-of_z y,
       to_z-of_z z,
-      lt-ltb _ _ k.if-e-i.false,
-      lt-ltb _ _ k.if-e-j.false,
-      lt-ltb _ _ k.if-e-k.false,
+      lt-ltb _ _ c.if-e-i.false,
+      lt-ltb _ _ c.if-e-j.false,
+      lt-ltb _ _ c.if-e-k.false,
     )

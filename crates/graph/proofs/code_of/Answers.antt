@@ -1,13 +1,7 @@
 -- `graph::code_of` meets its contract: each size has its number. Assumes nothing.
-use Rattle.theory.specs.Prelude.{rules, sym, ap, ◌∙◌}
-use mir.Facts.{to_z-of_z}
-use mir.Syntax.{w32}
+use Rattle.theory.specs.Prelude.{sym, ap}
 use Rattle.graph.specs.Lent.{code_of}
 use Rattle.graph.proofs.code_of.Goals as goal
-
-pub returns-in-Given : goal.returns-in-Given
-returns-in-Given c = let g = c.size.given in
-    to_z-of_z {w = w32} {z = g.0.0} (search rules) ∙ sym (ap code_of g.1)
 
 pub returns-in-Missing : goal.returns-in-Missing
 returns-in-Missing c = sym (ap code_of c.in-Missing.is)

@@ -1,5 +1,5 @@
 -- `graph::constraint_in` meets its contract: the constraint that was packed comes out. Assumes nothing.
-use Rattle.theory.specs.Prelude.{rules, arith, sym, ap, ◌∙◌, count_trailing_zeros, trailing_le}
+use Rattle.theory.specs.Prelude.{arith, sym, ap, ◌∙◌, count_trailing_zeros, trailing_le}
 use mir.Facts.{to_z-of_z}
 use Rattle.graph.specs.Lent.Laws.{pair-lowest, constraint-is}
 use Rattle.graph.proofs.constraint_in.Goals as goal

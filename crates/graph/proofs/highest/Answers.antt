@@ -1,5 +1,5 @@
 -- `graph::highest` meets its contract: the leading zeros of a pair tell its higher element. Assumes nothing.
-use Rattle.theory.specs.Prelude.{rules, arith}
+use Rattle.theory.specs.Prelude.{arith}
 use lib.Count.{leading_top}
 use Rattle.graph.specs.Lent.Laws.{pair-some, pair-highest}
 use Rattle.graph.proofs.highest.Goals as goal

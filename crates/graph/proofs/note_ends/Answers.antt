@@ -1,5 +1,4 @@
 -- `graph::note_ends` meets its contract: both arrays hold one constraint more. Assumes nothing.
-use borrow.Author.Rules.{rules}
 use Rattle.graph.specs.Lent.Laws.{ends_more}
 use Rattle.graph.proofs.note_ends.Goals as goal
 

@@ -1,14 +1,12 @@
 -- `graph::sheet_of` meets its contract: the first i places hold the first i constraints of the facts, the others are blank. Assumes nothing.
-use Rattle.theory.specs.Prelude.{rules, ℕ, ◌-◌, ◌<◌, ◌≤◌, arith, add-one, ◌≡◌, refl, sym, ap, ◌∙◌, List, ℤ, pos, length, take, drop, replicate, get_or}
+use Rattle.theory.specs.Prelude.{rules, ◌<◌, ◌≤◌, arith, add-one, ◌≡◌, refl, sym, ap, ◌∙◌, pos, length, take, get_or}
 use Rattle.theory.specs.Prelude.{length-set, take-suc, take-suc-set, take_all}
 use mir.Facts.{to_z-of_z}
 use mir.Syntax.{w32}
-use Rattle.sheet.specs.declared.Constraint.{Constraint}
-use Rattle.sheet.specs.Facts.{Facts, blank_constraint, sheet_of}
+use Rattle.sheet.specs.Facts.{blank_constraint, sheet_of}
 use Rattle.sheet.specs.Facts.Laws.{still-blank, filled}
 use Rattle.graph.specs.declared.Head.{Head}
-use Rattle.graph.specs.declared.Front.{Front}
-use Rattle.graph.specs.Lent.{code_of, SheetIn}
+use Rattle.graph.specs.Lent.{code_of}
 use Rattle.graph.specs.Lent.Laws.{pair-in-start, code-in-codes, accepted-unpack}
 use Rattle.graph.proofs.sheet_of.Goals as goal
 

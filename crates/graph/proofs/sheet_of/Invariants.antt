@@ -1,15 +1,9 @@
 -- `graph::sheet_of` meets its contract: the first i places hold the first i constraints of the facts, the others are blank. Assumes nothing.
-use Rattle.theory.specs.Prelude.{rules, ℕ, ◌-◌, ◌<◌, ◌≤◌, arith, add-one, ◌≡◌, refl, sym, ap, ◌∙◌, List, ℤ, pos, length, take, drop, replicate, get_or}
-use Rattle.theory.specs.Prelude.{length-set, take-suc, take-suc-set, take_all}
-use mir.Facts.{to_z-of_z}
-use mir.Syntax.{w32}
+use Rattle.theory.specs.Prelude.{ℕ, ◌-◌, ◌≤◌, ◌≡◌, List, ℤ, length, take, drop, replicate}
 use Rattle.sheet.specs.declared.Constraint.{Constraint}
-use Rattle.sheet.specs.Facts.{Facts, blank_constraint, sheet_of}
-use Rattle.sheet.specs.Facts.Laws.{still-blank, filled}
-use Rattle.graph.specs.declared.Head.{Head}
+use Rattle.sheet.specs.Facts.{Facts, blank_constraint}
 use Rattle.graph.specs.declared.Front.{Front}
-use Rattle.graph.specs.Lent.{code_of, SheetIn}
-use Rattle.graph.specs.Lent.Laws.{pair-in-start, code-in-codes, accepted-unpack}
+use Rattle.graph.specs.Lent.{SheetIn}
 use Rattle.graph.proofs.sheet_of.Given as goal
 
 pub record Turn (h : Front) (start : List ℕ) (codes : List ℤ) (radii : List ℕ) (cs : List Constraint) (i : ℕ) : Type 0 where

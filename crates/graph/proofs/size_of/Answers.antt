@@ -1,5 +1,5 @@
 -- `graph::size_of` meets its contract: a given size is its own, a contact is made of the radii. Assumes nothing.
-use Rattle.theory.specs.Prelude.{rules, ℕ, zero, suc, ◌+◌, ◌-◌, ◌^◌, ◌<◌, arith, ◌≡◌, sym, ap, ◌∙◌, Bool, true, false, ◌&&◌, cond, ℤ, pos, neg_ℤ, ◌-ℤ◌}
+use Rattle.theory.specs.Prelude.{ℕ, zero, suc, ◌+◌, ◌-◌, ◌^◌, ◌<◌, arith, ◌≡◌, sym, ap, ◌∙◌, Bool, true, false, ◌&&◌, cond, ℤ, pos, neg_ℤ, ◌-ℤ◌}
 use lib.IntN.{+ℤ_idl}
 use mir.Facts.{to_z-of_z, to_z_pos, sfits_lit, yes_ltb}
 use mir.Val.{SFits, to_z}
@@ -15,15 +15,6 @@ small-negative (suc n) h = let l : n < 2 ^ 31 = omega arith in sfits_lit (yes_lt
 negated : {n : ℕ} → n < 2 ^ 31 → pos 0 -ℤ to_z w32 n ≡ neg_ℤ (pos n)
 negated {n} h = ap (λ (z : ℤ). pos 0 -ℤ z) (to_z_pos w32 h) ∙ +ℤ_idl (neg_ℤ (pos n))
 
--- the sum of the radii, where they are not both circles
-module _ (c : tie.After-radius-of6) where
-  sum_is : c.radius_of-else-both_circles.result + c.radius_of-else-both_circles-2.result
-      ≡ radius_of c.args.j + radius_of c.args.k
-  sum_is = rw (c.radius_of-else-both_circles.ensures, c.radius_of-else-both_circles-2.ensures)
-
-  small-sum : c.radius_of-else-both_circles.result + c.radius_of-else-both_circles-2.result < 2 ^ 31
-  small-sum = omega (arith, sum_is, c.requires)
-
 -- the other contact, by whether both are circles
 other_is : (both : Bool) (u v : ℤ) → both ≡ true → cond both u v ≡ u
 other_is both u v e = rw e
@@ -32,11 +23,11 @@ other-not : (both : Bool) (u v : ℤ) → both ≡ false → cond both u v ≡ v
 other-not both u v e = rw e
 
 pub overflow_sub-result : goal.overflow_sub-result
-overflow_sub-result c = rw (negated (small-sum c)) (small-negative _ (small-sum c))
-
-pub returns-in-Given : goal.returns-in-Given
-returns-in-Given c = let g = c.size.given in
-    to_z-of_z {w = w32} {z = g.0.0} (search rules) ∙ sym (ap (size_of c.args.j c.args.k) g.1)
+overflow_sub-result c =
+    let is : c.radius_of-else-both_circles.result + c.radius_of-else-both_circles-2.result ≡ radius_of c.args.j + radius_of c.args.k =
+    rw (c.radius_of-else-both_circles.ensures, c.radius_of-else-both_circles-2.ensures) in
+    let small : c.radius_of-else-both_circles.result + c.radius_of-else-both_circles-2.result < 2 ^ 31 = omega (arith, is, c.requires) in
+    rw (negated small) (small-negative _ small)
 
 pub returns-in-Missing : goal.returns-in-Missing
 returns-in-Missing c = sym (ap (size_of c.args.j c.args.k) c.in-Missing.is)
@@ -60,7 +51,10 @@ returns-then-both_circles c = let a = c in
 pub returns-else-both_circles : goal.returns-else-both_circles
 returns-else-both_circles c = let a = c in
     let b = c.both_circles in
-    to_z-of_z (overflow_sub-result c) ∙ negated (small-sum c) ∙ ap (λ (n : ℕ). neg_ℤ (pos n)) (sum_is c)
+    let is : c.radius_of-else-both_circles.result + c.radius_of-else-both_circles-2.result ≡ radius_of c.args.j + radius_of c.args.k =
+    rw (c.radius_of-else-both_circles.ensures, c.radius_of-else-both_circles-2.ensures) in
+    let small : c.radius_of-else-both_circles.result + c.radius_of-else-both_circles-2.result < 2 ^ 31 = omega (arith, is, c.requires) in
+    to_z-of_z (overflow_sub-result c) ∙ negated small ∙ ap (λ (n : ℕ). neg_ℤ (pos n)) is
     ∙ sym (ap (size_of a.args.j a.args.k) c.in-OtherTangent.is
     ∙ other-not (is_circle a.args.j && is_circle a.args.k) _ _ (sym b.ensures ∙ c.if-both_circles.false))
 

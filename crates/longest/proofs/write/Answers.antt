@@ -7,12 +7,11 @@ use Rattle.longest.proofs.write.Goals as goal
 
 pub returns-then-not-elements_in_range : goal.returns-then-not-elements_in_range
 unfolding longest_field
-returns-then-not-elements_in_range c = answers-refused (rw (sym c.elements_fit.ensures ∙ not-true _ c.if-not-elements_in_range.true))
+returns-then-not-elements_in_range c = answers-refused (rw (sym c.elements_in_range.ensures ∙ c.if-not-elements_in_range.true))
 
 pub write_strip-requires : goal.write_strip-requires
-write_strip-requires c = elements-range _ (sym c.elements_fit.ensures ∙ not-false _ c.if-not-elements_in_range.false)
+write_strip-requires c = elements-range _ (sym c.elements_in_range.ensures ∙ c.if-not-elements_in_range.false)
 
 pub returns : goal.returns
 unfolding longest_field
-returns c = let other = c in
-    answers-items c.write_strip.ensures (rw (sym other.elements_fit.ensures ∙ not-false _ other.if-not-elements_in_range.false))
+returns c = answers-items c.write_strip.ensures (rw (sym c.elements_in_range.ensures ∙ c.if-not-elements_in_range.false))

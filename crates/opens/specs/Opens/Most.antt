@@ -164,6 +164,7 @@ abbrev pub KeyOf : List ℕ → ℕ → Type 0
 KeyOf s x = (m : Merge) × OpenUp s m × (x ≡ key_of s m)
 
 among-map : (f : ℕ → ℕ) (l : List ℕ) (y : ℕ) → Among y (map f l) → (z : ℕ) × Among z l × (y ≡ f z)
+among-map f [] y h = elim h [ ]
 among-map f (x ∷ l) y (inl e) = (x, inl refl, e)
 among-map f (x ∷ l) y (inr h) = let w = among-map f l y h in (w.0, inr w.1, w.2)
 

@@ -1,45 +1,47 @@
 -- `part::list` meets its contract: the lines are put into a block that has room for them, and from there into the lent space. Assumes nothing.
-use Rattle.theory.specs.Prelude.{rules, arith, ◌≤◌, ap, length}
-use Rattle.theory.specs.Graph.{SizedGraph}
+use Rattle.theory.specs.Prelude.{ℕ, List, arith, ◌≡◌, ◌≤◌, ap, length}
+use Rattle.theory.specs.declared.Step.{Step}
+use Rattle.sheet.specs.Field.{Field}
 use Rattle.sheet.specs.Answer.Laws.{answers-refused, answers-items}
 use Rattle.graph.specs.Lent.{sized_in}
-use Rattle.report.specs.Report.{step_lines}
 use Rattle.report.specs.Block.Buffered.{buffered}
 use Rattle.part.specs.Part.{held_field, lines_field}
+use Rattle.part.specs.declared.Tally.{Tally}
+use Rattle.part.specs.declared.Measured.{Measured}
+use Rattle.part.specs.declared.Measured.TheVariants.{Is}
+use Rattle.part.specs.Tallies.{Tallied}
 use Rattle.part.specs.Tallies.Answers.{Had, had, not-had}
 use Rattle.part.proofs.list.Goals as goal
 
--- what was measured
-module _ (c : tie.After-whole2) where
-  abbrev entry : tie.Start
-  entry = c
+-- what was measured: its bytes are few, and stand in the block
+record Got (x : Field (List Step)) (t : Tally) (space after : List ℕ) : Type 0 where
+  has : Had x t
+  short : t.bytes ≤ 3534
+  long : length after ≡ length space
 
-  abbrev graph : SizedGraph
-  graph = sized_in entry.args.h entry.args.start.now entry.args.sizes.now
-
-  abbrev listed : tie.After-put-cluster
-  listed = c
-
-  has : Had (held_field graph entry.args.c) c.in-Is.t
-  has = had _ listed.put_cluster-got.ensures.measured c.in-Is.is
-
-  short : length (step_lines has.steps) ≤ 3534
-  short = listed.put_cluster-got.ensures.short has.steps has.rest has.gives
+got : {x : Field (List Step)} {r : Measured} {t : Tally} {space after : List ℕ} → Tallied x space r after → r ≡ Is t → Got x t space after
+got {x} k is =
+    let h = had x k.measured is in
+    record {
+      has = h;
+      short = omega (arith, k.short h.steps h.rest h.gives, h.bytes_are);
+      long = (k.puts h.steps h.rest h.gives).length_is;
+    }
 
 pub slice_bounds-put_all8-end : goal.slice_bounds-put_all8-end
-slice_bounds-put_all8-end c =     omega (arith, short c, (has c).bytes_are, ((listed c).put-cluster.ensures.puts (has c).steps (has c).rest (has c).gives).length_is)
+slice_bounds-put_all8-end c = let g = got c.put_cluster-got.ensures c.in-Is.is in omega (arith, g.short, g.long)
 
 pub returns-in-Is : goal.returns-in-Is
-returns-in-Is c = let x = c in
-    let h = has x in
+returns-in-Is c =
+    let g = got c.put_cluster-got.ensures c.in-Is.is in
+    let h = g.has in
     answers-items
-    (buffered (omega (arith, short x)) (rw (← h.bytes_are) at ((listed x).put-cluster.ensures.puts h.steps h.rest h.gives))
-    (entry x).args.out.now c.put_all8.ensures)
+    (buffered (omega (arith, g.short)) (rw (← h.bytes_are) at (c.put_cluster-got.ensures.puts h.steps h.rest h.gives))
+    c.args.out.now c.put_all8.ensures)
     (ap lines_field h.gives)
 
 pub returns-in-Refused : goal.returns-in-Refused
-returns-in-Refused c = let s = c in
-    let g = sized_in s.args.h s.args.start.now s.args.sizes.now in
+returns-in-Refused c =
     answers-refused
     (ap lines_field
-    (not-had (held_field g s.args.c) c.put_cluster-got.ensures.measured c.in-Refused.is))
+    (not-had (held_field (sized_in c.args.h c.args.start.now c.args.sizes.now) c.args.c) c.put_cluster-got.ensures.measured c.in-Refused.is))

@@ -1,10 +1,9 @@
 -- `core_of` meets its contract. The loop's invariant: elements are taken away down to left, those of the work list are
 -- light there, and the others not. Assumes nothing.
-use Rattle.theory.specs.Prelude.{◌≡◌, ap, ◌∙◌, ◌-◌, min, arith, rules}
+use Rattle.theory.specs.Prelude.{◌≡◌, ap, ◌∙◌, ◌-◌, min, arith}
 use Rattle.theory.specs.Set.{◌∩◌, full}
 use Rattle.theory.specs.Set.Laws.{a∩b⊑b}
 use Rattle.sets.specs.Image.Laws.{image-sub}
-use Rattle.peeling.specs.Core.{Light, Heavy, Mutual, Peeled}
 use Rattle.peeling.specs.Core.Neighbours.{heavy-start}
 use Rattle.peeling.specs.Core.Peeling.{peeled-start, heavy-none, light-room, round, core-peeled, peeled-largest}
 use Rattle.peeling.proofs.core_of.Goals as goal

@@ -1,5 +1,5 @@
 -- `drop_pair` meets its contract. Assumes nothing.
-use Rattle.theory.specs.Prelude.{refl, rules}
+use Rattle.theory.specs.Prelude.{refl}
 use Rattle.peeling.specs.Hard.Laws.{two_pos, drop-first, drop-second, left-dropped, left-shrunk}
 use Rattle.peeling.proofs.drop_pair.Goals as goal
 

@@ -1,9 +1,8 @@
 -- `light_of` meets its contract. The loop's invariant: the elements found are light, and those to be tried are left. Assumes nothing.
-use Rattle.theory.specs.Prelude.{◌≡◌, sym, ap, ◌∙◌, subst, inl, inr, ⊎_elim, ℕ, ◌-◌, ◌≤◌, arith, bit_and, bit_or, ones, get_or, pow_pos, rules}
+use Rattle.theory.specs.Prelude.{◌≡◌, sym, ap, ◌∙◌, subst, inl, inr, ℕ, ◌-◌, ◌≤◌, arith, bit_and, bit_or, ones, get_or, pow_pos}
 use Rattle.theory.specs.Set.{◌∈◌, ◌∩◌, ◌⊑◌, at}
 use Rattle.theory.specs.Set.Laws.{at-le, at_zero, ⊑_trans}
 use Rattle.theory.specs.Set.Less.{at_room, less_other, less-sub}
-use Rattle.peeling.specs.Core.{Light}
 use Rattle.peeling.specs.Core.Neighbours.{light-none, light-code, light-same, two-most, three-least, heavy-tried}
 use Rattle.peeling.proofs.light_of.Goals as goal
 use Rattle.peeling.proofs.light_of.Goals.{else-without_lowest-eq0, then-without_lowest-eq0}
@@ -47,16 +46,22 @@ loop-m-preserved c = let a = c.args in
     let p = c.without_lowest in
     let q = c.without_lowest-in-loop-m in (
       ⊑_trans (subst (λ (z : ℕ). l.m - z ⊑ l.m) (sym b.ensures) (less-sub x.result l.m x.ensures.1)) l.invariant.0,
-      elim c.if-without_lowest-eq0.branch [ then-without_lowest-eq0 w ↦ light-code a.near.now a.left l.todo l.invariant.1
-          (omega (arith, l.invariant.0.le x.result, x.ensures.1, at-le x.result a.left)) i.ensures b.ensures
-          (two-most (bit_and (get_or a.near.now i.result 0) a.left) p.result q.result p.ensures q.ensures w.if-without_lowest-eq0.true) w.todo-is | else-without_lowest-eq0 w ↦ light-same a.near.now a.left w.todo-is l.invariant.1 ],
+      elim c.if-without_lowest-eq0.branch [
+        | then-without_lowest-eq0 w ↦ light-code a.near.now a.left l.todo l.invariant.1
+            (omega (arith, l.invariant.0.le x.result, x.ensures.1, at-le x.result a.left)) i.ensures b.ensures
+            (two-most (bit_and (get_or a.near.now i.result 0) a.left) p.result q.result p.ensures q.ensures w.if-without_lowest-eq0.true) w.todo-is
+        | else-without_lowest-eq0 w ↦ light-same a.near.now a.left w.todo-is l.invariant.1
+      ],
       λ y o. heavy-tried (λ z. (z ∈ a.who) × (at z l.m ≡ 0)) (λ z. 3 ≤ ones (bit_and (get_or a.near.now z 0) a.left))
           l.todo x.result l.invariant.2
-          (elim c.if-without_lowest-eq0.branch [ then-without_lowest-eq0 w ↦ inl (w.todo-is ∙ ap (bit_or l.todo) b.ensures) | else-without_lowest-eq0 w ↦ inr (
-            w.todo-is,
-            subst (λ (k : ℕ). 3 ≤ ones (bit_and (get_or a.near.now k 0) a.left)) i.ensures
-                (three-least (bit_and (get_or a.near.now i.result 0) a.left) p.result q.result p.ensures q.ensures w.if-without_lowest-eq0.false),
-          ) ])
+          (elim c.if-without_lowest-eq0.branch [
+            | then-without_lowest-eq0 w ↦ inl (w.todo-is ∙ ap (bit_or l.todo) b.ensures)
+            | else-without_lowest-eq0 w ↦ inr (
+              w.todo-is,
+              subst (λ (k : ℕ). 3 ≤ ones (bit_and (get_or a.near.now k 0) a.left)) i.ensures
+                  (three-least (bit_and (get_or a.near.now i.result 0) a.left) p.result q.result p.ensures q.ensures w.if-without_lowest-eq0.false),
+            )
+          ])
           y (λ n. (o.0, sym (less_other x.result y l.m x.ensures.1 n) ∙ ap (λ (k : ℕ). at y (l.m - k)) (sym b.ensures) ∙ o.1)),
     )
 

@@ -1,5 +1,5 @@
 -- `mark_hard` meets its contract. The loop's invariant: left is the core of the first c constraints, and those from c on are noted. Assumes nothing.
-use Rattle.theory.specs.Prelude.{◌≡◌, sym, subst, ℕ, suc, ◌-◌, ◌≤◌, ◌<◌, arith, take, le_refl}
+use Rattle.theory.specs.Prelude.{◌≡◌, sym, subst, ℕ, suc, ◌-◌, ◌<◌, arith, take, le_refl}
 use Rattle.theory.specs.Set.{◌⊑◌}
 use Rattle.theory.specs.Near.Laws.{standing-count, standing-item, standing-two}
 use Rattle.peeling.specs.Hard.{Linked, Left, Marks}
@@ -26,10 +26,10 @@ pub offset_bounds-start-c : goal.offset_bounds-start-c
 offset_bounds-start-c c = omega (arith, c.loop-c.invariant.0, c.requires.0.few)
 
 pub bounds-start-c : goal.bounds-start-c
-bounds-start-c c =     omega (arith, c.loop-c-test.true, c.loop-c.invariant.0, c.requires.0.few)
+bounds-start-c c = omega (arith, c.loop-c-test.true, c.loop-c.invariant.0, c.requires.0.few)
 
 pub bounds-needs-c : goal.bounds-needs-c
-bounds-needs-c c =     omega (arith, c.loop-c-test.true, c.loop-c.invariant.0, c.requires.0.few)
+bounds-needs-c c = omega (arith, c.loop-c-test.true, c.loop-c.invariant.0, c.requires.0.few)
 
 pub drop_pair-left-requires : goal.drop_pair-left-requires
 drop_pair-left-requires c = let s = c in

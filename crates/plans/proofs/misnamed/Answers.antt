@@ -4,19 +4,24 @@ use Rattle.plans.specs.Check.{misnamed}
 use Rattle.plans.proofs.misnamed.Goals as goal
 
 pub returns-then-a-eq0 : goal.returns-then-a-eq0
+unfolding misnamed
 returns-then-a-eq0 c = simp (eq-eqb _ _ c.if-a-eq0.true)
 
 pub returns-then-b-eq0 : goal.returns-then-b-eq0
+unfolding misnamed
 returns-then-b-eq0 c = simp (ne_eqb _ _ c.if-a-eq0.false, eq-eqb _ _ c.if-b-eq0.true)
 
 pub returns-then-c-eq0 : goal.returns-then-c-eq0
+unfolding misnamed
 returns-then-c-eq0 c = let b = c in simp (ne_eqb _ _ b.if-a-eq0.false, ne_eqb _ _ b.if-b-eq0.false, eq-eqb _ _ c.if-c-eq0.true)
 
 pub returns-then-i-j : goal.returns-then-i-j
+unfolding misnamed
 returns-then-i-j c = let b = c in
     simp (ne_eqb _ _ b.if-a-eq0.false, ne_eqb _ _ b.if-b-eq0.false, ne_eqb _ _ c.if-c-eq0.false, eq-eqb _ _ c.if-i-j.true)
 
 pub returns-then-j-k : goal.returns-then-j-k
+unfolding misnamed
 returns-then-j-k c = let b = c in
     simp (
       ne_eqb _ _ b.if-a-eq0.false,

@@ -19,34 +19,6 @@ use Rattle.reader.specs.Answers.{between, as_ends, ends_rule, size_rule, as_size
 use Rattle.reader.proofs.Constraints.{Turn, stopped, one_more, at-end, bytes-follow, no_size, Sized, sized}
 use Rattle.reader.proofs.read_constraints.Goals as goal
 
--- the elements, and the constraints in the arrays before
-record Given (a : tie.At-loop invariant-loop decreases-loop) : Type 0 where
-  es : List Element
-  done : List Constraint
-  n_is : a.args.n ≡ length es
-  kinds_in : KindsIn es a.args.kinds a.args.radii.now
-  count : length done ≡ a.args.i0
-  holds : InArrays done a.args.near.now a.args.start.now a.args.codes.now
-
-module _ (a : tie.At-loop invariant-loop decreases-loop) (g : Given a) where
-  turn : Turn a.args.s.now g.es g.done a.args.i0 a.args.e
-      a.args.from.at a.loop-i.near a.loop-i.start a.loop-i.codes
-      a.loop-i.c.at a.loop-i.i
-  turn = a.loop-i.invariant.1 g.es g.done g.n_is g.kinds_in g.count g.holds
-
-  -- the constraint that is read in this turn
-  abbrev this : Field Constraint
-  this = constraint g.es turn.read (drop a.loop-i.c.at a.args.s.now)
-
--- after the ends: where the loop stands, and what follows them
-abbrev from_ends : tie.After-known-told invariant-loop decreases-loop → tie.At-loop invariant-loop decreases-loop
-from_ends c = c
-
-abbrev rest : tie.After-known-told invariant-loop decreases-loop → List Element → Field Size
-rest c es =
-    dimension (kind_at es c.in-Value.a) (kind_at es c.in-Value.b)
-    (drop c.in-Value.c1.at (from_ends c).args.s.now)
-
 -- a size is what was read of it
 module _ (x : Field Size) (s : List ℕ) {r : SizeRead} (reads : as_size s r ≡ code_in x) where
   as-refused : {k : ℕ} → r ≡ size-read.Refused k → x ≡ refused k
@@ -62,43 +34,36 @@ pub read_ends-ends-requires : goal.read_ends-ends-requires
 read_ends-ends-requires c = c.requires.0
 
 pub returns-in_default : goal.returns-in_default
-returns-in_default c = 
-    let ends-are : (g : Given c) → this c g ≡ as_ends g.es c.args.s.now c.read_ends-ends.result = λ g. sym (c.read_ends-ends.ensures.0 g.es _ g.n_is (turn c g).holds.noted) in
-    λ es done en el n h.
-    let a = c in
-    let g : Given a = record { es = es; done = done; n_is = en; kinds_in = el; count = n; holds = h } in
-    rw (c.refusal.ensures ∙ ap ends_rule c.in_default.is)
-    (stopped (turn a g) c.loop-i-test.true
-    (ends-are g ∙ ap (as_ends es a.args.s.now) c.in_default.is))
+returns-in_default c = λ es done en el n h.
+    let s = c.args.s.now in
+    let t = c.loop-i.invariant.1 es done en el n h in
+    let ends-are : constraint es t.read (drop c.loop-i.c.at s) ≡ as_ends es s c.read_ends-ends.result =
+    sym (c.read_ends-ends.ensures.result_value es _ en t.holds.noted) in
+    rw (c.refusal.ensures ∙ ap ends_rule c.in_default.is) (stopped t c.loop-i-test.true (ends-are ∙ ap (as_ends es s) c.in_default.is))
 
 pub note_ends-requires : goal.note_ends-requires
-note_ends-requires c = 
-    let below : (c.in-Value.a < c.in-Value.b) × (c.in-Value.b < 64) = λ = let o. c.read_ends-ends.ensures.1.ascend _ _ _ c.in-Value.is in (o.0, omega (arith, o.1, c.requires.0)) in
-    let room : (from_ends c).loop.i < 200 = omega (arith, c.loop-i-test.true, (from_ends c).requires.2) in
-    let k = c in (room k, (below k).0, (below k).1)
+note_ends-requires c =
+    let o = c.read_ends-ends.ensures.ascending.ascend _ _ _ c.in-Value.is in
+    (omega (arith, c.loop-i-test.true, c.requires.2), o.0, omega (arith, o.1, c.requires.0))
 
 pub read_dimension-sized-requires : goal.read_dimension-sized-requires
-read_dimension-sized-requires c = 
-    let below : (c.in-Value.a < c.in-Value.b) × (c.in-Value.b < 64) = λ = let o. c.read_ends-ends.ensures.1.ascend _ _ _ c.in-Value.is in (o.0, omega (arith, o.1, c.requires.0)) in
-    let k = c in (omega (arith, below k), (below k).1)
+read_dimension-sized-requires c =
+    let o = c.read_ends-ends.ensures.ascending.ascend _ _ _ c.in-Value.is in
+    (omega (arith, o, c.requires.0), omega (arith, o.1, c.requires.0))
 
 pub returns-in_default-sized : goal.returns-in_default-sized
-returns-in_default-sized c = 
-    let ends-are : (g : Given c) → this c g ≡ as_ends g.es c.args.s.now c.read_ends-ends.result = λ g. sym (c.read_ends-ends.ensures.0 g.es _ g.n_is (turn c g).holds.noted) in
-    λ es done en el n h.
-    let k = c in
-    let a = from_ends k in
-    let g : Given a = record { es = es; done = done; n_is = en; kinds_in = el; count = n; holds = h } in
-    let s = a.args.s.now in
+returns-in_default-sized c = λ es done en el n h.
+    let s = c.args.s.now in
+    let t = c.loop-i.invariant.1 es done en el n h in
+    let ends-are : constraint es t.read (drop c.loop-i.c.at s) ≡ as_ends es s c.read_ends-ends.result =
+    sym (c.read_ends-ends.ensures.result_value es _ en t.holds.noted) in
+    let rest = dimension (kind_at es c.in-Value.a) (kind_at es c.in-Value.b) (drop c.in-Value.c1.at s) in
     rw (c.refusal-in_default-sized.ensures ∙ ap size_rule c.in_default-sized.is)
-    (stopped (turn a g) k.loop-i-test.true
-    (ends-are k g ∙ ap (as_ends es s) k.in-Value.is
-    ∙ rw (as-refused (rest k es) s (c.read_dimension-sized.ensures es el) c.in_default-sized.is)))
+    (stopped t c.loop-i-test.true
+    (ends-are ∙ ap (as_ends es s) c.in-Value.is ∙ rw (as-refused rest s (c.read_dimension-sized.ensures es el) c.in_default-sized.is)))
 
 pub note_code-requires : goal.note_code-requires
-note_code-requires c = 
-    let room : (from_ends c).loop.i < 200 = omega (arith, c.loop-i-test.true, (from_ends c).requires.2) in
-    room
+note_code-requires c = omega (arith, c.loop-i-test.true, c.requires.2)
 
 pub overflow_add-i : goal.overflow_add-i
 overflow_add-i c = omega arith
@@ -107,34 +72,27 @@ pub loop-i-smaller : goal.loop-i-smaller
 loop-i-smaller c = omega arith
 
 pub loop-i-preserved : goal.loop-i-preserved
-loop-i-preserved c = let z = 
-    let ends-are : (g : Given c) → this c g ≡ as_ends g.es c.args.s.now c.read_ends-ends.result = λ g. sym (c.read_ends-ends.ensures.0 g.es _ g.n_is (turn c g).holds.noted) in
-    c in
-    let noted = z in
-    let k = noted in
-    let a = from_ends k in
-    let more = k.loop-i-test.true in (
-      omega arith,
-      λ es done en el n h.
-          let g : Given a = record { es = es; done = done; n_is = en; kinds_in = el; count = n; holds = h } in
-          let s = a.args.s.now in
-          let d = z.read_dimension-sized in
-          let y = as-sized (rest k es) s (d.ensures es el) z.in-Value-sized.is in
-          let this : Constraint =
-          record { first = k.in-Value.a; second = k.in-Value.b; size = y.size } in
-          one_more (turn a g) more (ends-are k g ∙ ap (as_ends es s) k.in-Value.is
-          ∙ ap (between k.in-Value.a k.in-Value.b) y.was)
-          (in-arrays (noted.note_ends.ensures (turn a g).read this (turn a g).count refl refl (ends-in (turn a g).holds))
-          (c.note_code.ensures (turn a g).read this (turn a g).count
-          (y.is ∙ sym (to_z-of_z {w = w32} {z = z.in-Value-sized.z} (search rules))) (codes-in (turn a g).holds))),
-    )
+loop-i-preserved c = (
+  omega arith,
+  λ es done en el n h.
+      let s = c.args.s.now in
+      let t = c.loop-i.invariant.1 es done en el n h in
+      let ends-are : constraint es t.read (drop c.loop-i.c.at s) ≡ as_ends es s c.read_ends-ends.result =
+      sym (c.read_ends-ends.ensures.result_value es _ en t.holds.noted) in
+      let rest = dimension (kind_at es c.in-Value.a) (kind_at es c.in-Value.b) (drop c.in-Value.c1.at s) in
+      let y = as-sized rest s (c.read_dimension-sized.ensures es el) c.in-Value-sized.is in
+      let this : Constraint = record { first = c.in-Value.a; second = c.in-Value.b; size = y.size } in
+      one_more t c.loop-i-test.true
+      (ends-are ∙ ap (as_ends es s) c.in-Value.is ∙ ap (between c.in-Value.a c.in-Value.b) y.was)
+      (in-arrays (c.note_ends.ensures t.read this t.count refl refl (ends-in t.holds))
+      (c.note_code.ensures t.read this t.count
+      (y.is ∙ sym (to_z-of_z {w = w32} {z = c.in-Value-sized.z} (search rules))) (codes-in t.holds))),
+)
 
 pub returns-then-end-s : goal.returns-then-end-s
 returns-then-end-s c = λ es done en el n h.
-    let g : Given c = record { es = es; done = done; n_is = en; kinds_in = el; count = n; holds = h } in
-    bytes-follow (turn c g) c.loop-i-test.false c.if-end-s.true
+    bytes-follow (c.loop-i.invariant.1 es done en el n h) c.loop-i-test.false c.if-end-s.true
 
 pub returns : goal.returns
 returns c = λ es done en el n h.
-    let g : Given c = record { es = es; done = done; n_is = en; kinds_in = el; count = n; holds = h } in
-    at-end (turn c g) c.loop-i-test.false c.if-end-s.false
+    at-end (c.loop-i.invariant.1 es done en el n h) c.loop-i-test.false c.if-end-s.false

@@ -27,4 +27,4 @@ returns c = λ es h.
       ← kind-in h s.args.b,
       ← c.kind_at-j.ensures,
       ← c.kind_at-k.ensures,
-    ) c.read_by_lem.ensures
+    ) c.read_by.ensures

@@ -1,5 +1,5 @@
 -- `reader::read_front` meets its contract: the fields before the constraints, one after another. Assumes nothing.
-use Rattle.theory.specs.Prelude.{ℕ, arith, true, ◌≡◌, sym, ap, ◌∙◌, subst, List, not-true, not-false, rules, length, drop}
+use Rattle.theory.specs.Prelude.{ℕ, arith, true, false, ◌≡◌, sym, ap, ◌∙◌, subst, List, not-true, not-false, rules, length, drop}
 use Rattle.sheet.specs.declared.Opening.{Opening}
 use Rattle.sheet.specs.declared.Element.{Element}
 use Rattle.sheet.specs.Facts.Kinds.{KindsIn}
@@ -14,56 +14,16 @@ use Rattle.reader.specs.Answers.{as_opening}
 use Rattle.reader.proofs.Sheets.{sheet-tail}
 use Rattle.reader.proofs.read_front.Goals as goal
 
--- the opening and the count are read
-module _ (r : tie.Else1) where
-  abbrev bytes : List ℕ
-  bytes = r.args.s.now
-
-  abbrev opened : Opening
-  opened = r.in-Value.opening
-
-  abbrev count : ℕ
-  count = r.in-Value-count.b
-
-  abbrev place : ℕ
-  place = r.in-Value-count.c2.at
-
-  enough : elements_in_range count ≡ true
-  enough = sym r.elements_fit.ensures ∙ not-false r.elements_fit.result r.if-not-elements_in_range.left
-
-  tail : read_sheet bytes ≡ next (elements_field opened count (drop place bytes)) (read_constraints opened)
-  tail =
-      let n = r in
-      let o = n in
-      sheet-tail bytes (sym o.read_opening-first.ensures ∙ ap (as_opening bytes) o.in-Value.is)
-      (sym n.read_byte-count.ensures ∙ ap (as_byte bytes) n.in-Value-count.is) enough
-
--- the elements are read
-module _ (m : tie.After-known-told3) where
-  abbrev ranged : tie.Else1
-  ranged = m
-
-  abbrev after : ℕ
-  after = m.in-Value-got.c3.at
-
-  found : (es : List Element)
-      × (elements_field (opened ranged) (count ranged) (drop (place ranged) (bytes ranged)) ≡ value es (drop after (bytes ranged)))
-      × (length es ≡ count ranged) × KindsIn es m.in-Value-got.kinds m.read_elements-got.last.1.1.1.1.0
-  found = told m m.in-Value-got.is
-
-  rest : read_sheet (bytes ranged) ≡ read_constraints (opened ranged) found.0 (drop after (bytes ranged))
-  rest = tail ranged ∙ ap (λ (x : Field (List Element)). next x (read_constraints (opened ranged))) found.1
-
 pub returns-in_default : goal.returns-in_default
 unfolding read_sheet
 returns-in_default c = rw (← c.read_opening-first.ensures, c.refusal.ensures, c.in_default.is)
 
 pub returns-in_default-count : goal.returns-in_default-count
 unfolding read_sheet
-returns-in_default-count c = let o = c in
+returns-in_default-count c =
     rw (
-      ← o.read_opening-first.ensures,
-      o.in-Value.is,
+      ← c.read_opening-first.ensures,
+      c.in-Value.is,
       ← c.read_byte-count.ensures,
       c.refusal-in_default-count.ensures,
       c.in_default-count.is,
@@ -71,51 +31,86 @@ returns-in_default-count c = let o = c in
 
 pub returns-then-not-elements_in_range : goal.returns-then-not-elements_in_range
 unfolding read_sheet
-returns-then-not-elements_in_range c = let n = c in
-    let o = n in
+returns-then-not-elements_in_range c =
     rw (
-      ← o.read_opening-first.ensures,
-      o.in-Value.is,
-      ← n.read_byte-count.ensures,
-      n.in-Value-count.is,
-      sym c.elements_fit.ensures ∙ not-true c.elements_fit.result c.if-not-elements_in_range.true,
+      ← c.read_opening-first.ensures,
+      c.in-Value.is,
+      ← c.read_byte-count.ensures,
+      c.in-Value-count.is,
+      sym c.elements_in_range.ensures ∙ c.if-not-elements_in_range.true,
     )
 
 pub read_elements-got-requires : goal.read_elements-got-requires
-read_elements-got-requires c = let r = c in
-    let h = elements-range (count r) (enough r) in
+read_elements-got-requires c =
+    let enough : elements_in_range c.in-Value-count.b ≡ true = sym c.elements_in_range.ensures ∙ c.if-not-elements_in_range.false in
+    let h = elements-range c.in-Value-count.b enough in
     (omega (arith, h), h.1, c.requires)
 
 pub returns-in_default-got : goal.returns-in_default-got
-returns-in_default-got c = let r = 
-    let told : {k : KindsRead} → c.read_elements-got.result ≡ k → ElementsRead (elements_field (opened c) (count c) (drop (place c) (bytes c))) (bytes c) (count c) c.read_elements-got.new.1.1.1.1.0 k = λ e. subst (ElementsRead _ (bytes c) (count c) c.read_elements-got.new.1.1.1.1.0) e c.read_elements-got.ensures in
-    c in
-    tail r ∙ ap (λ (x : Field (List Element)). next x (read_constraints (opened r))) (told c.in_default-got.is)
+returns-in_default-got c =
+    let enough : elements_in_range c.in-Value-count.b ≡ true = sym c.elements_in_range.ensures ∙ c.if-not-elements_in_range.false in
+    let tail : read_sheet c.args.s.now
+    ≡ next (elements_field c.in-Value.opening c.in-Value-count.b (drop c.in-Value-count.c2.at c.args.s.now)) (read_constraints c.in-Value.opening) =
+    sheet-tail c.args.s.now (sym c.read_opening-first.ensures ∙ ap (as_opening c.args.s.now) c.in-Value.is)
+    (sym c.read_byte-count.ensures ∙ ap (as_byte c.args.s.now) c.in-Value-count.is) enough in
+    let told : elements_field c.in-Value.opening c.in-Value-count.b (drop c.in-Value-count.c2.at c.args.s.now) ≡ refused c.in_default-got.field-0 =
+    subst (ElementsRead _ c.args.s.now c.in-Value-count.b c.read_elements-got.new.radii) c.in_default-got.is c.read_elements-got.ensures in
+    tail ∙ ap (λ (x : Field (List Element)). next x (read_constraints c.in-Value.opening)) told
     ∙ ap refused (sym (c.refusal-in_default-got.ensures ∙ ap kinds_rule c.in_default-got.is))
 
 pub returns-in_default-listed : goal.returns-in_default-listed
 unfolding read_constraints
-returns-in_default-listed c = let b = c in
-    rest b ∙ rw (← b.read_byte-listed.ensures, c.refusal-in_default-listed.ensures, c.in_default-listed.is)
+returns-in_default-listed c =
+    let enough : elements_in_range c.in-Value-count.b ≡ true = sym c.elements_in_range.ensures ∙ c.if-not-elements_in_range.false in
+    let tail : read_sheet c.args.s.now
+    ≡ next (elements_field c.in-Value.opening c.in-Value-count.b (drop c.in-Value-count.c2.at c.args.s.now)) (read_constraints c.in-Value.opening) =
+    sheet-tail c.args.s.now (sym c.read_opening-first.ensures ∙ ap (as_opening c.args.s.now) c.in-Value.is)
+    (sym c.read_byte-count.ensures ∙ ap (as_byte c.args.s.now) c.in-Value-count.is) enough in
+    let found : (es : List Element)
+    × (elements_field c.in-Value.opening c.in-Value-count.b (drop c.in-Value-count.c2.at c.args.s.now) ≡ value es (drop c.in-Value-got.c3.at c.args.s.now))
+    × (length es ≡ c.in-Value-count.b) × KindsIn es c.in-Value-got.kinds c.read_elements-got.new.radii =
+    subst (ElementsRead _ c.args.s.now c.in-Value-count.b c.read_elements-got.new.radii) c.in-Value-got.is c.read_elements-got.ensures in
+    let rest : read_sheet c.args.s.now ≡ read_constraints c.in-Value.opening found.0 (drop c.in-Value-got.c3.at c.args.s.now) =
+    tail ∙ ap (λ (x : Field (List Element)). next x (read_constraints c.in-Value.opening)) found.1 in
+    rest ∙ rw (← c.read_byte-listed.ensures, c.refusal-in_default-listed.ensures, c.in_default-listed.is)
 
 pub returns-then-not-constraints_in_range : goal.returns-then-not-constraints_in_range
 unfolding read_constraints
-returns-then-not-constraints_in_range c = let l = c in
-    let m = l in
-    let many = sym c.constraints_fit.ensures ∙ not-true c.constraints_fit.result c.if-not-constraints_in_range.true in
-    rest m ∙ rw (← l.read_byte-listed.ensures, l.in-Value-listed.is, many)
+returns-then-not-constraints_in_range c =
+    let enough : elements_in_range c.in-Value-count.b ≡ true = sym c.elements_in_range.ensures ∙ c.if-not-elements_in_range.false in
+    let tail : read_sheet c.args.s.now
+    ≡ next (elements_field c.in-Value.opening c.in-Value-count.b (drop c.in-Value-count.c2.at c.args.s.now)) (read_constraints c.in-Value.opening) =
+    sheet-tail c.args.s.now (sym c.read_opening-first.ensures ∙ ap (as_opening c.args.s.now) c.in-Value.is)
+    (sym c.read_byte-count.ensures ∙ ap (as_byte c.args.s.now) c.in-Value-count.is) enough in
+    let found : (es : List Element)
+    × (elements_field c.in-Value.opening c.in-Value-count.b (drop c.in-Value-count.c2.at c.args.s.now) ≡ value es (drop c.in-Value-got.c3.at c.args.s.now))
+    × (length es ≡ c.in-Value-count.b) × KindsIn es c.in-Value-got.kinds c.read_elements-got.new.radii =
+    subst (ElementsRead _ c.args.s.now c.in-Value-count.b c.read_elements-got.new.radii) c.in-Value-got.is c.read_elements-got.ensures in
+    let rest : read_sheet c.args.s.now ≡ read_constraints c.in-Value.opening found.0 (drop c.in-Value-got.c3.at c.args.s.now) =
+    tail ∙ ap (λ (x : Field (List Element)). next x (read_constraints c.in-Value.opening)) found.1 in
+    let many : constraints_in_range c.in-Value-listed.k ≡ false = sym c.constraints_in_range.ensures ∙ c.if-not-constraints_in_range.true in
+    rest ∙ rw (← c.read_byte-listed.ensures, c.in-Value-listed.is, many)
 
 pub returns : goal.returns
 unfolding read_constraints
-returns c = let l = c in
-    let m = l in
-    let few : constraints_in_range l.in-Value-listed.k ≡ true =
-    sym c.constraints_fit.ensures ∙ not-false c.constraints_fit.result c.if-not-constraints_in_range.false in
+returns c =
+    let enough : elements_in_range c.in-Value-count.b ≡ true = sym c.elements_in_range.ensures ∙ c.if-not-elements_in_range.false in
+    let tail : read_sheet c.args.s.now
+    ≡ next (elements_field c.in-Value.opening c.in-Value-count.b (drop c.in-Value-count.c2.at c.args.s.now)) (read_constraints c.in-Value.opening) =
+    sheet-tail c.args.s.now (sym c.read_opening-first.ensures ∙ ap (as_opening c.args.s.now) c.in-Value.is)
+    (sym c.read_byte-count.ensures ∙ ap (as_byte c.args.s.now) c.in-Value-count.is) enough in
+    let found : (es : List Element)
+    × (elements_field c.in-Value.opening c.in-Value-count.b (drop c.in-Value-count.c2.at c.args.s.now) ≡ value es (drop c.in-Value-got.c3.at c.args.s.now))
+    × (length es ≡ c.in-Value-count.b) × KindsIn es c.in-Value-got.kinds c.read_elements-got.new.radii =
+    subst (ElementsRead _ c.args.s.now c.in-Value-count.b c.read_elements-got.new.radii) c.in-Value-got.is c.read_elements-got.ensures in
+    let rest : read_sheet c.args.s.now ≡ read_constraints c.in-Value.opening found.0 (drop c.in-Value-got.c3.at c.args.s.now) =
+    tail ∙ ap (λ (x : Field (List Element)). next x (read_constraints c.in-Value.opening)) found.1 in
+    let few : constraints_in_range c.in-Value-listed.k ≡ true = sym c.constraints_in_range.ensures ∙ c.if-not-constraints_in_range.false in
     record {
-      elements = (found m).0;
-      rest = rest m ∙ rw (← l.read_byte-listed.ensures, l.in-Value-listed.is, few);
-      count = (found m).2;
-      kinds_in = (found m).3;
-      most = (elements-range (count (ranged m)) (enough (ranged m))).1;
+      elements = found.0;
+      rest = rest ∙ rw (← c.read_byte-listed.ensures, c.in-Value-listed.is, few);
+      count = found.2;
+      kinds_in = found.3;
+      most = (elements-range c.in-Value-count.b enough).1;
       few = constraints-most _ few;
     }

@@ -9,36 +9,30 @@ use Rattle.reader.specs.Answers.{codes_rule, SheetRead}
 use Rattle.reader.proofs.read_graph.Goals as goal
 use Rattle.reader.proofs.read_graph.Goals.{else-kinds-ne0, then-kinds-ne0}
 
--- what the reading of the sheet answers
-module _ (c : tie.After-read-codes) where
-  abbrev bytes : List ℕ
-  bytes = c.args.s.now
-
-  told : {k : CodesRead} → c.read_codes-got.result ≡ k
-      → SheetRead (read_sheet bytes) k c.read_codes-got.new.1.0 c.read_codes-got.new.1.1.0 c.read_codes-got.new.1.1.1.0
-      c.read_codes-got.new.1.1.1.1.0
-  told e =
-      subst (λ (k : CodesRead). SheetRead (read_sheet bytes) k c.read_codes-got.new.1.0 c.read_codes-got.new.1.1.0
-      c.read_codes-got.new.1.1.1.0 c.read_codes-got.new.1.1.1.1.0) e c.read_codes-got.ensures
-
 pub read_codes-got-requires : goal.read_codes-got-requires
 read_codes-got-requires c = (c.requires.0, c.requires.1, c.requires.2, refl)
 
 pub returns-in_default : goal.returns-in_default
-returns-in_default c = let t = c.enum_told.given in
-    told c t.1 ∙ ap refused (sym (c.refusal.ensures ∙ ap codes_rule t.1))
+returns-in_default c =
+    subst (λ (k : CodesRead). SheetRead (read_sheet c.args.s.now) k c.read_codes-got.new.near c.read_codes-got.new.start
+    c.read_codes-got.new.codes c.read_codes-got.new.radii) c.in_default.is c.read_codes-got.ensures ∙ ap refused (sym (c.refusal.ensures ∙ ap codes_rule c.in_default.is))
 
 pub measure-requires : goal.measure-requires
-measure-requires c = let t = told c
-    c.in-Value.is in
+measure-requires c =
+    let t = subst (λ (k : CodesRead). SheetRead (read_sheet c.args.s.now) k c.read_codes-got.new.near c.read_codes-got.new.start
+    c.read_codes-got.new.codes c.read_codes-got.new.radii) c.in-Value.is c.read_codes-got.ensures in
     (t.0, _, t.3)
 
 pub returns : goal.returns
-returns c = let r = c in
-    let t = told r c.in-Value.is in (
+returns c =
+    let t = subst (λ (k : CodesRead). SheetRead (read_sheet c.args.s.now) k c.read_codes-got.new.near c.read_codes-got.new.start
+    c.read_codes-got.new.codes c.read_codes-got.new.radii) c.in-Value.is c.read_codes-got.ensures in (
       t.0,
       t.1,
       t.2,
       rw c.head_of.ensures (stands-in t.3),
-      elim c.if-kinds-ne0.branch [ then-kinds-ne0 w ↦ w.5 ∙ w.4.ensures t.0 _ t.3 | else-kinds-ne0 w ↦ w.1 ∙ plain-sizes t.3 w.if-kinds-ne0.false ],
+      elim c.if-kinds-ne0.branch [
+        then-kinds-ne0 w ↦ w.sizes-is ∙ w.measure.ensures t.0 _ t.3
+      | else-kinds-ne0 w ↦ w.sizes-is ∙ plain-sizes t.3 w.if-kinds-ne0.false
+      ],
     )

@@ -8,43 +8,33 @@ use Rattle.sheet.specs.Decode.{size}
 use Rattle.elements.specs.Fields.{as_number}
 use Rattle.reader.proofs.read_size.Goals as goal
 
--- the size that is read, and whether it lies in its range
-module _ (c : tie.After-size-in-range) where
-  number_is : field 4 (drop c.args.c.at
-      c.args.s.now)
-      ≡ value c.in-Value.u
-      (drop c.in-Value.after.at c.args.s.now)
-  number_is =
-      sym c.read_number-number.ensures.0
-      ∙ ap (as_number c.args.s.now) c.in-Value.is
-
-  range : c.size_in_range.result
-      ≡ size_in_range c.args.p
-      (signed32 c.in-Value.u)
-  range =
-      rw (to_z-of_z {w = w32} {z = c.signed-z.result} (search rules), c.signed-z.ensures) at c.size_in_range.ensures
-
 pub returns-in_default : goal.returns-in_default
 unfolding size
-returns-in_default c =     rw (
-      ← c.read_number-number.ensures.0,
-      c.refusal.ensures,
-      c.in_default.is,
-    )
+returns-in_default c = rw (← c.read_number-number.ensures.result_value, c.refusal.ensures, c.in_default.is)
 
 pub signed-z-requires : goal.signed-z-requires
-signed-z-requires c = c.read_number-number.ensures.1.below _ _ c.in-Value.is
+signed-z-requires c = c.read_number-number.ensures.below.below _ _ c.in-Value.is
 
 pub returns-then-not-size_in_range : goal.returns-then-not-size_in_range
 unfolding size
-returns-then-not-size_in_range c =     rw (number_is c, ← range c, not-true c.size_in_range.result c.if-not-size_in_range.true)
+returns-then-not-size_in_range c =
+    let number_is : field 4 (drop c.args.c.at c.args.s.now) ≡ value c.in-Value.u (drop c.in-Value.after.at c.args.s.now) =
+    sym c.read_number-number.ensures.result_value ∙ ap (as_number c.args.s.now) c.in-Value.is in
+    let range : c.size_in_range.result ≡ size_in_range c.args.p (signed32 c.in-Value.u) =
+    rw (to_z-of_z {w = w32} {z = c.signed-z.result} (search rules), c.signed-z.ensures) at c.size_in_range.ensures in
+    rw (number_is, ← range, c.if-not-size_in_range.true)
 
 pub returns : goal.returns
 unfolding size
-returns c =     rw (
+returns c =
+    let number_is : field 4 (drop c.args.c.at c.args.s.now) ≡ value c.in-Value.u (drop c.in-Value.after.at c.args.s.now) =
+    sym c.read_number-number.ensures.result_value ∙ ap (as_number c.args.s.now) c.in-Value.is in
+    let range : c.size_in_range.result ≡ size_in_range c.args.p (signed32 c.in-Value.u) =
+    rw (to_z-of_z {w = w32} {z = c.signed-z.result} (search rules), c.signed-z.ensures) at c.size_in_range.ensures in
+    rw (
       to_z-of_z {w = w32} {z = c.signed-z.result} (search rules),
       c.signed-z.ensures,
-      number_is c,
-      ← range c,
-      not-false c.size_in_range.result c.if-not-size_in_range.false,
+      number_is,
+      ← range,
+      c.if-not-size_in_range.false,
     )

@@ -138,6 +138,7 @@ not-next k (inr (inr (inr (inl z)))) e = omega arith
 not-next k (inr (inr (inr (inr (inl z))))) e = omega arith
 not-next k (inr (inr (inr (inr (inr (inl z)))))) e = omega arith
 not-next k (inr (inr (inr (inr (inr (inr (inl z))))))) e = omega arith
+not-next k (inr (inr (inr (inr (inr (inr (inr z))))))) e = elim z [ ]
 
 not-told : (f : Facts) (c : Constraint) (a : Judgement) → Told f c a → a ≡ Refused 17 → ⊥
 not-told f c _ (takes z) e = let q : ◌≡◌ {A = ℕ} 0 1 = cc in omega arith

@@ -1,11 +1,9 @@
 -- `report::put_clusters` meets its contract: the lines of the clusters from `c` on are still to be put. Assumes nothing.
-use Rattle.theory.specs.Prelude.{ℕ, ◌+◌, ◌-◌, ◌*◌, ◌^◌, ◌≤◌, ◌<◌, arith, ◌≡◌, sym, ap, ◌∙◌, List, ◌++◌, length, take, drop, get_or}
+use Rattle.theory.specs.Prelude.{ℕ, ◌+◌, ◌*◌, ◌^◌, ◌≤◌, ◌<◌, arith, ◌≡◌, sym, ap, ◌∙◌, List, ◌++◌, length, take, drop, get_or}
 use Rattle.report.specs.Report.{slot_line, cluster_lines}
 use Rattle.report.specs.Pieces.{wide}
 use Rattle.report.specs.Report.Laws.{clusters-next, clusters-none, length-wide, wide_at}
-use Rattle.report.specs.Block.{Stands}
 use Rattle.report.proofs.Standing.{stands}
-use Rattle.report.specs.Going.{Going}
 use Rattle.report.specs.Going.Laws.{start, put_next, put_last, place}
 use Rattle.report.proofs.put_clusters.Goals as goal
 

@@ -28,7 +28,7 @@ put_front-a1-requires c =
       omega (
         arith,
         clusters-long a.n a.e a.verdict (steps_in a.lines a.e a.sizes.now a.start.now a.parts.now a.joints.now a.count)
-        (take (a.e + a.count) a.slots.now) (take (a.e + a.count) (wide a.low.now a.high.now)),
+            (take (a.e + a.count) a.slots.now) (take (a.e + a.count) (wide a.low.now a.high.now)),
         c.requires.high_len_bound,
       ),
     )
@@ -45,7 +45,7 @@ put_clusters-requires c =
       omega (
         arith,
         clusters-long a.n a.e a.verdict (steps_in a.lines a.e a.sizes.now a.start.now a.parts.now a.joints.now a.count)
-        (take (a.e + a.count) a.slots.now) (take (a.e + a.count) (wide a.low.now a.high.now)),
+            (take (a.e + a.count) a.slots.now) (take (a.e + a.count) (wide a.low.now a.high.now)),
         c.requires.high_len_bound,
         c.put_front-a1.ensures.next_is,
       ),

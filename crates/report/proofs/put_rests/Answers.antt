@@ -1,5 +1,4 @@
 -- `report::put_rests` meets its contract: its pieces make the words. Assumes nothing.
-use borrow.Author.Rules.{rules}
 use Rattle.report.specs.Block.Laws.{◌then◌}
 use Rattle.report.proofs.put_rests.Goals as goal
 

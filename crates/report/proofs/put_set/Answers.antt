@@ -1,5 +1,4 @@
 -- `report::put_set` meets its contract: its numbers begin at 0. Assumes nothing.
-use borrow.Author.Rules.{rules}
 use Rattle.report.proofs.Standing.{from_zero}
 use Rattle.report.proofs.put_set.Goals as goal
 

@@ -1,12 +1,10 @@
 -- `report::put_set_from` meets its contract: the elements of `rest` are still to be put. Assumes nothing.
-use Rattle.theory.specs.Prelude.{rules, ℕ, ◌-◌, ◌^◌, ◌<◌, arith, ap, ◌∙◌, and_le_l, and_le_r, trailing_le}
+use Rattle.theory.specs.Prelude.{rules, ℕ, ◌-◌, arith, ap, ◌∙◌, and_le_l, and_le_r, trailing_le}
 use Rattle.report.specs.Elements.{elements}
 use Rattle.report.specs.Pieces.{numbers, above}
 use Rattle.report.specs.Report.Laws.{above-lowest, above-none}
 use Rattle.report.specs.Report.Length.{above_most}
-use Rattle.report.specs.Block.{Stands}
 use Rattle.report.proofs.Standing.{stands}
-use Rattle.report.specs.Going.{Going}
 use Rattle.report.specs.Going.Laws.{start, put_next, put_last, place}
 use Rattle.report.proofs.put_set_from.Goals as goal
 
@@ -35,9 +33,9 @@ loop-rest-smaller c = let l = c.loop-rest in omega (arith, and_le_r l.rest (l.re
 
 pub loop-rest-preserved : goal.loop-rest-preserved
 loop-rest-preserved c = let l = c.loop-rest in (
-      omega (arith, and_le_l l.rest (l.rest - 1)),
-      put_next stands (above-lowest _ l.rest l.invariant.0 c.loop-rest-test.true) l.invariant.1 c.put_number-next.ensures.0,
-    )
+  omega (arith, and_le_l l.rest (l.rest - 1)),
+  put_next stands (above-lowest _ l.rest l.invariant.0 c.loop-rest-test.true) l.invariant.1 c.put_number-next.ensures.0,
+)
 
 pub returns : goal.returns
 returns c = let a = c.args in

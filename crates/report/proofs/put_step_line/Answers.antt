@@ -1,5 +1,5 @@
 -- `report::put_step_line` meets its contract: its pieces make the line. Assumes nothing.
-use Rattle.theory.specs.Prelude.{rules, ℕ, sym, List}
+use Rattle.theory.specs.Prelude.{ℕ, sym, List}
 use Rattle.theory.specs.declared.Step.{Step}
 use Rattle.space.specs.Text.{ascii}
 use Rattle.report.specs.Elements.{elements}

@@ -13,7 +13,7 @@ use Rattle.report.specs.Going.Laws.{start, put_next, put_last, place}
 use Rattle.report.proofs.put_steps_from.Given as goal
 
 abbrev pub invariant-loop-t : goal.invariant-loop-t
-invariant-loop-t l =     (l.first ≤ l.t) × Going Stands l.initial.out l.at (step_lines (steps_for (step_at l.lines l.e l.sizes l.start l.parts l.joints) l.first (l.last - l.first))) l.out l.next
+invariant-loop-t l = (l.first ≤ l.t) × Going Stands l.initial.out l.at (step_lines (steps_for (step_at l.lines l.e l.sizes l.start l.parts l.joints) l.first (l.last - l.first))) l.out l.next
     (step_lines (steps_for (step_at l.lines l.e l.sizes l.start l.parts l.joints) l.t (l.last - l.t)))
 
 abbrev pub decreases-loop-t : goal.decreases-loop-t

@@ -18,9 +18,9 @@ pub returns : goal.returns
 returns c =
     let a = c.args in
     let items : List ℕ =
-        report a.n a.e a.verdict (steps_in a.lines a.e a.sizes.now a.start.now a.parts.now a.joints.now a.count)
-        (take (a.e + a.count) a.slots.now) (take (a.e + a.count) (wide a.low.now a.high.now)) in
+    report a.n a.e a.verdict (steps_in a.lines a.e a.sizes.now a.start.now a.parts.now a.joints.now a.count)
+    (take (a.e + a.count) a.slots.now) (take (a.e + a.count) (wide a.low.now a.high.now)) in
     let done =
-        buffered {items = items} {buffer = replicate block 0} (omega (arith, c.requires.high_len_bound, length-replicate {A = ℕ} block 0))
-        c.put_report-length.ensures a.out.now (c.put_all8.ensures.answers, c.put_all8.ensures.leaves) in
+    buffered {items = items} {buffer = replicate block 0} (omega (arith, c.requires.high_len_bound, length-replicate {A = ℕ} block 0))
+    c.put_report-length.ensures a.out.now (c.put_all8.ensures.answers, c.put_all8.ensures.leaves) in
     record { answers = done.0; leaves = done.1 }

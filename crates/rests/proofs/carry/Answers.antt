@@ -1,5 +1,5 @@
 -- `rests::carry` meets its contract: after each step the words are those of the clusters that live then. Assumes nothing.
-use Rattle.theory.specs.Prelude.{◌≡◌, sym, ◌∙◌, subst, List, ℕ, ◌+◌, ◌-◌, ◌*◌, ◌≤◌, ◌<◌, arith, rules, get_or, set, take}
+use Rattle.theory.specs.Prelude.{◌≡◌, sym, ◌∙◌, subst, List, ℕ, ◌+◌, ◌-◌, ◌*◌, ◌≤◌, ◌<◌, arith, get_or, set, take}
 use Rattle.theory.specs.Set.{◌∪◌}
 use Rattle.rests.specs.Words.{Listed, Told}
 use Rattle.rests.specs.Words.Laws.{alone-low, alone-high, below, told-start, told-next, told-end}
@@ -17,53 +17,33 @@ module _ {e steps t i j k : ℕ} {parts : List ℕ} (h : t < steps) (ei : i ≡ 
       subst (Told w l.cs (take (t + 1) l.p))
       (sym (are ∙ (λ z. set words (e + t) (get_or words (ei z) 0 ∪ get_or words (ej z) 0 ∪ get_or words (ek z) 0)))) (told-next l t h w words room told)
 
--- the parts are in use
-module _ (c : tie.After-place-of3 invariant-loop decreases-loop) where
-  abbrev at : tie.At-loop invariant-loop decreases-loop
-  at = c
-
-  abbrev start : tie.Start invariant-loop decreases-loop
-  start = at
-
-  going : at.loop-t.t < start.args.steps
-  going = c.loop-t-test.true
-
-  used : (start.args.e + at.loop-t.t < 192) × (c.place_of-i.result < 192) × (c.place_of-j.result < 192)
-      × (c.place_of-k.result < 192)
-  used = in_use going c.place_of-i.ensures c.place_of-j.ensures c.place_of-k.ensures start.requires.0
-      start.requires.1 start.requires.2
-
-  one_more : (w : ℕ) {words next : List ℕ}
-      → next ≡ set words (start.args.e + at.loop-t.t) (get_or words c.place_of-i.result 0
-      ∪ get_or words c.place_of-j.result 0 ∪ get_or words c.place_of-k.result 0)
-      → (l : Listed start.args.e start.args.parts.now start.args.steps) → Told w l.cs (take at.loop-t.t l.p) words
-      → Told w l.cs (take (at.loop-t.t + 1) l.p) next
-  one_more w = joined going c.place_of-i.ensures c.place_of-j.ensures c.place_of-k.ensures w used.0
-
 pub loop-t-init : goal.loop-t-init
-loop-t-init c = let low = c.note_alone.ensures in
-    let high = c.note_alone-2.ensures in
-    let s = c in (
+loop-t-init c =
+    let low = c.note_alone.ensures in
+    let high = c.note_alone-2.ensures in (
       omega arith,
       λ l. (
         told-start l 0 _ low.long (λ n h. alone-low _ low n),
-        told-start l 1 _ high.long (alone-high _ s.args.e (omega (arith, s.requires.0)) high),
+        told-start l 1 _ high.long (alone-high _ c.args.e (omega (arith, c.requires.0)) high),
       ),
     )
 
 pub join-requires : goal.join-requires
-join-requires c = used c
+join-requires c = in_use c.loop-t-test.true c.place_of-i.ensures c.place_of-j.ensures c.place_of-k.ensures c.requires.0 c.requires.1 c.requires.2
 
 pub join-requires-in-loop-t : goal.join-requires-in-loop-t
-join-requires-in-loop-t c = used c
+join-requires-in-loop-t c = in_use c.loop-t-test.true c.place_of-i.ensures c.place_of-j.ensures c.place_of-k.ensures c.requires.0 c.requires.1 c.requires.2
 
 pub loop-t-preserved : goal.loop-t-preserved
-loop-t-preserved c = let w = c in
-    let n = (at w).loop.invariant in
-    let low = c.join.ensures in
-    let high = c.join-in-loop-t.ensures in (
-      omega (arith, going w),
-      λ l. let t = n.1 l in (one_more w 0 low l t.0, one_more w 1 high l t.1),
+loop-t-preserved c =
+    let n = c.loop-t.invariant in
+    let u = in_use c.loop-t-test.true c.place_of-i.ensures c.place_of-j.ensures c.place_of-k.ensures c.requires.0 c.requires.1 c.requires.2 in (
+      omega (arith, c.loop-t-test.true),
+      λ l.
+          let t = n.1 l in (
+            joined c.loop-t-test.true c.place_of-i.ensures c.place_of-j.ensures c.place_of-k.ensures 0 u.0 c.join.ensures l t.0,
+            joined c.loop-t-test.true c.place_of-i.ensures c.place_of-j.ensures c.place_of-k.ensures 1 u.0 c.join-in-loop-t.ensures l t.1,
+          ),
     )
 
 pub returns : goal.returns

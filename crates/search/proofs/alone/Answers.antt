@@ -1,6 +1,5 @@
 -- `search::alone` meets its contract: three words of it. Assumes nothing.
 use Rattle.search.proofs.Sets3.{alone-set}
-use borrow.Author.Rules.{rules}
 use Rattle.search.proofs.alone.Goals as goal
 
 pub returns : goal.returns

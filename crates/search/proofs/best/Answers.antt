@@ -1,5 +1,5 @@
 -- `search::best` meets its contract: the loop keeps `Leading`. Assumes nothing.
-use Rattle.theory.specs.Prelude.{sym, subst, ⊎_elim, ◌-◌, arith, rules, bit_and, and_le_r, trailing_le}
+use Rattle.theory.specs.Prelude.{sym, subst, ◌-◌, arith, rules, bit_and, and_le_r, trailing_le}
 use Rattle.theory.specs.Set.Lowest.{lowest-below}
 use Rattle.theory.specs.Set.{◌∩◌}
 use Rattle.search.specs.State.{linked, Joined}
@@ -40,9 +40,12 @@ loop-rest-preserved c = let a = c.args in
     let s = c.loop-rest-test.true in
     let m = c.joined-v in
     let next = bit_and l.rest (l.rest - 1) in
-    elim c.if-v-best.branch [ then-v-best w ↦ subst (Leading (λ y. Joined a.hold.now (linked a.links.now y ∩ a.x) y) a.o next) (sym w.best-is)
-    (leading-new l.invariant s m.ensures.0 m.ensures.1 w.if-v-best.true) | else-v-best w ↦ subst (Leading (λ y. Joined a.hold.now (linked a.links.now y ∩ a.x) y) a.o next) (sym w.best-is)
-    (leading-same l.invariant s m.ensures.0 (omega (arith, w.if-v-best.false))) ]
+    elim c.if-v-best.branch [
+      | then-v-best w ↦ subst (Leading (λ y. Joined a.hold.now (linked a.links.now y ∩ a.x) y) a.o next) (sym w.best-is)
+          (leading-new l.invariant s m.ensures.0 m.ensures.1 w.if-v-best.true)
+      | else-v-best w ↦ subst (Leading (λ y. Joined a.hold.now (linked a.links.now y ∩ a.x) y) a.o next) (sym w.best-is)
+          (leading-same l.invariant s m.ensures.0 (omega (arith, w.if-v-best.false)))
+    ]
 
 pub returns : goal.returns
 returns c = let a = c.args in

@@ -1,5 +1,4 @@
 -- `search::call_up` meets its contract: three stores. Assumes nothing.
-use borrow.Author.Rules.{rules}
 use Rattle.search.proofs.Calling.{calls-all}
 use Rattle.search.proofs.call_up.Goals as goal
 

@@ -1,7 +1,7 @@
 -- `search::enter` meets its contract: the loop keeps `Entering`. Assumes nothing.
 use Rattle.theory.specs.Prelude.{refl, ◌∙◌, ◌-◌, ◌%◌, ◌^◌, ◌<◌, one-mul, lt-suc_self, arith, shl_exact, rules, and_le_r, count_trailing_zeros}
 use Rattle.theory.specs.Set.Lowest.{lowest-below}
-use Rattle.search.proofs.Storing.{Entering, entering-none, entering-next, entering-all}
+use Rattle.search.proofs.Storing.{entering-none, entering-next, entering-all}
 use Rattle.search.proofs.enter.Goals as goal
 
 -- the lowest element is below 64
@@ -18,47 +18,47 @@ pub offset_bounds-links-p : goal.offset_bounds-links-p
 offset_bounds-links-p c = omega (arith, low c)
 
 pub bounds-links-p : goal.bounds-links-p
-bounds-links-p c = 
+bounds-links-p c =
     let low : count_trailing_zeros 64 c.loop-rest.rest < 64 = lowest-below 64 c.loop-rest.rest c.loop-rest.invariant.left.fits c.loop-rest-test.true in
     low
 
 pub offset_bounds-links-p-in-loop-rest : goal.offset_bounds-links-p-in-loop-rest
-offset_bounds-links-p-in-loop-rest c = 
+offset_bounds-links-p-in-loop-rest c =
     let low : count_trailing_zeros 64 c.loop-rest.rest < 64 = lowest-below 64 c.loop-rest.rest c.loop-rest.invariant.left.fits c.loop-rest-test.true in
     omega (arith, low)
 
 pub bounds-links-p-in-loop-rest : goal.bounds-links-p-in-loop-rest
-bounds-links-p-in-loop-rest c = 
+bounds-links-p-in-loop-rest c =
     let low : count_trailing_zeros 64 c.loop-rest.rest < 64 = lowest-below 64 c.loop-rest.rest c.loop-rest.invariant.left.fits c.loop-rest-test.true in
     low
 
 pub overflow_add-hold : goal.overflow_add-hold
-overflow_add-hold c = 
+overflow_add-hold c =
     let low : count_trailing_zeros 64 c.loop-rest.rest < 64 = lowest-below 64 c.loop-rest.rest c.loop-rest.invariant.left.fits c.loop-rest-test.true in
     omega (arith, low, c.requires.0)
 
 pub offset_bounds-hold-base : goal.offset_bounds-hold-base
-offset_bounds-hold-base c = 
+offset_bounds-hold-base c =
     let low : count_trailing_zeros 64 c.loop-rest.rest < 64 = lowest-below 64 c.loop-rest.rest c.loop-rest.invariant.left.fits c.loop-rest-test.true in
     omega (arith, low, c.requires.0)
 
 pub bounds-hold-base : goal.bounds-hold-base
-bounds-hold-base c = 
+bounds-hold-base c =
     let low : count_trailing_zeros 64 c.loop-rest.rest < 64 = lowest-below 64 c.loop-rest.rest c.loop-rest.invariant.left.fits c.loop-rest-test.true in
     omega (arith, low, c.requires.0)
 
 pub overflow_add-hold-in-loop-rest : goal.overflow_add-hold-in-loop-rest
-overflow_add-hold-in-loop-rest c = 
+overflow_add-hold-in-loop-rest c =
     let low : count_trailing_zeros 64 c.loop-rest.rest < 64 = lowest-below 64 c.loop-rest.rest c.loop-rest.invariant.left.fits c.loop-rest-test.true in
     omega (arith, low, c.requires.0)
 
 pub offset_bounds-hold-base-in-loop-rest : goal.offset_bounds-hold-base-in-loop-rest
-offset_bounds-hold-base-in-loop-rest c = 
+offset_bounds-hold-base-in-loop-rest c =
     let low : count_trailing_zeros 64 c.loop-rest.rest < 64 = lowest-below 64 c.loop-rest.rest c.loop-rest.invariant.left.fits c.loop-rest-test.true in
     omega (arith, low, c.requires.0)
 
 pub bounds-hold-base-in-loop-rest : goal.bounds-hold-base-in-loop-rest
-bounds-hold-base-in-loop-rest c = 
+bounds-hold-base-in-loop-rest c =
     let low : count_trailing_zeros 64 c.loop-rest.rest < 64 = lowest-below 64 c.loop-rest.rest c.loop-rest.invariant.left.fits c.loop-rest-test.true in
     omega (arith, low, c.requires.0)
 

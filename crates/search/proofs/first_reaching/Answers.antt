@@ -2,7 +2,7 @@
 use Rattle.theory.specs.Set.{◌∩◌}
 use Rattle.theory.specs.Prelude.{◌-◌, ◌<◌, arith, rules, and_le_r, count_trailing_zeros}
 use Rattle.theory.specs.Set.Lowest.{lowest-below}
-use Rattle.search.proofs.Passing.{Passed, passed_none, passed-next, passed_here, passed-end}
+use Rattle.search.proofs.Passing.{passed_none, passed-next, passed_here, passed-end}
 use Rattle.search.proofs.first_reaching.Goals as goal
 
 -- the lowest element is below 64
@@ -25,7 +25,7 @@ pub offset_bounds-slots-c : goal.offset_bounds-slots-c
 offset_bounds-slots-c c = omega (arith, low c, c.requires)
 
 pub bounds-slots-c : goal.bounds-slots-c
-bounds-slots-c c = 
+bounds-slots-c c =
     let low : count_trailing_zeros 64 c.loop-rest.rest < 64 = lowest-below 64 c.loop-rest.rest c.loop-rest.invariant.fits c.loop-rest-test.true in
     omega (arith, low, c.requires)
 

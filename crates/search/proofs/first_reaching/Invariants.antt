@@ -1,8 +1,5 @@
 -- `search::first_reaching` meets its contract: the loop keeps `Passed`. Assumes nothing.
-use Rattle.theory.specs.Set.{◌∩◌}
-use Rattle.theory.specs.Prelude.{◌-◌, ◌<◌, arith, rules, and_le_r, count_trailing_zeros}
-use Rattle.theory.specs.Set.Lowest.{lowest-below}
-use Rattle.search.proofs.Passing.{Passed, passed_none, passed-next, passed_here, passed-end}
+use Rattle.search.proofs.Passing.{Passed}
 use Rattle.search.proofs.first_reaching.Given as goal
 
 abbrev pub invariant-loop-rest : goal.invariant-loop-rest

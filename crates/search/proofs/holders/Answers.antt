@@ -1,8 +1,7 @@
 -- `search::holders` meets its contract: each of the three words has the entries passed. Assumes nothing.
-use Rattle.theory.specs.Prelude.{subst, List, ℕ, ◌+◌, ◌-◌, ◌<◌, arith, rules, bit_and, bit_or, count_trailing_zeros, get_or}
-use Rattle.sets.specs.Each.{Each}
+use Rattle.theory.specs.Prelude.{subst, ℕ, ◌+◌, ◌-◌, ◌<◌, arith, rules, bit_and, bit_or, count_trailing_zeros, get_or}
 use Rattle.sets.specs.Each.Laws.{each_none, each_all, each-lowest, each-less}
-use Rattle.sets.specs.Image.Laws.{Joined, joined-next}
+use Rattle.sets.specs.Image.Laws.{joined-next}
 use Rattle.search.proofs.holders.Goals as goal
 use Rattle.search.proofs.holders.Invariants.{Passed}
 
@@ -20,37 +19,37 @@ pub offset_bounds-hold-z : goal.offset_bounds-hold-z
 offset_bounds-hold-z c = omega (arith, low c)
 
 pub bounds-hold-z : goal.bounds-hold-z
-bounds-hold-z c = 
+bounds-hold-z c =
     let low : count_trailing_zeros 64 c.loop-rest.rest < 64 = each-lowest c.loop-rest.invariant.0 c.loop-rest-test.true in
     omega (arith, low)
 
 pub overflow_add-b : goal.overflow_add-b
-overflow_add-b c = 
+overflow_add-b c =
     let low : count_trailing_zeros 64 c.loop-rest.rest < 64 = each-lowest c.loop-rest.invariant.0 c.loop-rest-test.true in
     omega (arith, low)
 
 pub offset_bounds-hold-z-in-loop-rest : goal.offset_bounds-hold-z-in-loop-rest
-offset_bounds-hold-z-in-loop-rest c = 
+offset_bounds-hold-z-in-loop-rest c =
     let low : count_trailing_zeros 64 c.loop-rest.rest < 64 = each-lowest c.loop-rest.invariant.0 c.loop-rest-test.true in
     omega (arith, low)
 
 pub bounds-hold-z-in-loop-rest : goal.bounds-hold-z-in-loop-rest
-bounds-hold-z-in-loop-rest c = 
+bounds-hold-z-in-loop-rest c =
     let low : count_trailing_zeros 64 c.loop-rest.rest < 64 = each-lowest c.loop-rest.invariant.0 c.loop-rest-test.true in
     omega (arith, low)
 
 pub overflow_add-c : goal.overflow_add-c
-overflow_add-c c = 
+overflow_add-c c =
     let low : count_trailing_zeros 64 c.loop-rest.rest < 64 = each-lowest c.loop-rest.invariant.0 c.loop-rest-test.true in
     omega (arith, low)
 
 pub offset_bounds-hold-z-in-loop-rest-2 : goal.offset_bounds-hold-z-in-loop-rest-2
-offset_bounds-hold-z-in-loop-rest-2 c = 
+offset_bounds-hold-z-in-loop-rest-2 c =
     let low : count_trailing_zeros 64 c.loop-rest.rest < 64 = each-lowest c.loop-rest.invariant.0 c.loop-rest-test.true in
     omega (arith, low)
 
 pub bounds-hold-z-in-loop-rest-2 : goal.bounds-hold-z-in-loop-rest-2
-bounds-hold-z-in-loop-rest-2 c = 
+bounds-hold-z-in-loop-rest-2 c =
     let low : count_trailing_zeros 64 c.loop-rest.rest < 64 = each-lowest c.loop-rest.invariant.0 c.loop-rest-test.true in
     omega (arith, low)
 

@@ -1,8 +1,7 @@
 -- `search::holders` meets its contract: each of the three words has the entries passed. Assumes nothing.
-use Rattle.theory.specs.Prelude.{subst, List, ℕ, ◌+◌, ◌-◌, ◌<◌, arith, rules, bit_and, bit_or, count_trailing_zeros, get_or}
+use Rattle.theory.specs.Prelude.{List, ℕ, ◌+◌, get_or}
 use Rattle.sets.specs.Each.{Each}
-use Rattle.sets.specs.Each.Laws.{each_none, each_all, each-lowest, each-less}
-use Rattle.sets.specs.Image.Laws.{Joined, joined-next}
+use Rattle.sets.specs.Image.Laws.{Joined}
 use Rattle.search.proofs.holders.Given as goal
 
 -- the entries at base + z for the elements z passed

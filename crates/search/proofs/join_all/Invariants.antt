@@ -1,7 +1,6 @@
 -- `search::join_all` meets its contract: the loop keeps `Begun` of the clusters passed. Assumes nothing.
-use Rattle.theory.specs.Prelude.{sym, subst, List, ℕ, ◌-◌, ◌≤◌, arith, rules}
+use Rattle.theory.specs.Prelude.{◌-◌, ◌≤◌}
 use Rattle.search.specs.State.{Begun}
-use Rattle.search.proofs.Starting.{begun-none, begun-next}
 use Rattle.search.proofs.join_all.Given as goal
 
 abbrev pub invariant-loop-c : goal.invariant-loop-c

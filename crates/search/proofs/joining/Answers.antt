@@ -1,5 +1,4 @@
 -- `search::joining` meets its contract: the words of both, least first. Assumes nothing.
-use borrow.Author.Rules.{rules}
 use Rattle.search.proofs.Triple.{joins}
 use Rattle.search.proofs.joining.Goals as goal
 

@@ -1,5 +1,5 @@
 -- `search::met` meets its contract: the two clusters in order. Assumes nothing.
-use Rattle.theory.specs.Prelude.{arith, rules}
+use Rattle.theory.specs.Prelude.{arith}
 use Rattle.search.proofs.met.Goals as goal
 
 pub returns-then-a-b : goal.returns-then-a-b

@@ -1,7 +1,7 @@
 -- `search::outs` meets its contract: the loop keeps `Seen`. Assumes nothing.
 use Rattle.theory.specs.Prelude.{◌-◌, ◌<◌, arith, rules, and_le_r, count_trailing_zeros}
 use Rattle.theory.specs.Set.Lowest.{lowest-below}
-use Rattle.search.proofs.Gather.{Seen, seen_none, seen_next, seen_all}
+use Rattle.search.proofs.Gather.{seen_none, seen_next, seen_all}
 use Rattle.search.proofs.outs.Goals as goal
 
 -- the lowest element is below 64
@@ -18,7 +18,7 @@ pub offset_bounds-links-p : goal.offset_bounds-links-p
 offset_bounds-links-p c = omega (arith, low c)
 
 pub bounds-links-p : goal.bounds-links-p
-bounds-links-p c = 
+bounds-links-p c =
     let low : count_trailing_zeros 64 c.loop-rest.rest < 64 = lowest-below 64 c.loop-rest.rest c.loop-rest.invariant.fits c.loop-rest-test.true in
     low
 

@@ -1,7 +1,7 @@
 -- `search::rejoin` meets its contract: the loop keeps `Rejoining`. Assumes nothing.
 use Rattle.theory.specs.Prelude.{refl, ◌-◌, ◌<◌, arith, rules, and_le_r, count_trailing_zeros}
 use Rattle.theory.specs.Set.Lowest.{lowest-below}
-use Rattle.search.proofs.Rejoining.{Rejoining, rejoining-none, rejoining-next, rejoining-all}
+use Rattle.search.proofs.Rejoining.{rejoining-none, rejoining-next, rejoining-all}
 use Rattle.search.proofs.rejoin.Goals as goal
 
 pub loop-rest-init : goal.loop-rest-init
@@ -17,7 +17,7 @@ pub offset_bounds-links-p : goal.offset_bounds-links-p
 offset_bounds-links-p c = omega (arith, lowest-below 64 c.loop-rest.rest c.loop-rest.invariant.joining.left.fits c.loop-rest-test.true)
 
 pub bounds-links-p : goal.bounds-links-p
-bounds-links-p c = 
+bounds-links-p c =
     let low : count_trailing_zeros 64 c.loop-rest.rest < 64 = lowest-below 64 c.loop-rest.rest c.loop-rest.invariant.joining.left.fits c.loop-rest-test.true in
     low
 
@@ -31,7 +31,7 @@ pub offset_bounds-hold-p : goal.offset_bounds-hold-p
 offset_bounds-hold-p c = omega (arith, lowest-below 64 c.loop-rest.rest c.loop-rest.invariant.joining.left.fits c.loop-rest-test.true)
 
 pub bounds-hold-p : goal.bounds-hold-p
-bounds-hold-p c = 
+bounds-hold-p c =
     let low : count_trailing_zeros 64 c.loop-rest.rest < 64 = lowest-below 64 c.loop-rest.rest c.loop-rest.invariant.joining.left.fits c.loop-rest-test.true in
     let low-b : count_trailing_zeros 64 c.loop-rest.rest < 64 = low in
     omega (arith, low-b)

@@ -1,6 +1,5 @@
 -- `search::renew` meets its contract: what the union reaches, the elements that leave the rim, the new links, holders and waiting clusters.
 -- Assumes nothing.
-use borrow.Author.Rules.{rules}
 use Rattle.theory.specs.Set.{◌∩◌, ◌∪◌}
 use Rattle.theory.specs.Merge.{union}
 use Rattle.search.proofs.Calling.{called, holding, gone_of}

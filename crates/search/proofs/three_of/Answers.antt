@@ -1,6 +1,5 @@
 -- `search::three_of` meets its contract: the union of three. Assumes nothing.
 use Rattle.search.proofs.Sets3.{three-set}
-use borrow.Author.Rules.{rules}
 use Rattle.search.proofs.three_of.Goals as goal
 
 pub returns : goal.returns

@@ -1,7 +1,6 @@
 -- `sparsity::all_free`
-use Rattle.theory.specs.Prelude.{rules, sym, subst, [], ◌∷◌, ℕ, ◌+◌, ◌-◌, ◌≤◌, arith, set}
+use Rattle.theory.specs.Prelude.{◌-◌, ◌≤◌}
 use Rattle.sparsity.specs.Freedoms.{FreeBelow}
-use Rattle.sparsity.specs.Freedoms.Laws.{free-none, free-next}
 use Rattle.sparsity.proofs.all_free.Given as goal
 
 abbrev pub invariant-loop-x : goal.invariant-loop-x

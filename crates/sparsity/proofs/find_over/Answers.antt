@@ -1,5 +1,5 @@
 -- `find_over` meets its contract. Assumes nothing.
-use Rattle.theory.specs.Prelude.{subst, ℕ, arith, take, get_or, get_or-replicate, rules}
+use Rattle.theory.specs.Prelude.{subst, ℕ, arith, take, get_or, get_or-replicate}
 use Rattle.peeling.specs.Core.{Core}
 use Rattle.peeling.specs.Core.Peeling.{core-none}
 use Rattle.peeling.specs.Hard.{Noted}
@@ -17,9 +17,9 @@ returns-then-core-eq0 c = let s = c in
 pub search-requires : goal.search-requires
 search-requires c = let s = c in
     let cs = take s.args.e s.args.start.now in
-    let rules = c.mark_hard.new.1.1.1.1.0 in (
+    let noted = c.mark_hard.new.needs in (
       s.requires.0,
       (c.core_of-core.ensures.1 cs s.requires.0.simple s.requires.1).0,
-      λ k h. subst (λ (old : ℕ). Noted cs k old (get_or rules k 0)) (get_or-replicate 200 k 1 0 (omega (arith, h, s.requires.0.few)))
+      λ k h. subst (λ (old : ℕ). Noted cs k old (get_or noted k 0)) (get_or-replicate 200 k 1 0 (omega (arith, h, s.requires.0.few)))
           (c.mark_hard.ensures.noted k (omega arith) (in_list s.requires.0 h)),
     )

@@ -1,12 +1,8 @@
 -- `gather` meets its contract. The loops' invariants: the same constraints use the freedoms in another way; on the way back the freedoms from place
 -- p to place `to` are turned. Assumes nothing.
-use Rattle.theory.specs.Prelude.{refl, sym, ap, ◌∙◌, ◌+◌, ◌-◌, arith, rules}
-use Rattle.theory.specs.Set.Laws.{filled}
-use Rattle.sparsity.specs.Freedoms.{entry, same, free}
-use Rattle.sparsity.specs.Freedoms.Sums.{same_bit, free-count}
+use Rattle.theory.specs.Prelude.{◌+◌, ◌-◌}
+use Rattle.sparsity.specs.Freedoms.{free}
 use Rattle.sparsity.specs.Reach.{Lent, Rebalanced, Way, Walked}
-use Rattle.sparsity.specs.Reach.Laws.{found-stuck, found_first}
-use Rattle.sparsity.specs.Reach.Back.{way_of, walk_start, walk-stored, walk_end, j-less, x_fits, y-fits, again-refl, again-trans, gained-ends}
 use Rattle.sparsity.proofs.gather.Given as goal
 
 abbrev pub invariant-loop-to : goal.invariant-loop-to

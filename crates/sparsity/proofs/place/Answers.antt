@@ -1,5 +1,5 @@
 -- `place` meets its contract: one of the four entries is free. Assumes nothing.
-use Rattle.theory.specs.Prelude.{sym, ◌∙◌, zero-lt-suc, le_refl, arith, rules}
+use Rattle.theory.specs.Prelude.{sym, ◌∙◌, zero-lt-suc, le_refl, arith}
 use Rattle.sparsity.specs.Reach.Back.{placed_first, placed-second, last-free}
 use Rattle.sparsity.proofs.place.Goals as goal
 

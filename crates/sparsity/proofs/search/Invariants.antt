@@ -1,15 +1,7 @@
 -- `search` meets its contract. The loop's invariant: the constraints before c use freedoms and are not over. Assumes nothing.
-use Rattle.theory.specs.Prelude.{◌≡◌, refl, sym, ap, subst, ⊎_elim, ℕ, ◌-◌, ◌≤◌, ◌<◌, add-one, arith, bit_and, take, get_or, take_all, rules}
-use Rattle.theory.specs.Constraints.{NotOver}
-use Rattle.theory.specs.Near.Laws.{standing-count, standing-item}
-use Rattle.peeling.specs.Hard.{Noted}
-use Rattle.peeling.specs.Hard.Laws.{two_pos, in_list, told_in, told-out}
-use Rattle.sparsity.specs.Freedoms.{entry}
+use Rattle.theory.specs.Prelude.{◌-◌, ◌≤◌, take}
 use Rattle.sparsity.specs.Reach.{Lent}
-use Rattle.sparsity.specs.Reach.Visits.{lent_by}
-use Rattle.sparsity.specs.Answer.{Using, Ready}
-use Rattle.sparsity.specs.Answer.Laws.{free-using, two_ends, ends_at, using-skip, ready-now, ready-gathered, ready-some, using-next, first-at}
-use Rattle.sparsity.specs.Answer.Laws.{answer-not, answer-first}
+use Rattle.sparsity.specs.Answer.{Using}
 use Rattle.sparsity.proofs.search.Given as goal
 
 abbrev pub invariant-loop-c : goal.invariant-loop-c

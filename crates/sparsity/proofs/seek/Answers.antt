@@ -1,7 +1,6 @@
 -- `seek` meets its contract. The loop's invariant: the queue has what is reached so far, none of it has a free entry, and the first p places are
 -- scanned. Assumes nothing.
-use Rattle.theory.specs.Prelude.{◌-◌, ◌≤◌, zero-lt-suc, le_refl, arith, rules}
-use Rattle.sparsity.specs.Reach.{Reached, Scanned, Shut}
+use Rattle.theory.specs.Prelude.{zero-lt-suc, le_refl, arith}
 use Rattle.sparsity.specs.Reach.Laws.{begun-with, scanned-none, shut-two, reached-most, scan-fits, scan-low, mid-size, scan-reached, scan-next}
 use Rattle.sparsity.specs.Reach.Laws.{scan-below, scan-shut, opens-some, opens-none, found-first-visit, found-second-visit, found_all}
 use Rattle.sparsity.proofs.seek.Goals as goal

@@ -1,5 +1,5 @@
 -- `take_pair` meets its contract: four free entries on the ends, or the search reached the smallest set. Assumes nothing.
-use Rattle.theory.specs.Prelude.{sym, ap, ℕ, arith, rules}
+use Rattle.theory.specs.Prelude.{sym, ap, ℕ, arith}
 use Rattle.sparsity.specs.Freedoms.{entry}
 use Rattle.sparsity.specs.Answer.Laws.{took-four, took-over}
 use Rattle.sparsity.proofs.take_pair.Goals as goal

@@ -12,16 +12,19 @@ returns-then-f-bit-ne0 c = let a = c.args in
 
 pub bounds-queue-k : goal.bounds-queue-k
 bounds-queue-k c = let s = c in
-    visit-room s.args.f.seen s.args.f.count s.args.y ? s.requires.0 s.requires.1
+    visit-room s.args.f.seen s.args.f.count s.args.y (search rules) s.requires.0 s.requires.1
     (misses-at s.args.y s.args.f.seen c.single-bit.result c.single-bit.ensures c.if-f-bit-ne0.false)
 
 pub bounds-from-k : goal.bounds-from-k
 bounds-from-k c = let s = c in
-    visit-room s.args.f.seen s.args.f.count s.args.y ? s.requires.0 s.requires.1
+    visit-room s.args.f.seen s.args.f.count s.args.y (search rules) s.requires.0 s.requires.1
     (misses-at s.args.y s.args.f.seen c.single-bit.result c.single-bit.ensures c.if-f-bit-ne0.false)
 
 pub overflow_add-result : goal.overflow_add-result
-overflow_add-result c = ?
+overflow_add-result c = let s = c in
+    let room = visit-room s.args.f.seen s.args.f.count s.args.y (search rules) s.requires.0 s.requires.1
+    (misses-at s.args.y s.args.f.seen c.single-bit.result c.single-bit.ensures c.if-f-bit-ne0.false) in
+    omega (arith, room)
 
 pub returns : goal.returns
 unfolding ◌∪◌

@@ -1,6 +1,5 @@
 -- `steps::put_numbers` meets its contract: the rule that refused, 17, or the numbers of the records. Assumes nothing.
-use Rattle.theory.specs.Prelude.{rules, arith, ◌≡◌, sym, ◌∙◌, length, length-map}
-use Rattle.theory.specs.contracts.Step as T
+use Rattle.theory.specs.Prelude.{arith, ◌≡◌, length}
 use Rattle.steps.specs.Records.Laws.{numbers-short, numbers-put}
 use Rattle.steps.proofs.put_numbers.Goals as goal
 
@@ -8,18 +7,14 @@ pub overflow_mul-count : goal.overflow_mul-count
 overflow_mul-count c = omega (arith, c.at_most_62-count.ensures)
 
 pub returns-then-out-count : goal.returns-then-out-count
-returns-then-out-count c = 
-    let long : length c.args.f.list ≡ 62 = sym (length-map c.args.f.list (T.the_type).to) ∙ c.well-formed.0.1.1.1.0.1.0.1 in
-    numbers-short _ long _ c.in-Done.is
-    c.at_most_62-count.ensures c.if-out-count.true
+returns-then-out-count c =
+    let long : length c.args.f.list ≡ 62 = omega arith in
+    numbers-short _ long _ c.in-Done.is c.at_most_62-count.ensures c.if-out-count.true
 
 pub put_records-next-requires : goal.put_records-next-requires
 put_records-next-requires c = omega (arith, c.at_most_62-count.ensures)
 
 pub returns : goal.returns
-returns c = let k = 
-    let long : length c.args.f.list ≡ 62 = sym (length-map c.args.f.list (T.the_type).to) ∙ c.well-formed.0.1.1.1.0.1.0.1 in
-    c in
-    numbers-put _ (long k) _ k.in-Done.is
-    k.at_most_62-count.ensures k.if-out-count.false
-    c.put_records-next.ensures
+returns c =
+    let long : length c.args.f.list ≡ 62 = omega arith in
+    numbers-put _ long _ c.in-Done.is c.at_most_62-count.ensures c.if-out-count.false c.put_records-next.ensures

@@ -1,5 +1,6 @@
 -- `steps::saved_steps` meets its contract: the rule that refuses the plan, else the steps of its merges. Assumes nothing.
-use Rattle.theory.specs.Prelude.{rules, ◌≡◌, ◌≢◌, sym, ap, ◌∙◌, List, [], ℕ}
+use Rattle.theory.specs.Prelude.{◌≡◌, ◌≢◌, sym, ap, ◌∙◌, List, []}
+use Rattle.theory.specs.Prelude.{ℕ}
 use Rattle.theory.specs.Merge.{Merge}
 use Rattle.theory.specs.Graph.{SizedGraph, steps_of}
 use Rattle.sheet.specs.Field.{value, refused}
@@ -8,7 +9,6 @@ use Rattle.sheet.specs.Answer.Laws.{rule-none, rule-some}
 use Rattle.sheet.specs.Graph.{over_fault}
 use Rattle.graph.specs.Lent.{sized_in}
 use Rattle.graph.specs.Lent.Sheets.{counted}
-use Rattle.merges.specs.Run.{Run, run_in}
 use Rattle.plans.specs.declared.Checked.{Checked}
 use Rattle.account.specs.Account.Laws.{room}
 use Rattle.account.specs.Saved.{SavedIn}
@@ -29,38 +29,24 @@ module _ (g : SizedGraph) (l : List ℕ) {r : Checked} {parts joints slots : Lis
       saved-rule g.graph l _ ∙ rule-none _ (sym k.rule_is ∙ none)
       ∙ ap (λ (p : List Merge). value (steps_of g p) []) (sym (k.saved none))
 
--- the plan is checked
-module _ (c : tie.After-check-saved) where
-  abbrev start : tie.Start
-  start = c
-
-  abbrev graph : SizedGraph
-  graph = sized_in start.args.h start.args.start.now start.args.sizes.now
-
-  abbrev run : Run
-  run = let l = c.check_saved-checked.new.1.1.1.1 in run_in c.check_saved-checked.result.steps l.1.0 l.1.1.0 l.0
-
 pub returns-then-rule-ne0 : goal.returns-then-rule-ne0
-returns-then-rule-ne0 c = let asked = c in
+returns-then-rule-ne0 c =
     as-refused c.refused.ensures
-    (field-refused (graph asked) (start asked).args.plan.now asked.check_saved-checked.ensures c.if-rule-ne0.true)
+    (field-refused (sized_in c.args.h c.args.start.now c.args.sizes.now) c.args.plan.now c.check_saved-checked.ensures c.if-rule-ne0.true)
     c.if-rule-ne0.true
 
 pub steps_of-steps-requires : goal.steps_of-steps-requires
-steps_of-steps-requires c = let asked = c in
+steps_of-steps-requires c =
     let none = c.if-rule-ne0.false in
-    let s = start asked in
-    let k = asked.check_saved-checked.ensures in
-    let few = room s.args.h s.args.start.now s.requires.sound (counted s.requires) (k.not_over none)
-    {run = run asked} (k.merged none) in
+    let k = c.check_saved-checked.ensures in
+    let few = room c.args.h c.args.start.now c.requires.sound (counted c.requires) (k.not_over none) (k.merged none) in
     (few.1, few.3)
 
 pub returns : goal.returns
-returns c = let asked = c in
+returns c =
     let none = c.if-rule-ne0.false in
-    let s = start asked in
-    let k = asked.check_saved-checked.ensures in
+    let k = c.check_saved-checked.ensures in
     as-listed
-    (listed-are s.args.h s.args.start.now s.args.sizes.now s.requires.sound (counted s.requires)
-    (k.not_over none) {run = run asked} (k.merged none) c.steps_of-steps.ensures)
-    (field_is (graph asked) s.args.plan.now k none)
+    (listed-are c.args.h c.args.start.now c.args.sizes.now c.requires.sound (counted c.requires) (k.not_over none) (k.merged none)
+    c.steps_of-steps.ensures)
+    (field_is (sized_in c.args.h c.args.start.now c.args.sizes.now) c.args.plan.now k none)

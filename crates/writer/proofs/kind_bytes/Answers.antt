@@ -1,5 +1,5 @@
 -- `writer::kind_bytes` meets its contract. Assumes nothing.
-use Rattle.theory.specs.Prelude.{rules, sym, ap}
+use Rattle.theory.specs.Prelude.{sym, ap}
 use Rattle.sheet.specs.declared.Opening.{Opening}
 use Rattle.sheet.specs.Field.{kind_bytes}
 use Rattle.writer.proofs.kind_bytes.Goals as goal

@@ -1,7 +1,6 @@
 -- `writer::kinds_number` meets its contract: the kinds from the last element down; the number stays below 2 ^ 64. Assumes nothing.
-use Rattle.theory.specs.Prelude.{rules, ◌+◌, ◌*◌, ◌-◌, ◌≤◌, ◌<◌, ◌^◌, arith, ◌≡◌, sym, ap, length, take, drop, get_or}
-use Rattle.sheet.specs.declared.Opening.{Opening}
-use Rattle.sheet.specs.Facts.{kind_base, kind_digit, kinds_number, blank_element}
+use Rattle.theory.specs.Prelude.{rules, ◌+◌, ◌*◌, ◌-◌, ◌≤◌, ◌<◌, ◌^◌, arith, ◌≡◌, sym, ap, length, get_or}
+use Rattle.sheet.specs.Facts.{kind_digit, kinds_number, blank_element}
 use Rattle.sheet.specs.Facts.Laws.{spent}
 use Rattle.writer.proofs.Spread.{one_more, more-fits}
 use Rattle.writer.proofs.kinds_number.Goals as goal

@@ -1,5 +1,4 @@
 -- `writer::put_constraint` meets its contract: ends and bit map, then the size. Assumes nothing.
-use borrow.Author.Rules.{rules}
 use Rattle.sheet.specs.Encode.{constraint_bytes}
 use Rattle.space.specs.Space.Laws.{put_as, ◌then◌}
 use Rattle.writer.proofs.put_constraint.Goals as goal

@@ -1,11 +1,7 @@
 -- `writer::put_radii` meets its contract. The loop's invariant: the radii of the elements passed are put. Assumes nothing.
-use Rattle.theory.specs.Prelude.{rules, ◌+◌, ◌-◌, ◌≤◌, arith, ◌≡◌, sym, length, take, length-take-le}
+use Rattle.theory.specs.Prelude.{◌-◌, ◌≤◌, take}
 use Rattle.sheet.specs.Encode.{radii_bytes}
-use Rattle.sheet.specs.Encode.Laws.{radii-most}
-use Rattle.sheet.specs.Facts.{blank_element}
 use Rattle.space.specs.Space.{Put}
-use Rattle.space.specs.Space.Laws.{put_as, put-none, ◌then◌}
-use Rattle.writer.proofs.Spread.{radii-more}
 use Rattle.writer.proofs.put_radii.Given as goal
 
 abbrev pub invariant-loop-i : goal.invariant-loop-i

@@ -1,5 +1,5 @@
 -- `writer::put_radius` meets its contract. Assumes nothing.
-use Rattle.theory.specs.Prelude.{rules, ap}
+use Rattle.theory.specs.Prelude.{ap}
 use Rattle.sheet.specs.Encode.{radius_bytes}
 use Rattle.space.specs.Space.Laws.{put-none}
 use Rattle.writer.proofs.put_radius.Goals as goal

@@ -1,12 +1,8 @@
 -- `writer::put_sheet` meets its contract. The loop's invariant: the bytes of the constraints passed are put, after what precedes them.
 -- Assumes nothing.
-use Rattle.theory.specs.Prelude.{rules, ◌+◌, ◌-◌, ◌≤◌, arith, ◌≡◌, sym, ◌∙◌, length, take, length-take, length-map, length-take-le}
-use Rattle.sheet.specs.Facts.{facts_of}
-use Rattle.sheet.specs.Encode.{constraints_bytes, sheet_bytes}
-use Rattle.sheet.specs.Encode.Laws.{constraints-more, constraints-length}
+use Rattle.theory.specs.Prelude.{◌-◌, ◌≤◌, take}
+use Rattle.sheet.specs.Encode.{constraints_bytes}
 use Rattle.space.specs.Space.{Put}
-use Rattle.space.specs.Space.Laws.{put_as, put-none, ◌then◌}
-use Rattle.writer.proofs.Pieces.{front_length, sheet-put}
 use Rattle.writer.proofs.put_sheet.Given as goal
 
 abbrev pub invariant-loop-i : goal.invariant-loop-i

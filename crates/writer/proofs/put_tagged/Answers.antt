@@ -1,11 +1,11 @@
 -- `writer::put_tagged` meets its contract: three pieces, one after the other. Assumes nothing.
-use Rattle.theory.specs.Prelude.{rules, ◌+◌, arith, append_assoc}
+use Rattle.theory.specs.Prelude.{◌+◌, arith, append_assoc}
 use Rattle.space.specs.Space.Laws.{put_as, ◌then◌}
 use Rattle.writer.proofs.Untagged.{cut-least}
 use Rattle.writer.proofs.put_tagged.Goals as goal
 
 pub returns : goal.returns
-returns c = let least =     c.least-last.ensures in
+returns c = let least = c.least-last.ensures in
     let s =
     c
     in

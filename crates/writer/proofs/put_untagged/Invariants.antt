@@ -1,8 +1,7 @@
 -- `writer::put_untagged` meets its contract, by the walk of `Untagged`. Assumes nothing.
-use Rattle.theory.specs.Prelude.{rules, ◌+◌, ◌-◌, ◌≤◌, ◌<◌, arith, ◌≡◌, ◌∙◌, ⊎_elim, length, length-drop}
-use Rattle.space.specs.Space.Laws.{put_as}
+use Rattle.theory.specs.Prelude.{◌-◌}
 use Rattle.sheet.specs.WithoutTags.{listed}
-use Rattle.writer.proofs.Untagged.{before-some, take_rest, Walk, walk_none, walk-plain, walk-tagged, walked-short, walked_all}
+use Rattle.writer.proofs.Untagged.{Walk}
 use Rattle.writer.proofs.put_untagged.Given as goal
 
 abbrev pub invariant-loop-i : goal.invariant-loop-i

@@ -1,5 +1,5 @@
 -- `writer::write_sheet` meets its contract: the rules first, then the space. Assumes nothing.
-use Rattle.theory.specs.Prelude.{rules, sym, ◌∙◌}
+use Rattle.theory.specs.Prelude.{sym, ◌∙◌}
 use Rattle.sheet.specs.Answer.Laws.{rule-none, rule-some, answers-refused, answers-items}
 use Rattle.writer.proofs.write_sheet.Goals as goal
 

@@ -1,13 +1,13 @@
 -- `writer::write_untagged` meets its contract: one run over space for every byte, else a run over no space that measures, then the run that writes.
 -- Assumes nothing.
-use Rattle.theory.specs.Prelude.{rules, ◌<◌, ◌≤◌, zero-add, le_trans, ◌≡◌, [], length}
+use Rattle.theory.specs.Prelude.{◌<◌, ◌≤◌, zero-add, le_trans, ◌≡◌, [], length}
 use Rattle.sheet.specs.WithoutTags.{without_tags}
 use Rattle.space.specs.Space.Laws.{none_left, put_refused, put-done}
 use Rattle.writer.proofs.Untagged.{without_tags-length}
 use Rattle.writer.proofs.write_untagged.Goals as goal
 
 pub returns-then-s-out : goal.returns-then-s-out
-returns-then-s-out c =     put-done (le_trans (without_tags-length c.args.s.now)
+returns-then-s-out c = put-done (le_trans (without_tags-length c.args.s.now)
     c.if-s-out.true) c.put_untagged-written.ensures
 
 pub returns-then-out-length : goal.returns-then-out-length
