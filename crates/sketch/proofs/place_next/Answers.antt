@@ -109,10 +109,10 @@ returns c = λ f a.
     let one = c.args.c in
     let none = sym (c.constraint_fault-rule.ensures _ _ (elements a) a.kinds_in a.arrays.noted) ∙ c.if-rule-ne0.false in
     let m =
-        extended-in one a (few a c.if-n-e.false) none
-        (c.note.ensures f.constraints one (sym (count a))
-        (record { first_is = refl; second_is = refl; code_is = sym (to_z-of_z {w = w32} {z = c.code_of-z.result} (search rules) ∙ c.code_of-z.ensures) })
-        a.arrays) in
+    extended-in one a (few a c.if-n-e.false) none
+    (c.note.ensures f.constraints one (sym (count a))
+    (record { first_is = refl; second_is = refl; code_is = sym (to_z-of_z {w = w32} {z = c.code_of-z.result} (search rules) ∙ c.code_of-z.ensures) })
+    a.arrays) in
     record {
       answer_is =
           c.judge_last.ensures ∙ ap last_answer (graph_is m) ∙ last-asked f one a.accepted (few a c.if-n-e.false) none
