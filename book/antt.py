@@ -207,6 +207,32 @@ class Reader(Terms):
         self.mark(item.toks[0].start, item.toks[0].end, "word")
         self.walk(item.toks[1:], scope)
 
+    def item_open(self, item, scope):
+        """open VALUE use {field, field as name, field.{field}}: the fields of a value, as names of the block."""
+        at = next((i for i, t in enumerate(item.toks) if t.text == "use"), None)
+        if at is None:
+            self.item_other(item, scope)
+            return
+        self.mark(item.toks[0].start, item.toks[0].end, "word")
+        self.walk(item.toks[1:at], scope)
+        self.mark(item.toks[at].start, item.toks[at].end, "word")
+        value = scope.find(item.toks[1].text) if at == 2 else None
+        names = [t for t in item.toks[at + 1 :] if t.text != "*"]
+        i = 0
+        while i < len(names):
+            t, after = names[i], names[i + 1].text if i + 1 < len(names) else ""
+            if t.kind != "name":
+                i += 1
+                continue
+            meaning = self.field(t, value) or Local()
+            if after == "as" and i + 2 < len(names):
+                self.mark(names[i + 1].start, names[i + 1].end, "word")
+                self.mark(names[i + 2].start, names[i + 2].end, "local")
+                i += 2
+            if after != ".":
+                scope.bind(names[i].text, meaning)
+            i += 1
+
     def item_deriving(self, item, scope):
         self.mark(item.toks[0].start, item.toks[0].end, "word")
         for t in item.toks[1:]:

@@ -123,7 +123,7 @@ def crates():
                 crate.below |= {need} | listed[need].below
         folder = os.path.join(ROOT, "crates", crate.name)
         for where, folders, files in os.walk(folder):
-            folders.sort()
+            folders[:] = sorted(f for f in folders if f != "out")  # what the tool makes
             for name in sorted(files):
                 path = os.path.relpath(os.path.join(where, name), ROOT)
                 if name.endswith((".antt", ".rt")):

@@ -10,8 +10,8 @@ class Scope:
 
     def bind(self, name, meaning):
         self.names[name] = meaning
-        if "_" in name and name != "_":
-            for part in name.split("_"):
+        if "◌" in name:
+            for part in name.split("◌"):
                 if part:
                     self.parts[part] = meaning
 

@@ -82,7 +82,7 @@ class Names:
     @staticmethod
     def within(file, name, fields=True):
         """The declaration of that name in a file; a field only where fields are meant too."""
-        found = file.names.get(name, []) or file.names.get(f"_{name}_", [])
+        found = file.names.get(name, []) or file.names.get(f"◌{name}◌", [])
         found = [d for d in found if d.kind != "field"] or (found if fields else [])
         return found[0] if found else None
 
@@ -110,7 +110,7 @@ class Names:
         """A name alone: in the file that was named last, in the crates that were named, or anywhere; fields at last."""
         if self.file is not None and (found := self.within(self.file, text, False)):
             return found
-        everywhere = self.anywhere.get(text, []) or self.anywhere.get(f"_{text}_", [])
+        everywhere = self.anywhere.get(text, []) or self.anywhere.get(f"◌{text}◌", [])
         for fields in (False, True):
             for crate in self.crates():
                 near = [d for d in everywhere if d.file.crate is crate and (d.kind == "field") is fields]

@@ -14,6 +14,14 @@ RESERVED = set(
 BUILTIN = set(
     "u8 u16 u32 u64 u128 usize i8 i16 i32 i64 i128 isize bool char str Option Some None Result Ok Err Box Vec".split()
 )
+#: What a contract writes behind a parameter that is a reference.
+POINTED = {
+    "now": "what it points to",
+    "old": "what it points to on entry",
+    "new": "what it points to on return",
+    "entry": "the parameter on entry",
+    "exit": "the parameter on return",
+}
 OPEN, CLOSE = ("(", "{", "["), (")", "}", "]")
 
 
@@ -115,7 +123,8 @@ class Programs(antt.Reader):
                     self.mark(toks[inside].start, toks[inside].end, "label")
                     inside += 1
                 end = closing(toks, inside)
-                self.contract(toks[inside].end, toks[end].start, toks[inside].line, scope)
+                result = Local(self.told(decl)) if t.text == "ensures" else None
+                self.contract(toks[inside].end, toks[end].start, toks[inside].line, scope, result)
                 i = end + 1
                 continue
             if t.kind == "name" and t.text not in RESERVED:
@@ -123,17 +132,19 @@ class Programs(antt.Reader):
             i += 1
         self.body(toks[i:], scope)
 
-    def contract(self, start, end, line, scope):
-        """A contract: a term of antt over the parameters, with `now`, `.entry` and `.exit` of the language."""
+    def contract(self, start, end, line, scope, result):
+        """A contract: a term of antt over the parameters, with `result` and the values that a reference points to."""
         inner = Scope(self.ghosts)
+        if result is not None:
+            inner.bind("result", result)
         for name, meaning in scope.names.items():
             inner.bind(name, meaning)
         self.file.marks = [m for m in self.file.marks if not start <= m[0] < end]
         self.walk(words.tokens(self.file.text, start, end, line), inner)
 
     def field(self, t, of):
-        if t.text in ("entry", "exit"):
-            self.mark(t.start, t.end, "kit", "the value on entry, or on exit")
+        if t.text in POINTED:
+            self.mark(t.start, t.end, "kit", POINTED[t.text])
             return of
         return super().field(t, of)
 
@@ -151,6 +162,12 @@ class Programs(antt.Reader):
                 self.mark(t.start, t.end, "local")
             elif t.kind == "name" and t.text not in RESERVED:
                 self.name(toks, i, scope)
+
+    def told(self, decl):
+        """The type that a function says it answers, where it is one of ours."""
+        found = re.search(r"->\s*([A-Za-z_]\w*)\s*(?:requires|ensures|$)", decl.type)
+        name = decl.owner if found and found[1] == "Self" else found[1] if found else None
+        return self.house.type_named(name, decl.file) if name else None
 
     # ---- bodies
 
@@ -293,7 +310,6 @@ class Programs(antt.Reader):
                 break
             i += 2
         meaning = self.path_meaning(path) if path else None
-        if getattr(meaning, "kind", "") == "function":
-            told = re.search(r"->\s*([A-Za-z_]\w*)\s*(?:requires|ensures|$)", meaning.type)
-            return self.house.type_named(told[1], meaning.file) if told else None
+        if getattr(meaning, "kind", "") in ("function", "method"):
+            return self.told(meaning)
         return meaning if getattr(meaning, "kind", "") in ("struct", "enum") else None

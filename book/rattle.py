@@ -145,8 +145,7 @@ class Reader(Programs):
         for name, decls in house.crate_items(file.crate).items():
             decl = next((d for d in decls if d.kind in ("function", "struct", "enum", "const")), None)
             if decl is not None:
-                self.code.bind(name, decl)
-                self.ghosts.bind(name, decl)
+                self.code_bind(name, decl)
         for toks, ghost in self.uses:
             if toks[0].text == "mod":
                 child = house.source_at(file, toks[1].text)
@@ -168,21 +167,49 @@ class Reader(Programs):
                 self.mark(t.start, t.end, "word")
 
     def code_use(self, toks):
-        """A use line of code: use crate::name; use crate::name as other;"""
-        path = [t for t in toks[1:] if t.kind == "name" and t.text != "as"]
-        alias = path.pop() if any(t.text == "as" for t in toks) else None
+        """A use line of code: use crate::name; use crate::name as other; use crate::{one, module::{two, three}};"""
+        self.brought([t for t in toks[1:-1] if t.text not in ("::", ",")], [])
+
+    def brought(self, toks, before):
+        """Names of a use line behind a path, each with a path of its own, an alias, or a group behind it."""
+        path, i = list(before), 0
+        while i < len(toks):
+            t, after = toks[i], toks[i + 1].text if i + 1 < len(toks) else ""
+            if t.text == "{":
+                end = closing(toks, i)
+                self.brought(toks[i + 1 : end], path)
+                path, i = list(before), end + 1
+                continue
+            path.append(t)
+            if after == "as":
+                self.bring(path, toks[i + 2])
+                path, i = list(before), i + 3
+                continue
+            joined = i + 1 < len(toks) and self.file.text[t.end : toks[i + 1].start].strip() == "::"
+            if not joined:
+                self.bring(path, None)
+                path = list(before)
+            i += 1
+
+    def bring(self, path, alias):
+        """One name of a use line, under its own name or another."""
         meaning = self.path_meaning([t.text for t in path])
         for t in path[:-1]:
             if t.text in self.house.crates:
                 self.mark(t.start, t.end, "module", self.house.crates[t.text])
             elif t.text not in RESERVED:
-                self.mark(t.start, t.end, "kit", t.text)
+                module = self.house.source_module(self.file.crate, t.text)
+                self.mark(t.start, t.end, "kit" if module is None else "module", module or t.text)
         if meaning is None:
             self.unknown(path[-1])
             return
         for t in (path[-1], alias):
             if t is not None:
                 self.refer(t, meaning)
-        name = (alias or path[-1]).text
+        self.code_bind((alias or path[-1]).text, meaning)
+
+    def code_bind(self, name, meaning):
+        """A name of code; a contract cannot call functions, and sees the others too."""
         self.code.bind(name, meaning)
-        self.ghosts.bind(name, meaning)
+        if getattr(meaning, "kind", "") != "function":
+            self.ghosts.bind(name, meaning)

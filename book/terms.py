@@ -30,8 +30,8 @@ class Terms:
         found = scope.find(t.text)
         if found is None and t.text.startswith("«"):
             found = scope.find(t.text[1:-1])
-        if found is None and t.text.strip("_"):
-            return scope.find_part(t.text.strip("_")), True
+        if found is None and t.text.strip("◌"):
+            return scope.find_part(t.text.strip("◌")), True
         return found, False
 
     # ---- patterns
@@ -53,7 +53,7 @@ class Terms:
                 pass
             elif numeral(t.text):
                 self.mark(t.start, t.end, "number")
-            elif of is not None and (t.text == of.name or t.text in of.name.split("_")) and not bound:
+            elif of is not None and (t.text == of.name or t.text in of.name.split("◌")) and not bound:
                 self.mark(t.start, t.end, "link", of)
             elif t.text in RESERVED:
                 self.mark(t.start, t.end, "word")
@@ -208,7 +208,7 @@ class Terms:
         if t.text in (")", "}"):
             while here.kind == "case" and here.outer is not None:
                 here = here.outer
-            if here.kind == "record":
+            if here.kind in ("record", "changed"):
                 self.labels(here)
             if here is not outermost:
                 self.applied, self.arguments = here.before
@@ -227,7 +227,7 @@ class Terms:
             self.applied, self.arguments = found, 1
             return here, i + 2
         self.over()
-        if t.text == ";" and here.kind == "record":
+        if t.text == ";" and here.kind in ("record", "changed"):
             return here, self.label(toks, i + 1, here)
         return here, i + 1
 
@@ -235,8 +235,8 @@ class Terms:
         """An opening bracket: a record, binders, an argument by its name, or a group."""
         inner = Scope(here, "group")
         inner.before = (self.applied, self.arguments)
-        if toks[i].text == "{" and i > 0 and toks[i - 1].text == "record":
-            inner.kind = "record"
+        if toks[i].text == "{" and self.of_record(toks, i):
+            inner.kind = "record" if toks[i - 1].text == "record" else "changed"
             self.over()
             return inner, self.label(toks, i + 1, inner)
         j = i + 1
@@ -284,6 +284,22 @@ class Terms:
     # ---- records
 
     @staticmethod
+    def of_record(toks, i):
+        """Whether a brace opens the entries of a record: of one by itself, or behind the one that it changes."""
+        k = i - 1
+        if k > 0 and toks[k].text == ")":
+            depth = 0
+            while k > 0:
+                depth += (toks[k].text in (")", "}")) - (toks[k].text in ("(", "{"))
+                if depth == 0:
+                    break
+                k -= 1
+            return toks[k - 1].text == "record"
+        while k > 1 and toks[k].kind == "name" and toks[k - 1].text == "." and toks[k].start == toks[k - 1].end:
+            k -= 2
+        return k >= 0 and toks[k].text == "record" or k > 0 and toks[k - 1].text == "record"
+
+    @staticmethod
     def label(toks, i, here):
         """The label of a record's entry, which `labels` marks when all of them are known."""
         if i + 1 < len(toks) and toks[i].kind == "name" and toks[i + 1].text in ("=", ":"):
@@ -294,8 +310,8 @@ class Terms:
         return i
 
     def labels(self, here):
-        """The labels of a whole record: fields of the record that has just these."""
-        told = self.house.record_with({t.text for t in here.labels}, self.file.crate)
+        """The labels of a whole record: fields of the record that has just these; of a changed one, that has these."""
+        told = self.house.record_with({t.text for t in here.labels}, self.file.crate, here.kind == "record")
         for t in here.labels:
             found = [d for r in told for d in r.fields if d.name == t.text]
             if found:

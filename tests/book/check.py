@@ -122,13 +122,13 @@ def main():
 
     # a name that is declared nowhere would be seen, of either language, in a term, a pattern, a contract and a use line
     laws = next(
-        f for f in house.files.values() if f.language == "antt" and re.search(r"^use Rattle·[^{]*\{", f.text, re.M)
+        f for f in house.files.values() if f.language == "antt" and re.search(r"^use Rattle\.[^{]*\{", f.text, re.M)
     )
-    brought = re.search(r"^use Rattle·[^{]*\{([^,}\s]+)", laws.text, re.M)[1]
+    brought = re.search(r"^use Rattle\.[^{]*\{([^,}\s]+)", laws.text, re.M)[1]
     wrong_name_seen(house, laws.path, "{" + brought, "{nowhere")
-    ensured = "ensures { λ r. ⌜ r ≡ "
+    ensured = "ensures { result ≡ "
     root = next(f for f in house.files.values() if f.language == "rt" and "    let " in f.text and ensured in f.text)
-    wrong_name_seen(house, root.path, ensured, "ensures { λ r. ⌜ nowhere ≡ ")
+    wrong_name_seen(house, root.path, ensured, "ensures { nowhere ≡ ")
     wrong_name_seen(house, root.path, "    let ", "    nowhere(1); let ")
 
     for what in failed[:40]:

@@ -13,5 +13,8 @@ use Rattle.card.specs.Card.{with_each, each_two, standing, points_sheet, set_ver
 use Rattle.card.proofs.card.Goals as goal
 
 pub returns : goal.returns
-unfolding all_right set_verdict points_sheet standing each_two with_each verdict_of list_verdict judged angled ringed stripped plan_of plan first_of second_of third_of open_test put cleared union joint joints left total over_of over_up_to next is_over any_below heavy is_tight smaller fewest_below smallest_set has carried pair set_of ones ◌∩◌ ◌∪◌
+unfolding all_right set_verdict points_sheet standing each_two with_each verdict_of list_verdict judged angled ringed stripped plan_of plan first_of
+    second_of third_of open_test put cleared union joint joints left total over_of over_up_to next
+    is_over any_below heavy is_tight smaller fewest_below smallest_set
+    has carried pair set_of ones ◌∩◌ ◌∪◌
 returns c = tt

@@ -1,5 +1,5 @@
 -- `chain::around` meets its contract: the clusters that are left add what is missing. Assumes nothing.
-use Rattle.theory.specs.Prelude.{◌≡◌, refl, sym, ap, ◌∙◌, ⊎_elim, ◌+◌, ◌-◌, ◌≤◌, ◌<◌, arith, rules, length, drop}
+use Rattle.theory.specs.Prelude.{refl, sym, ap, ◌∙◌, ◌+◌, ◌<◌, arith, length, drop}
 use Rattle.theory.specs.Prelude.{drop_of_length-le}
 use Rattle.theory.specs.Set.{◌∪◌}
 use Rattle.chain.specs.Layers.{grown}
@@ -17,9 +17,12 @@ loop-i-preserved c = let a = c.args in
     let low : l.i < length a.s.now = c.loop-i-test.true in
     let e = c.shared.ensures in (
       omega arith,
-      elim c.if-shared-ne0.branch [ then-shared-ne0 w ↦ ap (grown (drop (l.i + 1) a.s.now) a.d) w.all-is
-          ∙ sym (grown-yes a.s.now a.d l.all l.i low (word-shares e w.if-shared-ne0.true)) ∙ l.invariant.1 | else-shared-ne0 w ↦ ap (grown (drop (l.i + 1) a.s.now) a.d) w.all-is
-          ∙ sym (grown-no a.s.now a.d l.all l.i low (word-apart e w.if-shared-ne0.false)) ∙ l.invariant.1 ],
+      elim c.if-shared-ne0.branch [
+        | then-shared-ne0 w ↦ ap (grown (drop (l.i + 1) a.s.now) a.d) w.all-is
+            ∙ sym (grown-yes a.s.now a.d l.all l.i low (word-shares e w.if-shared-ne0.true)) ∙ l.invariant.1
+        | else-shared-ne0 w ↦ ap (grown (drop (l.i + 1) a.s.now) a.d) w.all-is
+            ∙ sym (grown-no a.s.now a.d l.all l.i low (word-apart e w.if-shared-ne0.false)) ∙ l.invariant.1
+      ],
     )
 
 pub returns : goal.returns

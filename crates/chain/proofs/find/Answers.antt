@@ -1,5 +1,5 @@
 -- `chain::find` meets its contract: none, or the way over as many layers as were found. Assumes nothing.
-use Rattle.theory.specs.Prelude.{rules, arith}
+use Rattle.theory.specs.Prelude.{arith}
 use Rattle.chain.specs.Layers.Laws.{far-distance}
 use Rattle.chain.specs.Answer.Laws.{answered-none, answered-short, answered-run}
 use Rattle.chain.proofs.find.Goals as goal

@@ -1,5 +1,5 @@
 -- `chain::first_both` meets its contract: the clusters that are passed are counted. Assumes nothing.
-use Rattle.theory.specs.Prelude.{suc, ◌≡◌, ap, ⊎_elim, ◌+◌, ◌-◌, ◌≤◌, ◌<◌, arith, rules, length, drop, drop_of_length-le}
+use Rattle.theory.specs.Prelude.{suc, ◌≡◌, ap, ◌+◌, ◌<◌, arith, length, drop, drop_of_length-le}
 use Rattle.chain.specs.Layers.{first_both}
 use Rattle.chain.specs.Layers.Laws.{word-shares, word-apart, first-here, first-later}
 use Rattle.chain.proofs.first_both.Goals as goal
@@ -21,12 +21,12 @@ loop-k-preserved c = let a = c.args in
     let l = c.loop-k in
     let low : l.k < length a.s.now = c.loop-k-test.true in
     let later : first_both (drop l.k a.s.now) a.a a.d ≡ suc (first_both (drop (l.k + 1) a.s.now) a.a a.d) =
-        elim c.if-shared-ne0.branch [
-          | then-shared-ne0+else-shared-ne0-2 w ↦ first-later a.a a.d a.s.now l.k low
-              (λ b. word-apart w.shared-then-shared-ne0.ensures w.if-shared-ne0-2.false b.1)
-          | else-shared-ne0 w ↦ first-later a.a a.d a.s.now l.k low
-              (λ b. word-apart c.shared.ensures w.if-shared-ne0.false b.0)
-        ] in
+    elim c.if-shared-ne0.branch [
+      | then-shared-ne0+else-shared-ne0-2 w ↦ first-later a.a a.d a.s.now l.k low
+          (λ b. word-apart w.shared-then-shared-ne0.ensures w.if-shared-ne0-2.false b.1)
+      | else-shared-ne0 w ↦ first-later a.a a.d a.s.now l.k low
+          (λ b. word-apart c.shared.ensures w.if-shared-ne0.false b.0)
+    ] in
     (omega arith, omega (arith, l.invariant.1, later))
 
 pub returns : goal.returns

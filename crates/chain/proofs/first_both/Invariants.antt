@@ -1,7 +1,6 @@
 -- `chain::first_both` meets its contract: the clusters that are passed are counted. Assumes nothing.
-use Rattle.theory.specs.Prelude.{◌≡◌, ap, ⊎_elim, ◌+◌, ◌-◌, ◌≤◌, ◌<◌, arith, rules, length, drop, drop_of_length-le}
+use Rattle.theory.specs.Prelude.{◌≡◌, ◌+◌, ◌-◌, ◌≤◌, length, drop}
 use Rattle.chain.specs.Layers.{first_both}
-use Rattle.chain.specs.Layers.Laws.{word-shares, word-apart, first-here, first-later}
 use Rattle.chain.proofs.first_both.Given as goal
 
 abbrev pub invariant-loop-k : goal.invariant-loop-k

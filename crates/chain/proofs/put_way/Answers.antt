@@ -1,8 +1,8 @@
 -- `chain::put_way` meets its contract: what is left of the way makes the rest of the space. Assumes nothing.
-use Rattle.theory.specs.Prelude.{◌≡◌, refl, sym, ap, ◌∙◌, subst, List, ℕ, ◌+◌, ◌-◌, ◌^◌, arith, rules, add-one}
-use Rattle.theory.specs.Prelude.{◌≢◌, length, get_or, sets, length-set}
+use Rattle.theory.specs.Prelude.{◌≡◌, refl, sym, ap, ◌∙◌, subst, List, ℕ, ◌-◌, arith, add-one}
+use Rattle.theory.specs.Prelude.{◌≢◌, get_or, sets, length-set}
 use Rattle.chain.specs.Layers.{reached, first_both, way}
-use Rattle.chain.specs.Kept.{Far, Measured}
+use Rattle.chain.specs.Kept.{Measured}
 use Rattle.chain.specs.Layers.Laws.{Onward, onward, way_next}
 use Rattle.chain.proofs.put_way.Goals as goal
 use Rattle.chain.proofs.put_way.Invariants.{Going}

@@ -1,9 +1,8 @@
 -- `chain::put_way` meets its contract: what is left of the way makes the rest of the space. Assumes nothing.
-use Rattle.theory.specs.Prelude.{◌≡◌, refl, sym, ap, ◌∙◌, subst, List, ℕ, ◌+◌, ◌-◌, ◌^◌, arith, rules, add-one}
-use Rattle.theory.specs.Prelude.{length, sets, length-set}
-use Rattle.chain.specs.Layers.{reached, first_both, way}
+use Rattle.theory.specs.Prelude.{◌≡◌, List, ℕ, ◌+◌, ◌^◌}
+use Rattle.theory.specs.Prelude.{length, sets}
+use Rattle.chain.specs.Layers.{way}
 use Rattle.chain.specs.Kept.{Far}
-use Rattle.chain.specs.Layers.Laws.{Onward, onward, way_next}
 use Rattle.chain.proofs.put_way.Given as goal
 
 pub record Going (s : List ℕ) (u v t : ℕ) (out₀ out : List ℕ) (a m i : ℕ) : Type 0 where

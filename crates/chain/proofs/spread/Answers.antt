@@ -1,9 +1,9 @@
 -- `chain::spread` meets its contract: the layers passed stand in the array, and the distance is that from here on.
 -- Assumes nothing.
-use Rattle.theory.specs.Prelude.{◌≡◌, refl, sym, ap, ◌∙◌, List, ℕ, suc, ◌-◌, ◌^◌, ◌≤◌, ◌<◌, arith, rules}
-use Rattle.theory.specs.Prelude.{ℕ_discrete, add-one, length, get_or, length-set, get_or-set_same, get_or-set_other}
+use Rattle.theory.specs.Prelude.{◌≡◌, refl, sym, ap, ◌∙◌, List, ℕ, suc, ◌-◌, arith}
+use Rattle.theory.specs.Prelude.{ℕ_discrete, add-one, length-set, get_or-set_same, get_or-set_other}
 use Rattle.theory.specs.Set.{◌∩◌}
-use Rattle.chain.specs.Layers.{grown, reached, distance_from, distance}
+use Rattle.chain.specs.Layers.{grown, reached}
 use Rattle.chain.specs.Layers.Laws.{word-shares, word-apart, distance-here, distance-later, distance_none}
 use Rattle.chain.specs.Layers.Laws.{distance-last}
 use Rattle.chain.proofs.spread.Goals as goal

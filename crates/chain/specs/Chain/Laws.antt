@@ -1,21 +1,23 @@
 -- There is exactly one chain: two that are both shortest and first are the same, and "none" is said if and only if there is no run. Assumes nothing.
-use Rattle.theory.specs.Prelude.{◌≡◌, refl, ap, List, ◌∷◌, Option, none, some, ℕ, arith}
+use Rattle.theory.specs.Prelude.{◌≡◌, refl, ap, List, [], ◌∷◌, Option, none, some, ℕ, arith}
 use Rattle.chain.specs.Chain.{First, same, here, next, Shortest, Chain}
 
 -- each comes first, the second pair given by equations
-first-both : {r q a b : List ℕ} → First r q → First a b → a ≡ q → b ≡ r → r ≡ q
-first-both same y e f = refl
-first-both (here {i = i} {j = j} x) (here {i = k} {j = l} y) e f =
+antisym-by : {r q a b : List ℕ} → First r q → First a b → a ≡ q → b ≡ r → r ≡ q
+antisym-by same y e f = refl
+antisym-by (here {i = i} {r = r} x) same e f = let o : [] ≡ i ∷ r = cc in absurd cc
+antisym-by (next i {r = r} x) same e f = let o : [] ≡ i ∷ r = cc in absurd cc
+antisym-by (here {i = i} {j = j} x) (here {i = k} {j = l} y) e f =
     let p : k ≡ j = cc in let o : l ≡ i = cc in absurd (omega arith)
-first-both (here {i = i} {j = j} x) (next k y) e f =
+antisym-by (here {i = i} {j = j} x) (next k y) e f =
     let p : k ≡ j = cc in let o : k ≡ i = cc in absurd (omega arith)
-first-both (next i x) (here {i = k} {j = l} y) e f =
+antisym-by (next i x) (here {i = k} {j = l} y) e f =
     let p : k ≡ i = cc in let o : l ≡ i = cc in absurd (omega arith)
-first-both (next i {r = r} {q = q} x) (next k {r = a} {q = b} y) e f =
-    let p : a ≡ q = cc in let o : b ≡ r = cc in ap (λ (l : List ℕ). i ∷ l) (first-both x y p o)
+antisym-by (next i {r = r} {q = q} x) (next k {r = a} {q = b} y) e f =
+    let p : a ≡ q = cc in let o : b ≡ r = cc in ap (λ (l : List ℕ). i ∷ l) (antisym-by x y p o)
 
 first-antisym : {r q : List ℕ} → First r q → First q r → r ≡ q
-first-antisym x y = first-both x y refl refl
+first-antisym x y = antisym-by x y refl refl
 
 module _ (s : List ℕ) (u v : ℕ) where
   shortest-one : (r q : List ℕ) → Shortest s u v r → Shortest s u v q → r ≡ q

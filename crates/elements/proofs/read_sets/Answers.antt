@@ -22,25 +22,29 @@ kind_of-k-requires c = omega arith
 pub overflow_mul-lines : goal.overflow_mul-lines
 overflow_mul-lines c =
     let a = c.args in
-    let fits = places-small 1 (round_kinds a.s.now a.at a.n) a.n c.loop-i.i (kinds-length a.s.now a.at a.n) c.requires.0 c.loop-i-test.true c.loop-i.invariant.0 in
+    let fits = places-small 1 (round_kinds a.s.now a.at a.n) a.n c.loop-i.i (kinds-length a.s.now a.at a.n) c.requires.0 c.loop-i-test.true
+    c.loop-i.invariant.0 in
     omega (arith, fits, c.loop-i.invariant.1.lines_are)
 
 pub overflow_add-lines : goal.overflow_add-lines
 overflow_add-lines c =
     let a = c.args in
-    let fits = places-small 1 (round_kinds a.s.now a.at a.n) a.n c.loop-i.i (kinds-length a.s.now a.at a.n) c.requires.0 c.loop-i-test.true c.loop-i.invariant.0 in
+    let fits = places-small 1 (round_kinds a.s.now a.at a.n) a.n c.loop-i.i (kinds-length a.s.now a.at a.n) c.requires.0 c.loop-i-test.true
+    c.loop-i.invariant.0 in
     omega (arith, fits, c.loop-i.invariant.1.lines_are, c.bit.ensures, bit_le (eqb c.kind_of-k.result 1))
 
 pub overflow_mul-circles : goal.overflow_mul-circles
 overflow_mul-circles c =
     let a = c.args in
-    let fits = places-small 2 (round_kinds a.s.now a.at a.n) a.n c.loop-i.i (kinds-length a.s.now a.at a.n) c.requires.0 c.loop-i-test.true c.loop-i.invariant.0 in
+    let fits = places-small 2 (round_kinds a.s.now a.at a.n) a.n c.loop-i.i (kinds-length a.s.now a.at a.n) c.requires.0 c.loop-i-test.true
+    c.loop-i.invariant.0 in
     omega (arith, fits, c.loop-i.invariant.1.circles_are)
 
 pub overflow_add-circles : goal.overflow_add-circles
 overflow_add-circles c =
     let a = c.args in
-    let fits = places-small 2 (round_kinds a.s.now a.at a.n) a.n c.loop-i.i (kinds-length a.s.now a.at a.n) c.requires.0 c.loop-i-test.true c.loop-i.invariant.0 in
+    let fits = places-small 2 (round_kinds a.s.now a.at a.n) a.n c.loop-i.i (kinds-length a.s.now a.at a.n) c.requires.0 c.loop-i-test.true
+    c.loop-i.invariant.0 in
     omega (arith, fits, c.loop-i.invariant.1.circles_are, c.bit-in-loop-i.ensures, bit_le (eqb c.kind_of-k.result 2))
 
 pub loop-i-preserved : goal.loop-i-preserved

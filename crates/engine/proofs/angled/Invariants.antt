@@ -1,8 +1,7 @@
 -- `engine::angled` meets its contract: what is left of the joints decides. Assumes nothing.
-use Rattle.theory.specs.Prelude.{◌≡◌, refl, sym, ap, ◌∙◌, Bool, ◌||◌, List, ◌∷◌, ℕ, suc, ◌+◌, ◌-◌, ◌≤◌, ◌<◌, arith, add-one, rules, eq-eqb, ne_eqb}
-use Rattle.theory.specs.Prelude.{length, take, drop, get_or, length-take, drop_of_length-le, drop-cons, get_or-take}
-use Rattle.theory.specs.Set.{◌∩◌}
-use Rattle.theory.specs.Verdict.{angled, all_lines}
+use Rattle.theory.specs.Prelude.{◌≡◌, ◌-◌, ◌≤◌}
+use Rattle.theory.specs.Prelude.{take, drop}
+use Rattle.theory.specs.Verdict.{angled}
 use Rattle.engine.proofs.angled.Given as goal
 
 abbrev pub invariant-loop-i : goal.invariant-loop-i

@@ -29,11 +29,11 @@ pub overflow_sub-y : goal.overflow_sub-y
 overflow_sub-y c = subst (SFits w64) (sym (difference c)) (fits c)
 
 pub magnitude-requires : goal.magnitude-requires
-magnitude-requires c =     subst (λ (z : ℤ). nat_abs z < 8589934592) (sym (taken c))
+magnitude-requires c = subst (λ (z : ℤ). nat_abs z < 8589934592) (sym (taken c))
     (omega (arith, abs_mag (c.args.y -ℤ c.args.x), mag-difference c.args.y c.args.x c.ranges.y c.ranges.x))
 
 pub returns : goal.returns
-returns c = 
+returns c =
     let difference : to_z w64 (of_z w64 (to_z w32 (of_z w32 c.args.y))) -ℤ to_z w64 (of_z w64 (to_z w32 (of_z w32 c.args.x))) ≡ c.args.y -ℤ c.args.x = ap₂ ◌-ℤ◌ (widened c.args.y c.ranges.y) (widened c.args.x c.ranges.x) in
     let fits : SFits w64 (c.args.y -ℤ c.args.x) = difference-fits c.args.y c.args.x c.ranges.y c.ranges.x in
     let taken : to_z w64 (of_z w64 (to_z w64 (of_z w64 (to_z w32 (of_z w32 c.args.y))) -ℤ to_z w64 (of_z w64 (to_z w32 (of_z w32 c.args.x))))) ≡ c.args.y -ℤ c.args.x = ap (λ (z : ℤ). to_z w64 (of_z w64 z)) difference ∙ to_z-of_z fits in

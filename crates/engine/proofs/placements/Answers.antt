@@ -1,7 +1,6 @@
 -- `engine::placements` meets its contract: the kind decides. Assumes nothing.
 use mir.Facts.{to_z-of_z}
 use Rattle.theory.specs.Placement.{placed}
-use borrow.Author.Rules.{rules}
 use Rattle.engine.proofs.placements.Goals as goal
 
 pub returns-in-Ppp : goal.returns-in-Ppp

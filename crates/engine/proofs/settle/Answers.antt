@@ -17,7 +17,7 @@ returns-then-ringed c finals are left_is =
     let no-joint : angled a.lines (take a.steps a.joints.now) ≡ false = sym c.angled.ensures ∙ c.if-angled.false in
     let all : a.e + a.steps - 0 ≡ a.e + a.steps = omega arith in
     let turn : ringed a.lines finals ≡ c.ringed.result =
-        sym (c.ringed.ensures ∙ ap (ringed a.lines) (ap (λ (n : ℕ). take n a.slots.now) all ∙ are)) in
+    sym (c.ringed.ensures ∙ ap (ringed a.lines) (ap (λ (n : ℕ). take n a.slots.now) all ∙ are)) in
     simp (no-joint, turn ∙ c.if-ringed.true)
 
 pub returns-then-e-n : goal.returns-then-e-n
@@ -27,7 +27,7 @@ returns-then-e-n c finals are left_is =
     let no-joint : angled a.lines (take a.steps a.joints.now) ≡ false = sym c.angled.ensures ∙ c.if-angled.false in
     let all : a.e + a.steps - 0 ≡ a.e + a.steps = omega arith in
     let turn : ringed a.lines finals ≡ c.ringed.result =
-        sym (c.ringed.ensures ∙ ap (ringed a.lines) (ap (λ (n : ℕ). take n a.slots.now) all ∙ are)) in
+    sym (c.ringed.ensures ∙ ap (ringed a.lines) (ap (λ (n : ℕ). take n a.slots.now) all ∙ are)) in
     simp (no-joint, turn ∙ c.if-ringed.false, ne_eqb _ _ c.if-e-n.true)
 
 pub returns-then-one_left : goal.returns-then-one_left
@@ -37,7 +37,7 @@ returns-then-one_left c finals are left_is =
     let no-joint : angled a.lines (take a.steps a.joints.now) ≡ false = sym c.angled.ensures ∙ c.if-angled.false in
     let all : a.e + a.steps - 0 ≡ a.e + a.steps = omega arith in
     let turn : ringed a.lines finals ≡ c.ringed.result =
-        sym (c.ringed.ensures ∙ ap (ringed a.lines) (ap (λ (n : ℕ). take n a.slots.now) all ∙ are)) in
+    sym (c.ringed.ensures ∙ ap (ringed a.lines) (ap (λ (n : ℕ). take n a.slots.now) all ∙ are)) in
     let one : eqb (left finals) 1 ≡ c.one_left.result = sym (c.one_left.ensures ∙ one_left _ _ finals left_is) in
     simp (no-joint, turn ∙ c.if-ringed.false, eq-eqb _ _ c.if-e-n.false, one ∙ c.if-one_left.true)
 
@@ -48,6 +48,6 @@ returns-else-one_left c finals are left_is =
     let no-joint : angled a.lines (take a.steps a.joints.now) ≡ false = sym c.angled.ensures ∙ c.if-angled.false in
     let all : a.e + a.steps - 0 ≡ a.e + a.steps = omega arith in
     let turn : ringed a.lines finals ≡ c.ringed.result =
-        sym (c.ringed.ensures ∙ ap (ringed a.lines) (ap (λ (n : ℕ). take n a.slots.now) all ∙ are)) in
+    sym (c.ringed.ensures ∙ ap (ringed a.lines) (ap (λ (n : ℕ). take n a.slots.now) all ∙ are)) in
     let one : eqb (left finals) 1 ≡ c.one_left.result = sym (c.one_left.ensures ∙ one_left _ _ finals left_is) in
     simp (no-joint, turn ∙ c.if-ringed.false, eq-eqb _ _ c.if-e-n.false, one ∙ c.if-one_left.false)

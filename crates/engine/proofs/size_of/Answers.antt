@@ -10,10 +10,10 @@ pub overflow_cast-z : goal.overflow_cast-z
 overflow_cast-z c = wide c.args.z c.ranges.z
 
 pub magnitude-requires : goal.magnitude-requires
-magnitude-requires c =     subst (λ (z : ℤ). nat_abs z < 8589934592) (sym (widened c.args.z c.ranges.z)) (omega (arith, small c))
+magnitude-requires c = subst (λ (z : ℤ). nat_abs z < 8589934592) (sym (widened c.args.z c.ranges.z)) (omega (arith, small c))
 
 pub returns : goal.returns
-returns c = 
+returns c =
     let small : nat_abs c.args.z < 4294967296 = omega (arith, abs_mag c.args.z, c.ranges.z.sfits) in
     let e : c.magnitude.result ≡ nat_abs c.args.z =
     c.magnitude.ensures ∙ ap nat_abs (widened c.args.z c.ranges.z) in

@@ -1,5 +1,4 @@
 -- `engine::step_at` meets its contract. Assumes nothing.
-use Rattle.theory.specs.Prelude.{rules}
 use Rattle.engine.specs.Steps.{step_from}
 use Rattle.engine.proofs.step_at.Goals as goal
 

@@ -1,5 +1,5 @@
 -- `engine::steps_of` meets its contract: the steps passed stand, and the rest is blank. Assumes nothing.
-use Rattle.theory.specs.Prelude.{◌≡◌, refl, sym, ap, ◌∙◌, List, ℕ, zero, suc, ◌+◌, ◌-◌, ◌≤◌, ◌<◌, arith, ℕ_discrete, rules, ℤ, length, get_or, set}
+use Rattle.theory.specs.Prelude.{◌≡◌, refl, sym, ap, ◌∙◌, List, ℕ, zero, suc, ◌+◌, ◌≤◌, ◌<◌, arith, ℕ_discrete, rules, ℤ, length, get_or, set}
 use Rattle.theory.specs.Prelude.{replicate, length-set, get_or-set_same, get_or-set_other}
 use Rattle.theory.specs.declared.Step.{Step}
 use Rattle.engine.specs.Steps.{step_at, blank_step}
@@ -29,11 +29,11 @@ module _ (lines e : ℕ) (sizes : List ℤ) (cs parts joints : List ℕ) (count 
 
 pub loop-t-init : goal.loop-t-init
 loop-t-init c = let e = c.no_steps-steps.ensures in record {
-      few = omega arith;
-      long = ap length e;
-      each = λ k h. absurd (omega arith);
-      blank = λ k h. ap (λ (l : List Step). get_or l k blank_step) e ∙ all-blank 62 k;
-    }
+  few = omega arith;
+  long = ap length e;
+  each = λ k h. absurd (omega arith);
+  blank = λ k h. ap (λ (l : List Step). get_or l k blank_step) e ∙ all-blank 62 k;
+}
 
 pub loop-t-preserved : goal.loop-t-preserved
 loop-t-preserved c = let a = c.args in

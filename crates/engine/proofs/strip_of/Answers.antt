@@ -1,6 +1,6 @@
 -- `engine::strip_of` meets its contract: which constraint is of the two points decides. Assumes nothing.
 use mir.Facts.{to_z-of_z}
-use Rattle.theory.specs.Prelude.{eq-eqb, ne_eqb, rules}
+use Rattle.theory.specs.Prelude.{eq-eqb, ne_eqb}
 use Rattle.theory.specs.Set.{◌∩◌}
 use Rattle.theory.specs.Placement.{strip, strip_of}
 use Rattle.engine.proofs.strip_of.Goals as goal

@@ -9,21 +9,6 @@ use Rattle.graph.specs.Lent.Sheets.{graph_is, drawn-in}
 use Rattle.held.specs.Held.Laws.{value-unsound, value-over, value-held}
 use Rattle.held.proofs.read.Goals as goal
 
--- no rule of the writer refuses the sketch
-module _ (c : tie.After-over-fault) where
-  abbrev start : tie.Start
-  start = c
-
-  writes : sheet_fault start.args.s ≡ 0
-  writes = sym c.sheet_fault.ensures ∙ c.if-sheet_fault-ne0.false
-
-  over-is : c.over_fault.result ≡ over_fault (graph_of (facts_of start.args.s))
-  over-is =
-      let f = c.fill-front in
-      c.over_fault.ensures
-      ∙ ap (λ (h : Head). over_fault (graph_in h f.new.1.1.0)) c.head_of.ensures
-      ∙ ap over_fault (graph_is f.ensures)
-
 pub returns-then-sheet_fault-ne0 : goal.returns-then-sheet_fault-ne0
 returns-then-sheet_fault-ne0 c = value-unsound _ (λ e. c.if-sheet_fault-ne0.true (c.sheet_fault.ensures ∙ e))
 
@@ -35,7 +20,19 @@ pub over_fault-requires : goal.over_fault-requires
 over_fault-requires c = rw c.head_of.ensures (drawn-in c.fill-front.ensures)
 
 pub returns-then-over_fault-ne0 : goal.returns-then-over_fault-ne0
-returns-then-over_fault-ne0 c = value-over _ (writes c) (λ e. c.if-over_fault-ne0.true (over-is c ∙ e))
+returns-then-over_fault-ne0 c =
+    let over-is : c.over_fault.result ≡ over_fault (graph_of (facts_of c.args.s)) =
+    c.over_fault.ensures ∙ ap (λ (h : Head). over_fault (graph_in h c.fill-front.new.1.1.0)) c.head_of.ensures
+    ∙ ap over_fault (graph_is c.fill-front.ensures) in
+    value-over _ (sym c.sheet_fault.ensures ∙ c.if-sheet_fault-ne0.false) (λ e. c.if-over_fault-ne0.true (over-is ∙ e))
 
 pub returns : goal.returns
-returns c = (_, [], value-held _ (writes c) (sym (over-is c) ∙ c.if-over_fault-ne0.false), c.fill-front.ensures)
+returns c =
+    let over-is : c.over_fault.result ≡ over_fault (graph_of (facts_of c.args.s)) =
+    c.over_fault.ensures ∙ ap (λ (h : Head). over_fault (graph_in h c.fill-front.new.1.1.0)) c.head_of.ensures
+    ∙ ap over_fault (graph_is c.fill-front.ensures) in (
+      _,
+      [],
+      value-held _ (sym c.sheet_fault.ensures ∙ c.if-sheet_fault-ne0.false) (sym over-is ∙ c.if-over_fault-ne0.false),
+      c.fill-front.ensures,
+    )

@@ -11,7 +11,7 @@ pub returns-then-found : goal.returns-then-found
 returns-then-found c = let m = c.merged-found.ensures in m.judged (m.fine c.if-found.true)
 
 pub returns-in-First : goal.returns-in-First
-returns-in-First c =     c.over_found.ensures _ _ _ _ (sym c.over_of.ensures ∙ c.in-First.is)
+returns-in-First c = c.over_found.ensures _ _ _ _ (sym c.over_of.ensures ∙ c.in-First.is)
 
 pub returns-in-Fine : goal.returns-in-Fine
 returns-in-Fine c = let k = c in

@@ -10,7 +10,7 @@ merged-requires c = let o = c in
     (fine-starts d (found-fine d.sound (sym o.over_of.ensures ∙ c.in-Fine.is)), d.sound, blank)
 
 pub returns-in-First : goal.returns-in-First
-returns-in-First c =     c.over_found.ensures _ _ _ _ (sym c.over_of.ensures ∙ c.in-First.is)
+returns-in-First c = c.over_found.ensures _ _ _ _ (sym c.over_of.ensures ∙ c.in-First.is)
 
 pub returns-in-Fine : goal.returns-in-Fine
 returns-in-Fine c = let o = c in

@@ -13,7 +13,7 @@ returns-then-h-held c = let s = c in
     run_more (graph_in s.args.h s.args.start.now) d.sound (omega (arith, c.if-h-held.true, counted d)) blank
 
 pub returns-then-number-ne0 : goal.returns-then-number-ne0
-returns-then-number-ne0 c =     ap (λ (j : Judged). j.run)
+returns-then-number-ne0 c = ap (λ (j : Judged). j.run)
     (c.judge_on-found.ensures.plan (λ v. c.if-number-ne0.true (c.number.ensures ∙ v)))
 
 pub returns : goal.returns

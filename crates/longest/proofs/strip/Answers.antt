@@ -1,5 +1,5 @@
 -- `longest::strip` meets its contract. The loop's invariant: the front of the block is the strip for as many k as have been passed. Assumes nothing.
-use Rattle.theory.specs.Prelude.{◌≡◌, refl, ap, subst, [], ◌∷◌, ℕ, ◌≤◌, ◌+◌, ◌*◌, ◌-◌, arith, rules, length, take, length-set}
+use Rattle.theory.specs.Prelude.{◌≡◌, refl, ap, subst, [], ◌∷◌, ℕ, ◌+◌, ◌*◌, arith, take, length-set}
 use Rattle.sheet.specs.declared.Constraint.{Constraint}
 use Rattle.longest.specs.Longest.{strip}
 use Rattle.longest.specs.Longest.Block.{strip-next}
@@ -18,5 +18,5 @@ loop-j-preserved c = (
 )
 
 pub returns : goal.returns
-returns c =     let e : c.loop-j.j ≡ c.args.steps = omega arith in
+returns c = let e : c.loop-j.j ≡ c.args.steps = omega arith in
     subst (λ (m : ℕ). take (2 * m + 1) c.loop-j.cs ≡ strip m) e c.loop-j.invariant.2

@@ -1,5 +1,5 @@
 -- `longest::write` meets its contract: rule 3 comes first. Assumes nothing.
-use Rattle.theory.specs.Prelude.{sym, ◌∙◌, rules, not-true, not-false}
+use Rattle.theory.specs.Prelude.{sym, ◌∙◌}
 use Rattle.sheet.specs.Answer.Laws.{answers-refused, answers-items}
 use Rattle.sheet.specs.Rules.Laws.{elements-range}
 use Rattle.longest.specs.Longest.{longest_field}

@@ -1,5 +1,4 @@
 -- `merges::joint3` meets its contract. Assumes nothing.
-use borrow.Author.Rules.{rules}
 use Rattle.theory.specs.Set.{◌∪◌}
 use Rattle.theory.specs.Merge.{joint}
 use Rattle.merges.proofs.joint3.Goals as goal

@@ -17,38 +17,38 @@ returns-then-z-ne1 c a b d x y z = simp (sym x, sym y, sym z, eq-eqb _ _ c.if-x-
 
 pub returns-then-x-y : goal.returns-then-x-y
 unfolding open_test
-returns-then-x-y c a b d x y z =     simp (
-      sym x,
-      sym y,
-      sym z,
-      eq-eqb _ _ c.if-x-ne1.false,
-      eq-eqb _ _ c.if-y-ne1.false,
-      eq-eqb _ _ c.if-z-ne1.false,
-      eq-eqb _ _ c.if-x-y.true,
-    )
+returns-then-x-y c a b d x y z = simp (
+  sym x,
+  sym y,
+  sym z,
+  eq-eqb _ _ c.if-x-ne1.false,
+  eq-eqb _ _ c.if-y-ne1.false,
+  eq-eqb _ _ c.if-z-ne1.false,
+  eq-eqb _ _ c.if-x-y.true,
+)
 
 pub returns-then-y-z : goal.returns-then-y-z
 unfolding open_test
-returns-then-y-z c a b d x y z =     simp (
-      sym x,
-      sym y,
-      sym z,
-      eq-eqb _ _ c.if-x-ne1.false,
-      eq-eqb _ _ c.if-y-ne1.false,
-      eq-eqb _ _ c.if-z-ne1.false,
-      ne_eqb _ _ c.if-x-y.false,
-      eq-eqb _ _ c.if-y-z.true,
-    )
+returns-then-y-z c a b d x y z = simp (
+  sym x,
+  sym y,
+  sym z,
+  eq-eqb _ _ c.if-x-ne1.false,
+  eq-eqb _ _ c.if-y-ne1.false,
+  eq-eqb _ _ c.if-z-ne1.false,
+  ne_eqb _ _ c.if-x-y.false,
+  eq-eqb _ _ c.if-y-z.true,
+)
 
 pub returns : goal.returns
 unfolding open_test
-returns c a b d x y z =     simp (
-      sym x,
-      sym y,
-      sym z,
-      eq-eqb _ _ c.if-x-ne1.false,
-      eq-eqb _ _ c.if-y-ne1.false,
-      eq-eqb _ _ c.if-z-ne1.false,
-      ne_eqb _ _ c.if-x-y.false,
-      ne_eqb _ _ c.if-y-z.false,
-    )
+returns c a b d x y z = simp (
+  sym x,
+  sym y,
+  sym z,
+  eq-eqb _ _ c.if-x-ne1.false,
+  eq-eqb _ _ c.if-y-ne1.false,
+  eq-eqb _ _ c.if-z-ne1.false,
+  ne_eqb _ _ c.if-x-y.false,
+  ne_eqb _ _ c.if-y-z.false,
+)

@@ -1,7 +1,6 @@
 -- `merges::open3` meets its contract. Assumes nothing.
-use borrow.Author.Rules.{rules}
 use Rattle.merges.proofs.open3.Goals as goal
 
 pub returns : goal.returns
-returns c =     c.one_each.ensures c.args.a c.args.b c.args.c
+returns c = c.one_each.ensures c.args.a c.args.b c.args.c
     c.shared.ensures c.shared-2.ensures c.shared-3.ensures

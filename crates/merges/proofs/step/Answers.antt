@@ -1,5 +1,5 @@
 -- `merges::step` meets its contract: what it stores is what `Made` says. Assumes nothing.
-use Rattle.theory.specs.Prelude.{refl, ap, rules, set}
+use Rattle.theory.specs.Prelude.{refl, ap, set}
 use Rattle.theory.specs.Set.{◌∪◌}
 use Rattle.theory.specs.Merge.{union, cleared, merge, three}
 use Rattle.merges.proofs.step.Goals as goal

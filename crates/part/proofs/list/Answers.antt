@@ -37,7 +37,7 @@ returns-in-Is c =
     let h = g.has in
     answers-items
     (buffered (omega (arith, g.short)) (rw (← h.bytes_are) at (c.put_cluster-got.ensures.puts h.steps h.rest h.gives))
-    c.args.out.now c.put_all8.ensures)
+    c.args.out.now (c.put_all8.ensures.answers, c.put_all8.ensures.leaves))
     (ap lines_field h.gives)
 
 pub returns-in-Refused : goal.returns-in-Refused

@@ -18,6 +18,7 @@ use Rattle.part.specs.Shown.{MadeFrom, itself, by_i, by_j, by_k, In, Ready, Orde
 -- ---- one of two lists
 
 in_left : (s : Step) (xs ys : List Step) → In s xs → In s (xs ++ ys)
+in_left s [] ys h = elim h [ ]
 in_left s (x ∷ xs) ys (inl e) = inl e
 in_left s (x ∷ xs) ys (inr h) = inr (in_left s xs ys h)
 
@@ -98,6 +99,7 @@ module _ (e : ℕ) (step : ℕ → Step) where
       by_last : In s (of (step (c - e)).k) ⊎ In s (step (c - e) ∷ []) → Made s c
       by_last (inl y) = let (d, m, q) = below _ p.k_below p.k_parts y in (d, by_k h m, q)
       by_last (inr (inl q)) = (c, itself h refl, q)
+      by_last (inr (inr y)) = elim y [ ]
 
       by-second : In s (of (step (c - e)).j) ⊎ In s (of (step (c - e)).k ++ (step (c - e) ∷ [])) → Made s c
       by-second (inl y) = let (d, m, q) = below _ p.j_below p.j_parts y in (d, by_j h m, q)

@@ -4,31 +4,20 @@ use Rattle.theory.specs.Graph.{Graph}
 use Rattle.judge.specs.Judged.{final_clusters}
 use Rattle.sheet.specs.Field.{value}
 use Rattle.sheet.specs.Answer.Laws.{answers-refused, answers-items}
-use Rattle.pattern.specs.Entries.Reading.{FactsRead, refused-read, facts-read}
+use Rattle.pattern.specs.Entries.Reading.{refused-read, facts-read}
 use Rattle.pattern.proofs.clusters.Goals as goal
-
--- the facts of the sheet
-read : (c : goal.After-clusters-arg-1)
-    → FactsRead c.args.bytes.now
-    c.in-Value.head
-    c.read_graph-got.new.1.0
-    c.read_graph-got.new.1.1.0
-    c.read_graph-got.new.1.1.1.0
-read c =
-    facts-read _ _ _ _ _ c.read_graph-got.ensures
-    c.in-Value.is
 
 pub read_graph-got-requires : goal.read_graph-got-requires
 read_graph-got-requires c = (refl, refl, refl)
 
 pub returns-in_default : goal.returns-in_default
-returns-in_default c =     answers-refused (rw (refused-read _ _ _ _ _ c.read_graph-got.ensures c.in_default.is c.refusal.ensures))
+returns-in_default c = answers-refused (rw (refused-read _ _ _ _ _ c.read_graph-got.ensures c.in_default.is c.refusal.ensures))
 
 pub clusters-requires : goal.clusters-requires
-clusters-requires c = (read c).drawn_is
+clusters-requires c = (facts-read c.args.bytes.now _ _ _ _ c.read_graph-got.ensures c.in-Value.is).drawn_is
 
 pub returns : goal.returns
-returns c = let f = 
-    let read : FactsRead c.args.bytes.now c.in-Value.head c.read_graph-got.new.1.0 c.read_graph-got.new.1.1.0 c.read_graph-got.new.1.1.1.0 = facts-read _ _ _ _ _ c.read_graph-got.ensures c.in-Value.is in
-    read in
+returns c =
+    let read = facts-read c.args.bytes.now _ _ _ _ c.read_graph-got.ensures c.in-Value.is in
+    let f = read in
     answers-items c.clusters.ensures (rw f.reads (ap (λ (g : Graph). value (final_clusters g) []) (sym f.graph_read)))

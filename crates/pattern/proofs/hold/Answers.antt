@@ -8,48 +8,41 @@ use Rattle.graph.specs.Lent.{graph_in}
 use Rattle.reader.specs.declared.Outcome.TheVariants.{Accepted}
 use Rattle.reader.specs.Answers.{as_reading}
 use Rattle.pattern.specs.Entries.{held_sheet}
-use Rattle.pattern.specs.Entries.Reading.{SheetFound, refused-sheet, sheet-found}
+use Rattle.pattern.specs.Entries.Reading.{refused-sheet, sheet-found}
 use Rattle.pattern.proofs.hold.Goals as goal
-
--- the facts of the sheet
-read : (c : goal.After-start-2-1)
-    → SheetFound c.args.bytes.now
-    c.in-Value.front
-    c.read_codes-got.new.1.0 c.read_codes-got.new.1.1.0
-    c.read_codes-got.new.1.1.1.0 c.read_codes-got.new.1.1.1.1.0
-read c = sheet-found _ _ _ _ _ _ c.read_codes-got.ensures c.in-Value.is
 
 pub read_codes-got-requires : goal.read_codes-got-requires
 read_codes-got-requires c = (refl, refl, refl, refl)
 
 pub returns-in_default : goal.returns-in_default
 unfolding held_sheet
-returns-in_default c =     rw (refused-sheet _ _ _ _ _ _ c.read_codes-got.ensures c.in_default.is
+returns-in_default c = rw (refused-sheet _ _ _ _ _ _ c.read_codes-got.ensures c.in_default.is
     c.refusal.ensures)
     c.refuse.ensures
 
 pub over_fault-over-requires : goal.over_fault-over-requires
-over_fault-over-requires c = rw c.head_of.ensures (read c).drawn_is
+over_fault-over-requires c = rw c.head_of.ensures (sheet-found c.args.bytes.now _ _ _ _ _ c.read_codes-got.ensures c.in-Value.is).drawn_is
 
 pub returns-then-over-ne0 : goal.returns-then-over-ne0
 unfolding held_sheet
-returns-then-over-ne0 c = 
-    let read : SheetFound c.args.bytes.now c.in-Value.front c.read_codes-got.new.1.0 c.read_codes-got.new.1.1.0 c.read_codes-got.new.1.1.1.0 c.read_codes-got.new.1.1.1.1.0 = sheet-found _ _ _ _ _ _ c.read_codes-got.ensures c.in-Value.is in
-    let over-is : c.over_fault-over.result ≡ over_fault (graph_of (read c).facts) = λ = let f. read in c.over_fault-over.ensures ∙ ap over_fault (ap (λ (h : Head). graph_in h c.read_codes-got.new.1.1.0) c.head_of.ensures ∙ f.graph_read) in
-    rw read.reads
-    (c.refuse-then-over-ne0.ensures ∙ ap as_reading (sym (rule-some _ _ over-is c.if-over-ne0.true)))
+returns-then-over-ne0 c =
+    let f = sheet-found c.args.bytes.now _ _ _ _ _ c.read_codes-got.ensures c.in-Value.is in
+    let over-is : c.over_fault-over.result ≡ over_fault (graph_of f.facts) =
+    c.over_fault-over.ensures
+    ∙ ap over_fault (ap (λ (h : Head). graph_in h c.read_codes-got.new.1.1.0) c.head_of.ensures ∙ f.graph_read) in
+    rw f.reads (c.refuse-then-over-ne0.ensures ∙ ap as_reading (sym (rule-some _ _ over-is c.if-over-ne0.true)))
 
 pub sheet_of-sheet-requires : goal.sheet_of-sheet-requires
-sheet_of-sheet-requires c = 
-    let read : SheetFound c.args.bytes.now c.in-Value.front c.read_codes-got.new.1.0 c.read_codes-got.new.1.1.0 c.read_codes-got.new.1.1.1.0 c.read_codes-got.new.1.1.1.1.0 = sheet-found _ _ _ _ _ _ c.read_codes-got.ensures c.in-Value.is in
-    let d = read.drawn_is in (d.sound.most, d.few)
+sheet_of-sheet-requires c =
+    let d = (sheet-found c.args.bytes.now _ _ _ _ _ c.read_codes-got.ensures c.in-Value.is).drawn_is in
+    (d.sound.most, d.few)
 
 pub returns : goal.returns
 unfolding held_sheet
-returns c = let o = 
-    let read : SheetFound c.args.bytes.now c.in-Value.front c.read_codes-got.new.1.0 c.read_codes-got.new.1.1.0 c.read_codes-got.new.1.1.1.0 c.read_codes-got.new.1.1.1.1.0 = sheet-found _ _ _ _ _ _ c.read_codes-got.ensures c.in-Value.is in
-    let over-is : c.over_fault-over.result ≡ over_fault (graph_of (read c).facts) = λ = let f. read in c.over_fault-over.ensures ∙ ap over_fault (ap (λ (h : Head). graph_in h c.read_codes-got.new.1.1.0) c.head_of.ensures ∙ f.graph_read) in
-    c in
-    let f = read o in
-    rw (f.reads, sym (over-is o) ∙ c.if-over-ne0.false)
+returns c =
+    let f = sheet-found c.args.bytes.now _ _ _ _ _ c.read_codes-got.ensures c.in-Value.is in
+    let over-is : c.over_fault-over.result ≡ over_fault (graph_of f.facts) =
+    c.over_fault-over.ensures
+    ∙ ap over_fault (ap (λ (h : Head). graph_in h c.read_codes-got.new.1.1.0) c.head_of.ensures ∙ f.graph_read) in
+    rw (f.reads, sym over-is ∙ c.if-over-ne0.false)
     (ap (λ (s : Sheet). record { outcome = Accepted; sheet = s }) (c.sheet_of-sheet.ensures f.facts _ f.sheet_in))

@@ -1,27 +1,23 @@
 -- `pattern::length_before` meets its contract, by the opening. Assumes nothing.
-use Rattle.theory.specs.Prelude.{rules, ◌+◌, ◌*◌, ◌≤◌, arith, sym, ap, ones, ones-le}
+use Rattle.theory.specs.Prelude.{rules, ◌+◌, ◌*◌, ◌≤◌, ◌<◌, ◌^◌, ℕ, arith, sym, ap, ones, ones-le}
 use Rattle.sheet.specs.declared.Opening.{Opening}
 use Rattle.sheet.specs.Field.{kind_bytes}
 use Rattle.pattern.proofs.length_before.Goals as goal
 
-most : (c : goal.After-struct_known-1) → ones c.args.h.kinds.circles ≤ 64
-most c = ones-le 64 c.args.h.kinds.circles (search rules)
+most : (z : ℕ) → z < 2 ^ 64 → ones z ≤ 64
+most z h = ones-le 64 z h
 
 pub overflow_cast-radii : goal.overflow_cast-radii
-overflow_cast-radii c = record { fits = omega (arith, most c) }
+overflow_cast-radii c = record { fits = omega (arith, most c.args.h.kinds.circles (search rules)) }
 
 pub overflow_mul-radii : goal.overflow_mul-radii
-overflow_mul-radii c = record { fits = omega (arith, most c) }
+overflow_mul-radii c = record { fits = omega (arith, most c.args.h.kinds.circles (search rules)) }
 
 pub overflow_add-result-in-Pf01-2 : goal.overflow_add-result-in-Pf01-2
-overflow_add-result-in-Pf01-2 c = let m = 
-    let most : ones c.args.h.kinds.circles ≤ 64 = ones-le 64 c.args.h.kinds.circles (search rules) in
-    most in record { fits = omega (arith, m, c.requires) }
+overflow_add-result-in-Pf01-2 c = record { fits = omega (arith, most c.args.h.kinds.circles (search rules), c.requires) }
 
 pub overflow_add-result-in-Pf02-3 : goal.overflow_add-result-in-Pf02-3
-overflow_add-result-in-Pf02-3 c = let m = 
-    let most : ones c.args.h.kinds.circles ≤ 64 = ones-le 64 c.args.h.kinds.circles (search rules) in
-    most in record { fits = omega (arith, m, c.requires) }
+overflow_add-result-in-Pf02-3 c = record { fits = omega (arith, most c.args.h.kinds.circles (search rules), c.requires) }
 
 pub returns-in-Pf01 : goal.returns-in-Pf01
 returns-in-Pf01 c = let h = c.args.h in

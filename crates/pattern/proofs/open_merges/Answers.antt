@@ -8,7 +8,7 @@ use Rattle.sheet.specs.Field.{value}
 use Rattle.sheet.specs.Answer.Laws.{next-rule, answers-refused}
 use Rattle.opens.specs.Opens.{open_field, held_field}
 use Rattle.pattern.specs.Entries.{held_sheet}
-use Rattle.pattern.specs.Entries.Reading.{FactsRead, refused-read, facts-read}
+use Rattle.pattern.specs.Entries.Reading.{refused-read, facts-read}
 use Rattle.pattern.proofs.open_merges.Goals as goal
 
 -- the answer goes by the graph alone
@@ -21,18 +21,18 @@ read_graph-got-requires c = (refl, refl, refl)
 
 pub returns-in_default : goal.returns-in_default
 unfolding held_sheet
-returns-in_default c =     answers-refused (rw (refused-read _ _ _ _ _ c.read_graph-got.ensures c.in_default.is c.refusal.ensures))
+returns-in_default c = answers-refused (rw (refused-read _ _ _ _ _ c.read_graph-got.ensures c.in_default.is c.refusal.ensures))
 
 pub open_of-requires : goal.open_of-requires
-open_of-requires c = 
-    let read : FactsRead c.args.bytes.now c.in-Value.head c.read_graph-got.new.1.0 c.read_graph-got.new.1.1.0 c.read_graph-got.new.1.1.1.0 = facts-read _ _ _ _ _ c.read_graph-got.ensures c.in-Value.is in
+open_of-requires c =
+    let read = facts-read c.args.bytes.now _ _ _ _ c.read_graph-got.ensures c.in-Value.is in
     read.drawn_is
 
 pub returns : goal.returns
 unfolding held_sheet
-returns c = let a = 
-    let read : FactsRead c.args.bytes.now c.in-Value.head c.read_graph-got.new.1.0 c.read_graph-got.new.1.1.0 c.read_graph-got.new.1.1.1.0 = facts-read _ _ _ _ _ c.read_graph-got.ensures c.in-Value.is in
-    c.args in
+returns c =
+    let read = facts-read c.args.bytes.now _ _ _ _ c.read_graph-got.ensures c.in-Value.is in
+    let a = c.args in
     let f = read in
     rw (
       f.reads,

@@ -6,20 +6,9 @@ use Rattle.sheet.specs.Answer.{Answers}
 use Rattle.sheet.specs.Answer.Laws.{answers-refused}
 use Rattle.part.specs.Part.{held_field, lines_field}
 use Rattle.pattern.specs.Entries.{held_sheet}
-use Rattle.pattern.specs.Entries.Reading.{FactsRead, refused-read, facts-read}
+use Rattle.pattern.specs.Entries.Reading.{refused-read, facts-read}
 use Rattle.pattern.specs.Entries.Parts.{part_held}
 use Rattle.pattern.proofs.part.Goals as goal
-
--- the facts of the sheet
-read : (c : goal.After-list-arg-1)
-    → FactsRead c.args.bytes.now
-    c.in-Value.head
-    c.read_graph-got.new.1.0
-    c.read_graph-got.new.1.1.0
-    c.read_graph-got.new.1.1.1.0
-read c =
-    facts-read _ _ _ _ _ c.read_graph-got.ensures
-    c.in-Value.is
 
 -- the answer goes by the graph alone
 by-graph : (number : ℕ) {g g' : SizedGraph} {space left : List ℕ} {r : Written} → g ≡ g' → Answers (lines_field (held_field g number)) space r left
@@ -31,14 +20,14 @@ read_graph-got-requires c = (refl, refl, refl)
 
 pub returns-in_default : goal.returns-in_default
 unfolding held_sheet
-returns-in_default c =     answers-refused (rw (refused-read _ _ _ _ _ c.read_graph-got.ensures c.in_default.is c.refusal.ensures))
+returns-in_default c = answers-refused (rw (refused-read _ _ _ _ _ c.read_graph-got.ensures c.in_default.is c.refusal.ensures))
 
 pub list-requires : goal.list-requires
-list-requires c = (read c).drawn_is
+list-requires c = (facts-read c.args.bytes.now _ _ _ _ c.read_graph-got.ensures c.in-Value.is).drawn_is
 
 pub returns : goal.returns
-returns c = let a = 
-    let read : FactsRead c.args.bytes.now c.in-Value.head c.read_graph-got.new.1.0 c.read_graph-got.new.1.1.0 c.read_graph-got.new.1.1.1.0 = facts-read _ _ _ _ _ c.read_graph-got.ensures c.in-Value.is in
-    c.args in
+returns c =
+    let read = facts-read c.args.bytes.now _ _ _ _ c.read_graph-got.ensures c.in-Value.is in
+    let a = c.args in
     let f = read in
     rw (part_held a.bytes.now a.number f.reads) (by-graph a.number f.sized_read c.list.ensures)

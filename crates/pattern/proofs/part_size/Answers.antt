@@ -10,25 +10,9 @@ use Rattle.part.specs.declared.Measured.{Measured}
 use Rattle.part.specs.Part.{held_field}
 use Rattle.part.specs.Tallies.{measure_of}
 use Rattle.pattern.specs.Entries.{held_sheet, part_of}
-use Rattle.pattern.specs.Entries.Reading.{FactsRead, refused-read, facts-read}
+use Rattle.pattern.specs.Entries.Reading.{refused-read, facts-read}
 use Rattle.pattern.specs.Entries.Parts.{part_held}
 use Rattle.pattern.proofs.part_size.Goals as goal
-
--- the facts of the sheet
-read : (c : goal.After-sizes-2-1)
-    → FactsRead c.args.bytes.now
-    c.in-Value.head
-    c.read_graph-got.new.1.0
-    c.read_graph-got.new.1.1.0
-    c.read_graph-got.new.1.1.1.0
-read c =
-    facts-read _ _ _ _ _ c.read_graph-got.ensures c.in-Value.is
-
--- the graph in the arrays
-abbrev graph : tie.After-sizes2 → SizedGraph
-graph c =
-    let l = c.read_graph-got.new.1.1 in
-    sized_in c.in-Value.head l.0 l.1.0
 
 -- measured by the graph that is read
 measured : (bytes : List ℕ) (number : ℕ) (g : SizedGraph) {f : Facts} {rest : List ℕ} {r : Measured}
@@ -44,11 +28,10 @@ unfolding held_sheet
 returns-in_default c = rw (refused-read _ _ _ _ _ c.read_graph-got.ensures c.in_default.is c.refusal.ensures)
 
 pub measure-requires : goal.measure-requires
-measure-requires c = (read c).drawn_is
+measure-requires c = (facts-read c.args.bytes.now _ _ _ _ c.read_graph-got.ensures c.in-Value.is).drawn_is
 
 pub returns : goal.returns
-returns c = let f = 
-    let read : FactsRead c.args.bytes.now c.in-Value.head c.read_graph-got.new.1.0 c.read_graph-got.new.1.1.0 c.read_graph-got.new.1.1.1.0 = facts-read _ _ _ _ _ c.read_graph-got.ensures c.in-Value.is in
-    read in
+returns c =
+    let f = facts-read c.args.bytes.now _ _ _ _ c.read_graph-got.ensures c.in-Value.is in
     let a = c.args in
-    measured a.bytes.now a.number (graph c) c.measure.ensures f.sized_read f.reads
+    measured a.bytes.now a.number (sized_in c.in-Value.head c.read_graph-got.new.1.1.0 c.read_graph-got.new.1.1.1.0) c.measure.ensures f.sized_read f.reads

@@ -2,32 +2,22 @@
 use Rattle.theory.specs.Prelude.{rules, refl, []}
 use Rattle.sheet.specs.Field.{value}
 use Rattle.steps.specs.Records.{plan_steps}
-use Rattle.pattern.specs.Entries.Reading.{FactsRead, refused-read, facts-read}
+use Rattle.pattern.specs.Entries.Reading.{refused-read, facts-read}
 use Rattle.pattern.specs.Entries.Steps.{refused-listed, read-listed}
 use Rattle.pattern.proofs.plan_listing.Goals as goal
-
--- the facts of the sheet
-read : (c : goal.After-sizes-2-1)
-    → FactsRead c.args.bytes.now
-    c.in-Value.head
-    c.read_graph-got.new.1.0
-    c.read_graph-got.new.1.1.0
-    c.read_graph-got.new.1.1.1.0
-read c =
-    facts-read _ _ _ _ _ c.read_graph-got.ensures c.in-Value.is
 
 pub read_graph-got-requires : goal.read_graph-got-requires
 read_graph-got-requires c = (refl, refl, refl)
 
 pub returns-in_default : goal.returns-in_default
-returns-in_default c =     refused-listed (λ g. value (plan_steps g) []) _
+returns-in_default c = refused-listed (λ g. value (plan_steps g) []) _
     (refused-read _ _ _ _ _ c.read_graph-got.ensures c.in_default.is c.refusal.ensures)
     c.refused.ensures
 
 pub plan_steps-requires : goal.plan_steps-requires
-plan_steps-requires c = (read c).drawn_is
+plan_steps-requires c = (facts-read c.args.bytes.now _ _ _ _ c.read_graph-got.ensures c.in-Value.is).drawn_is
 
 pub returns : goal.returns
-returns c = 
-    let read : FactsRead c.args.bytes.now c.in-Value.head c.read_graph-got.new.1.0 c.read_graph-got.new.1.1.0 c.read_graph-got.new.1.1.1.0 = facts-read _ _ _ _ _ c.read_graph-got.ensures c.in-Value.is in
+returns c =
+    let read = facts-read c.args.bytes.now _ _ _ _ c.read_graph-got.ensures c.in-Value.is in
     read-listed (λ g. value (plan_steps g) []) _ read c.plan_steps.ensures

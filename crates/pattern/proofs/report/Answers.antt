@@ -5,39 +5,20 @@ use Rattle.graph.specs.Lent.{sized_in}
 use Rattle.account.specs.Account.{report_of}
 use Rattle.sheet.specs.Field.{value}
 use Rattle.sheet.specs.Answer.Laws.{answers-refused, answers-items}
-use Rattle.pattern.specs.Entries.Reading.{FactsRead, refused-read, facts-read}
+use Rattle.pattern.specs.Entries.Reading.{refused-read, facts-read}
 use Rattle.pattern.proofs.report.Goals as goal
-
--- the facts of the sheet
-read : (c : goal.After-report-arg-1)
-    → FactsRead c.args.bytes.now
-    c.in-Value.head
-    c.read_graph-got.new.1.0
-    c.read_graph-got.new.1.1.0
-    c.read_graph-got.new.1.1.1.0
-read c =
-    facts-read _ _ _ _ _ c.read_graph-got.ensures
-    c.in-Value.is
-
--- the graph in the arrays
-abbrev graph : tie.After-report-arg → SizedGraph
-graph c =
-    let l = c.read_graph-got.new.1.1 in
-    sized_in c.in-Value.head l.0 l.1.0
 
 pub read_graph-got-requires : goal.read_graph-got-requires
 read_graph-got-requires c = (refl, refl, refl)
 
 pub returns-in_default : goal.returns-in_default
-returns-in_default c =     answers-refused (rw (refused-read _ _ _ _ _ c.read_graph-got.ensures c.in_default.is c.refusal.ensures))
+returns-in_default c = answers-refused (rw (refused-read _ _ _ _ _ c.read_graph-got.ensures c.in_default.is c.refusal.ensures))
 
 pub report-requires : goal.report-requires
-report-requires c = (read c).drawn_is
+report-requires c = (facts-read c.args.bytes.now _ _ _ _ c.read_graph-got.ensures c.in-Value.is).drawn_is
 
 pub returns : goal.returns
-returns c = let k = 
-    let read : FactsRead c.args.bytes.now c.in-Value.head c.read_graph-got.new.1.0 c.read_graph-got.new.1.1.0 c.read_graph-got.new.1.1.1.0 = facts-read _ _ _ _ _ c.read_graph-got.ensures c.in-Value.is in
-    c in
-    let f = read k in
-    answers-items {items = report_of (graph k)} c.report.ensures
+returns c =
+    let f = facts-read c.args.bytes.now _ _ _ _ c.read_graph-got.ensures c.in-Value.is in
+    answers-items {items = report_of (sized_in c.in-Value.head c.read_graph-got.new.1.1.0 c.read_graph-got.new.1.1.1.0)} c.report.ensures
     (rw f.reads (ap (λ (g : SizedGraph). value (report_of g) []) (sym f.sized_read)))

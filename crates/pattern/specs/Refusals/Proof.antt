@@ -237,6 +237,7 @@ place_short space c number = by (place_field space c number) (by_place space c n
     not-17 (inr (inr (inr (inr (inr (inl e)))))) = omega arith
     not-17 (inr (inr (inr (inr (inr (inr (inl e))))))) = omega arith
     not-17 (inr (inr (inr (inr (inr (inr (inr (inl e)))))))) = omega arith
+    not-17 (inr (inr (inr (inr (inr (inr (inr (inr e)))))))) = elim e [ ]
 
     written : (f : Facts) (rest : List ℕ) → Dec (length space < length (record_bytes f))
         → (placed_in (value f rest) space ≡ Not 17) ↔ Short (written_field (value f rest)) space

@@ -1,5 +1,5 @@
 -- `plans::ascend` meets its contract. Assumes nothing.
-use Rattle.theory.specs.Prelude.{ap, ap₂, ◌∙◌, ℕ, min, max, rules}
+use Rattle.theory.specs.Prelude.{ap, ap₂, ◌∙◌, ℕ, min, max}
 use Rattle.theory.specs.Plan.{ascending}
 use Rattle.plans.proofs.ascend.Goals as goal
 

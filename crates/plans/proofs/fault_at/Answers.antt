@@ -1,5 +1,5 @@
 -- `plans::fault_at` meets its contract. Assumes nothing.
-use Rattle.theory.specs.Prelude.{◌∙◌, rules}
+use Rattle.theory.specs.Prelude.{◌∙◌}
 use Rattle.theory.specs.Merge.{merge}
 use Rattle.plans.specs.Check.{fault_of, step_fault}
 use Rattle.plans.proofs.fault_at.Goals as goal

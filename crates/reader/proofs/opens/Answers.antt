@@ -1,6 +1,5 @@
 -- `reader::opens` meets its contract. Assumes nothing.
-use Rattle.theory.specs.Prelude.{◌-◌, ◌≤◌, arith, ◌≡◌, refl, ◌∙◌, rules, drop}
-use Rattle.sheet.specs.Field.{begins}
+use Rattle.theory.specs.Prelude.{arith, refl, ◌∙◌, rules}
 use Rattle.reader.proofs.Opening.{begins-short, begins-differs, begins-agrees, begins-all}
 use Rattle.reader.proofs.opens.Goals as goal
 

@@ -1,7 +1,6 @@
 -- `reader::opens` meets its contract. Assumes nothing.
-use Rattle.theory.specs.Prelude.{◌-◌, ◌≤◌, arith, ◌≡◌, refl, ◌∙◌, rules, drop}
+use Rattle.theory.specs.Prelude.{◌-◌, ◌≤◌, ◌≡◌, drop}
 use Rattle.sheet.specs.Field.{begins}
-use Rattle.reader.proofs.Opening.{begins-short, begins-differs, begins-agrees, begins-all}
 use Rattle.reader.proofs.opens.Given as goal
 
 abbrev pub invariant-loop-i : goal.invariant-loop-i

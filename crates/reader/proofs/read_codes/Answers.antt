@@ -1,10 +1,8 @@
 -- `reader::read_codes` meets its contract: all before the constraints, and then the constraints from none on. Assumes nothing.
-use Rattle.theory.specs.Prelude.{ℕ, sub-zero, arith, ◌≡◌, refl, sym, ap, ◌∙◌, subst, List, [], rules, drop}
+use Rattle.theory.specs.Prelude.{sub-zero, arith, refl, sym, ap, ◌∙◌, subst, [], drop}
 use Rattle.sheet.specs.Field.{refused, Bytes}
 use Rattle.sheet.specs.Decode.{constraints, read_sheet}
-use Rattle.graph.specs.declared.Front.{Front}
 use Rattle.graph.specs.Lent.Laws.{in-arrays-none}
-use Rattle.reader.specs.declared.FrontRead.{FrontRead}
 use Rattle.reader.specs.Answers.{front_rule, Follows, Fronted, ListRead, outcome_number}
 use Rattle.reader.proofs.Sheets.{list-refused, list_read}
 use Rattle.reader.proofs.read_codes.Goals as goal

@@ -1,5 +1,4 @@
 -- `reader::read_dimension` meets its contract: the map, and then what follows it. Assumes nothing.
-use borrow.Author.Rules.{rules}
 use Rattle.sheet.specs.Facts.{kind_at}
 use Rattle.sheet.specs.Facts.Laws.{kind-in}
 use Rattle.reader.proofs.Dimension.{dimension-is}

@@ -1,6 +1,5 @@
 -- `reader::read_front` meets its contract: the fields before the constraints, one after another. Assumes nothing.
-use Rattle.theory.specs.Prelude.{ℕ, arith, true, false, ◌≡◌, sym, ap, ◌∙◌, subst, List, not-true, not-false, rules, length, drop}
-use Rattle.sheet.specs.declared.Opening.{Opening}
+use Rattle.theory.specs.Prelude.{arith, true, false, ◌≡◌, sym, ap, ◌∙◌, subst, List, length, drop}
 use Rattle.sheet.specs.declared.Element.{Element}
 use Rattle.sheet.specs.Facts.Kinds.{KindsIn}
 use Rattle.sheet.specs.Field.{Field, value, refused, next}
@@ -8,7 +7,6 @@ use Rattle.sheet.specs.Rules.{elements_in_range, constraints_in_range}
 use Rattle.sheet.specs.Rules.Laws.{elements-range, constraints-most}
 use Rattle.sheet.specs.Decode.{read_constraints, read_sheet}
 use Rattle.elements.specs.Answers.{elements_field, ElementsRead, kinds_rule}
-use Rattle.elements.specs.declared.KindsRead.{KindsRead}
 use Rattle.elements.specs.Fields.{as_byte}
 use Rattle.reader.specs.Answers.{as_opening}
 use Rattle.reader.proofs.Sheets.{sheet-tail}

@@ -1,5 +1,5 @@
 -- `reader::read_graph` meets its contract: the sheet in the arrays, and its sizes where it has circles. Assumes nothing.
-use Rattle.theory.specs.Prelude.{◌≡◌, refl, sym, ap, ◌∙◌, subst, ⊎_elim, List, ℕ, rules}
+use Rattle.theory.specs.Prelude.{refl, sym, ap, ◌∙◌, subst}
 use Rattle.sheet.specs.Field.{refused}
 use Rattle.sheet.specs.Decode.{read_sheet}
 use Rattle.graph.specs.Lent.Sheets.{stands-in}
@@ -32,7 +32,7 @@ returns c =
       t.2,
       rw c.head_of.ensures (stands-in t.3),
       elim c.if-kinds-ne0.branch [
-        then-kinds-ne0 w ↦ w.sizes-is ∙ w.measure.ensures t.0 _ t.3
-      | else-kinds-ne0 w ↦ w.sizes-is ∙ plain-sizes t.3 w.if-kinds-ne0.false
+        | then-kinds-ne0 w ↦ w.sizes-is ∙ w.measure.ensures t.0 _ t.3
+        | else-kinds-ne0 w ↦ w.sizes-is ∙ plain-sizes t.3 w.if-kinds-ne0.false
       ],
     )

@@ -1,5 +1,5 @@
 -- `reader::read_sheet` meets its contract: the sheet comes out of the arrays, since no rule refuses its facts. Assumes nothing.
-use Rattle.theory.specs.Prelude.{rules, ◌≡◌, refl, sym, ap, ◌∙◌, subst, List, ℕ}
+use Rattle.theory.specs.Prelude.{refl, sym, ap, ◌∙◌, subst}
 use Rattle.sheet.specs.Field.{refused}
 use Rattle.sheet.specs.Decode.{read_sheet}
 use Rattle.graph.specs.Lent.Sheets.{drawn-in}

@@ -1,5 +1,5 @@
 -- `reader::read_size` meets its contract. Assumes nothing.
-use Rattle.theory.specs.Prelude.{◌≡◌, sym, ap, ◌∙◌, not-true, not-false, rules, drop}
+use Rattle.theory.specs.Prelude.{◌≡◌, sym, ap, ◌∙◌, rules, drop}
 use mir.Syntax.{w32}
 use mir.Facts.{to_z-of_z}
 use Rattle.sheet.specs.Field.{value, field, signed32}

@@ -1,5 +1,5 @@
 -- `reader::signed` meets its contract. Assumes nothing.
-use Rattle.theory.specs.Prelude.{ℕ, suc, ◌-◌, ◌<◌, ◌≤◌, ◌^◌, arith, ◌≡◌, ap, rules, lt-ltb, le-ltb, negsuc, ◌+ℤ◌}
+use Rattle.theory.specs.Prelude.{ℕ, suc, ◌-◌, ◌<◌, ◌≤◌, ◌^◌, arith, ◌≡◌, ap, lt-ltb, le-ltb, negsuc, ◌+ℤ◌}
 use mir.Syntax.{w32}
 use mir.Val.{to_z, SFits}
 use mir.Facts.{to_z_pos, to_z-of_z}
@@ -14,14 +14,14 @@ fits : (u : ℕ) → 2 ^ 31 ≤ u → u < 2 ^ 32 → SFits w32 (negsuc (2 ^ 32 -
 fits u a b = record { sfits = omega arith }
 
 pub overflow_add-result : goal.overflow_add-result
-overflow_add-result c =     rw (negative c.args.u c.if-u-lt2147483648.false c.requires) (fits c.args.u c.if-u-lt2147483648.false c.requires)
+overflow_add-result c = rw (negative c.args.u c.if-u-lt2147483648.false c.requires) (fits c.args.u c.if-u-lt2147483648.false c.requires)
 
 pub returns-then-u-lt2147483648 : goal.returns-then-u-lt2147483648
 returns-then-u-lt2147483648 c = rw (lt-ltb _ _ c.if-u-lt2147483648.true)
 
 pub returns-else-u-lt2147483648 : goal.returns-else-u-lt2147483648
-returns-else-u-lt2147483648 c =     rw (
-      negative c.args.u c.if-u-lt2147483648.false c.requires,
-      to_z-of_z (fits c.args.u c.if-u-lt2147483648.false c.requires),
-      le-ltb _ _ c.if-u-lt2147483648.false,
-    )
+returns-else-u-lt2147483648 c = rw (
+  negative c.args.u c.if-u-lt2147483648.false c.requires,
+  to_z-of_z (fits c.args.u c.if-u-lt2147483648.false c.requires),
+  le-ltb _ _ c.if-u-lt2147483648.false,
+)

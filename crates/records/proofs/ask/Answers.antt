@@ -6,29 +6,23 @@ use Rattle.graph.specs.declared.Head.{Head}
 use Rattle.sketch.specs.Sketch.{extended, as_judged}
 use Rattle.sketch.specs.Placing.Laws.{place-asked}
 use Rattle.records.specs.Record.{record_sheet}
-use Rattle.records.specs.Record.Laws.{FactsIn, read-refused, facts-in, asked-refused, asked-value}
+use Rattle.records.specs.Record.Laws.{read-refused, facts-in, asked-refused, asked-value}
 use Rattle.records.proofs.ask.Goals as goal
-
--- the facts in the record
-read : (c : goal.After-radii-2-1)
-    → FactsIn (record_sheet c.args.lent.now) c.in-Value.front
-    c.read-got.new.1.0 c.read-got.new.1.1.0
-    c.read-got.new.1.1.1.0 c.read-got.new.1.1.1.1.0
-read c = facts-in _ _ _ _ c.read-got.ensures c.in-Value.is
 
 pub read-got-requires : goal.read-got-requires
 read-got-requires c = (refl, refl, refl, refl)
 
 pub returns-in_default : goal.returns-in_default
-returns-in_default c =     asked-refused _ _ (read-refused _ _ _ _ c.read-got.ensures c.in_default.is c.refusal.ensures)
+returns-in_default c = asked-refused _ _ (read-refused _ _ _ _ c.read-got.ensures c.in_default.is c.refusal.ensures)
 
 pub place_next-requires : goal.place_next-requires
-place_next-requires c = ((read c).facts, (read c).sheet_in)
+place_next-requires c =
+    let f = facts-in {x = record_sheet c.args.lent.now} _ _ _ _ c.read-got.ensures c.in-Value.is in
+    (f.facts, f.sheet_in)
 
 pub returns : goal.returns
-returns c = let f = 
-    let read : FactsIn (record_sheet c.args.lent.now) c.in-Value.front c.read-got.new.1.0 c.read-got.new.1.1.0 c.read-got.new.1.1.1.0 c.read-got.new.1.1.1.1.0 = facts-in _ _ _ _ c.read-got.ensures c.in-Value.is in
-    read in
+returns c =
+    let f = facts-in {x = record_sheet c.args.lent.now} _ _ _ _ c.read-got.ensures c.in-Value.is in
     let one = c.args.c in
     let n = ap (λ (h : Head). h.e) f.sheet_in.head_is in
     (c.place_next.ensures f.facts f.sheet_in).answer_is

@@ -1,63 +1,38 @@
 -- `records::read` meets its contract: the count in the first two bytes, and the sheet of so many that follow. Assumes nothing.
-use Rattle.theory.specs.Prelude.{rules, ℕ, ◌+◌, ◌*◌, ◌-◌, ◌≤◌, arith, ◌≡◌, sym, ap, ◌∙◌, subst, List, length, take, drop}
+use Rattle.theory.specs.Prelude.{rules, ℕ, ◌+◌, ◌*◌, ◌-◌, ◌≤◌, arith, ◌≡◌, refl, sym, ap, ◌∙◌, List, length, take, drop}
 use Rattle.sheet.specs.Decode.{read_sheet}
-use Rattle.reader.specs.declared.CodesRead.{CodesRead}
-use Rattle.reader.specs.Answers.{SheetRead}
 use Rattle.records.specs.Record.{as27, record_sheet}
-use Rattle.records.specs.Record.Laws.{told, record-short, record-cut, record-whole}
+use Rattle.records.specs.Record.Laws.{told, record-short, record-cut, record-whole, read-refused, facts-in}
 use Rattle.records.proofs.read.Goals as goal
 
--- the count
-module _ (c : tie.After-wide2) where
-  abbrev lent : List ℕ
-  lent = c.args.lent.now
-
-  two : 2 ≤ length lent
-  two = c.if-room-lt2.false
-
-  count : c.wide.result + 256 * c.wide-2.result ≡ told lent
-  count = omega (arith, c.wide-2.ensures.0, c.wide.ensures.0)
-
 -- the bytes that follow
-module _ (c : tie.Else2) where
-  abbrev end : ℕ
-  end = 2 + (c.wide.result + 256 * c.wide-2.result)
-
-  whole : record_sheet (lent c) ≡ as27 (read_sheet (take (end - 2) (drop 2 (lent c))))
-  whole =
-      let n : end - 2 ≡ told (lent c) = omega (arith, count c) in
-      record-whole (lent c) (two c) (omega (arith, c.if-room-end.false, count c))
-      ∙ ap (λ (k : ℕ). as27 (read_sheet (take k (drop 2 (lent c))))) (sym n)
-
--- what the reading of these bytes answers
-module _ (c : tie.After-read-codes) where
-  abbrev bytes : List ℕ
-  bytes = take (end c - 2) (drop 2 (lent c))
-
-  told_of : {k : CodesRead} → c.read_codes-got.result ≡ k → SheetRead (read_sheet bytes) k c.read_codes-got.new.1.0 c.read_codes-got.new.1.1.0
-      c.read_codes-got.new.1.1.1.0 c.read_codes-got.new.1.1.1.1.0
-  told_of e =
-      subst (λ (k : CodesRead). SheetRead (read_sheet bytes) k c.read_codes-got.new.1.0 c.read_codes-got.new.1.1.0
-      c.read_codes-got.new.1.1.1.0 c.read_codes-got.new.1.1.1.1.0) e c.read_codes-got.ensures
+whole : (lent : List ℕ) (n : ℕ) → n ≡ told lent → 2 ≤ length lent → 2 + n ≤ length lent
+    → record_sheet lent ≡ as27 (read_sheet (take (2 + n - 2) (drop 2 lent)))
+whole lent n e two l =
+    let m : 2 + n - 2 ≡ told lent = omega (arith, e) in
+    record-whole lent two (omega (arith, e)) ∙ ap (λ (k : ℕ). as27 (read_sheet (take k (drop 2 lent)))) (sym m)
 
 pub returns-then-room-lt2 : goal.returns-then-room-lt2
 returns-then-room-lt2 c = record-short _ c.if-room-lt2.true
 
-pub overflow_mul-length : goal.overflow_mul-length
-overflow_mul-length c = omega (arith, c.wide-2.ensures.1)
-
-pub overflow_add-length : goal.overflow_add-length
-overflow_add-length c = omega (arith, c.wide-2.ensures.1, c.wide.ensures.1)
-
-pub overflow_add-end : goal.overflow_add-end
-overflow_add-end c = omega (arith, c.wide-2.ensures.1, c.wide.ensures.1)
-
 pub returns-then-room-end : goal.returns-then-room-end
-returns-then-room-end c = record-cut _ (two c) (omega (arith, c.if-room-end.true, count c))
+returns-then-room-end c =
+    record-cut _ c.if-room-lt2.false (omega (arith, c.if-room-end.true, c.wide-2.ensures.0, c.wide.ensures.0))
 
 pub returns-in_default : goal.returns-in_default
-returns-in_default c = whole c ∙ ap as27 (told_of c c.in_default.is)
+returns-in_default c =
+    whole c.args.lent.now (c.wide.result + 256 * c.wide-2.result) (omega (arith, c.wide-2.ensures.0, c.wide.ensures.0)) c.if-room-lt2.false
+    c.if-room-end.false
+    ∙ ap as27 (read-refused _ _ _ _ c.read_codes-got.ensures c.in_default.is refl)
 
 pub returns : goal.returns
-returns c =     let (f, rest, q, a) = told_of c c.in-Value.is in
-    (f, rest, whole c ∙ ap as27 q, a)
+returns c =
+    let f = facts-in {x = read_sheet (take (2 + (c.wide.result + 256 * c.wide-2.result) - 2) (drop 2 c.args.lent.now))} _ _ _ _
+    c.read_codes-got.ensures c.in-Value.is in (
+      f.facts,
+      f.rest,
+      whole c.args.lent.now (c.wide.result + 256 * c.wide-2.result) (omega (arith, c.wide-2.ensures.0, c.wide.ensures.0)) c.if-room-lt2.false
+      c.if-room-end.false
+      ∙ ap as27 f.reads,
+      f.sheet_in,
+    )

@@ -1,8 +1,10 @@
 -- `records::read_held` meets its contract: the sheet that is read, unless it is over. Assumes nothing.
-use Rattle.theory.specs.Prelude.{rules, ◌≡◌, sym, ap, ◌∙◌, subst}
+use Rattle.theory.specs.Prelude.{rules, ℕ, ◌≡◌, refl, sym, ap, ◌∙◌, subst, List}
+use Rattle.sheet.specs.Facts.{Facts}
 use Rattle.sheet.specs.Graph.{graph_of, over_fault}
+use Rattle.graph.specs.declared.Front.{Front}
 use Rattle.graph.specs.declared.Head.{Head}
-use Rattle.graph.specs.Lent.{graph_in}
+use Rattle.graph.specs.Lent.{graph_in, head_in, SheetIn}
 use Rattle.graph.specs.Lent.Sheets.{graph_is, drawn-in}
 use Rattle.reader.specs.declared.CodesRead.{CodesRead}
 use Rattle.reader.specs.Answers.{SheetRead}
@@ -19,19 +21,20 @@ returns-in_default c = let r = c.read-got in
     r.new.1.0 r.new.1.1.0 r.new.1.1.1.0 r.new.1.1.1.1.0) is r.ensures))
 
 pub over_fault-requires : goal.over_fault-requires
-over_fault-requires c = 
-    let read : FactsIn (record_sheet c.args.lent.now) c.in-Value.front c.read-got.new.1.0 c.read-got.new.1.1.0 c.read-got.new.1.1.1.0 c.read-got.new.1.1.1.1.0 = facts-in _ _ _ _ c.read-got.ensures c.in-Value.is in
+over_fault-requires c =
+    let read = facts-in {x = record_sheet c.args.lent.now} _ _ _ _ c.read-got.ensures c.in-Value.is in
     rw c.head_of.ensures (drawn-in read.sheet_in)
 
 pub returns-then-over_fault-ne0 : goal.returns-then-over_fault-ne0
-returns-then-over_fault-ne0 c = 
-    let read : FactsIn (record_sheet c.args.lent.now) c.in-Value.front c.read-got.new.1.0 c.read-got.new.1.1.0 c.read-got.new.1.1.1.0 c.read-got.new.1.1.1.1.0 = facts-in _ _ _ _ c.read-got.ensures c.in-Value.is in
-    let over-is : c.over_fault.result ≡ over_fault (graph_of (read c).facts) = λ = let k. c in let f = read k in c.over_fault.ensures ∙ ap (λ (h : Head). over_fault (graph_in h k.read-got.new.1.1.0)) c.head_of.ensures ∙ ap over_fault (graph_is f.sheet_in) in
-    held-over _ read.reads (λ e. c.if-over_fault-ne0.true (over-is ∙ e))
+returns-then-over_fault-ne0 c =
+    let f = facts-in {x = record_sheet c.args.lent.now} _ _ _ _ c.read-got.ensures c.in-Value.is in
+    let over-is : c.over_fault.result ≡ over_fault (graph_of f.facts) =
+    c.over_fault.ensures ∙ ap (λ (h : Head). over_fault (graph_in h c.read-got.new.1.1.0)) c.head_of.ensures ∙ ap over_fault (graph_is f.sheet_in) in
+    held-over _ f.reads (λ e. c.if-over_fault-ne0.true (over-is ∙ e))
 
 pub returns : goal.returns
-returns c = let f = 
-    let read : FactsIn (record_sheet c.args.lent.now) c.in-Value.front c.read-got.new.1.0 c.read-got.new.1.1.0 c.read-got.new.1.1.1.0 c.read-got.new.1.1.1.1.0 = facts-in _ _ _ _ c.read-got.ensures c.in-Value.is in
-    let over-is : c.over_fault.result ≡ over_fault (graph_of (read c).facts) = λ = let k. c in let f = read k in c.over_fault.ensures ∙ ap (λ (h : Head). over_fault (graph_in h k.read-got.new.1.1.0)) c.head_of.ensures ∙ ap over_fault (graph_is f.sheet_in) in
-    read in
+returns c =
+    let f = facts-in {x = record_sheet c.args.lent.now} _ _ _ _ c.read-got.ensures c.in-Value.is in
+    let over-is : c.over_fault.result ≡ over_fault (graph_of f.facts) =
+    c.over_fault.ensures ∙ ap (λ (h : Head). over_fault (graph_in h c.read-got.new.1.1.0)) c.head_of.ensures ∙ ap over_fault (graph_is f.sheet_in) in
     (f.facts, _, held-value _ f.reads (sym over-is ∙ c.if-over_fault-ne0.false), f.sheet_in)

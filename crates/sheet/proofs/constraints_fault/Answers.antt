@@ -15,7 +15,8 @@ abbrev zeros : Constraint
 zeros = record { first = 0; second = 0; size = Given (pos 0) }
 
 -- the ends of one that has no fault ascend, below 64
-below : (es : List Element) (cs : List Constraint) (c : Constraint) → length es ≤ 64 → constraint_fault es cs c ≡ 0 → (c.first < c.second) × (c.second < 64)
+below : (es : List Element) (cs : List Constraint) (c : Constraint) → length es ≤ 64 → constraint_fault es cs c ≡ 0
+    → (c.first < c.second) × (c.second < 64)
 unfolding constraint_fault
 below es cs c few e =
     let h = ends-true _ _ _ (unless-none (ends_ascend (length es) c.first c.second) 5 _ e).0 in (h.0, omega (arith, h))

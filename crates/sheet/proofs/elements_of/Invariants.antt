@@ -6,7 +6,9 @@ use Rattle.sheet.specs.Facts.Kinds.{KindsIn}
 use Rattle.sheet.proofs.elements_of.Given as goal
 
 abbrev pub invariant-loop-i : goal.invariant-loop-i
-invariant-loop-i l = (l.i ≤ l.n) × (length l.elements ≡ 64) × ((es : List Element) → length es ≡ l.n → KindsIn es l.kinds l.radii → take l.i l.elements ≡ take l.i es)
+invariant-loop-i l =
+    (l.i ≤ l.n) × (length l.elements ≡ 64)
+    × ((es : List Element) → length es ≡ l.n → KindsIn es l.kinds l.radii → take l.i l.elements ≡ take l.i es)
     × (drop l.i l.elements ≡ replicate (64 - l.i) blank_element)
 
 abbrev pub decreases-loop-i : goal.decreases-loop-i

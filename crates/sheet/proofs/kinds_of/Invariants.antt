@@ -11,7 +11,9 @@ abbrev pub RadiiFrom : ℕ → List Element → List ℕ → Type 0
 RadiiFrom i es radii = (k : ℕ) → i ≤ k → is_circle (kind_at es k) ≡ true → get_or radii k 0 ≡ radius_of (kind_at es k)
 
 abbrev pub invariant-loop-i : goal.invariant-loop-i
-invariant-loop-i l = (l.i ≤ l.n) × (l.lines ≡ set_of is_line (drop l.i (take l.n l.elements))) × (l.circles ≡ set_of is_circle (drop l.i (take l.n l.elements)))
+invariant-loop-i l =
+    (l.i ≤ l.n) × (l.lines ≡ set_of is_line (drop l.i (take l.n l.elements)))
+    × (l.circles ≡ set_of is_circle (drop l.i (take l.n l.elements)))
     × (length l.radii ≡ 64) × RadiiFrom l.i (take l.n l.elements) l.radii
 
 abbrev pub decreases-loop-i : goal.decreases-loop-i

@@ -26,7 +26,15 @@ loop-i-preserved c =
     let room : c.args.n ≤ length c.args.elements = rw l c.requires in (
       omega arith,
       c.loop-i.invariant.1 ∙ radii-turn c.args.elements c.args.n c.loop-i.i blank_element room c.loop-i-test.true
-          ∙ elim c.if-is_circle.branch [ then-is_circle+else-not-radius_in_range w ↦ rw (sym c.is_circle.ensures ∙ w.if-is_circle.true, ← w.radius_of.ensures, sym w.radius_in_range.ensures ∙ w.if-not-radius_in_range.false) | else-is_circle w ↦ rw (sym c.is_circle.ensures ∙ w.if-is_circle.false) ],
+          ∙ elim c.if-is_circle.branch [
+            | then-is_circle+else-not-radius_in_range w ↦
+                rw (
+                  sym c.is_circle.ensures ∙ w.if-is_circle.true,
+                  ← w.radius_of.ensures,
+                  sym w.radius_in_range.ensures ∙ w.if-not-radius_in_range.false,
+                )
+            | else-is_circle w ↦ rw (sym c.is_circle.ensures ∙ w.if-is_circle.false)
+          ],
     )
 
 pub returns : goal.returns

@@ -70,7 +70,9 @@ centre-clusters es (c ∷ cs) = ap (λ (l : List ℕ). cluster_of c ∷ l) (cent
 
 centre-sizes : (es : List Element) (cs : List Constraint) → map (size_in (map centre_element es)) (map (centre_constraint es) cs) ≡ map (size_in es) cs
 centre-sizes es [] = refl
-centre-sizes es (c ∷ cs) = ap₂ ◌∷◌ (between-size (kind_at (map centre_element es) c.first) (kind_at (map centre_element es) c.second) (kind_at es c.first) (kind_at es c.second) c.size) (centre-sizes es cs)
+centre-sizes es (c ∷ cs) =
+    let kind = kind_at (map centre_element es) in
+    ap₂ ◌∷◌ (between-size (kind c.first) (kind c.second) (kind_at es c.first) (kind_at es c.second) c.size) (centre-sizes es cs)
 
 pub graph-centres : (f : Facts) → graph_of (centres f) ≡ graph_of f
 graph-centres f =

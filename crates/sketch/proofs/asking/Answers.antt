@@ -1,5 +1,5 @@
 -- `sketch::asking` meets its contract: placing by the number held. Assumes nothing.
-use Rattle.theory.specs.Prelude.{rules, ℕ, refl, sym, ap, ◌∙◌}
+use Rattle.theory.specs.Prelude.{ℕ, refl, sym, ap, ◌∙◌}
 use Rattle.theory.specs.Graph.{verdict_of}
 use Rattle.sheet.specs.Facts.{facts_of}
 use Rattle.sheet.specs.Graph.{graph_of}

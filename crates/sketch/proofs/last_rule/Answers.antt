@@ -1,5 +1,5 @@
 -- `sketch::last_rule` meets its contract, by its test. Assumes nothing.
-use Rattle.theory.specs.Prelude.{rules, eq-eqb, ne_eqb}
+use Rattle.theory.specs.Prelude.{eq-eqb, ne_eqb}
 use Rattle.sketch.proofs.last_rule.Goals as goal
 
 pub returns-then-first-e : goal.returns-then-first-e

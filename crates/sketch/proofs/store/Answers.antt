@@ -1,5 +1,5 @@
 -- `sketch::store`
-use Rattle.theory.specs.Prelude.{rules, refl}
+use Rattle.theory.specs.Prelude.{refl}
 use Rattle.sketch.specs.Sketch.{stored}
 use Rattle.sketch.proofs.store.Goals as goal
 

@@ -10,7 +10,7 @@ use Rattle.steps.specs.Records.Laws.{length-numbers, numbers-next, numbers-none}
 use Rattle.steps.proofs.put_records.Given as goal
 
 abbrev pub invariant-loop-i : goal.invariant-loop-i
-invariant-loop-i l =     (l.i ≤ l.count) × Going Put l.initial.out 0 (step_numbers (take l.count l.f.list)) l.out l.next (step_numbers (drop l.i (take l.count l.f.list)))
+invariant-loop-i l = (l.i ≤ l.count) × Going Put l.initial.out 0 (step_numbers (take l.count l.f.list)) l.out l.next (step_numbers (drop l.i (take l.count l.f.list)))
 
 abbrev pub decreases-loop-i : goal.decreases-loop-i
 decreases-loop-i l = l.count - l.i

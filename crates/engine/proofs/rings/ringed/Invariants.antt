@@ -1,7 +1,6 @@
 -- `engine::rings::ringed` meets its contract: a turn does not change the answer, and one that takes nothing off ends it. Assumes nothing.
-use Rattle.theory.specs.Prelude.{◌≡◌, refl, sym, ap, ◌∙◌, ℕ, arith, rules, ones}
+use Rattle.theory.specs.Prelude.{◌≡◌, ones}
 use Rattle.theory.specs.Ring.{ringed}
-use Rattle.engine.specs.Turns.Laws.{strip-fewer, ringed-strip, ringed-same, ringed-none}
 use Rattle.engine.proofs.rings.ringed.Given as goal
 
 abbrev pub invariant-loop-l : goal.invariant-loop-l

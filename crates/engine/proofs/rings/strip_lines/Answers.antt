@@ -1,6 +1,5 @@
 -- `engine::rings::strip_lines` meets its contract: the clusters are taken from the last to the first, as the definition goes. Assumes nothing.
 use borrow.Author.Rules.{rules}
-use Rattle.engine.specs.Turns.{Swept}
 use Rattle.engine.specs.Turns.Laws.{sweep-start, sweep, sweep-end}
 use Rattle.engine.proofs.rings.strip_lines.Goals as goal
 
