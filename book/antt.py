@@ -1,6 +1,6 @@
 """Reads files of antt, and contracts in files of Rattle: what is declared, and what each name means where it stands."""
 
-from meanings import Kit, Local, Made, Module, Scope, Variants
+from meanings import Constants, Kit, Local, Made, Module, Scope, Variants
 from terms import Terms, deeper
 from words import SIGNS, Item, bracket, items, split_at, tokens
 
@@ -183,6 +183,8 @@ class Reader(Terms):
             self.mark(t.start, t.end, "module", meaning.file)
         elif isinstance(meaning, Variants):
             self.mark(t.start, t.end, "module", meaning.decl)
+        elif isinstance(meaning, Constants):
+            self.mark(t.start, t.end, "module", meaning.crate)
         else:
             self.mark(t.start, t.end, "link", meaning)
 

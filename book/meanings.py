@@ -68,6 +68,15 @@ class Module:
         self.file = file
 
 
+class Constants:
+    """The constants of a crate of ours, as what stands before a dot."""
+
+    __slots__ = ("crate",)
+
+    def __init__(self, crate):
+        self.crate = crate
+
+
 class Variants:
     """The variants of an enum of Rattle, as what stands before a dot."""
 

@@ -12,7 +12,9 @@ RESERVED = set(
     "self Self static struct super trait true type unsafe use where while requires ensures".split()
 )
 BUILTIN = set(
-    "u8 u16 u32 u64 u128 usize i8 i16 i32 i64 i128 isize bool char str Option Some None Result Ok Err Box Vec".split()
+    "u8 u16 u32 u64 u128 usize i8 i16 i32 i64 i128 isize f32 f64 bool char str Option Some None Result Ok Err Box Vec "
+    "String Clone Copy Default Drop PartialEq Eq PartialOrd Ord From Into TryFrom TryInto Iterator IntoIterator "
+    "HostRuntime Print Eprint Input Alloc AllocGlobal Fn FnMut FnOnce drop".split()
 )
 #: What a contract writes behind a parameter that is a reference.
 POINTED = {
@@ -23,6 +25,8 @@ POINTED = {
     "exit": "the parameter on return",
 }
 OPEN, CLOSE = ("(", "{", "["), (")", "}", "]")
+#: What stands before the bar that begins a closure.
+BEFORE_CLOSURE = ("(", "[", "{", "}", ",", ";", "=", "=>", "move", "return", "&&", "||")
 
 
 def closing(toks, i):
@@ -34,6 +38,13 @@ def closing(toks, i):
             if depth == 0:
                 return j
     return len(toks) - 1
+
+
+def until_bar(toks, i):
+    """The place of the bar that ends what a closure takes."""
+    while i < len(toks) and toks[i].text != "|":
+        i = closing(toks, i) + 1 if toks[i].text in OPEN else i + 1
+    return i
 
 
 class Programs(antt.Reader):
@@ -67,10 +78,20 @@ class Programs(antt.Reader):
     def name(self, toks, i, scope):
         """A name or a path of code; answers the place behind it."""
         path, j = [toks[i]], i + 1
+        if j + 1 < len(toks) and toks[j].text == "!" and toks[j + 1].text in OPEN and self.code.find(path[0].text) is None:
+            self.mark(path[0].start, path[0].end, "kit", "a macro of the language's own")
+            self.last = None
+            return j + 1
         while j + 1 < len(toks) and toks[j].text == "::" and toks[j + 1].kind == "name":
             path.append(toks[j + 1])
             j += 2
         crate = self.file.crate
+        if len(path) > 1 and isinstance(scope.find(path[0].text), Local):  # a type's parameter, and what its bounds give
+            self.mark(path[0].start, path[0].end, "local")
+            for t in path[1:]:
+                self.mark(t.start, t.end, "kit", "a member of a bound")
+            self.last = None
+            return j
         for k, t in enumerate(path, 1):
             if len(path) > 1 and (k == 1 and t.text in self.house.crates or t.text in RESERVED):
                 if t.text not in RESERVED:
@@ -96,22 +117,30 @@ class Programs(antt.Reader):
         own = {}
         for d in [decl, *decl.fields, *(x for f in decl.fields for x in f.fields)] if decl else []:
             own[d.start] = d
-        for i, t in enumerate(toks):
+        scope, i = Scope(self.code), 0
+        while i < len(toks):
+            t = toks[i]
             if t.start in own:
                 self.mark(t.start, t.end, "decl", own[t.start])
-            elif t.kind == "name" and t.text not in RESERVED:
-                self.name(toks, i, self.code)
+            if i in (1, 2) and t.text == "<" and toks[0].text in ("impl", "struct", "enum"):
+                i = self.generics(toks, i, scope)
+                continue
+            if t.start not in own and t.kind == "name" and t.text not in RESERVED:
+                i = self.name(toks, i, scope)
+                continue
+            i += 1
 
     # ---- functions
 
     def function(self, decl, toks, owner):
         """A function or a constant: its parameters, its contract, its body."""
         scope = Scope(self.code)
+        self.generics(decl.around, 0, scope)
         self.mark(toks[1].start, toks[1].end, "decl", decl)
         if decl.kind == "const":
             self.body(toks[2:], scope)
             return
-        first = next(k for k in range(2, len(toks)) if toks[k].text == "(")  # behind a lifetime, where there is one
+        first = self.generics(toks, 2, scope)
         end = closing(toks, first)
         self.parameters(toks[first + 1 : end], scope, owner)
         i = end + 1
@@ -127,10 +156,32 @@ class Programs(antt.Reader):
                 self.contract(toks[inside].end, toks[end].start, toks[inside].line, scope, result)
                 i = end + 1
                 continue
-            if t.kind == "name" and t.text not in RESERVED:
-                self.name(toks, i, scope)
-            i += 1
+            i = self.name(toks, i, scope) if t.kind == "name" and t.text not in RESERVED else i + 1
         self.body(toks[i:], scope)
+
+    def generics(self, toks, i, scope):
+        """The parameters in angles, where there are some: lifetimes, and types with their bounds; answers the place
+        behind them."""
+        if i >= len(toks) or toks[i].text != "<":
+            return i
+        depth, end = 0, i
+        while end < len(toks):
+            depth += (toks[end].text == "<") - (toks[end].text == ">") - 2 * (toks[end].text == ">>")
+            if depth <= 0:
+                break
+            end += 1
+        inner, k = toks[i + 1 : end], 0
+        while k < len(inner):
+            t = inner[k]
+            if t.kind != "name" or t.text in RESERVED:
+                k += 1
+            elif k == 0 or inner[k - 1].text in (",", "const"):
+                scope.bind(t.text, Local())
+                self.mark(t.start, t.end, "local")
+                k += 1
+            else:
+                k = self.name(inner, k, scope)
+        return end + 1
 
     def contract(self, start, end, line, scope, result):
         """A contract: a term of antt over the parameters, with `result` and the values that a reference points to."""
@@ -149,8 +200,9 @@ class Programs(antt.Reader):
         return super().field(t, of)
 
     def parameters(self, toks, scope, owner):
-        depth = 0
-        for i, t in enumerate(toks):
+        depth = i = 0
+        while i < len(toks):
+            t = toks[i]
             if t.kind == "mark":
                 depth += (t.text in OPEN) - (t.text in CLOSE)
             elif t.text == "self":
@@ -161,7 +213,9 @@ class Programs(antt.Reader):
                 scope.bind(t.text, Local(self.house.struct_of(self.code.find(names[0].text)) if plain else None))
                 self.mark(t.start, t.end, "local")
             elif t.kind == "name" and t.text not in RESERVED:
-                self.name(toks, i, scope)
+                i = self.name(toks, i, scope)
+                continue
+            i += 1
 
     def told(self, decl):
         """The type that a function says it answers, where it is one of ours."""
@@ -180,6 +234,8 @@ class Programs(antt.Reader):
             after = toks[i + 1] if i + 1 < len(toks) else None
             if t.text == "match":
                 i = self.match(toks, i + 1, here)
+            elif t.text in ("|", "||") and (i == 0 or toks[i - 1].text in BEFORE_CLOSURE):
+                i = self.closure(toks, i, here)
             elif t.text in ("let", "for"):
                 i = self.let_code(toks, i + 1, here, t.text)
             elif t.text == "." and after is not None and after.kind in ("name", "number"):
@@ -202,6 +258,24 @@ class Programs(antt.Reader):
                     here = Scope(here)
                     here.names["{"] = self.last  # whose literal it is
                     i += 1
+
+    def closure(self, toks, i, scope):
+        """What a closure takes, which holds to the end of the brackets around it; answers the place behind."""
+        if toks[i].text == "||":
+            return i + 1
+        end = until_bar(toks, i + 1)
+        k = i + 1
+        while k < end:
+            stop = k
+            while stop < end and toks[stop].text not in (",", ":"):
+                stop = closing(toks, stop) + 1 if toks[stop].text in OPEN else stop + 1
+            self.code_pattern(toks[k:stop], scope)
+            while stop < end and toks[stop].text != ",":
+                if toks[stop].kind == "name" and toks[stop].text not in RESERVED:
+                    self.name(toks, stop, scope)
+                stop += 1
+            k = stop + 1
+        return end + 1
 
     def entry(self, t, scope):
         """The label of an entry of a struct's literal."""
@@ -247,7 +321,10 @@ class Programs(antt.Reader):
             while toks[arrow].text != "=>":
                 arrow += 1
             arm = Scope(scope)
-            self.code_pattern(toks[j:arrow], arm)
+            guard = next((k for k in range(j, arrow) if toks[k].text == "if"), arrow)
+            self.code_pattern(toks[j:guard], arm)
+            if guard < arrow:
+                self.body(toks[guard + 1 : arrow], arm)
             j = arrow + 1
             last = closing(toks, j) + 1 if toks[j].text == "{" else j
             while last < end and toks[last].text != ",":
@@ -292,9 +369,10 @@ class Programs(antt.Reader):
         self.code_pattern(left, inner)
         told = self.value_type(toks, end + 1)
         if colon is not None:
-            for k in range(colon + 1, end):
-                if toks[k].kind == "name" and toks[k].text not in RESERVED:
-                    self.name(toks, k, scope)
+            k = colon + 1
+            while k < end:
+                named = toks[k].kind == "name" and toks[k].text not in RESERVED
+                k = self.name(toks, k, scope) if named else k + 1
             told = self.code.find(toks[colon + 1].text)
         whole = len(inner.names) == 1 and not any(t.text in ("::", "(", "{") for t in left)
         for name in inner.names:

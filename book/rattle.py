@@ -3,14 +3,14 @@
 import re
 
 import words
-from meanings import Scope
-from programs import RESERVED, Programs, closing
+from meanings import Kit, Scope
+from programs import BUILTIN, RESERVED, Programs, closing
 from words import Token
 
 TOKEN = re.compile(
     r"(?P<space>\s+)|(?P<comment>//[^\n]*)|(?P<string>b?\"(?:\\.|[^\"\\])*\"|b?'(?:\\.[^']*|[^'\\])')"
     r"|(?P<number>[0-9][0-9a-zA-Z_]*)|(?P<name>[A-Za-z_][A-Za-z0-9_]*)"
-    r"|(?P<mark>'[a-z]+|::|=>|->|\.\.=?|[=!<>]=|<<|>>|&&|\|\||.)",
+    r"|(?P<mark>'[a-z_]+|::|=>|->|\.\.=?|[=!<>]=|<<|>>|&&|\|\||.)",
     re.S,
 )
 
@@ -48,7 +48,7 @@ class Reader(Programs):
         file = self.file
         file.comment = file.head_comment()
         self.tokens = tokens(file.text, self.mark)
-        self.heads, self.bodies, self.uses = [], [], []
+        self.heads, self.bodies, self.uses, self.around = [], [], [], []
         self.declare_items(self.tokens, None)
 
     def declare_items(self, toks, owner):
@@ -56,7 +56,10 @@ class Reader(Programs):
         begin = i = 0
         while i < len(toks):
             text = toks[i].text
-            if text in ("use", "mod") and (i == 0 or toks[i - 1].text in (";", "}", "ghost", "pub", "]")):
+            if text == "mod" and toks[i + 2].text == "{":  # a module that stands in the file itself
+                end = closing(toks, i + 2)
+                self.declare_items(toks[i + 3 : end], owner)
+            elif text in ("use", "mod") and (i == 0 or toks[i - 1].text in (";", "}", "ghost", "pub", "]")):
                 end = until(toks, i, ";")
                 self.uses.append((toks[i : end + 1], i > 0 and toks[i - 1].text == "ghost"))
             elif text in ("struct", "enum"):
@@ -65,7 +68,9 @@ class Reader(Programs):
                 inside = until(toks, i, "{")
                 end = closing(toks, inside)
                 self.heads.append((None, toks[i:inside]))
-                self.declare_items(toks[inside + 1 : end], toks[inside - 1].text)
+                outer, self.around = self.around, toks[i + 1 : inside]
+                self.declare_items(toks[inside + 1 : end], self.owner(self.around))
+                self.around = outer
             elif text in ("const", "static") and toks[i + 1].text.isupper():
                 end = self.declare_constant(toks, i, begin)
             elif text == "fn":
@@ -74,6 +79,18 @@ class Reader(Programs):
                 i += 1
                 continue
             begin = i = end + 1
+
+    @staticmethod
+    def owner(head):
+        """The type that an impl is of: behind its `for`, where it is of a trait, without what stands in angles."""
+        depth, name = 0, ""
+        for t in head:
+            depth += (t.text == "<") - (t.text == ">") - 2 * (t.text == ">>")
+            if t.text == "where":
+                break
+            if depth == 0 and t.kind == "name" and t.text not in RESERVED:
+                name = t.text
+        return name
 
     def declare_type(self, toks, i, begin):
         name = toks[i + 1]
@@ -116,18 +133,18 @@ class Reader(Programs):
         decl = self.file.declare(toks[i + 1].text, "const", toks[i + 1])
         end = until(toks, i, ";")
         decl.type = " ".join(self.file.text[toks[i].start : toks[end].start].split())[:120]
-        decl.last, decl.marks = toks[end].line, {x.text for x in toks[begin:i]}
+        decl.last, decl.marks, decl.around = toks[end].line, {x.text for x in toks[begin:i]}, []
         self.bodies.append((decl, toks[i:end], None))
         return end
 
     def declare_function(self, toks, i, begin, owner):
         """A function: its head goes to the brace that opens its body, which stands behind its contract."""
         decl = self.file.declare(toks[i + 1].text, "method" if owner else "function", toks[i + 1], owner and "impl")
-        decl.owner, decl.marks = owner, {x.text for x in toks[begin:i]}
+        decl.owner, decl.marks, decl.around = owner, {x.text for x in toks[begin:i]}, self.around
         body = i + 2
-        while toks[body].text != "{" or {toks[body - 1].text, toks[body - 2].text} & {"requires", "ensures"}:
+        while toks[body].text not in ("{", ";") or toks[body].text == "{" and {toks[body - 1].text, toks[body - 2].text} & {"requires", "ensures"}:
             body = closing(toks, body) + 1 if toks[body].text in ("(", "[", "{") else body + 1
-        end = closing(toks, body)
+        end = closing(toks, body) if toks[body].text == "{" else body
         decl.type = self.file.text[toks[begin].start : toks[body].start].rstrip()
         decl.open, decl.end = toks[body].start, toks[end].end
         decl.first, decl.last = toks[begin].line, toks[end].line
@@ -142,6 +159,8 @@ class Reader(Programs):
         scope = Scope(house.prelude)
         self.code = Scope(None)  # the names of code
         self.ghosts = Scope(scope)  # the names of contracts
+        for name in BUILTIN:
+            scope.bind(name, Kit(name))
         for name, decls in house.crate_items(file.crate).items():
             decl = next((d for d in decls if d.kind in ("function", "struct", "enum", "const")), None)
             if decl is not None:
@@ -179,6 +198,9 @@ class Reader(Programs):
                 end = closing(toks, i)
                 self.brought(toks[i + 1 : end], path)
                 path, i = list(before), end + 1
+                continue
+            if t.text == "*":  # a crate's own names are in scope
+                path, i = list(before), i + 1
                 continue
             path.append(t)
             if after == "as":

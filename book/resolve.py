@@ -6,7 +6,7 @@ import re
 import antt
 import house as sources
 import rattle
-from meanings import Kit, Local, Made, Module, Scope, Variants
+from meanings import Constants, Kit, Local, Made, Module, Scope, Variants
 
 HERE = os.path.dirname(os.path.abspath(__file__))
 
@@ -80,6 +80,8 @@ class House:
         if whole is not None:
             return next((d for d in whole.names.get(rest[-1], []) if d.kind == "data"), None)
         if "declared" in rest:
+            if rest[-1] == "TheConstants":
+                return Constants(crate)
             at = rest.index("declared") + 1
             while at < len(rest) and self.source_module(crate, rest[at]) is not None:
                 at += 1
@@ -123,6 +125,8 @@ class House:
         """What a name means behind a module."""
         if isinstance(module, Kit):
             return Kit(module.path + "." + name)
+        if isinstance(module, Constants):
+            return next((d for d in self.crate_items(module.crate).get(name, []) if d.kind == "const"), None)
         if isinstance(module, Variants):
             return next((d for d in module.decl.fields if d.name == name), None)
         if isinstance(module, Made):
@@ -169,6 +173,8 @@ class House:
             return module.file
         if isinstance(module, (Made, Variants)):
             return module.decl
+        if isinstance(module, Constants):
+            return module.crate
         return module.path if isinstance(module, Kit) else module
 
     # ---- records

@@ -1,6 +1,6 @@
 """Terms of antt: every word of one is told by what binds it. Binders hold to the end of the brackets around them."""
 
-from meanings import Kit, Local, Made, Module, Scope, Variants
+from meanings import Constants, Kit, Local, Made, Module, Scope, Variants
 from words import RESERVED, SIGNS, bracket, numeral
 
 
@@ -117,7 +117,7 @@ class Terms:
         if words[0] is not None:
             self.refer(t, meaning)
         for word in words[1:]:
-            holds = isinstance(meaning, (Kit, Made, Module, Variants)) or getattr(meaning, "kind", "") in (
+            holds = isinstance(meaning, (Constants, Kit, Made, Module, Variants)) or getattr(meaning, "kind", "") in (
                 "data",
                 "enum",
             )

@@ -47,7 +47,8 @@ fault_at-rule-requires c = slots_long c.loop-at.invariant.going.clusters
 pub returns-then-rule-ne0 : goal.returns-then-rule-ne0
 returns-then-rule-ne0 c =
     let w = c.loop-at.invariant in
-    checks w (λ fine. refuses w c.if-plan-ne0.false c.loop-at-test.true (fault-is w c.wide-i.ensures c.wide-j.ensures c.wide-k.ensures c.fault_at-rule.ensures) c.if-rule-ne0.true)
+    let fault = fault-is w c.wide-i.ensures c.wide-j.ensures c.wide-k.ensures c.fault_at-rule.ensures in
+    checks w (λ fine. refuses w c.if-plan-ne0.false c.loop-at-test.true fault c.if-rule-ne0.true)
     (λ z. absurd (c.if-rule-ne0.true z))
 
 pub step-requires : goal.step-requires
@@ -60,12 +61,14 @@ step-requires c =
 
 pub overflow_add-steps : goal.overflow_add-steps
 overflow_add-steps c =
-    record { fits = omega (arith, few c.loop-at.invariant c.wide-i.ensures c.wide-j.ensures c.wide-k.ensures c.fault_at-rule.ensures c.if-rule-ne0.false c.ascend-p.ensures) }
+    let l = few c.loop-at.invariant c.wide-i.ensures c.wide-j.ensures c.wide-k.ensures c.fault_at-rule.ensures c.if-rule-ne0.false c.ascend-p.ensures in
+    record { fits = omega (arith, l) }
 
 pub overflow_add-at-in-loop-at-2 : goal.overflow_add-at-in-loop-at-2
 overflow_add-at-in-loop-at-2 c =
     let w = c.loop-at.invariant in
-    record { fits = omega (arith, w.at_is, few w c.wide-i.ensures c.wide-j.ensures c.wide-k.ensures c.fault_at-rule.ensures c.if-rule-ne0.false c.ascend-p.ensures) }
+    let l = few w c.wide-i.ensures c.wide-j.ensures c.wide-k.ensures c.fault_at-rule.ensures c.if-rule-ne0.false c.ascend-p.ensures in
+    record { fits = omega (arith, w.at_is, l) }
 
 pub loop-at-preserved : goal.loop-at-preserved
 loop-at-preserved c =

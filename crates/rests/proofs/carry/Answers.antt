@@ -15,7 +15,8 @@ module _ {e steps t i j k : ℕ} {parts : List ℕ} (h : t < steps) (ei : i ≡ 
       → (l : Listed e parts steps) → Told w l.cs (take t l.p) words → Told w l.cs (take (t + 1) l.p) next
   joined w {words} room are l told =
       subst (Told w l.cs (take (t + 1) l.p))
-      (sym (are ∙ (λ z. set words (e + t) (get_or words (ei z) 0 ∪ get_or words (ej z) 0 ∪ get_or words (ek z) 0)))) (told-next l t h w words room told)
+      (sym (are ∙ (λ z. set words (e + t) (get_or words (ei z) 0 ∪ get_or words (ej z) 0 ∪ get_or words (ek z) 0))))
+      (told-next l t h w words room told)
 
 pub loop-t-init : goal.loop-t-init
 loop-t-init c =
@@ -29,10 +30,12 @@ loop-t-init c =
     )
 
 pub join-requires : goal.join-requires
-join-requires c = in_use c.loop-t-test.true c.place_of-i.ensures c.place_of-j.ensures c.place_of-k.ensures c.requires.0 c.requires.1 c.requires.2
+join-requires c = in_use c.loop-t-test.true c.place_of-i.ensures c.place_of-j.ensures c.place_of-k.ensures
+    c.requires.0 c.requires.1 c.requires.2
 
 pub join-requires-in-loop-t : goal.join-requires-in-loop-t
-join-requires-in-loop-t c = in_use c.loop-t-test.true c.place_of-i.ensures c.place_of-j.ensures c.place_of-k.ensures c.requires.0 c.requires.1 c.requires.2
+join-requires-in-loop-t c = in_use c.loop-t-test.true c.place_of-i.ensures c.place_of-j.ensures c.place_of-k.ensures
+    c.requires.0 c.requires.1 c.requires.2
 
 pub loop-t-preserved : goal.loop-t-preserved
 loop-t-preserved c =

@@ -6,7 +6,8 @@ use Rattle.rests.specs.Words.{Alone}
 use Rattle.rests.proofs.note_alone.Goals as goal
 
 -- one word more
-module _ {first last i v : ℕ} {words : List ℕ} (h : first ≤ i) (l : i < last) (room : last ≤ 192) (is : v ≡ 2 ^ (i - first)) (a : Alone first last i words) where
+module _ {first last i v : ℕ} {words : List ℕ} (h : first ≤ i) (l : i < last) (room : last ≤ 192)
+    (is : v ≡ 2 ^ (i - first)) (a : Alone first last i words) where
   stored : (n : ℕ) → first ≤ n → n < i + 1 → n < last → Dec (n ≡ i) → get_or (set words i v) n 0 ≡ 2 ^ (n - first)
   stored n f k m (yes e) =
       ap (λ (x : ℕ). get_or (set words i v) x 0) e ∙ get_or-set_same words i v 0 (omega (arith, a.long)) ∙ is
