@@ -1,5 +1,5 @@
 -- `sets::below` meets its contract. Assumes nothing.
-use Rattle.theory.specs.Prelude.{◌≡◌, ap, min, arith, pow_pos, rules}
+use Rattle.theory.specs.Prelude.{◌≡◌, ap, min, arith, pow_pos}
 use Rattle.theory.specs.Set.{full}
 use Rattle.sets.proofs.below.Goals as goal
 

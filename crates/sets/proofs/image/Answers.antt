@@ -1,7 +1,7 @@
 -- `sets::image` meets its contract: the loop keeps `Imaged`. Assumes nothing.
 use Rattle.theory.specs.Prelude.{◌<◌, arith, rules, count_trailing_zeros}
 use Rattle.sets.specs.Each.Laws.{each-lowest, each-less}
-use Rattle.sets.specs.Image.Laws.{Imaged, imaged-none, imaged-next, imaged-all}
+use Rattle.sets.specs.Image.Laws.{imaged-none, imaged-next, imaged-all}
 use Rattle.sets.proofs.image.Goals as goal
 
 lowest : (c : goal.In-loop-rest) → count_trailing_zeros 64 c.loop-rest.rest < 64
@@ -17,7 +17,7 @@ pub offset_bounds-table-p : goal.offset_bounds-table-p
 offset_bounds-table-p c = omega (arith, lowest c)
 
 pub bounds-table-p : goal.bounds-table-p
-bounds-table-p c = 
+bounds-table-p c =
     let lowest : count_trailing_zeros 64 c.loop-rest.rest < 64 = each-lowest c.loop-rest.invariant.each c.loop-rest-test.true in
     lowest
 

@@ -1,7 +1,5 @@
 -- `sets::image` meets its contract: the loop keeps `Imaged`. Assumes nothing.
-use Rattle.theory.specs.Prelude.{◌<◌, arith, rules, count_trailing_zeros}
-use Rattle.sets.specs.Each.Laws.{each-lowest, each-less}
-use Rattle.sets.specs.Image.Laws.{Imaged, imaged-none, imaged-next, imaged-all}
+use Rattle.sets.specs.Image.Laws.{Imaged}
 use Rattle.sets.proofs.image.Given as goal
 
 abbrev pub invariant-loop-rest : goal.invariant-loop-rest

@@ -1,5 +1,5 @@
 -- `pair` meets its contract. Assumes nothing.
-use Rattle.theory.specs.Prelude.{ap₂, bit_or, rules}
+use Rattle.theory.specs.Prelude.{ap₂, bit_or}
 use Rattle.theory.specs.Set.{◌∪◌}
 use Rattle.theory.specs.Constraints.{pair}
 use Rattle.sets.proofs.pair.Goals as goal

@@ -1,5 +1,5 @@
 -- `without_lowest` meets its contract. Assumes nothing.
-use Rattle.theory.specs.Prelude.{refl, rules}
+use Rattle.theory.specs.Prelude.{refl}
 use Rattle.theory.specs.Set.{◌∩◌}
 use Rattle.sets.proofs.without_lowest.Goals as goal
 

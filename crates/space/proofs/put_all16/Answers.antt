@@ -1,9 +1,6 @@
 -- `space::put_all16` meets its contract: the numbers passed are stored. Assumes nothing.
-use borrow.Author.Rules.{rules}
-use Prim.Native.Nat.{◌-◌}
 use native.Mathlib.Omega.{arith}
-use lib.ListN.{length}
-use Rattle.space.specs.Space.Laws.{Storing, storing-none, storing-one, stored, put_refused}
+use Rattle.space.specs.Space.Laws.{storing-none, storing-one, stored, put_refused}
 use Rattle.space.proofs.put_all16.Goals as goal
 
 pub returns-then-out-numbers : goal.returns-then-out-numbers

@@ -1,9 +1,7 @@
 -- `space::put_all64` meets its contract: the numbers passed are stored. Assumes nothing.
-use borrow.Author.Rules.{rules}
 use Prim.Native.Nat.{◌-◌}
-use native.Mathlib.Omega.{arith}
 use lib.ListN.{length}
-use Rattle.space.specs.Space.Laws.{Storing, storing-none, storing-one, stored, put_refused}
+use Rattle.space.specs.Space.Laws.{Storing}
 use Rattle.space.proofs.put_all64.Given as goal
 
 abbrev pub invariant-loop-i : goal.invariant-loop-i

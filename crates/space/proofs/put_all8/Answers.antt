@@ -1,5 +1,4 @@
 -- `space::put_all8` meets its contract: measured first, then written. Assumes nothing.
-use borrow.Author.Rules.{rules}
 use mathlib.Core.Path.{sym}
 use Rattle.space.specs.Space.Laws.{put_refused, put-after, long-answer}
 use Rattle.space.proofs.put_all8.Goals as goal

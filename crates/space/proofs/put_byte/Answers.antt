@@ -1,8 +1,6 @@
 -- `space::put_byte` meets its contract: a place past the end takes no byte. Assumes nothing.
-use borrow.Author.Rules.{rules}
 use Prim.Native.Nat.{◌+◌}
 use mathlib.Core.Path.{sym, ◌∙◌}
-use mathlib.Core.Logic.{⊎_elim}
 use mathlib.Core.List.{[], ◌∷◌}
 use lib.Seq.{set_out}
 use Rattle.space.specs.Space.{Put}

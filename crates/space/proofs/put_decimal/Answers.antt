@@ -1,5 +1,4 @@
 -- `space::put_decimal` meets its contract: one, two or three digits by the number's size. Assumes nothing.
-use borrow.Author.Rules.{rules}
 use Prim.Native.Nat.{◌/◌, ◌%◌}
 use native.Mathlib.Omega.{arith}
 use mathlib.Core.Path.{◌≡◌, ap}

@@ -1,9 +1,6 @@
 -- `space::put_text` meets its contract: the bytes passed are stored. Assumes nothing.
-use borrow.Author.Rules.{rules}
-use Prim.Native.Nat.{◌-◌}
 use mathlib.Core.Path.{refl}
-use lib.ListN.{length}
-use Rattle.space.specs.Space.Laws.{Storing, storing-none, storing-one, storing-all, put_all, put-short}
+use Rattle.space.specs.Space.Laws.{storing-none, storing-one, storing-all, put_all, put-short}
 use Rattle.space.proofs.put_text.Goals as goal
 
 pub returns-then-out-next : goal.returns-then-out-next

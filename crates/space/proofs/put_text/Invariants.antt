@@ -1,9 +1,7 @@
 -- `space::put_text` meets its contract: the bytes passed are stored. Assumes nothing.
-use borrow.Author.Rules.{rules}
 use Prim.Native.Nat.{◌-◌}
-use mathlib.Core.Path.{refl}
 use lib.ListN.{length}
-use Rattle.space.specs.Space.Laws.{Storing, storing-none, storing-one, storing-all, put_all, put-short}
+use Rattle.space.specs.Space.Laws.{Storing}
 use Rattle.space.proofs.put_text.Given as goal
 
 abbrev pub invariant-loop-i : goal.invariant-loop-i
