@@ -104,7 +104,8 @@ def crates():
             line = line.split("#")[0].strip()
             if ":" in line:
                 name, needs = line.split(":", 1)
-                listed[name.strip()] = Crate(name.strip(), needs.split())
+                name = name.split()[0]  # behind it stands what it is built as
+                listed[name] = Crate(name, needs.split())
     order, seen = [], set()
 
     def visit(name):
