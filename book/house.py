@@ -17,6 +17,7 @@ class Decl:
         self.line, self.start = token.line, token.start
         self.marks, self.comment, self.type, self.fields = set(), "", "", []
         self.cited, self.believed, self.last = set(), False, token.line
+        self.goal = ""  # of an answer: what stands before the dot of the goal that it answers
         self.head, self.takes = "", []  # of a function: the head of its result, the types of its arguments
         self.signature = token.line  # the last line of its signature
         taken = file.anchors
