@@ -62,6 +62,7 @@ class Reader(Terms):
                 decl.marks, decl.type = marks, self.text_of(item.toks)
                 decl.last = item.all[-1].line
                 decl.head, decl.takes, decl.signature = self.result(right), takes(right[1:]), decl.last
+                decl.goal = right[1].text if len(right) == 4 and right[2].text == "." else ""
                 if (
                     marks & {"abbrev", "unfoldable"}
                     or right[-1].text == "0"

@@ -6,6 +6,8 @@ import re
 from house import ROOT, Decl
 
 HEADER = "include/pattern.h"
+#: The crate whose functions a user of Rattle calls.
+PUBLIC = "pattern"
 COMMENT = r"/\*((?:[^*]|\*(?!/))*)\*/"
 PROTOTYPE = re.compile(r"^(?:u?int\d+_t|void|size_t|pattern_\w+) \*?(pattern_\w+)\([^;{]*\);", re.M | re.S)
 
@@ -19,7 +21,8 @@ class Entry:
         self.comment = "\n".join(lines).strip()
         self.short = name[len("pattern_") :]
         self.page = f"entries/{self.short}.html"
-        self.function = self.inner = None  # the function for C, and the one of Rattle that it calls
+        self.function = self.inner = None  # the function for C, and the one of Rattle that it comes to
+        self.through = []  # from the one to the other, both among them
         self.cited = []  # what their contracts cite
         self.rows, self.edits, self.rules, self.fields = [], [], [], []
 
@@ -185,6 +188,20 @@ def called(word, entries):
     return [e for e in entries if e.short == word] or [e for e in entries if word and e.short.startswith(word + "_")]
 
 
+def through(function, short):
+    """From a function for C to the one that it comes to: each calls the next, of a crate that it needs, down to a crate
+    that stands on no other of entry points."""
+    found = [function]
+    while len(found) == 1 or PUBLIC in found[-1].file.crate.below:
+        last = found[-1]
+        inside = [m[3] for m in last.file.marks if last.open < m[0] < last.end and isinstance(m[3], Decl)]
+        calls = [d for d in inside if d.kind == "function" and d.file.crate.name in last.file.crate.needs]
+        if not calls:
+            break
+        found.append(next((d for d in calls if d.name.removeprefix("pattern_").startswith(short)), calls[0]))
+    return found
+
+
 def read(house, names, sections, edits):
     """The entry points of the header, in its order, and the rules."""
     functions = {d.name: d for f in house.files.values() if f.language == "rt" for d in f.decls if d.kind == "function"}
@@ -192,26 +209,24 @@ def read(house, names, sections, edits):
     rules, known, said = Rules(names.anywhere), rule_names(), {e.name: e.comment for e in entries}
     refusals = next((d for d in names.anywhere.get("Refusals", []) if d.kind == "record"), None)
     for entry in entries:
-        function = entry.function = functions[entry.name]
-        crate = function.file.crate
-        inside = [m[3] for m in function.file.marks if function.open < m[0] < function.end and isinstance(m[3], Decl)]
-        calls = [d for d in inside if d.kind == "function" and d.file.crate.name in crate.needs]
-        entry.inner = next((d for d in calls if d.name.startswith(entry.short)), calls[0] if calls else None)
-        entry.cited = contract_names(function) + (contract_names(entry.inner) if entry.inner else [])
+        entry.function = functions[entry.name]
+        entry.through = through(entry.function, entry.short)
+        entry.inner = entry.through[-1] if len(entry.through) > 1 else None
+        entry.cited = list(dict.fromkeys(name for f in entry.through for name in contract_names(f)))
         entry.fields, proved = refused(entry, refusals, rules)
         listed = tried(entry.comment, said)
         # 17, and what the header's words single out, are not in the sets of the fields
         more = [k for k in listed if proved and k not in proved and (k == 17 or re.search(rf"\b{k} \(", entry.comment))]
         entry.rules = in_order(listed, proved + more, known)
     for entry in entries:
-        own = {d for d in entry.cited if sum(d in e.cited for e in entries) <= 2} | {entry.function, entry.inner}
+        own = {d for d in entry.cited if sum(d in e.cited for e in entries) <= 2} | set(entry.through)
         own |= {f for f in refusals.fields if f in entry.fields} if refusals else set()
         for row in (row for section in sections for row in section.rows):
             if any(n in own for cell in row.named for n in cell if isinstance(n, Decl)):
                 entry.rows.append(row)
                 entry.edits += [n for n in row.names("refused") if n in edits.values() and n not in entry.edits]
     for edit in edits.values():
-        touched = [e for e in entries if edit.function is not None and edit.function in (e.function, e.inner)]
+        touched = [e for e in entries if edit.function is not None and edit.function in e.through]
         for entry in touched + called(edit.call, entries):
             if edit not in entry.edits:
                 entry.edits.append(edit)

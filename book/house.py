@@ -17,6 +17,7 @@ class Decl:
         self.line, self.start = token.line, token.start
         self.marks, self.comment, self.type, self.fields = set(), "", "", []
         self.cited, self.believed, self.last = set(), False, token.line
+        self.goal = ""  # of an answer: what stands before the dot of the goal that it answers
         self.head, self.takes = "", []  # of a function: the head of its result, the types of its arguments
         self.signature = token.line  # the last line of its signature
         taken = file.anchors
@@ -104,7 +105,8 @@ def crates():
             line = line.split("#")[0].strip()
             if ":" in line:
                 name, needs = line.split(":", 1)
-                listed[name.strip()] = Crate(name.strip(), needs.split())
+                name = name.split()[0]  # behind it stands what it is built as
+                listed[name] = Crate(name, needs.split())
     order, seen = [], set()
 
     def visit(name):

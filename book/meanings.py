@@ -59,6 +59,15 @@ class Made:
         self.decl, self.path = decl, path
 
 
+class Step:
+    """What the kit tells of a function where a goal of it stands: the whole, its variables, or one call or branch."""
+
+    __slots__ = ("decl", "part")
+
+    def __init__(self, decl, part):
+        self.decl, self.part = decl, part
+
+
 class Module:
     """A file of ours, as what stands before a dot."""
 

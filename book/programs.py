@@ -24,9 +24,12 @@ POINTED = {
     "entry": "the parameter on entry",
     "exit": "the parameter on return",
 }
+MACROS = set(
+    "print println eprint eprintln write writeln format vec matches assert assert_eq assert_ne unreachable".split()
+)
 OPEN, CLOSE = ("(", "{", "["), (")", "}", "]")
 #: What stands before the bar that begins a closure.
-BEFORE_CLOSURE = ("(", "[", "{", "}", ",", ";", "=", "=>", "move", "return", "&&", "||")
+BEFORE_CLOSURE = ("(", "[", "{", "}", ",", ";", "=", "=>", "move", "return")
 
 
 def closing(toks, i):
@@ -78,7 +81,7 @@ class Programs(antt.Reader):
     def name(self, toks, i, scope):
         """A name or a path of code; answers the place behind it."""
         path, j = [toks[i]], i + 1
-        if j + 1 < len(toks) and toks[j].text == "!" and toks[j + 1].text in OPEN and self.code.find(path[0].text) is None:
+        if j + 1 < len(toks) and toks[j].text == "!" and toks[j + 1].text in OPEN and path[0].text in MACROS:
             self.mark(path[0].start, path[0].end, "kit", "a macro of the language's own")
             self.last = None
             return j + 1

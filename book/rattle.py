@@ -202,7 +202,8 @@ class Reader(Programs):
             if t.text == "*":  # a crate's own names are in scope
                 path, i = list(before), i + 1
                 continue
-            path.append(t)
+            if t.text != "self" or not path:  # io::{self}: the module itself
+                path.append(t)
             if after == "as":
                 self.bring(path, toks[i + 2])
                 path, i = list(before), i + 3

@@ -111,6 +111,15 @@ class House:
                         crate.items.setdefault(name, []).extend(decls)
         return crate.items
 
+    def called(self, name, crate):
+        """The function or method of that name that the code of a crate can call, where there is just one."""
+        near = [crate, *(self.crates[n] for n in crate.below)]
+        found = [d for c in near for d in self.crate_items(c).get(name, []) if d.kind == "function"]
+        found += [d for d in self.methods.get(name, []) if d.file.crate in near]
+        own = [d for d in found if d.file.crate is crate]
+        found = own if len(own) == 1 else found
+        return found[0] if len(found) == 1 else None
+
     def crate_type(self, crate, name):
         return next((d for d in self.crate_items(crate).get(name, []) if d.kind in ("struct", "enum")), None)
 

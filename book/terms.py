@@ -1,6 +1,6 @@
 """Terms of antt: every word of one is told by what binds it. Binders hold to the end of the brackets around them."""
 
-from meanings import Constants, Kit, Local, Made, Module, Scope, Variants
+from meanings import Constants, Kit, Local, Made, Module, Scope, Step, Variants
 from words import RESERVED, SIGNS, bracket, numeral
 
 
@@ -72,6 +72,9 @@ class Terms:
                     self.mark(t.start, t.end, "local")
             i += 1
         types = self.types_of(toks, scope, of)
+        goal = scope.find(of.goal) if of is not None and of.goal else None
+        if bound and isinstance(goal, Made) and goal.decl.kind in ("function", "method"):
+            types[bound[0]] = Step(goal.decl, "variables" if goal.path.endswith(".Given") else "whole")
         for name in bound:
             scope.bind(name, Local(types.get(name)))
 
@@ -142,6 +145,8 @@ class Terms:
             return None
         found = self.house.fields(t.text, self.file.crate)
         told = self.house.record_of(of)
+        if isinstance(told, Step):
+            return self.of_step(t, told)
         if told is not None:
             found = [d for d in found if d.parent is told] or found
         elif found and self.house.of_a_step(t.text, self):
@@ -154,6 +159,17 @@ class Terms:
             return None
         self.mark(t.start, t.end, "link", found if len(found) > 1 else found[0])
         return found[0] if len(found) == 1 else None
+
+    def of_step(self, t, told):
+        """A name that the kit makes in a goal of a function: it leads to the function, or to the one that is called."""
+        decl, part = told.decl, None
+        if t.text in ("args", "initial", "fn"):
+            part = "variables"
+        elif told.part == "whole" and t.text not in ("requires", "ensures", "result", "now", "new", "old", "last"):
+            part = "variables" if t.text.startswith("loop-") and not t.text.endswith("-test") else "part"
+            decl = self.house.called(t.text.split("-")[0], decl.file.crate) or decl
+        self.mark(t.start, t.end, "made", decl)
+        return Local(Step(decl, part)) if part else None
 
     # ---- terms
 
@@ -400,4 +416,6 @@ class Terms:
             ):
                 return None
         found = scope.find(toks[i].text)
+        if isinstance(found, Local) and isinstance(found.head, Step):
+            return found if i + 1 < len(toks) and toks[i + 1].text == "in" else None
         return found if getattr(found, "kind", "") in ("definition", "law", "helper") else None

@@ -1,5 +1,5 @@
 -- `account::check_plan` meets its contract: the rule that refuses the plan, else the report of its merges with their own verdict. Assumes nothing.
-use Rattle.theory.specs.Prelude.{rules, ◌*◌, ◌≤◌, arith, ◌≡◌, ◌≢◌, sym, ap, ◌∙◌, List, [], ℕ, ℤ, length, take}
+use Rattle.theory.specs.Prelude.{◌*◌, ◌≤◌, arith, ◌≡◌, ◌≢◌, sym, ap, ◌∙◌, List, [], ℕ, ℤ, length, take}
 use Rattle.theory.specs.Merge.{Merge}
 use Rattle.theory.specs.Graph.{SizedGraph}
 use Rattle.theory.specs.declared.Verdict.{Verdict}
@@ -10,7 +10,7 @@ use Rattle.sheet.specs.Graph.{over_fault}
 use Rattle.graph.specs.declared.Head.{Head}
 use Rattle.graph.specs.Lent.{graph_in, sized_in, Drawn}
 use Rattle.graph.specs.Lent.Sheets.{counted}
-use Rattle.merges.specs.Run.{Run, run_in, Merged}
+use Rattle.merges.specs.Run.{Run, run_in}
 use Rattle.judge.specs.Judged.Laws.{arrays-long, Settled}
 use Rattle.plans.specs.declared.Checked.{Checked}
 use Rattle.account.specs.Account.{report_with, list_report, saved_field}

@@ -1,5 +1,5 @@
 -- `account::check_saved` meets its contract: 11 of an over graph, else what the check of the plan answers. Assumes nothing.
-use Rattle.theory.specs.Prelude.{rules, arith, sym, ◌∙◌}
+use Rattle.theory.specs.Prelude.{arith, sym, ◌∙◌}
 use Rattle.graph.specs.Lent.Sheets.{counted}
 use Rattle.judge.specs.Judged.Laws.{starts}
 use Rattle.judge.specs.Judged.Short.{more-fault}

@@ -1,5 +1,5 @@
 -- `account::put_list` meets its contract: what the arrays give is the list's own report, and no longer than its block. Assumes nothing.
-use Rattle.theory.specs.Prelude.{rules, ◌*◌, ◌≤◌, arith, ◌≡◌, refl, length}
+use Rattle.theory.specs.Prelude.{arith, refl}
 use Rattle.judge.specs.Judged.Laws.{arrays-long}
 use Rattle.account.specs.Account.Laws.{room, reported, all_small, not-long}
 use Rattle.account.specs.Resting.Laws.{parts}

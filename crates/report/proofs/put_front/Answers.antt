@@ -1,5 +1,5 @@
 -- `report::put_front` meets its contract: its lines make the front. Assumes nothing.
-use Rattle.theory.specs.Prelude.{rules, arith, ℕ, List}
+use Rattle.theory.specs.Prelude.{arith, ℕ, List}
 use Rattle.theory.specs.declared.Verdict.{Verdict}
 use Rattle.theory.specs.declared.Step.{Step}
 use Rattle.engine.specs.Steps.{steps_in}

@@ -1,5 +1,5 @@
 -- `report::put_report` meets its contract: its front and its clusters make the report. Assumes nothing.
-use Rattle.theory.specs.Prelude.{rules, arith, ℕ, ◌+◌, ◌≡◌, List, length, take}
+use Rattle.theory.specs.Prelude.{arith, ℕ, ◌+◌, List, take}
 use Rattle.theory.specs.declared.Verdict.{Verdict}
 use Rattle.theory.specs.declared.Step.{Step}
 use Rattle.engine.specs.Steps.{steps_in}

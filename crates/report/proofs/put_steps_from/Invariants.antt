@@ -1,15 +1,9 @@
 -- `report::put_steps_from` meets its contract: the lines of the steps from `t` on are still to be put. Assumes nothing.
-use Rattle.theory.specs.Prelude.{ℕ, ◌-◌, ◌≤◌, ◌≡◌, arith, sym, ap, subst, List}
-use Rattle.theory.specs.declared.Step.{Step}
-use Rattle.report.specs.Block.Laws.{stands-as}
+use Rattle.theory.specs.Prelude.{◌-◌, ◌≤◌}
 use Rattle.engine.specs.Steps.{step_at, steps_for}
-use Rattle.report.specs.Report.{step_line, step_lines}
-use Rattle.report.specs.Pieces.{Small}
-use Rattle.report.specs.Report.Laws.{steps_next, steps-none, small_at}
+use Rattle.report.specs.Report.{step_lines}
 use Rattle.report.specs.Block.{Stands}
-use Rattle.report.proofs.Standing.{stands}
 use Rattle.report.specs.Going.{Going}
-use Rattle.report.specs.Going.Laws.{start, put_next, put_last, place}
 use Rattle.report.proofs.put_steps_from.Given as goal
 
 abbrev pub invariant-loop-t : goal.invariant-loop-t

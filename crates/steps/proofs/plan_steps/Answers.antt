@@ -1,6 +1,7 @@
 -- `steps::plan_steps` meets its contract: the verdict's number tells whether the sheet is over. Assumes nothing.
 use Rattle.theory.specs.Prelude.{arith, refl, sym, ◌∙◌}
 use Rattle.sheet.specs.Answer.Laws.{rule-none, rule-some}
+use Rattle.graph.specs.Lent.{graph_in}
 use Rattle.graph.specs.Lent.Sheets.{counted}
 use Rattle.judge.specs.Found.Laws.{found-over, found-plan}
 use Rattle.account.specs.Account.Laws.{room}
@@ -20,7 +21,7 @@ pub steps_of-steps-requires : goal.steps_of-steps-requires
 steps_of-steps-requires c =
     let sound = c.requires.sound in
     let found = found-plan _ c.judge_on-found.ensures sound (λ v. c.if-number-eq0.false (c.number.ensures ∙ v)) in
-    let few = room c.args.h c.args.start.now sound (counted c.requires) found.not_over (plan_merged _ sound found.run_is) in
+    let few = room c.args.h c.args.start.now sound (counted c.requires) found.not_over (plan_merged (graph_in c.args.h c.args.start.now) sound found.run_is) in
     (few.1, few.3)
 
 pub returns : goal.returns
@@ -29,6 +30,6 @@ returns c =
     let sound = c.requires.sound in
     let found = found-plan _ c.judge_on-found.ensures sound (λ v. c.if-number-eq0.false (c.number.ensures ∙ v)) in
     as-listed
-    (listed-are c.args.h c.args.start.now c.args.sizes.now sound (counted c.requires) found.not_over (plan_merged _ sound found.run_is)
+    (listed-are c.args.h c.args.start.now c.args.sizes.now sound (counted c.requires) found.not_over (plan_merged (graph_in c.args.h c.args.start.now) sound found.run_is)
     c.steps_of-steps.ensures)
     (rule-none _ found.none)
