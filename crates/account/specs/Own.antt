@@ -1,7 +1,8 @@
 -- What the answers say of lists of merges. Document 01, "Every order of merging": the engine's plan and an accepted saved plan are such lists, and
 -- the verdict, final clusters, joints and count of steps in the answer are the list's own. Shown from the definitions that the contracts cite, for
 -- every accepted sheet, by `own-lists` of Own/Proof.antt.
-use Rattle.theory.specs.Prelude.{ℕ, ◌%◌, ◌≡◌, ◌≢◌, ◌↔◌, List, map, length}
+use Rattle.std.specs.Prelude.{◌%◌, ◌≡◌, ◌≢◌, ◌↔◌}
+use Rattle.theory.specs.Prelude.{ℕ, List, map, length}
 use Rattle.theory.specs.Merge.{Merge, Maximal, final, joints}
 use Rattle.theory.specs.Plan.{plan_of}
 use Rattle.theory.specs.Graph.{SizedGraph, list_verdict, verdict_of, steps_of}

@@ -1,5 +1,6 @@
 -- Document 01, "Sheets to try", and document 02, 2026-03 and 2026-04: the sheets marked P and rings of lines, each with its facts and the whole report that it prints, and one theorem over the table.
-use Rattle.theory.specs.Prelude.{ℕ, ◌≡◌, List, [], ◌∷◌, ◌++◌, map, pos, replicate}
+use Rattle.std.specs.Prelude.{◌≡◌, ◌∷◌, ◌++◌}
+use Rattle.theory.specs.Prelude.{ℕ, List, [], map, pos, replicate}
 use Rattle.space.specs.Text.{ascii}
 use Rattle.sheet.specs.declared.Opening.TheVariants.{Pf01}
 use Rattle.sheet.specs.declared.Kind.TheVariants.{Line}

@@ -1,5 +1,6 @@
 -- How many of the sets of distances among two to five points are over, well, stuck and under, and the lines that say so (document 02, 2026-10).
-use Rattle.theory.specs.Prelude.{◌≡◌, List, [], ◌∷◌, ◌++◌, ℕ, zero, suc, ◌+◌}
+use Rattle.std.specs.Prelude.{◌≡◌, ◌∷◌, ◌++◌, ◌+◌}
+use Rattle.theory.specs.Prelude.{List, [], ℕ, zero, suc}
 use Rattle.theory.specs.declared.Verdict.{Verdict}
 use Rattle.theory.specs.declared.Verdict.TheVariants.{Over, Angle, Well, Stuck, Under}
 use Rattle.space.specs.Text.{ascii, decimal}

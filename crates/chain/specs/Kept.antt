@@ -1,5 +1,6 @@
 -- What the code keeps of the layers between two elements. Assumes nothing.
-use Rattle.theory.specs.Prelude.{◌≡◌, List, ℕ, ◌^◌, ◌≤◌, ◌<◌, length, get_or}
+use Rattle.std.specs.Prelude.{◌≡◌, ◌^◌, ◌≤◌, ◌<◌}
+use Rattle.theory.specs.Prelude.{List, ℕ, length, get_or}
 use Rattle.chain.specs.Chain.{Share}
 use Rattle.chain.specs.Layers.{reached}
 

@@ -1,5 +1,6 @@
 -- The elements under PF02 in the bytes s: the kinds at a place, and the radii after them (document 02, 2026-01).
-use Rattle.theory.specs.Prelude.{ℕ, ◌+◌, ◌*◌, ◌/◌, ◌≡◌, Bool, true, List, [], ◌∷◌, eqb, length, take, drop, get_or}
+use Rattle.std.specs.Prelude.{◌+◌, ◌*◌, ◌/◌, ◌≡◌, ◌∷◌}
+use Rattle.theory.specs.Prelude.{ℕ, Bool, true, List, [], eqb, length, take, drop, get_or}
 use Rattle.sheet.specs.declared.Opening.TheVariants.{Pf02}
 use Rattle.sheet.specs.declared.Element.{Element}
 use Rattle.sheet.specs.Facts.{kinds_of, bit_of, is_circle, radius_of, kind_at}

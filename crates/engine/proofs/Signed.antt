@@ -1,6 +1,7 @@
 -- Signed numbers: how large sums and differences are, and the absolute value. Assumes nothing.
-use Rattle.theory.specs.Prelude.{◌≡◌, sym, ap, ◌∙◌, subst, Bool, true, false, ℕ, zero, suc, ◌+◌, ◌-◌, ◌^◌, ◌≤◌, arith, T, ltb, ℤ, pos, negsuc, neg_ℤ}
-use Rattle.theory.specs.Prelude.{◌+ℤ◌, ◌-ℤ◌, nat_abs, mag, lt_z, non_neg, ltb-true}
+use Rattle.std.specs.Prelude.{◌≡◌, ◌+◌, ◌-◌, ◌^◌, ◌≤◌, ◌+ℤ◌, ◌-ℤ◌}
+use Rattle.theory.specs.Prelude.{sym, ap, ◌∙◌, subst, Bool, true, false, ℕ, zero, suc, arith, T, ltb, ℤ, pos, negsuc, neg_ℤ}
+use Rattle.theory.specs.Prelude.{nat_abs, mag, lt_z, non_neg, ltb-true}
 use lib.IntN.{sub_ℕ}
 use mir.Syntax.{w32, w64}
 use mir.Val.{SFits, to_z, of_z}

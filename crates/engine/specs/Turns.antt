@@ -1,5 +1,6 @@
 -- What each turn of the loops keeps. Document 02, 2026-03. Assumes nothing.
-use Rattle.theory.specs.Prelude.{◌≡◌, List, ℕ, ◌≤◌, length, drop}
+use Rattle.std.specs.Prelude.{◌≡◌, ◌≤◌}
+use Rattle.theory.specs.Prelude.{List, ℕ, length, drop}
 use Rattle.theory.specs.Ring.{once, strip}
 pub mod Laws
 

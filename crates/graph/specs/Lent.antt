@@ -1,7 +1,8 @@
 -- The constraint graph of a sheet's facts in lent arrays of numbers: its adjacency, the initial clusters and the sizes,
 -- 0 beyond them. As they are read, a missing size is 0 and a contact a number that no size is (document 01, rule 9);
 -- sizes are measured from them and the radii.
-use Rattle.theory.specs.Prelude.{ℕ, ◌<◌, ◌≤◌, ◌≡◌, ◌≢◌, List, map, ℤ, pos, negsuc, length, take}
+use Rattle.std.specs.Prelude.{◌<◌, ◌≤◌, ◌≡◌, ◌≢◌}
+use Rattle.theory.specs.Prelude.{ℕ, List, map, ℤ, pos, negsuc, length, take}
 use Rattle.sheet.specs.declared.Constraint.{Constraint}
 use Rattle.sheet.specs.declared.Size.{Size}
 use Rattle.sheet.specs.declared.Size.TheVariants.{Given, Missing, Tangent, OtherTangent, Unfit}

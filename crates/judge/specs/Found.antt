@@ -1,5 +1,6 @@
 -- What is judged of a sheet whose plan stands in arrays that a caller lends. Assumes nothing.
-use Rattle.theory.specs.Prelude.{◌≡◌, ◌≢◌, Bool, true, false, List, [], ℕ, eqb, take}
+use Rattle.std.specs.Prelude.{◌≡◌, ◌≢◌}
+use Rattle.theory.specs.Prelude.{Bool, true, false, List, [], ℕ, eqb, take}
 use Rattle.theory.specs.Constraints.{NotOver}
 use Rattle.theory.specs.Verdict.{verdict_number}
 use Rattle.theory.specs.Merge.{final, left}

@@ -1,5 +1,6 @@
 -- What is told of a sheet's graph beside its verdict. Document 01, "Verdict names". Assumes nothing.
-use Rattle.theory.specs.Prelude.{ℕ, ◌≡◌, List, length}
+use Rattle.std.specs.Prelude.{◌≡◌}
+use Rattle.theory.specs.Prelude.{ℕ, List, length}
 use Rattle.theory.specs.Merge.{Merge, Valid}
 use Rattle.theory.specs.Graph.{Graph, finding_of, verdict_of}
 use Rattle.theory.specs.declared.Finding.TheVariants.{First}

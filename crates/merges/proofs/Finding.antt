@@ -1,5 +1,6 @@
 -- The least key of the lowest waiting cluster gives the first open merge, which goes by what stands in the slots. Assumes nothing.
-use Rattle.theory.specs.Prelude.{◌≡◌, sym, List, Option, none, ℕ, ◌/◌, ◌%◌, ◌≤◌, ◌<◌}
+use Rattle.std.specs.Prelude.{◌≡◌, ◌/◌, ◌%◌, ◌≤◌, ◌<◌}
+use Rattle.theory.specs.Prelude.{sym, List, Option, none, ℕ}
 use Rattle.theory.specs.Set.{◌∩◌}
 use Rattle.theory.specs.Merge.{slot, Merge, merge, OpenAt, Ended}
 use Rattle.theory.specs.Plan.{First, first_of}

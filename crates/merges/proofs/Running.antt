@@ -1,5 +1,6 @@
 -- The engine's plan in arrays: merges that came first, until none is open or enough are made. Assumes nothing.
-use Rattle.theory.specs.Prelude.{◌≡◌, refl, sym, ap, ap₂, ◌∙◌, subst, ◌⊎◌, inl, inr, List, [], ◌∷◌, ◌++◌, none, some, ℕ, zero, suc, ◌+◌, ◌≤◌, ◌<◌}
+use Rattle.std.specs.Prelude.{◌≡◌, ◌⊎◌, ◌∷◌, ◌++◌, ◌+◌, ◌≤◌, ◌<◌}
+use Rattle.theory.specs.Prelude.{refl, sym, ap, ap₂, ◌∙◌, subst, inl, inr, List, [], none, some, ℕ, zero, suc}
 use Rattle.theory.specs.Prelude.{arith, length, take, replicate, List·getD-eq-default}
 use Rattle.theory.specs.Block.{block}
 use Rattle.theory.specs.Constraints.{NotOver}

@@ -1,5 +1,6 @@
 -- Merges one after another in arrays that a caller lends. Assumes nothing.
-use Rattle.theory.specs.Prelude.{◌≡◌, List, map, ℕ, ◌+◌, ◌*◌, ◌≤◌, length, set}
+use Rattle.std.specs.Prelude.{◌≡◌, ◌+◌, ◌*◌, ◌≤◌}
+use Rattle.theory.specs.Prelude.{List, map, ℕ, length, set}
 use Rattle.theory.specs.Block.{block}
 use Rattle.theory.specs.Constraints.{Pairs}
 use Rattle.theory.specs.Merge.{Merge, three, union, joint, cleared, Valid, final, joints as jointsOf}

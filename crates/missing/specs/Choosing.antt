@@ -1,5 +1,6 @@
 -- The choice among pairs as numbers, and what the code keeps between two pairs. Assumes nothing.
-use Rattle.theory.specs.Prelude.{◌≡◌, ◌≢◌, true, false, List, [], ◌∷◌, ℕ, ◌/◌, ◌%◌, ◌<◌, length, get_or}
+use Rattle.std.specs.Prelude.{◌≡◌, ◌≢◌, ◌∷◌, ◌/◌, ◌%◌, ◌<◌}
+use Rattle.theory.specs.Prelude.{true, false, List, [], ℕ, length, get_or}
 use Rattle.theory.specs.Set.{◌∈◌, full}
 use Rattle.theory.specs.Constraints.{pair, Among, Pairs, Below}
 use Rattle.theory.specs.Over.{IsOver, is_over}

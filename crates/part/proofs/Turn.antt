@@ -1,5 +1,6 @@
 -- The steps of a made cluster, part by part: what each call of itself asks, and what all of them have put at the end. Assumes nothing.
-use Rattle.theory.specs.Prelude.{ℕ, ◌+◌, ◌-◌, ◌≤◌, ◌<◌, ◌^◌, arith, ◌≡◌, sym, ap, ◌∙◌, List, [], ◌∷◌, ◌++◌, length}
+use Rattle.std.specs.Prelude.{◌+◌, ◌-◌, ◌≤◌, ◌<◌, ◌^◌, ◌≡◌, ◌∷◌, ◌++◌}
+use Rattle.theory.specs.Prelude.{ℕ, arith, sym, ap, ◌∙◌, List, [], length}
 use Rattle.theory.specs.declared.Step.{Step}
 use Rattle.engine.specs.Steps.{steps_for}
 use Rattle.report.specs.Report.{step_lines}

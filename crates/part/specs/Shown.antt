@@ -1,6 +1,7 @@
 -- What is shown of the steps of one cluster. Document 02, 2026-14: they are those from which the cluster is made, down to the single constraints;
 -- each part's steps stand before the step that uses it.
-use Rattle.theory.specs.Prelude.{ℕ, ◌+◌, ◌-◌, ◌≤◌, ◌<◌, ◌≡◌, ◌≢◌, ◌↔◌, ◌⊎◌, List, [], ◌∷◌, eqb, ones, length}
+use Rattle.std.specs.Prelude.{◌+◌, ◌-◌, ◌≤◌, ◌<◌, ◌≡◌, ◌≢◌, ◌↔◌, ◌⊎◌, ◌∷◌}
+use Rattle.theory.specs.Prelude.{ℕ, List, [], eqb, ones, length}
 use Rattle.theory.specs.Constraints.{Among, Perm, one_if}
 use Rattle.theory.specs.Graph.{SizedGraph, steps_of}
 use Rattle.theory.specs.Merge.{slot, final, left}

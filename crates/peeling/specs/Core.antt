@@ -1,5 +1,6 @@
 -- Elements that no minimal over set has, and the core that is left without them, the 3-core. Assumes nothing.
-use Rattle.theory.specs.Prelude.{◌≡◌, List, ℕ, ◌+◌, ◌*◌, ◌-◌, ◌^◌, ◌≤◌, ◌<◌, ones, take, get_or}
+use Rattle.std.specs.Prelude.{◌≡◌, ◌+◌, ◌*◌, ◌-◌, ◌^◌, ◌≤◌, ◌<◌}
+use Rattle.theory.specs.Prelude.{List, ℕ, ones, take, get_or}
 use Rattle.theory.specs.Set.{◌∈◌, ◌∩◌, ◌⊑◌, at, full}
 use Rattle.theory.specs.Constraints.{carried, NotOver}
 pub mod Neighbours

@@ -1,5 +1,6 @@
 -- Which constraints can close an over set: those with both ends in the core of the constraints up to them. Assumes nothing.
-use Rattle.theory.specs.Prelude.{◌≡◌, ◌≢◌, List, ℕ, suc, ◌≤◌, ◌<◌, length, take, get_or}
+use Rattle.std.specs.Prelude.{◌≡◌, ◌≢◌, ◌≤◌, ◌<◌}
+use Rattle.theory.specs.Prelude.{List, ℕ, suc, length, take, get_or}
 use Rattle.theory.specs.Set.{◌∈◌}
 use Rattle.theory.specs.Constraints.{NotOver}
 use Rattle.theory.specs.Near.{Near}

@@ -1,6 +1,7 @@
 -- A saved plan, step after step. Assumes nothing.
-use Rattle.theory.specs.Prelude.{◌≡◌, refl, sym, ap, ◌∙◌, ◌≢◌, List, [], ◌∷◌, ◌++◌, append_assoc, append-nil, ℕ, zero, suc, ◌+◌}
-use Rattle.theory.specs.Prelude.{◌*◌, ◌%◌, ◌≤◌, ◌<◌, arith, eqb, length, get_or, take, drop, drop_of_length-le, drop-cons, eq-eqb, ne_eqb}
+use Rattle.std.specs.Prelude.{◌≡◌, ◌≢◌, ◌∷◌, ◌++◌, ◌+◌, ◌*◌, ◌%◌, ◌≤◌, ◌<◌}
+use Rattle.theory.specs.Prelude.{refl, sym, ap, ◌∙◌, List, [], append_assoc, append-nil, ℕ, zero, suc}
+use Rattle.theory.specs.Prelude.{arith, eqb, length, get_or, take, drop, drop_of_length-le, drop-cons, eq-eqb, ne_eqb}
 use Rattle.theory.specs.Block.{block}
 use Rattle.theory.specs.Tests.{yes-branch, no-branch}
 use Rattle.theory.specs.Constraints.{NotOver}

@@ -1,7 +1,8 @@
 -- Request 2026-06: on a sheet that isn't over, two living clusters never share two elements, whatever merges came before. So rule 14 refused no plan
 -- that rule 11 lets through. Here stands the check as it was, each step tried by 13, 14 and 15, and what is claimed of it beside the check without
 -- (Check.antt). Shown by `never-14` of Rule14/Proof.antt; of every sheet by `own-lists` (crate account, Own.antt). Assumes nothing.
-use Rattle.theory.specs.Prelude.{◌≡◌, ◌≢◌, Bool, true, false, ◌||◌, List, [], ◌∷◌, ℕ, zero, suc, ◌%◌, leb, eqb, ones, length}
+use Rattle.std.specs.Prelude.{◌≡◌, ◌≢◌, ◌||◌, ◌∷◌, ◌%◌}
+use Rattle.theory.specs.Prelude.{Bool, true, false, List, [], ℕ, zero, suc, leb, eqb, ones, length}
 use Rattle.theory.specs.Set.{◌∩◌}
 use Rattle.theory.specs.Merge.{slot, Merge, put, Valid, final, ShareOne}
 use Rattle.theory.specs.Plan.{open_test, first_of, is_some}

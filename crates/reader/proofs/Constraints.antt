@@ -1,5 +1,6 @@
 -- The rest of a constraint after its ends, and the constraints that are left in a walk: which answer comes when. Assumes nothing.
-use Rattle.theory.specs.Prelude.{ℕ, suc, ◌+◌, ◌-◌, ◌<◌, ◌≤◌, arith, ◌≡◌, refl, sym, ap, ◌∙◌, List, [], ◌∷◌, ◌++◌, ℤ, length, drop, length-append}
+use Rattle.std.specs.Prelude.{◌+◌, ◌-◌, ◌<◌, ◌≤◌, ◌≡◌, ◌∷◌, ◌++◌}
+use Rattle.theory.specs.Prelude.{ℕ, suc, arith, refl, sym, ap, ◌∙◌, List, [], ℤ, length, drop, length-append}
 use Rattle.theory.specs.Prelude.{drop_of_length-le, drop-cons}
 use Rattle.sheet.specs.declared.Element.{Element}
 use Rattle.sheet.specs.declared.Size.{Size}

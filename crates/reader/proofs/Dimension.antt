@@ -1,5 +1,6 @@
 -- What follows the map: rules 8 and 20, the size that it announces, and the tag. Assumes nothing.
-use Rattle.theory.specs.Prelude.{ℕ, ◌/◌, ◌%◌, ◌≡◌, refl, ap, ◌∙◌, Bool, true, false, List, [], ◌∷◌, eqb, ℤ}
+use Rattle.std.specs.Prelude.{◌/◌, ◌%◌, ◌≡◌, ◌∷◌}
+use Rattle.theory.specs.Prelude.{ℕ, refl, ap, ◌∙◌, Bool, true, false, List, [], eqb, ℤ}
 use Rattle.theory.specs.Prelude.{pos}
 use Rattle.sheet.specs.declared.Kind.{Kind}
 use Rattle.sheet.specs.declared.Size.{Size}

@@ -1,5 +1,6 @@
 -- The comparison of the front of s with p, place by place: what is left at i, and at i + 1. Assumes nothing.
-use Rattle.theory.specs.Prelude.{ℕ, ◌+◌, ◌<◌, ◌≤◌, add-one, ◌≡◌, true, false, List, length, drop, get_or, drop_of_length-le, drop-cons, eq-eqb, ne_eqb}
+use Rattle.std.specs.Prelude.{◌+◌, ◌<◌, ◌≤◌, ◌≡◌}
+use Rattle.theory.specs.Prelude.{ℕ, add-one, true, false, List, length, drop, get_or, drop_of_length-le, drop-cons, eq-eqb, ne_eqb}
 use Rattle.sheet.specs.Field.{begins}
 
 module _ (p s : List ℕ) (i : ℕ) where

@@ -1,5 +1,6 @@
 -- Items in a block stand together where they stand one after another; a set's numbers from 0 on are its elements. Assumes nothing.
-use Rattle.theory.specs.Prelude.{ℕ, ◌+◌, ◌≤◌, arith, refl, ap, List, sets}
+use Rattle.std.specs.Prelude.{◌+◌, ◌≤◌}
+use Rattle.theory.specs.Prelude.{ℕ, arith, refl, ap, List, sets}
 use Rattle.report.specs.Elements.{elements}
 use Rattle.report.specs.Pieces.{numbers, above}
 use Rattle.report.specs.Report.Laws.{above_zero}

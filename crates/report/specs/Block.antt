@@ -1,5 +1,6 @@
 -- The block that the lines of a report are put into, and the table that its numbers are taken from. No promise speaks of them. Assumes nothing.
-use Rattle.theory.specs.Prelude.{ℕ, suc, ◌+◌, ◌/◌, ◌%◌, ◌≤◌, ◌≡◌, Bool, true, ◌&&◌, List, [], ◌∷◌, ◌++◌, T, eqb, length, get_or, take}
+use Rattle.std.specs.Prelude.{◌+◌, ◌/◌, ◌%◌, ◌≤◌, ◌≡◌, ◌&&◌, ◌∷◌, ◌++◌}
+use Rattle.theory.specs.Prelude.{ℕ, suc, Bool, true, List, [], T, eqb, length, get_or, take}
 use Rattle.space.specs.Text.{decimal}
 pub mod Laws
 pub mod Buffered

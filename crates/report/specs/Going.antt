@@ -1,5 +1,6 @@
 -- Writing piece by piece, into a block or into lent space: what is still to be put, from the place reached, leads to the whole. Assumes nothing.
-use Rattle.theory.specs.Prelude.{ℕ, ◌+◌, ◌≡◌, List, [], ◌++◌, length}
+use Rattle.std.specs.Prelude.{◌+◌, ◌≡◌, ◌++◌}
+use Rattle.theory.specs.Prelude.{ℕ, List, [], length}
 pub mod Laws
 
 -- how items stand: the space, the place they are put at, the items, the place after them, and the space after

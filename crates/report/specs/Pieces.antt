@@ -1,5 +1,6 @@
 -- Pieces of the report's lines, as the code puts them one after another, and the bound it asks of a step's numbers. Assumes nothing.
-use Rattle.theory.specs.Prelude.{ℕ, ◌+◌, ◌-◌, ◌*◌, ◌^◌, ◌<◌, ℤ, List, [], ◌∷◌, ◌++◌, map}
+use Rattle.std.specs.Prelude.{◌+◌, ◌-◌, ◌*◌, ◌^◌, ◌<◌, ◌∷◌, ◌++◌}
+use Rattle.theory.specs.Prelude.{ℕ, ℤ, List, [], map}
 use Rattle.space.specs.Text.{ascii, decimal}
 use Rattle.theory.specs.declared.Verdict.{Verdict}
 use Rattle.theory.specs.declared.JointKind.{JointKind}

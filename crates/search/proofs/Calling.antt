@@ -1,5 +1,6 @@
 -- What is stored in words says what becomes of the holders, the waiting clusters and the rim. Assumes nothing.
-use Rattle.theory.specs.Prelude.{◌≡◌, ap, ◌∙◌, ◌≢◌, ◌⊎◌, inl, inr, List, ℕ, zero, suc, ◌+◌, ◌*◌, ◌/◌, ◌%◌, ◌<◌, arith, ℕ_discrete, bit_or, length}
+use Rattle.std.specs.Prelude.{◌≡◌, ◌≢◌, ◌⊎◌, ◌+◌, ◌*◌, ◌/◌, ◌%◌, ◌<◌}
+use Rattle.theory.specs.Prelude.{ap, ◌∙◌, inl, inr, List, ℕ, zero, suc, arith, ℕ_discrete, bit_or, length}
 use Rattle.theory.specs.Prelude.{get_or, set, length-set}
 use Rattle.theory.specs.Set.{◌∈◌, ◌∩◌, ◌∪◌, at}
 use Rattle.theory.specs.Set.Laws.{at-∪, at-le, ∈-∩⁻, ∈-∪ˡ, ∈-∪ʳ, out}

@@ -1,5 +1,6 @@
 -- The elements that a cluster reaches by its part of the rim, gathered one element after another. Assumes nothing.
-use Rattle.theory.specs.Prelude.{◌≡◌, sym, ap, ◌∙◌, subst, ◌≢◌, ◌⊎◌, inl, inr, List, ℕ, ◌-◌, ◌^◌, ◌<◌, arith, ℕ_discrete, bit_and, bit_or, and_le_l}
+use Rattle.std.specs.Prelude.{◌≡◌, ◌≢◌, ◌⊎◌, ◌-◌, ◌^◌, ◌<◌}
+use Rattle.theory.specs.Prelude.{sym, ap, ◌∙◌, subst, inl, inr, List, ℕ, arith, ℕ_discrete, bit_and, bit_or, and_le_l}
 use Rattle.theory.specs.Prelude.{count_trailing_zeros}
 use Rattle.theory.specs.Set.{◌∈◌, ◌∩◌, ◌∪◌, at}
 use Rattle.theory.specs.Set.Laws.{at-∩, at_zero, at-le, both, ∈-∩⁻, ∈-∪⁻, ∈-∪ˡ, ∈-∪ʳ}

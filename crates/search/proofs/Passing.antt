@@ -1,5 +1,6 @@
 -- A word of waiting clusters, looked through from below. Assumes nothing.
-use Rattle.theory.specs.Prelude.{◌≡◌, refl, sym, ap, ◌∙◌, subst, ◌≢◌, List, ℕ, ◌+◌, ◌-◌, ◌*◌, ◌^◌, ◌<◌, arith, ℕ_discrete, bit_and, and_le_l}
+use Rattle.std.specs.Prelude.{◌≡◌, ◌≢◌, ◌+◌, ◌-◌, ◌*◌, ◌^◌, ◌<◌}
+use Rattle.theory.specs.Prelude.{refl, sym, ap, ◌∙◌, subst, List, ℕ, arith, ℕ_discrete, bit_and, and_le_l}
 use Rattle.theory.specs.Prelude.{count_trailing_zeros}
 use Rattle.theory.specs.Set.{◌∈◌, ◌∩◌, at}
 use Rattle.theory.specs.Set.Laws.{at_zero, ∈-∩⁻, filled}

@@ -1,6 +1,7 @@
 -- What a loop over the edge of a union keeps: the links and holders stored so far, and what was found on the way. Assumes nothing.
 use lib.Bits.{or_zero_r}
-use Rattle.theory.specs.Prelude.{◌≡◌, sym, ap, ◌∙◌, subst, ◌≢◌, List, ℕ, ◌+◌, ◌-◌, ◌^◌, ◌<◌, arith, ℕ_discrete, bit_and, bit_or, bit_xor}
+use Rattle.std.specs.Prelude.{◌≡◌, ◌≢◌, ◌+◌, ◌-◌, ◌^◌, ◌<◌}
+use Rattle.theory.specs.Prelude.{sym, ap, ◌∙◌, subst, List, ℕ, arith, ℕ_discrete, bit_and, bit_or, bit_xor}
 use Rattle.theory.specs.Prelude.{count_trailing_zeros, length, get_or, set}
 use Rattle.theory.specs.Set.Lowest.{lowest-in}
 use Rattle.search.specs.State.{linked, Outs, beyond}

@@ -1,5 +1,6 @@
 -- Sets of cluster numbers made of single ones. Assumes nothing.
-use Rattle.theory.specs.Prelude.{◌≡◌, sym, ap, ◌∙◌, ◌≢◌, ◌⊎◌, inl, inr, ⊎_elim, ℕ, zero, suc, ◌+◌, ◌*◌, ◌/◌, ◌%◌, ◌^◌, ◌<◌, arith, ℕ_discrete, bit_or}
+use Rattle.std.specs.Prelude.{◌≡◌, ◌≢◌, ◌⊎◌, ◌+◌, ◌*◌, ◌/◌, ◌%◌, ◌^◌, ◌<◌}
+use Rattle.theory.specs.Prelude.{sym, ap, ◌∙◌, inl, inr, ⊎_elim, ℕ, zero, suc, arith, ℕ_discrete, bit_or}
 use Rattle.theory.specs.Set.{◌∈◌, ◌∪◌, at}
 use Rattle.theory.specs.Set.Laws.{at_zero, at_same, at_other, ∈-∪⁻, ∈-∪ˡ, ∈-∪ʳ}
 use Rattle.theory.specs.Merge.{Part, merge}

@@ -1,5 +1,6 @@
 -- The links, the holders and the waiting clusters before the first merge. Assumes nothing.
-use Rattle.theory.specs.Prelude.{◌≡◌, refl, sym, ap, ◌∙◌, subst, ◌≢◌, ⊎_elim, List, ℕ, zero, suc, ◌+◌, ◌*◌, ◌/◌, ◌%◌, ◌^◌, ◌≤◌, ◌<◌}
+use Rattle.std.specs.Prelude.{◌≡◌, ◌≢◌, ◌+◌, ◌*◌, ◌/◌, ◌%◌, ◌^◌, ◌≤◌, ◌<◌}
+use Rattle.theory.specs.Prelude.{refl, sym, ap, ◌∙◌, subst, ⊎_elim, List, ℕ, zero, suc}
 use Rattle.theory.specs.Prelude.{arith, ℕ_discrete, bit_or, length, get_or, set, replicate}
 use Rattle.theory.specs.Block.Laws.{get_or-blank}
 use Rattle.theory.specs.Set.{◌∈◌, ◌∪◌, at}

@@ -1,5 +1,6 @@
 -- Stores at the places base + p, for the elements p of a set one after another, and the elements linked within a set alone. Assumes nothing.
-use Rattle.theory.specs.Prelude.{◌≡◌, refl, sym, ap, ◌∙◌, subst, ◌≢◌, ◌⊎◌, inl, inr, List, ℕ, zero, suc, ◌+◌, ◌-◌, ◌*◌, ◌/◌, ◌%◌, ◌^◌, ◌≤◌, ◌<◌}
+use Rattle.std.specs.Prelude.{◌≡◌, ◌≢◌, ◌⊎◌, ◌+◌, ◌-◌, ◌*◌, ◌/◌, ◌%◌, ◌^◌, ◌≤◌, ◌<◌}
+use Rattle.theory.specs.Prelude.{refl, sym, ap, ◌∙◌, subst, inl, inr, List, ℕ, zero, suc}
 use Rattle.theory.specs.Prelude.{arith, ℕ_discrete, dec_lt, bit_and, bit_or, bit_xor, and_le_l, count_trailing_zeros, length, get_or, set, length-set}
 use Rattle.theory.specs.Prelude.{List·getD-eq-default, get_or-set_same, get_or-set_other}
 use Rattle.theory.specs.Set.{◌∈◌, ◌∩◌, ◌∪◌, at}

@@ -1,5 +1,6 @@
 -- Sets of cluster numbers in three words. Assumes nothing.
-use Rattle.theory.specs.Prelude.{◌≡◌, refl, sym, ap, ap₂, ◌∙◌, subst, ◌≢◌, List, ℕ, zero, suc, ◌+◌, ◌*◌, ◌/◌, ◌%◌, ◌^◌, ◌<◌, arith, dec_lt, bit_and}
+use Rattle.std.specs.Prelude.{◌≡◌, ◌≢◌, ◌+◌, ◌*◌, ◌/◌, ◌%◌, ◌^◌, ◌<◌}
+use Rattle.theory.specs.Prelude.{refl, sym, ap, ap₂, ◌∙◌, subst, List, ℕ, zero, suc, arith, dec_lt, bit_and}
 use Rattle.theory.specs.Prelude.{bit_or, count_trailing_zeros, trailing_le, length, get_or, set, length-set, get_or-set_same, get_or-set_other}
 use lib.Count.{trailing_of_zero}
 use Rattle.theory.specs.Set.{◌∈◌, ◌∩◌, at}

@@ -1,5 +1,6 @@
 -- The two elements of a set of two, and the clusters that join them to a third. Assumes nothing.
-use Rattle.theory.specs.Prelude.{◌≡◌, sym, ap, ◌∙◌, subst, ◌≢◌, ◌⊎◌, inl, inr, List, ℕ, ◌-◌, ◌^◌, ◌≤◌, ◌<◌, arith, ℕ_discrete, bit_and, and_le_l}
+use Rattle.std.specs.Prelude.{◌≡◌, ◌≢◌, ◌⊎◌, ◌-◌, ◌^◌, ◌≤◌, ◌<◌}
+use Rattle.theory.specs.Prelude.{sym, ap, ◌∙◌, subst, inl, inr, List, ℕ, arith, ℕ_discrete, bit_and, and_le_l}
 use Rattle.theory.specs.Prelude.{count_trailing_zeros}
 use Rattle.theory.specs.Set.{◌∈◌, ◌∩◌, at}
 use Rattle.theory.specs.Set.Laws.{at_zero, ∈-∩⁻}

@@ -1,6 +1,7 @@
 -- What the search for the first open merge keeps beside the slots: the rim, the links of the rim, the holders of each element and the clusters
 -- that wait to be looked at. Clusters by number, a dead one 0, as in `theory`. Assumes nothing.
-use Rattle.theory.specs.Prelude.{◌≡◌, ◌≢◌, ◌⊎◌, List, ℕ, ◌+◌, ◌*◌, ◌/◌, ◌%◌, ◌≤◌, ◌<◌, min, max, bit_and, bit_xor, ones, length, get_or}
+use Rattle.std.specs.Prelude.{◌≡◌, ◌≢◌, ◌⊎◌, ◌+◌, ◌*◌, ◌/◌, ◌%◌, ◌≤◌, ◌<◌}
+use Rattle.theory.specs.Prelude.{List, ℕ, min, max, bit_and, bit_xor, ones, length, get_or}
 use Rattle.theory.specs.Set.{◌∈◌, ◌∩◌, ◌∪◌, at}
 use Rattle.sets.specs.Image.{Image}
 use Rattle.theory.specs.Merge.{slot, Merge, merge, Three, OpenAt, ShareOne, Part, three, union}

@@ -1,5 +1,6 @@
 -- Sets of cluster numbers below 192 in three words, and what the small functions on sets say. Assumes nothing.
-use Rattle.theory.specs.Prelude.{◌≡◌, ◌≢◌, List, ℕ, zero, suc, ◌+◌, ◌*◌, ◌/◌, ◌%◌, ◌^◌, ◌<◌, count_trailing_zeros, bit_or, length, get_or}
+use Rattle.std.specs.Prelude.{◌≡◌, ◌≢◌, ◌+◌, ◌*◌, ◌/◌, ◌%◌, ◌^◌, ◌<◌}
+use Rattle.theory.specs.Prelude.{List, ℕ, zero, suc, count_trailing_zeros, bit_or, length, get_or}
 use Rattle.theory.specs.Set.{◌∈◌, ◌∩◌, at}
 use Rattle.theory.specs.Merge.{slot}
 use Rattle.search.specs.State.{linked, beyond, Linking, Reaching, Outs}

@@ -1,5 +1,6 @@
 -- The elements of a set, lowest first: what holds of those that are passed, `rest` being those to come. Assumes nothing.
-use Rattle.theory.specs.Prelude.{◌≡◌, ℕ, ◌^◌, ◌<◌}
+use Rattle.std.specs.Prelude.{◌≡◌, ◌^◌, ◌<◌}
+use Rattle.theory.specs.Prelude.{ℕ}
 use Rattle.theory.specs.Set.{◌∈◌, at}
 pub mod Laws
 

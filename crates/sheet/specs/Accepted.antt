@@ -1,5 +1,6 @@
 -- Facts that no rule refuses: what a sheet can say (document 01, "Refused, in checking order": rules 3 and 5 to 9; document 02, 2026-01: 18 to 20).
-use Rattle.theory.specs.Prelude.{◌≡◌, true, [], length}
+use Rattle.std.specs.Prelude.{◌≡◌}
+use Rattle.theory.specs.Prelude.{true, [], length}
 use Rattle.sheet.specs.Facts.{Facts}
 use Rattle.sheet.specs.Rules.{elements_in_range, elements_fault, constraints_in_range, constraints_fault}
 pub mod Laws

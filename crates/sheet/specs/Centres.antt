@@ -1,6 +1,7 @@
 -- The sketch of centres (document 02, 2026-01: "A round light must get the verdict and plan of the sketch of its centres"): circles are their centre
 -- points, and a contact is the distance that it means. `Centres/Laws` shows that its graph is the sheet's own. Assumes nothing.
-use Rattle.theory.specs.Prelude.{ℕ, ◌+◌, ◌-◌, ◌≤◌, ◌<◌, ◌≡◌, ◌⊎◌, Bool, true, false, cond, List, map, leb, ℤ, pos, neg_ℤ, nat_abs}
+use Rattle.std.specs.Prelude.{◌+◌, ◌-◌, ◌≤◌, ◌<◌, ◌≡◌, ◌⊎◌}
+use Rattle.theory.specs.Prelude.{ℕ, Bool, true, false, cond, List, map, leb, ℤ, pos, neg_ℤ, nat_abs}
 use Rattle.sheet.specs.declared.Opening.TheVariants.{Pf01}
 use Rattle.sheet.specs.declared.Kind.{Kind}
 use Rattle.sheet.specs.declared.Kind.TheVariants.{Point, Line, Circle}

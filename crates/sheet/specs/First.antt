@@ -1,6 +1,7 @@
 -- The sheet of document 01 alone ("The sheet in bytes" and "Refused": rules 1 to 10; document 02, 2026-11: tags are dropped): what its bytes say and
 -- what bytes its facts have, with no word of circles. `First/Laws` shows that PF01 sheets are read and written so. Assumes nothing.
-use Rattle.theory.specs.Prelude.{ℕ, zero, suc, ◌+◌, ◌/◌, ◌%◌, ◌^◌, Bool, true, false, ◌&&◌, ◌||◌, not, List, [], ◌∷◌, ◌++◌, eqb, ltb, ℤ, pos, length}
+use Rattle.std.specs.Prelude.{◌+◌, ◌/◌, ◌%◌, ◌^◌, ◌&&◌, ◌||◌, ◌∷◌, ◌++◌}
+use Rattle.theory.specs.Prelude.{ℕ, zero, suc, Bool, true, false, not, List, [], eqb, ltb, ℤ, pos, length}
 use Rattle.theory.specs.Prelude.{drop}
 use Rattle.sheet.specs.declared.Opening.TheVariants.{Pf01}
 use Rattle.sheet.specs.declared.Kind.{Kind}

@@ -1,7 +1,8 @@
 -- More dimensions, never a smaller part, of sheets. Document 02, 2026-13. The clusters of a sheet are those of its constraint
 -- graph (Graph.`graph_of`), whatever the kinds of its elements. Shown by `never-smaller` of Growth/Proof.antt and, for placed
 -- dimensions, by `placed-never-smaller` of `sketch` Runs/Growth.antt. Assumes nothing.
-use Rattle.theory.specs.Prelude.{◌≡◌, ◌≢◌, List}
+use Rattle.std.specs.Prelude.{◌≡◌, ◌≢◌}
+use Rattle.theory.specs.Prelude.{List}
 use Rattle.theory.specs.Merge.{Merge, Maximal}
 use Rattle.theory.specs.Graph.{verdict_of}
 use Rattle.theory.specs.declared.Verdict.TheVariants.{Over}

@@ -1,5 +1,6 @@
 -- Constraints noted for rule 7, as who is constrained with whom (theory, `Near`).
-use Rattle.theory.specs.Prelude.{List, [], ◌∷◌, map, ℕ, ◌<◌}
+use Rattle.std.specs.Prelude.{◌∷◌, ◌<◌}
+use Rattle.theory.specs.Prelude.{List, [], map, ℕ}
 use Rattle.theory.specs.Near.{Near}
 use Rattle.sheet.specs.declared.Constraint.{Constraint}
 use Rattle.sheet.specs.Graph.{cluster_of}

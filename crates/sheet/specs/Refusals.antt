@@ -1,5 +1,6 @@
 -- Demand 1: nothing is refused except by a numbered rule. Which rules refuse a field, if any does.
-use Rattle.theory.specs.Prelude.{ℕ, zero, suc, ◌≤◌, ◌≢◌, ◌⊎◌, List}
+use Rattle.std.specs.Prelude.{◌≤◌, ◌≢◌, ◌⊎◌}
+use Rattle.theory.specs.Prelude.{ℕ, zero, suc, List}
 use Rattle.sheet.specs.Field.{Field, value, refused}
 pub mod Laws
 

@@ -1,7 +1,8 @@
 -- Reading and writing a sheet (document 01, "The sheet in bytes" and "Refused"; document 02, 2026-11). The definitions are `read_sheet` (Decode),
 -- `sheet_bytes` (Encode), `without_tags`, `untagged` (WithoutTags) and `Accepted`; what the reader and the writer answer is said by these, so that the
 -- theorems hold of them. Assumes nothing.
-use Rattle.theory.specs.Prelude.{ℕ, ◌≤◌, ◌≡◌, ◌∙◌, true, List, [], length}
+use Rattle.std.specs.Prelude.{◌≤◌, ◌≡◌}
+use Rattle.theory.specs.Prelude.{ℕ, ◌∙◌, true, List, [], length}
 use Rattle.sheet.specs.Facts.{Facts}
 use Rattle.sheet.specs.Field.{value, Bytes}
 use Rattle.sheet.specs.Decode.{read_sheet}

@@ -1,5 +1,6 @@
 -- A constraint placed in the arrays that hold a sheet's facts: what the inner functions answer and leave there.
-use Rattle.theory.specs.Prelude.{ℕ, ◌+◌, ◌≡◌, cond, List, eqb, ℤ, length}
+use Rattle.std.specs.Prelude.{◌+◌, ◌≡◌}
+use Rattle.theory.specs.Prelude.{ℕ, cond, List, eqb, ℤ, length}
 use Rattle.theory.specs.Graph.{Graph, finding_of, verdict_of}
 use Rattle.theory.specs.declared.Finding.{Finding}
 use Rattle.theory.specs.declared.Finding.TheVariants.{Fine, First}

@@ -1,6 +1,7 @@
 -- Runs of asks and placings on a held sketch, in any mix. Document 02, 2026-05: any run must answer as a plain list of constraints would; the sketch is
 -- altered by placing and by nothing else. `Runs` is shown of every value of the code and every run by `runs` of Runs/Proof.antt. Assumes nothing.
-use Rattle.theory.specs.Prelude.{ℕ, ◌≡◌, ◌≢◌, List, [], ◌∷◌, ◌++◌, map, length}
+use Rattle.std.specs.Prelude.{◌≡◌, ◌≢◌, ◌∷◌, ◌++◌}
+use Rattle.theory.specs.Prelude.{ℕ, List, [], map, length}
 use Rattle.theory.specs.Constraints.{Among}
 use Rattle.theory.specs.declared.Verdict.{Verdict}
 use Rattle.theory.specs.Graph.{verdict_of}

@@ -1,5 +1,6 @@
 -- What the search keeps between two constraints, and what one more gives. Assumes nothing.
-use Rattle.theory.specs.Prelude.{◌≡◌, ◌≢◌, List, ℕ, ◌+◌, ◌*◌, ◌^◌, ◌≤◌, ◌<◌, ones, get_or}
+use Rattle.std.specs.Prelude.{◌≡◌, ◌≢◌, ◌+◌, ◌*◌, ◌^◌, ◌≤◌, ◌<◌}
+use Rattle.theory.specs.Prelude.{List, ℕ, ones, get_or}
 use Rattle.theory.specs.Set.{◌∩◌, ◌⊑◌}
 use Rattle.theory.specs.Constraints.{pair, has, carried, NotOver}
 use Rattle.theory.specs.Over.{IsOver, Smallest}

@@ -1,7 +1,8 @@
 -- Each element brings two freedoms, and each constraint uses up one (document 01, "Clusters and merges"): the pebbles
 -- of the pebble game. In the table `own` an entry of element x holds x while that freedom is free, and else the other
 -- end of the constraint that uses it. Assumes nothing.
-use Rattle.theory.specs.Prelude.{◌≡◌, List, [], ℕ, ◌+◌, ◌*◌, ◌-◌, ◌<◌, length, get_or, set}
+use Rattle.std.specs.Prelude.{◌≡◌, ◌+◌, ◌*◌, ◌-◌, ◌<◌}
+use Rattle.theory.specs.Prelude.{List, [], ℕ, length, get_or, set}
 use Rattle.theory.specs.Set.{◌∈◌, ◌⊑◌, at}
 use Rattle.theory.specs.Sum.{sum}
 use Rattle.theory.specs.Constraints.{carried}

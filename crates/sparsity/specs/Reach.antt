@@ -1,5 +1,6 @@
 -- What the search reaches from two elements a and b along the freedoms in use, and what it does with it. Assumes nothing.
-use Rattle.theory.specs.Prelude.{◌≡◌, ◌≢◌, ◌⊎◌, List, ℕ, ◌+◌, ◌^◌, ◌≤◌, ◌<◌, ones, length, get_or, set}
+use Rattle.std.specs.Prelude.{◌≡◌, ◌≢◌, ◌⊎◌, ◌+◌, ◌^◌, ◌≤◌, ◌<◌}
+use Rattle.theory.specs.Prelude.{List, ℕ, ones, length, get_or, set}
 use Rattle.theory.specs.Set.{◌∈◌, ◌∪◌, ◌⊑◌, at}
 use Rattle.sparsity.specs.Freedoms.{entry, stored, free, Table, Balanced, Closed}
 pub mod Visits

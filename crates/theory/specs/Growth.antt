@@ -1,7 +1,8 @@
 -- More dimensions, never a smaller part, of constraint graphs. Document 02, 2026-13: if constraints are added to a sheet and it is still not over,
 -- every final cluster of the old sheet lies inside one final cluster of the new, for each order of merging on either side. Shown by `grown-whole` of
 -- Growth/Proof.antt. Assumes nothing.
-use Rattle.theory.specs.Prelude.{◌≡◌, ◌≢◌, List, [], ◌∷◌, ◌++◌, ℕ, zero, suc, length}
+use Rattle.std.specs.Prelude.{◌≡◌, ◌≢◌, ◌∷◌, ◌++◌}
+use Rattle.theory.specs.Prelude.{List, [], ℕ, zero, suc, length}
 use Rattle.theory.specs.Set.{◌∈◌, ◌⊑◌}
 use Rattle.theory.specs.Constraints.{Perm}
 use Rattle.theory.specs.Merge.{Merge, slot, final}

@@ -1,6 +1,7 @@
 -- The adjacency of the constraint graph: for each element the set of the elements that it shares a constraint with.
 -- Document 01, "Refused", rules 6 and 7. Assumes nothing.
-use Rattle.theory.specs.Prelude.{◌≡◌, ◌↔◌, List, [], ◌∷◌, ℕ, ◌≤◌, ◌<◌, length, take, get_or}
+use Rattle.std.specs.Prelude.{◌≡◌, ◌↔◌, ◌∷◌, ◌≤◌, ◌<◌}
+use Rattle.theory.specs.Prelude.{List, [], ℕ, length, take, get_or}
 use Rattle.theory.specs.Set.{◌∈◌}
 use Rattle.theory.specs.Constraints.{pair, Among, Pairs, Below}
 pub mod Laws

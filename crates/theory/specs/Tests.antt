@@ -1,5 +1,6 @@
 -- Laws of tests that compute: a conjunction, an equality and a difference of numbers, one of three numbers, the branch taken. Assumes nothing.
-use Rattle.theory.specs.Prelude.{◌≡◌, refl, subst, ◌≢◌, ◌⊎◌, inl, inr, ⊎_elim, Bool, true, false, not, ◌&&◌, ℕ, arith, ℕ_discrete, T, eqb}
+use Rattle.std.specs.Prelude.{◌≡◌, ◌≢◌, ◌⊎◌, ◌&&◌}
+use Rattle.theory.specs.Prelude.{refl, subst, inl, inr, ⊎_elim, Bool, true, false, not, ℕ, arith, ℕ_discrete, T, eqb}
 use Rattle.theory.specs.Prelude.{eqb→eq, eqb_refl, T_not, not_T}
 
 pub and_intro : (a b : Bool) → T a → T b → T (a && b)

@@ -1,5 +1,6 @@
 -- The bytes of a sheet, put one piece after another. Assumes nothing.
-use Rattle.theory.specs.Prelude.{ℕ, ◌-◌, ◌≤◌, min, arith, ◌≡◌, true, List, [], ◌∷◌, ◌++◌, append_assoc, length, length-append}
+use Rattle.std.specs.Prelude.{◌-◌, ◌≤◌, ◌≡◌, ◌∷◌, ◌++◌}
+use Rattle.theory.specs.Prelude.{ℕ, min, arith, true, List, [], append_assoc, length, length-append}
 use Rattle.sheet.specs.declared.Opening.{Opening}
 use Rattle.sheet.specs.declared.Element.{Element}
 use Rattle.sheet.specs.Facts.{Facts, kinds_number}

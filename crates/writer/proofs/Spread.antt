@@ -1,6 +1,7 @@
 -- Laws of the kinds in two numbers: their bytes, one after the other, are those of the one number. Assumes nothing.
-use Rattle.theory.specs.Prelude.{ℕ, zero, suc, ◌+◌, ◌*◌, ◌-◌, ◌/◌, ◌%◌, ◌^◌, ◌≤◌, ◌<◌, min, pow-zero, pow-succ', pow-le-pow_right, mul-add, zero-add}
-use Rattle.theory.specs.Prelude.{one-mul, add-one, dec_le, arith, ◌≡◌, refl, sym, ap, ◌∙◌, subst, true, List, [], ◌∷◌, ◌++◌, append-nil, append_assoc}
+use Rattle.std.specs.Prelude.{◌+◌, ◌*◌, ◌-◌, ◌/◌, ◌%◌, ◌^◌, ◌≤◌, ◌<◌, ◌≡◌, ◌∷◌, ◌++◌}
+use Rattle.theory.specs.Prelude.{ℕ, zero, suc, min, pow-zero, pow-succ', pow-le-pow_right, mul-add, zero-add}
+use Rattle.theory.specs.Prelude.{one-mul, add-one, dec_le, arith, refl, sym, ap, ◌∙◌, subst, true, List, [], append-nil, append_assoc}
 use Rattle.theory.specs.Prelude.{T, length, take, drop, get_or, take-append-drop, drop_of_length-le, length-drop, take_all, take-suc, take-take}
 use Rattle.theory.specs.Prelude.{length-take-le}
 use native.Mathlib.Nat.{mul_assoc, add_assoc}

@@ -1,7 +1,8 @@
 -- A sheet's bytes without their tags, walked constraint by constraint: what is put so far, the piece that is passed and not put yet, and what is left
 -- make the whole. Assumes nothing.
-use Rattle.theory.specs.Prelude.{ℕ, zero, suc, ◌+◌, ◌*◌, ◌-◌, ◌/◌, ◌%◌, ◌≤◌, ◌<◌, min, sub-zero, dec_lt, arith, ◌≡◌, refl, sym, ◌∙◌, Bool, true}
-use Rattle.theory.specs.Prelude.{false, List, [], ◌∷◌, ◌++◌, append-nil, append_assoc, eqb, length, take, drop, get_or, length-append, length-take}
+use Rattle.std.specs.Prelude.{◌+◌, ◌*◌, ◌-◌, ◌/◌, ◌%◌, ◌≤◌, ◌<◌, ◌≡◌, ◌∷◌, ◌++◌}
+use Rattle.theory.specs.Prelude.{ℕ, zero, suc, min, sub-zero, dec_lt, arith, refl, sym, ◌∙◌, Bool, true}
+use Rattle.theory.specs.Prelude.{false, List, [], append-nil, append_assoc, eqb, length, take, drop, get_or, length-append, length-take}
 use Rattle.theory.specs.Prelude.{length-drop, take-append-drop, drop-cons, drop-drop, take_all}
 use native.Mathlib.Nat.{sub_self}
 use lib.Seq.{take-add}

@@ -1,6 +1,7 @@
 -- The kinds of a sheet's elements as the code writes them (document 01, "The sheet in bytes"; document 02, 2026-01): up to 64 kinds of two bits make
 -- a number of 16 bytes, which goes out as two of eight.
-use Rattle.theory.specs.Prelude.{ℕ, ◌≡◌, List, take, drop}
+use Rattle.std.specs.Prelude.{◌≡◌}
+use Rattle.theory.specs.Prelude.{ℕ, List, take, drop}
 use Rattle.sheet.specs.declared.Opening.{Opening}
 use Rattle.sheet.specs.declared.Opening.TheVariants.{Pf01, Pf02}
 use Rattle.sheet.specs.declared.Element.{Element}

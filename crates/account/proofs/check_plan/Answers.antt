@@ -1,5 +1,6 @@
 -- `account::check_plan` meets its contract: the rule that refuses the plan, else the report of its merges with their own verdict. Assumes nothing.
-use Rattle.theory.specs.Prelude.{◌*◌, ◌≤◌, arith, ◌≡◌, ◌≢◌, sym, ap, ◌∙◌, List, [], ℕ, ℤ, length, take}
+use Rattle.std.specs.Prelude.{◌*◌, ◌≤◌, ◌≡◌, ◌≢◌}
+use Rattle.theory.specs.Prelude.{arith, sym, ap, ◌∙◌, List, [], ℕ, ℤ, length, take}
 use Rattle.theory.specs.Merge.{Merge}
 use Rattle.theory.specs.Graph.{SizedGraph}
 use Rattle.theory.specs.declared.Verdict.{Verdict}

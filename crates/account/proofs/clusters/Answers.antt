@@ -1,5 +1,6 @@
 -- `account::clusters` meets its contract: the living clusters of the judgement's plan. Assumes nothing.
-use Rattle.theory.specs.Prelude.{rules, ◌≡◌, refl, ap, ◌∙◌, List, ℕ, length, take}
+use Rattle.std.specs.Prelude.{◌≡◌}
+use Rattle.theory.specs.Prelude.{rules, refl, ap, ◌∙◌, List, ℕ, length, take}
 use Rattle.space.specs.Space.{answer, after}
 use Rattle.graph.specs.declared.Head.{Head}
 use Rattle.graph.specs.Lent.{graph_in, Drawn}

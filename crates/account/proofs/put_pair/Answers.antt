@@ -1,5 +1,6 @@
 -- `account::put_pair` meets its contract: nothing of a dead cluster, else its two words. Assumes nothing.
-use Rattle.theory.specs.Prelude.{rules, ◌≡◌, refl, sym, ap, ◌≢◌, [], ◌∷◌, ℕ, zero, suc}
+use Rattle.std.specs.Prelude.{◌≡◌, ◌≢◌, ◌∷◌}
+use Rattle.theory.specs.Prelude.{rules, refl, sym, ap, [], ℕ, zero, suc}
 use Rattle.space.specs.Space.Laws.{put-none, put_as, ◌then◌}
 use Rattle.account.specs.Resting.Pairs.{pairs_in}
 use Rattle.account.proofs.put_pair.Goals as goal

@@ -1,5 +1,6 @@
 -- `account::put_pairs` meets its contract: the words of the living clusters passed are put. Assumes nothing.
-use Rattle.theory.specs.Prelude.{rules, ◌≡◌, sym, ap, ◌∙◌, ℕ, ◌<◌, arith, length, take}
+use Rattle.std.specs.Prelude.{◌≡◌, ◌<◌}
+use Rattle.theory.specs.Prelude.{rules, sym, ap, ◌∙◌, ℕ, arith, length, take}
 use Rattle.space.specs.Space.Laws.{put-none, put_as, ◌then◌}
 use Rattle.account.specs.Resting.Pairs.{pairs_in}
 use Rattle.account.specs.Resting.Laws.{pairs_next}

@@ -1,5 +1,6 @@
 -- `account::put_pairs` meets its contract: the words of the living clusters passed are put. Assumes nothing.
-use Rattle.theory.specs.Prelude.{◌-◌, ◌*◌, ◌≤◌, take}
+use Rattle.std.specs.Prelude.{◌-◌, ◌*◌, ◌≤◌}
+use Rattle.theory.specs.Prelude.{take}
 use Rattle.space.specs.Space.{Put}
 use Rattle.account.specs.Resting.Pairs.{pairs_in}
 use Rattle.account.proofs.put_pairs.Given as goal

@@ -1,5 +1,6 @@
 -- `account::put_rests` meets its contract: measured over no space, then written. Assumes nothing.
-use Rattle.theory.specs.Prelude.{List, ℕ, ◌≤◌, ◌<◌, zero-add, length, take}
+use Rattle.std.specs.Prelude.{◌≤◌, ◌<◌}
+use Rattle.theory.specs.Prelude.{List, ℕ, zero-add, length, take}
 use Rattle.space.specs.Space.Laws.{none_left, put_refused, put-done}
 use Rattle.account.specs.Resting.Pairs.{pairs_in}
 use Rattle.account.proofs.put_rests.Goals as goal

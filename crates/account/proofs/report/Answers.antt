@@ -1,5 +1,6 @@
 -- `account::report` meets its contract: the verdict's number tells which report the definition gives. Assumes nothing.
-use Rattle.theory.specs.Prelude.{arith, ◌≡◌, ◌≢◌, refl, sym, ◌∙◌, List, ℕ, take}
+use Rattle.std.specs.Prelude.{◌≡◌, ◌≢◌}
+use Rattle.theory.specs.Prelude.{arith, refl, sym, ◌∙◌, List, ℕ, take}
 use Rattle.theory.specs.Verdict.{verdict_number}
 use Rattle.graph.specs.declared.Head.{Head}
 use Rattle.graph.specs.Lent.{graph_in, sized_in, Drawn}

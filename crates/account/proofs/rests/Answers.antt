@@ -1,5 +1,6 @@
 -- `account::rests` meets its contract: the words in the arrays are those of the definition. Assumes nothing.
-use Rattle.theory.specs.Prelude.{◌+◌, ◌*◌, ◌≤◌, arith, ◌≡◌, ◌≢◌, refl, sym, ◌∙◌, List, ℕ, length, take}
+use Rattle.std.specs.Prelude.{◌+◌, ◌*◌, ◌≤◌, ◌≡◌, ◌≢◌}
+use Rattle.theory.specs.Prelude.{arith, refl, sym, ◌∙◌, List, ℕ, length, take}
 use Rattle.theory.specs.Verdict.{verdict_number}
 use Rattle.graph.specs.declared.Head.{Head}
 use Rattle.graph.specs.Lent.{graph_in, Drawn}

@@ -1,5 +1,6 @@
 -- What a judgement says of the report and of what the final clusters rest on. Assumes nothing.
-use Rattle.theory.specs.Prelude.{ℕ, ◌<◌, arith, ◌≡◌, ◌≢◌, refl, sym, ap, ap₂, ◌∙◌, List, [], ℤ, length}
+use Rattle.std.specs.Prelude.{◌<◌, ◌≡◌, ◌≢◌}
+use Rattle.theory.specs.Prelude.{ℕ, arith, refl, sym, ap, ap₂, ◌∙◌, List, [], ℤ, length}
 use Rattle.theory.specs.Constraints.{NotOver}
 use Rattle.theory.specs.Merge.{final}
 use Rattle.theory.specs.Over.Laws.{over_of-first}

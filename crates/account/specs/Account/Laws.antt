@@ -1,5 +1,6 @@
 -- The report of a list of merges, from the arrays that hold the graph and the list. Assumes nothing.
-use Rattle.theory.specs.Prelude.{ℕ, ◌+◌, ◌*◌, ◌^◌, ◌≤◌, ◌<◌, arith, ◌≡◌, refl, sym, ap, ap₂, ◌∙◌, subst, ◌≢◌, List, ℤ, length, get_or, take}
+use Rattle.std.specs.Prelude.{◌+◌, ◌*◌, ◌^◌, ◌≤◌, ◌<◌, ◌≡◌, ◌≢◌}
+use Rattle.theory.specs.Prelude.{ℕ, arith, refl, sym, ap, ap₂, ◌∙◌, subst, List, ℤ, length, get_or, take}
 use Rattle.theory.specs.Prelude.{length-take, get_or-take}
 use Rattle.theory.specs.Merge.{slot, final}
 use Rattle.theory.specs.Merge.Numbered.{alive-lt}

@@ -1,5 +1,6 @@
 -- Room for 4,667 bytes takes the report of every accepted sheet, and of every accepted saved plan: rule 17 is not met. Assumes nothing.
-use Rattle.theory.specs.Prelude.{ℕ, ◌≤◌, arith, ◌≡◌, refl, List, length}
+use Rattle.std.specs.Prelude.{◌≤◌, ◌≡◌}
+use Rattle.theory.specs.Prelude.{ℕ, arith, refl, List, length}
 use Rattle.theory.specs.Constraints.{NotOver}
 use Rattle.theory.specs.Over.Laws.{over_of-fine}
 use Rattle.theory.specs.Merge.{Merge, Valid}

@@ -1,5 +1,6 @@
 -- The answers are those of lists of merges. Assumes nothing.
-use Rattle.theory.specs.Prelude.{ℕ, ◌%◌, ◌≡◌, refl, ap, ap₂, ◌∙◌, ◌≢◌, List, [], ◌∷◌, map, length}
+use Rattle.std.specs.Prelude.{◌%◌, ◌≡◌, ◌≢◌, ◌∷◌}
+use Rattle.theory.specs.Prelude.{ℕ, refl, ap, ap₂, ◌∙◌, List, [], map, length}
 use Rattle.theory.specs.Constraints.{Pairs, Below}
 use Rattle.theory.specs.Constraints.Perm.{same}
 use Rattle.theory.specs.Merge.{Merge, put, Maximal}

@@ -1,5 +1,6 @@
 -- The words in the arrays are those of what the final clusters rest on. Assumes nothing.
-use Rattle.theory.specs.Prelude.{ℕ, zero, suc, ◌+◌, ◌*◌, ◌≤◌, ◌<◌, arith, add-one, ◌≡◌, refl, ap, ap₂, ◌∙◌, subst, ◌≢◌, List, [], ◌∷◌, ◌++◌, map}
+use Rattle.std.specs.Prelude.{◌+◌, ◌*◌, ◌≤◌, ◌<◌, ◌≡◌, ◌≢◌, ◌∷◌, ◌++◌}
+use Rattle.theory.specs.Prelude.{ℕ, zero, suc, arith, add-one, refl, ap, ap₂, ◌∙◌, subst, List, [], map}
 use Rattle.theory.specs.Prelude.{length, get_or, take, length-take, take-suc, get_or-take}
 use Rattle.theory.specs.Constraints.{Pairs}
 use Rattle.theory.specs.Merge.{slot, final, left, total}

@@ -1,5 +1,6 @@
 -- Two words for each living cluster, from three arrays. Assumes nothing.
-use Rattle.theory.specs.Prelude.{ℕ, zero, suc, List, [], ◌∷◌}
+use Rattle.std.specs.Prelude.{◌∷◌}
+use Rattle.theory.specs.Prelude.{ℕ, zero, suc, List, []}
 
 unfoldable pub pairs_in : List ℕ → List ℕ → List ℕ → List ℕ
 pairs_in [] low high = []

@@ -1,5 +1,6 @@
 -- What the check of a saved plan gives, and which rule refuses it. Assumes nothing.
-use Rattle.theory.specs.Prelude.{ℕ, zero, suc, ◌≡◌, ◌≢◌, refl, sym, ap, ◌∙◌, List}
+use Rattle.std.specs.Prelude.{◌≡◌, ◌≢◌}
+use Rattle.theory.specs.Prelude.{ℕ, zero, suc, refl, sym, ap, ◌∙◌, List}
 use Rattle.theory.specs.Graph.{Graph}
 use Rattle.sheet.specs.Field.{Field}
 use Rattle.sheet.specs.Rules.{or_else}

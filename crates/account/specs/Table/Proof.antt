@@ -1,5 +1,6 @@
 -- The sheets marked P print what the table says. Assumes nothing.
-use Rattle.theory.specs.Prelude.{◌≡◌, refl, map, ones}
+use Rattle.std.specs.Prelude.{◌≡◌}
+use Rattle.theory.specs.Prelude.{refl, map, ones}
 use Rattle.theory.specs.Set.{◌∩◌, ◌∪◌, at}
 use Rattle.theory.specs.Constraints.{pair, has, carried}
 use Rattle.theory.specs.Over.{heavy, any_below, is_over, is_tight, smaller, fewest_below, smallest_set, next, over_up_to, over_of}

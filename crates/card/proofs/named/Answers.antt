@@ -1,5 +1,6 @@
 -- `card::named` meets its contract: no two names begin with the same letter. Assumes nothing.
-use Rattle.theory.specs.Prelude.{◌≡◌, refl, sym, ap, ◌∙◌, true, false, ℕ, arith, eqb}
+use Rattle.std.specs.Prelude.{◌≡◌}
+use Rattle.theory.specs.Prelude.{refl, sym, ap, ◌∙◌, true, false, ℕ, arith, eqb}
 use Rattle.theory.specs.declared.Verdict.{Verdict}
 use Rattle.theory.specs.declared.Verdict.TheVariants.{Over, Angle, Well, Stuck, Under}
 use Rattle.card.specs.Card.{initial}

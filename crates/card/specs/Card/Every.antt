@@ -1,7 +1,8 @@
 -- The verdict of a set of distances is that of every sheet of those points with those pairs, whatever its sizes and the order in which it lists them.
 -- Assumes nothing.
-use Rattle.theory.specs.Prelude.{◌≡◌, refl, sym, ap, ◌∙◌, subst, ◌⊎◌, inl, inr, ⊎_elim, Bool, true, false, List, [], ◌∷◌, ◌++◌, map, ℕ, zero, suc}
-use Rattle.theory.specs.Prelude.{◌+◌, ◌/◌, ◌%◌, ◌^◌, ◌≤◌, ◌<◌, arith, ones, eqb, length, replicate, length-replicate}
+use Rattle.std.specs.Prelude.{◌≡◌, ◌⊎◌, ◌∷◌, ◌++◌, ◌+◌, ◌/◌, ◌%◌, ◌^◌, ◌≤◌, ◌<◌}
+use Rattle.theory.specs.Prelude.{refl, sym, ap, ◌∙◌, subst, inl, inr, ⊎_elim, Bool, true, false, List, [], map, ℕ, zero, suc}
+use Rattle.theory.specs.Prelude.{arith, ones, eqb, length, replicate, length-replicate}
 use Rattle.theory.specs.Constraints.{Among, Pairs, Below, Perm}
 use Rattle.theory.specs.Constraints.Laws.{pairs-perm, below-perm, fine-perm, carried-perm, size-pair, pair-below}
 use Rattle.theory.specs.Over.Laws.{over_of-fine, over_of-over}

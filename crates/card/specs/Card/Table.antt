@@ -1,5 +1,6 @@
 -- The rule at each entry, from the test over the whole table. Assumes nothing.
-use Rattle.theory.specs.Prelude.{◌≡◌, List, [], ◌∷◌, ℕ, zero, suc, ◌+◌, ◌<◌, arith, add-zero, zero-add, add-suc, suc-add, T, eqb, eqb→eq, length}
+use Rattle.std.specs.Prelude.{◌≡◌, ◌∷◌, ◌+◌, ◌<◌}
+use Rattle.theory.specs.Prelude.{List, [], ℕ, zero, suc, arith, add-zero, zero-add, add-suc, suc-add, T, eqb, eqb→eq, length}
 use Rattle.theory.specs.Prelude.{get_or}
 use Rattle.theory.specs.Tests.{and_both}
 use Rattle.card.specs.Card.{set_verdict, initial, all_right}

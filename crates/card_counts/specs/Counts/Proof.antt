@@ -1,5 +1,6 @@
 -- The checker computes the verdict of every set of distances among two to five points, and counts. Assumes nothing.
-use Rattle.theory.specs.Prelude.{◌≡◌, Bool, ◌&&◌, ℕ, ones, T, eqb, eqb→eq}
+use Rattle.std.specs.Prelude.{◌≡◌, ◌&&◌}
+use Rattle.theory.specs.Prelude.{Bool, ℕ, ones, T, eqb, eqb→eq}
 use Rattle.theory.specs.Tests.{and_both}
 use Rattle.theory.specs.Set.{◌∩◌, ◌∪◌}
 use Rattle.theory.specs.Constraints.{pair, has, carried}

@@ -1,5 +1,6 @@
 -- `chain::around` meets its contract: the clusters that are left add what is missing. Assumes nothing.
-use Rattle.theory.specs.Prelude.{refl, sym, ap, ◌∙◌, ◌+◌, ◌<◌, arith, length, drop}
+use Rattle.std.specs.Prelude.{◌+◌, ◌<◌}
+use Rattle.theory.specs.Prelude.{refl, sym, ap, ◌∙◌, arith, length, drop}
 use Rattle.theory.specs.Prelude.{drop_of_length-le}
 use Rattle.theory.specs.Set.{◌∪◌}
 use Rattle.chain.specs.Layers.{grown}

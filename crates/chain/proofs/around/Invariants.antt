@@ -1,5 +1,6 @@
 -- `chain::around` meets its contract: the clusters that are left add what is missing. Assumes nothing.
-use Rattle.theory.specs.Prelude.{◌≡◌, ◌-◌, ◌≤◌, length, drop}
+use Rattle.std.specs.Prelude.{◌≡◌, ◌-◌, ◌≤◌}
+use Rattle.theory.specs.Prelude.{length, drop}
 use Rattle.chain.specs.Layers.{grown}
 use Rattle.chain.proofs.around.Given as goal
 

@@ -1,6 +1,7 @@
 -- `chain::chain_of` meets its contract: the rule that the judgement or the two numbers give, else the chain of the
 -- final clusters in the slots. Assumes nothing.
-use Rattle.theory.specs.Prelude.{arith, ◌≡◌, ◌≢◌, refl, sym, ◌∙◌}
+use Rattle.std.specs.Prelude.{◌≡◌, ◌≢◌}
+use Rattle.theory.specs.Prelude.{arith, refl, sym, ◌∙◌}
 use Rattle.theory.specs.Prelude.{List, ℕ}
 use Rattle.theory.specs.Graph.{Graph}
 use Rattle.theory.specs.Verdict.{verdict_number}

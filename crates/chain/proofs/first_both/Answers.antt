@@ -1,5 +1,6 @@
 -- `chain::first_both` meets its contract: the clusters that are passed are counted. Assumes nothing.
-use Rattle.theory.specs.Prelude.{suc, ◌≡◌, ap, ◌+◌, ◌<◌, arith, length, drop, drop_of_length-le}
+use Rattle.std.specs.Prelude.{◌≡◌, ◌+◌, ◌<◌}
+use Rattle.theory.specs.Prelude.{suc, ap, arith, length, drop, drop_of_length-le}
 use Rattle.chain.specs.Layers.{first_both}
 use Rattle.chain.specs.Layers.Laws.{word-shares, word-apart, first-here, first-later}
 use Rattle.chain.proofs.first_both.Goals as goal

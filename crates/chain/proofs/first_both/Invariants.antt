@@ -1,5 +1,6 @@
 -- `chain::first_both` meets its contract: the clusters that are passed are counted. Assumes nothing.
-use Rattle.theory.specs.Prelude.{◌≡◌, ◌+◌, ◌-◌, ◌≤◌, length, drop}
+use Rattle.std.specs.Prelude.{◌≡◌, ◌+◌, ◌-◌, ◌≤◌}
+use Rattle.theory.specs.Prelude.{length, drop}
 use Rattle.chain.specs.Layers.{first_both}
 use Rattle.chain.proofs.first_both.Given as goal
 

@@ -1,6 +1,7 @@
 -- `chain::put_way` meets its contract: what is left of the way makes the rest of the space. Assumes nothing.
-use Rattle.theory.specs.Prelude.{◌≡◌, refl, sym, ap, ◌∙◌, subst, List, ℕ, ◌-◌, arith, add-one}
-use Rattle.theory.specs.Prelude.{◌≢◌, get_or, sets, length-set}
+use Rattle.std.specs.Prelude.{◌≡◌, ◌-◌, ◌≢◌}
+use Rattle.theory.specs.Prelude.{refl, sym, ap, ◌∙◌, subst, List, ℕ, arith, add-one}
+use Rattle.theory.specs.Prelude.{get_or, sets, length-set}
 use Rattle.chain.specs.Layers.{reached, first_both, way}
 use Rattle.chain.specs.Kept.{Measured}
 use Rattle.chain.specs.Layers.Laws.{Onward, onward, way_next}

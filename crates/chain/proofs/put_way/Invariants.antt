@@ -1,5 +1,6 @@
 -- `chain::put_way` meets its contract: what is left of the way makes the rest of the space. Assumes nothing.
-use Rattle.theory.specs.Prelude.{◌≡◌, List, ℕ, ◌+◌, ◌^◌}
+use Rattle.std.specs.Prelude.{◌≡◌, ◌+◌, ◌^◌}
+use Rattle.theory.specs.Prelude.{List, ℕ}
 use Rattle.theory.specs.Prelude.{length, sets}
 use Rattle.chain.specs.Layers.{way}
 use Rattle.chain.specs.Kept.{Far}

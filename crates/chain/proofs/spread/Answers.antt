@@ -1,6 +1,7 @@
 -- `chain::spread` meets its contract: the layers passed stand in the array, and the distance is that from here on.
 -- Assumes nothing.
-use Rattle.theory.specs.Prelude.{◌≡◌, refl, sym, ap, ◌∙◌, List, ℕ, suc, ◌-◌, arith}
+use Rattle.std.specs.Prelude.{◌≡◌, ◌-◌}
+use Rattle.theory.specs.Prelude.{refl, sym, ap, ◌∙◌, List, ℕ, suc, arith}
 use Rattle.theory.specs.Prelude.{ℕ_discrete, add-one, length-set, get_or-set_same, get_or-set_other}
 use Rattle.theory.specs.Set.{◌∩◌}
 use Rattle.chain.specs.Layers.{grown, reached}

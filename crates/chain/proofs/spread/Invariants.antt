@@ -1,6 +1,7 @@
 -- `chain::spread` meets its contract: the layers passed stand in the array, and the distance is that from here on.
 -- Assumes nothing.
-use Rattle.theory.specs.Prelude.{◌≡◌, List, ℕ, ◌-◌, ◌≤◌, ◌<◌}
+use Rattle.std.specs.Prelude.{◌≡◌, ◌-◌, ◌≤◌, ◌<◌}
+use Rattle.theory.specs.Prelude.{List, ℕ}
 use Rattle.theory.specs.Prelude.{length, get_or}
 use Rattle.chain.specs.Layers.{reached, distance_from, distance}
 use Rattle.chain.proofs.spread.Given as goal

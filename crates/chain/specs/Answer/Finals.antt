@@ -1,6 +1,7 @@
 -- The final clusters are sets of elements below 64, so their computed chain is the one that the papers ask for. Assumes
 -- nothing.
-use Rattle.theory.specs.Prelude.{◌≢◌, refl, sym, subst, List, [], ◌∷◌, ℕ, ◌^◌, ◌<◌, arith, ℕ_discrete, pow_mono}
+use Rattle.std.specs.Prelude.{◌≢◌, ◌∷◌, ◌^◌, ◌<◌}
+use Rattle.theory.specs.Prelude.{refl, sym, subst, List, [], ℕ, arith, ℕ_discrete, pow_mono}
 use Rattle.theory.specs.Prelude.{pow_pos}
 use Rattle.theory.specs.Set.{full, ◌⊑◌}
 use Rattle.theory.specs.Set.Laws.{at_zero, ∪-least, below-full}

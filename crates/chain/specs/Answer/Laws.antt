@@ -1,5 +1,6 @@
 -- What the search and the judgement give is what a call answers. Assumes nothing.
-use Rattle.theory.specs.Prelude.{◌≡◌, refl, sym, ap, ◌∙◌, ◌≢◌, List, Option, ℕ, ◌+◌, ◌^◌, ◌≤◌, ◌<◌, arith, lt-ltb}
+use Rattle.std.specs.Prelude.{◌≡◌, ◌≢◌, ◌+◌, ◌^◌, ◌≤◌, ◌<◌}
+use Rattle.theory.specs.Prelude.{refl, sym, ap, ◌∙◌, List, Option, ℕ, arith, lt-ltb}
 use Rattle.theory.specs.Prelude.{le-ltb}
 use Rattle.theory.specs.Prelude.{length, take, sets, length-take-le}
 use Rattle.theory.specs.Plan.{plan_of}

@@ -1,5 +1,6 @@
 -- There is exactly one chain: two that are both shortest and first are the same, and "none" is said if and only if there is no run. Assumes nothing.
-use Rattle.theory.specs.Prelude.{◌≡◌, refl, ap, List, [], ◌∷◌, Option, none, some, ℕ, arith}
+use Rattle.std.specs.Prelude.{◌≡◌, ◌∷◌}
+use Rattle.theory.specs.Prelude.{refl, ap, List, [], Option, none, some, ℕ, arith}
 use Rattle.chain.specs.Chain.{First, same, here, next, Shortest, Chain}
 
 -- each comes first, the second pair given by equations

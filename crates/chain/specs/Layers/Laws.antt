@@ -1,7 +1,8 @@
 -- The layers: what is in them, the step of each loop that computes them, and what lies at a distance. Assumes nothing.
-use Rattle.theory.specs.Prelude.{◌≡◌, refl, sym, ap, ◌∙◌, subst, ◌≢◌, ◌⊎◌, inl, inr, ⊎_elim, Bool, true, false, not}
-use Rattle.theory.specs.Prelude.{◌&&◌, cond}
-use Rattle.theory.specs.Prelude.{List, [], ◌∷◌, ℕ, zero, suc, ◌+◌, ◌-◌, ◌^◌, ◌≤◌, ◌<◌, arith, add-one, ℕ_discrete}
+use Rattle.std.specs.Prelude.{◌≡◌, ◌≢◌, ◌⊎◌, ◌&&◌, ◌∷◌, ◌+◌, ◌-◌, ◌^◌, ◌≤◌, ◌<◌}
+use Rattle.theory.specs.Prelude.{refl, sym, ap, ◌∙◌, subst, inl, inr, ⊎_elim, Bool, true, false, not}
+use Rattle.theory.specs.Prelude.{cond}
+use Rattle.theory.specs.Prelude.{List, [], ℕ, zero, suc, arith, add-one, ℕ_discrete}
 use Rattle.theory.specs.Prelude.{eq-eqb, ne_eqb}
 use Rattle.theory.specs.Prelude.{none, some, lt-ltb, le-ltb, length, drop, drop-cons}
 use Rattle.theory.specs.Set.{◌∈◌, ◌∩◌, ◌∪◌}

@@ -1,8 +1,9 @@
 -- The chain that is computed is the shortest run, first place by place, or none where there is no run; there is no
 -- other (Chain/Laws). Assumes nothing.
-use Rattle.theory.specs.Prelude.{◌≡◌, refl, sym, ap, ◌∙◌, subst, ◌⊎◌, inl, inr, ⊎_elim, Bool, true, false, cond, List}
-use Rattle.theory.specs.Prelude.{[], ◌∷◌}
-use Rattle.theory.specs.Prelude.{some, ℕ, zero, suc, ◌^◌, ◌≤◌, ◌<◌, arith, ℕ_discrete, dec_lt, dec_le, pow-lt, or_lt}
+use Rattle.std.specs.Prelude.{◌≡◌, ◌⊎◌, ◌∷◌, ◌^◌, ◌≤◌, ◌<◌}
+use Rattle.theory.specs.Prelude.{refl, sym, ap, ◌∙◌, subst, inl, inr, ⊎_elim, Bool, true, false, cond, List}
+use Rattle.theory.specs.Prelude.{[]}
+use Rattle.theory.specs.Prelude.{some, ℕ, zero, suc, arith, ℕ_discrete, dec_lt, dec_le, pow-lt, or_lt}
 use Rattle.theory.specs.Prelude.{ones, ones-le, length}
 use Rattle.theory.specs.Set.{◌∈◌, ◌∪◌, at, ◌⊑◌}
 use Rattle.theory.specs.Set.Laws.{at_same, at-le, bit, size-pow, size-add, ⊑-size-≡, out}

@@ -1,5 +1,6 @@
 -- `elements::kind_in` meets its contract: a shift and a remainder are two bits. Assumes nothing.
-use Rattle.theory.specs.Prelude.{◌%◌, arith}
+use Rattle.std.specs.Prelude.{◌%◌}
+use Rattle.theory.specs.Prelude.{arith}
 use Rattle.elements.specs.Round.Laws.{two-bits}
 use Rattle.elements.proofs.kind_in.Goals as goal
 

@@ -1,5 +1,6 @@
 -- `elements::read_radii` meets its contract: i elements are read, and their radii stand. Assumes nothing.
-use Rattle.theory.specs.Prelude.{◌+◌, ◌/◌, arith}
+use Rattle.std.specs.Prelude.{◌+◌, ◌/◌}
+use Rattle.theory.specs.Prelude.{arith}
 use Rattle.sheet.specs.declared.Opening.TheVariants.{Pf02}
 use Rattle.sheet.specs.Facts.Laws.{kinds_of-length}
 use Rattle.elements.specs.Round.{round_number, round_kinds}

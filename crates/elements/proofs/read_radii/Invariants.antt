@@ -1,5 +1,5 @@
 -- `elements::read_radii` meets its contract: i elements are read, and their radii stand. Assumes nothing.
-use Rattle.theory.specs.Prelude.{◌+◌, ◌-◌, ◌/◌, ◌≤◌}
+use Rattle.std.specs.Prelude.{◌+◌, ◌-◌, ◌/◌, ◌≤◌}
 use Rattle.elements.specs.Round.{round_kinds}
 use Rattle.elements.specs.Round.Elements.{Partway}
 use Rattle.elements.proofs.read_radii.Given as goal

@@ -1,5 +1,6 @@
 -- `elements::read_sets` meets its contract: the sets of the kinds from i on; the numbers stay below 2 ^ 64. Assumes nothing.
-use Rattle.theory.specs.Prelude.{ℕ, ◌-◌, ◌<◌, arith, ◌≡◌, eqb, List, length, drop_of_length-le}
+use Rattle.std.specs.Prelude.{◌-◌, ◌<◌, ◌≡◌}
+use Rattle.theory.specs.Prelude.{ℕ, arith, eqb, List, length, drop_of_length-le}
 use Rattle.sheet.specs.declared.Opening.TheVariants.{Pf02}
 use Rattle.sheet.specs.Facts.Laws.{kinds_of-length}
 use Rattle.elements.specs.Round.{round_number, round_kinds}

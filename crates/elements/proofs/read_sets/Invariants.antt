@@ -1,5 +1,6 @@
 -- `elements::read_sets` meets its contract: the sets of the kinds from i on; the numbers stay below 2 ^ 64. Assumes nothing.
-use Rattle.theory.specs.Prelude.{◌≤◌, drop}
+use Rattle.std.specs.Prelude.{◌≤◌}
+use Rattle.theory.specs.Prelude.{drop}
 use Rattle.elements.specs.Round.{round_kinds, SetsOf}
 use Rattle.elements.proofs.read_sets.Given as goal
 

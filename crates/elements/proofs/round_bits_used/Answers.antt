@@ -1,5 +1,6 @@
 -- `elements::round_bits_used` meets its contract: the last byte decides. Assumes nothing.
-use Rattle.theory.specs.Prelude.{ℕ, ◌+◌, ◌*◌, ◌-◌, ◌/◌, ◌%◌, ◌^◌, sym, ap, ◌∙◌, eqb}
+use Rattle.std.specs.Prelude.{◌+◌, ◌*◌, ◌-◌, ◌/◌, ◌%◌, ◌^◌}
+use Rattle.theory.specs.Prelude.{ℕ, sym, ap, ◌∙◌, eqb}
 use Rattle.sheet.specs.Field.{Bytes}
 use Rattle.elements.specs.Round.Laws.{last-used}
 use Rattle.elements.proofs.round_bits_used.Goals as goal

@@ -1,6 +1,7 @@
 -- The elements by their opening: under PF01 a bit each and no radius, under PF02 rules 2, 4 and 18 and then the radii. Assumes nothing.
-use Rattle.theory.specs.Prelude.{ℕ, zero, suc, ◌+◌, ◌*◌, ◌/◌, ◌%◌, ◌^◌, ◌<◌, ◌≤◌, pow-zero, pow-succ', arith, ◌≡◌, refl, sym, ap, ◌∙◌, subst, true}
-use Rattle.theory.specs.Prelude.{false, List, [], ◌∷◌, ltb, length, drop, length-map}
+use Rattle.std.specs.Prelude.{◌+◌, ◌*◌, ◌/◌, ◌%◌, ◌^◌, ◌<◌, ◌≤◌, ◌≡◌, ◌∷◌}
+use Rattle.theory.specs.Prelude.{ℕ, zero, suc, pow-zero, pow-succ', arith, refl, sym, ap, ◌∙◌, subst, true}
+use Rattle.theory.specs.Prelude.{false, List, [], ltb, length, drop, length-map}
 use Rattle.sheet.specs.declared.Opening.TheVariants.{Pf01, Pf02}
 use Rattle.sheet.specs.declared.Kind.TheVariants.{Point, Line}
 use Rattle.sheet.specs.declared.Element.{Element}

@@ -1,5 +1,6 @@
 -- The elements under PF02, read one after the other: each radius in its place, and the sets of what was read. Assumes nothing.
-use Rattle.theory.specs.Prelude.{ℕ, zero, suc, ◌+◌, ◌<◌, ◌≤◌, ℕ_discrete, arith, ◌≡◌, refl, sym, ap, ◌∙◌, subst, true, false, List, [], ◌∷◌, ◌++◌}
+use Rattle.std.specs.Prelude.{◌+◌, ◌<◌, ◌≤◌, ◌≡◌, ◌∷◌, ◌++◌}
+use Rattle.theory.specs.Prelude.{ℕ, zero, suc, ℕ_discrete, arith, refl, sym, ap, ◌∙◌, subst, true, false, List, []}
 use Rattle.theory.specs.Prelude.{append-nil, append_assoc, ltb-true, T, eqb, ltb, length, drop, set, get_or, length-append, length-set}
 use Rattle.theory.specs.Prelude.{drop_of_length-le, drop-cons, get_or-set_same, get_or-set_other}
 use Rattle.std.proofs.Math.Seq.{get_or-append_seam}

@@ -1,6 +1,7 @@
 -- The kinds under PF02 in their bytes, rule 4 in the last of them, and the sets from the last element down. Assumes nothing.
-use Rattle.theory.specs.Prelude.{ℕ, zero, suc, ◌+◌, ◌*◌, ◌-◌, ◌/◌, ◌%◌, ◌^◌, ◌<◌, ◌≤◌, pow-zero, pow-succ', pow-le-pow_right, dec_lt, arith, ◌≡◌, refl}
-use Rattle.theory.specs.Prelude.{sym, ap, ◌∙◌, Bool, true, false, ◌&&◌, List, [], ◌∷◌, lt-ltb, le-ltb, eq-eqb, ne_eqb, eqb, ltb, length, take, drop}
+use Rattle.std.specs.Prelude.{◌+◌, ◌*◌, ◌-◌, ◌/◌, ◌%◌, ◌^◌, ◌<◌, ◌≤◌, ◌≡◌, ◌&&◌, ◌∷◌}
+use Rattle.theory.specs.Prelude.{ℕ, zero, suc, pow-zero, pow-succ', pow-le-pow_right, dec_lt, arith, refl}
+use Rattle.theory.specs.Prelude.{sym, ap, ◌∙◌, Bool, true, false, List, [], lt-ltb, le-ltb, eq-eqb, ne_eqb, eqb, ltb, length, take, drop}
 use Rattle.theory.specs.Prelude.{get_or, length-drop, drop-cons, get_or-take, get_or-drop, length-take-le}
 use Rattle.theory.specs.Set.{at}
 use Rattle.sheet.specs.declared.Opening.TheVariants.{Pf02}

@@ -1,5 +1,6 @@
 -- `engine::angled` meets its contract: what is left of the joints decides. Assumes nothing.
-use Rattle.theory.specs.Prelude.{◌≡◌, refl, sym, ap, ◌∙◌, Bool, ◌||◌, List, ◌∷◌, ℕ, suc, ◌+◌, ◌≤◌, ◌<◌, arith, add-one, rules, eq-eqb, ne_eqb}
+use Rattle.std.specs.Prelude.{◌≡◌, ◌||◌, ◌∷◌, ◌+◌, ◌≤◌, ◌<◌}
+use Rattle.theory.specs.Prelude.{refl, sym, ap, ◌∙◌, Bool, List, ℕ, suc, arith, add-one, rules, eq-eqb, ne_eqb}
 use Rattle.theory.specs.Prelude.{length, take, drop, get_or, length-take, drop_of_length-le, drop-cons, get_or-take}
 use Rattle.theory.specs.Set.{◌∩◌}
 use Rattle.theory.specs.Verdict.{angled, all_lines}

@@ -1,5 +1,5 @@
 -- `engine::angled` meets its contract: what is left of the joints decides. Assumes nothing.
-use Rattle.theory.specs.Prelude.{◌≡◌, ◌-◌, ◌≤◌}
+use Rattle.std.specs.Prelude.{◌≡◌, ◌-◌, ◌≤◌}
 use Rattle.theory.specs.Prelude.{take, drop}
 use Rattle.theory.specs.Verdict.{angled}
 use Rattle.engine.proofs.angled.Given as goal

@@ -1,5 +1,6 @@
 -- `engine::apart` meets its contract. Assumes nothing.
-use Rattle.theory.specs.Prelude.{◌≡◌, sym, ap, ap₂, ◌∙◌, subst, ◌<◌, arith, ℤ, nat_abs, ◌-ℤ◌}
+use Rattle.std.specs.Prelude.{◌≡◌, ◌<◌, ◌-ℤ◌}
+use Rattle.theory.specs.Prelude.{sym, ap, ap₂, ◌∙◌, subst, arith, ℤ, nat_abs}
 use mir.Syntax.{w32, w64}
 use mir.Val.{SFits, to_z, of_z}
 use mir.Facts.{to_z-of_z}

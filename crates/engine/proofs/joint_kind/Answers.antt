@@ -1,5 +1,6 @@
 -- `engine::joint_kind` meets its contract: the count of lines among the joint's elements decides. Assumes nothing.
-use Rattle.theory.specs.Prelude.{◌≡◌, refl, sym, ap, ◌≢◌, ℕ, zero, suc, arith}
+use Rattle.std.specs.Prelude.{◌≡◌, ◌≢◌}
+use Rattle.theory.specs.Prelude.{refl, sym, ap, ℕ, zero, suc, arith}
 use Rattle.theory.specs.Set.{◌∩◌}
 use Rattle.theory.specs.Placement.{with_lines, joint_kind}
 use Rattle.theory.specs.declared.JointKind.TheVariants.{Lll}

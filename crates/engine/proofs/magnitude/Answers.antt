@@ -1,5 +1,6 @@
 -- `engine::magnitude` meets its contract. Assumes nothing.
-use Rattle.theory.specs.Prelude.{◌≡◌, sym, ap, ◌∙◌, subst, true, arith, ℤ, pos, nat_abs, ◌-ℤ◌, lt_z, non_neg, T}
+use Rattle.std.specs.Prelude.{◌≡◌, ◌-ℤ◌}
+use Rattle.theory.specs.Prelude.{sym, ap, ◌∙◌, subst, true, arith, ℤ, pos, nat_abs, lt_z, non_neg, T}
 use mir.Syntax.{w64}
 use mir.Val.{Fits, SFits, to_z, of_z}
 use mir.Facts.{to_z-of_z}

@@ -1,5 +1,6 @@
 -- `engine::put_all_living` meets its contract: the living clusters passed are put. Assumes nothing.
-use Rattle.theory.specs.Prelude.{rules, ◌≡◌, sym, ap, ℕ, ◌<◌, arith, length, take}
+use Rattle.std.specs.Prelude.{◌≡◌, ◌<◌}
+use Rattle.theory.specs.Prelude.{rules, sym, ap, ℕ, arith, length, take}
 use Rattle.space.specs.Space.Laws.{put-none, put_as, ◌then◌}
 use Rattle.engine.specs.Lists.{living_of}
 use Rattle.engine.specs.Lists.Laws.{living-next}

@@ -1,5 +1,6 @@
 -- `engine::put_all_living` meets its contract: the living clusters passed are put. Assumes nothing.
-use Rattle.theory.specs.Prelude.{◌-◌, ◌≤◌, take}
+use Rattle.std.specs.Prelude.{◌-◌, ◌≤◌}
+use Rattle.theory.specs.Prelude.{take}
 use Rattle.space.specs.Space.{Put}
 use Rattle.engine.specs.Lists.{living_of}
 use Rattle.engine.proofs.put_all_living.Given as goal

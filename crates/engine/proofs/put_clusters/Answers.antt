@@ -1,5 +1,6 @@
 -- `engine::put_clusters` meets its contract: measured over no space, then written. Assumes nothing.
-use Rattle.theory.specs.Prelude.{◌≡◌, [], ◌≤◌, ◌<◌, zero-add, length, take}
+use Rattle.std.specs.Prelude.{◌≡◌, ◌≤◌, ◌<◌}
+use Rattle.theory.specs.Prelude.{[], zero-add, length, take}
 use Rattle.space.specs.Space.Laws.{none_left, put_refused, put-done}
 use Rattle.engine.specs.Lists.{living_of}
 use Rattle.engine.proofs.put_clusters.Goals as goal

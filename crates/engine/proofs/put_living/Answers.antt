@@ -1,5 +1,6 @@
 -- `engine::put_living` meets its contract: nothing of a dead cluster, else its set. Assumes nothing.
-use Rattle.theory.specs.Prelude.{rules, ◌≡◌, refl, sym, ap, ◌≢◌, [], ◌∷◌, ℕ, zero, suc}
+use Rattle.std.specs.Prelude.{◌≡◌, ◌≢◌, ◌∷◌}
+use Rattle.theory.specs.Prelude.{rules, refl, sym, ap, [], ℕ, zero, suc}
 use Rattle.space.specs.Space.Laws.{put-none, put_as}
 use Rattle.engine.specs.Lists.{living_of}
 use Rattle.engine.proofs.put_living.Goals as goal

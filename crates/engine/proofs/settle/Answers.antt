@@ -1,5 +1,6 @@
 -- `engine::settle` meets its contract: the names are tried in the paper's order. Assumes nothing.
-use Rattle.theory.specs.Prelude.{◌≡◌, sym, ap, ◌∙◌, false, ℕ, ◌+◌, ◌-◌, take, arith, eqb, eq-eqb, ne_eqb}
+use Rattle.std.specs.Prelude.{◌≡◌, ◌+◌, ◌-◌}
+use Rattle.theory.specs.Prelude.{sym, ap, ◌∙◌, false, ℕ, take, arith, eqb, eq-eqb, ne_eqb}
 use Rattle.theory.specs.Merge.{left}
 use Rattle.theory.specs.Ring.{ringed}
 use Rattle.theory.specs.Verdict.{judged, angled}

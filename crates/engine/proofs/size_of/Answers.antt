@@ -1,5 +1,6 @@
 -- `engine::size_of` meets its contract. Assumes nothing.
-use Rattle.theory.specs.Prelude.{◌≡◌, sym, ap, ◌∙◌, subst, ◌<◌, arith, ℤ, nat_abs}
+use Rattle.std.specs.Prelude.{◌≡◌, ◌<◌}
+use Rattle.theory.specs.Prelude.{sym, ap, ◌∙◌, subst, arith, ℤ, nat_abs}
 use Rattle.engine.proofs.Signed.{abs_mag, wide, widened}
 use Rattle.engine.proofs.size_of.Goals as goal
 

@@ -1,5 +1,6 @@
 -- `engine::steps_of` meets its contract: the steps passed stand, and the rest is blank. Assumes nothing.
-use Rattle.theory.specs.Prelude.{◌≡◌, refl, sym, ap, ◌∙◌, List, ℕ, zero, suc, ◌+◌, ◌≤◌, ◌<◌, arith, ℕ_discrete, rules, ℤ, length, get_or, set}
+use Rattle.std.specs.Prelude.{◌≡◌, ◌+◌, ◌≤◌, ◌<◌}
+use Rattle.theory.specs.Prelude.{refl, sym, ap, ◌∙◌, List, ℕ, zero, suc, arith, ℕ_discrete, rules, ℤ, length, get_or, set}
 use Rattle.theory.specs.Prelude.{replicate, length-set, get_or-set_same, get_or-set_other}
 use Rattle.theory.specs.declared.Step.{Step}
 use Rattle.engine.specs.Steps.{step_at, blank_step}

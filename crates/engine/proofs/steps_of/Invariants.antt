@@ -1,5 +1,6 @@
 -- `engine::steps_of` meets its contract: the steps passed stand, and the rest is blank. Assumes nothing.
-use Rattle.theory.specs.Prelude.{◌≡◌, List, ℕ, ◌-◌, ◌≤◌, ◌<◌, ℤ, length, get_or}
+use Rattle.std.specs.Prelude.{◌≡◌, ◌-◌, ◌≤◌, ◌<◌}
+use Rattle.theory.specs.Prelude.{List, ℕ, ℤ, length, get_or}
 use Rattle.theory.specs.declared.Step.{Step}
 use Rattle.engine.specs.Steps.{step_at, blank_step}
 use Rattle.engine.proofs.steps_of.Given as goal

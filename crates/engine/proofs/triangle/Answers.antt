@@ -1,5 +1,6 @@
 -- `engine::triangle` meets its contract. Assumes nothing.
-use Rattle.theory.specs.Prelude.{◌≡◌, ap, ◌∙◌, ℕ, ◌+◌, ◌-◌, max, arith}
+use Rattle.std.specs.Prelude.{◌≡◌, ◌+◌, ◌-◌}
+use Rattle.theory.specs.Prelude.{ap, ◌∙◌, ℕ, max, arith}
 use Rattle.theory.specs.Placement.{against, triangle}
 use Rattle.engine.proofs.triangle.Goals as goal
 use Rattle.engine.proofs.triangle.Goals.{else-a-z, else-x-y, then-a-z, then-x-y}

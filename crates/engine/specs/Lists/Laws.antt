@@ -1,5 +1,6 @@
 -- The living clusters as a list: one cluster more is listed, if it lives; and it holds what lives. Assumes nothing.
-use Rattle.theory.specs.Prelude.{◌≡◌, refl, sym, ap, ◌∙◌, ◌≢◌, ◌↔◌, inl, inr, List, [], ◌∷◌, ◌++◌, ℕ, zero, suc, ◌+◌, ◌<◌, arith, add-one, length}
+use Rattle.std.specs.Prelude.{◌≡◌, ◌≢◌, ◌↔◌, ◌∷◌, ◌++◌, ◌+◌, ◌<◌}
+use Rattle.theory.specs.Prelude.{refl, sym, ap, ◌∙◌, inl, inr, List, [], ℕ, zero, suc, arith, add-one, length}
 use Rattle.theory.specs.Prelude.{get_or, take, take-suc}
 use Rattle.theory.specs.Constraints.{Among}
 use Rattle.theory.specs.Merge.{slot, live, left, total}

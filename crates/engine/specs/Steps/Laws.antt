@@ -1,5 +1,6 @@
 -- The steps that the arrays give are those of the list of merges they hold. Assumes nothing.
-use Rattle.theory.specs.Prelude.{◌≡◌, refl, sym, ap, ap₂, ◌∙◌, ◌≢◌, Bool, true, false, ◌&&◌, List, [], ◌∷◌, map, ℕ, zero, suc, ◌+◌, ◌*◌, ◌≤◌, ◌<◌}
+use Rattle.std.specs.Prelude.{◌≡◌, ◌≢◌, ◌&&◌, ◌∷◌, ◌+◌, ◌*◌, ◌≤◌, ◌<◌}
+use Rattle.theory.specs.Prelude.{refl, sym, ap, ap₂, ◌∙◌, Bool, true, false, List, [], map, ℕ, zero, suc}
 use Rattle.theory.specs.Prelude.{arith, ltb, ℤ, pos, length, get_or, take, length-take, ext_get_or, get_or-take, ltb-true}
 use Rattle.theory.specs.Block.{block}
 use Rattle.theory.specs.Block.Laws.{get_or-block}

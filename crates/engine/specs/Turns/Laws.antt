@@ -1,6 +1,7 @@
 -- One turn of each loop. Assumes nothing.
-use Rattle.theory.specs.Prelude.{◌≡◌, refl, sym, ap, ap₂, ◌∙◌, subst, ◌≢◌, Bool, true, false, not, cond, List, ◌∷◌, ℕ, zero, suc, ◌-◌, ◌≤◌}
-use Rattle.theory.specs.Prelude.{◌<◌, arith, dec_le, bit_and, bit_or, ones, T, eqb, leb, leb→le, le→leb, length, drop, get_or, drop-cons, drop-length}
+use Rattle.std.specs.Prelude.{◌≡◌, ◌≢◌, ◌∷◌, ◌-◌, ◌≤◌, ◌<◌}
+use Rattle.theory.specs.Prelude.{refl, sym, ap, ap₂, ◌∙◌, subst, Bool, true, false, not, cond, List, ℕ, zero, suc}
+use Rattle.theory.specs.Prelude.{arith, dec_le, bit_and, bit_or, ones, T, eqb, leb, leb→le, le→leb, length, drop, get_or, drop-cons, drop-length}
 use Rattle.theory.specs.Prelude.{ne_eqb}
 use Rattle.theory.specs.Set.{◌∩◌, ◌∪◌}
 use Rattle.theory.specs.Set.Laws.{⊑-size-≡, ⊑⇒size≤, size_none, size-zero}

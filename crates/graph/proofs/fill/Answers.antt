@@ -1,5 +1,6 @@
 -- `graph::fill` meets its contract: after i turns the arrays hold the first i constraints. Assumes nothing.
-use Rattle.theory.specs.Prelude.{rules, ℕ, ◌<◌, ◌≤◌, arith, add-one, ◌≡◌, refl, sym, ◌∙◌, pos, length, take, get_or, take-suc}
+use Rattle.std.specs.Prelude.{◌<◌, ◌≤◌, ◌≡◌}
+use Rattle.theory.specs.Prelude.{rules, ℕ, arith, add-one, refl, sym, ◌∙◌, pos, length, take, get_or, take-suc}
 use Rattle.theory.specs.Prelude.{get_or-take, length-take-le}
 use mir.Facts.{to_z-of_z}
 use mir.Syntax.{w32}

@@ -1,5 +1,6 @@
 -- `graph::fill` meets its contract: after i turns the arrays hold the first i constraints. Assumes nothing.
-use Rattle.theory.specs.Prelude.{◌-◌, ◌≤◌, take}
+use Rattle.std.specs.Prelude.{◌-◌, ◌≤◌}
+use Rattle.theory.specs.Prelude.{take}
 use Rattle.graph.specs.Lent.{InArrays}
 use Rattle.graph.proofs.fill.Given as goal
 

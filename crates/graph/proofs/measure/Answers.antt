@@ -1,5 +1,6 @@
 -- `graph::measure` meets its contract: after i turns the first i places hold sizes, the others numbers still. Assumes nothing.
-use Rattle.theory.specs.Prelude.{rules, ℕ, ◌+◌, ◌-◌, ◌<◌, ◌≤◌, arith, add-zero, add-one, true, ◌≡◌, refl, sym, ap, ap₂, ◌∙◌, List, map, ◌++◌, ℤ, pos}
+use Rattle.std.specs.Prelude.{◌+◌, ◌-◌, ◌<◌, ◌≤◌, ◌≡◌, ◌++◌}
+use Rattle.theory.specs.Prelude.{rules, ℕ, arith, add-zero, add-one, true, refl, sym, ap, ap₂, ◌∙◌, List, map, ℤ, pos}
 use Rattle.theory.specs.Prelude.{length, drop, replicate, get_or, length-set, length-map, take-append-drop, List·getD-append, take-suc}
 use Rattle.theory.specs.Prelude.{take-suc-set, drop-set-lt, drop-drop, drop_at, get_or-drop}
 use mir.Facts.{to_z-of_z}

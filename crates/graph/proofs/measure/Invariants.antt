@@ -1,5 +1,6 @@
 -- `graph::measure` meets its contract: after i turns the first i places hold sizes, the others numbers still. Assumes nothing.
-use Rattle.theory.specs.Prelude.{ℕ, ◌-◌, ◌≤◌, ◌≡◌, List, ℤ}
+use Rattle.std.specs.Prelude.{◌-◌, ◌≤◌, ◌≡◌}
+use Rattle.theory.specs.Prelude.{ℕ, List, ℤ}
 use Rattle.theory.specs.Prelude.{length, take, drop}
 use Rattle.sheet.specs.declared.Kinds.{Kinds}
 use Rattle.sheet.specs.Facts.{Facts}

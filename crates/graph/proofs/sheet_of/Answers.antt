@@ -1,5 +1,6 @@
 -- `graph::sheet_of` meets its contract: the first i places hold the first i constraints of the facts, the others are blank. Assumes nothing.
-use Rattle.theory.specs.Prelude.{rules, ◌<◌, ◌≤◌, arith, add-one, ◌≡◌, refl, sym, ap, ◌∙◌, pos, length, take, get_or}
+use Rattle.std.specs.Prelude.{◌<◌, ◌≤◌, ◌≡◌}
+use Rattle.theory.specs.Prelude.{rules, arith, add-one, refl, sym, ap, ◌∙◌, pos, length, take, get_or}
 use Rattle.theory.specs.Prelude.{length-set, take-suc, take-suc-set, take_all}
 use mir.Facts.{to_z-of_z}
 use mir.Syntax.{w32}

@@ -1,5 +1,6 @@
 -- `graph::sheet_of` meets its contract: the first i places hold the first i constraints of the facts, the others are blank. Assumes nothing.
-use Rattle.theory.specs.Prelude.{ℕ, ◌-◌, ◌≤◌, ◌≡◌, List, ℤ, length, take, drop, replicate}
+use Rattle.std.specs.Prelude.{◌-◌, ◌≤◌, ◌≡◌}
+use Rattle.theory.specs.Prelude.{ℕ, List, ℤ, length, take, drop, replicate}
 use Rattle.sheet.specs.declared.Constraint.{Constraint}
 use Rattle.sheet.specs.Facts.{Facts, blank_constraint}
 use Rattle.graph.specs.declared.Front.{Front}

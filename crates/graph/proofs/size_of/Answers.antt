@@ -1,5 +1,6 @@
 -- `graph::size_of` meets its contract: a given size is its own, a contact is made of the radii. Assumes nothing.
-use Rattle.theory.specs.Prelude.{ℕ, zero, suc, ◌+◌, ◌-◌, ◌^◌, ◌<◌, arith, ◌≡◌, sym, ap, ◌∙◌, Bool, true, false, ◌&&◌, cond, ℤ, pos, neg_ℤ, ◌-ℤ◌}
+use Rattle.std.specs.Prelude.{◌+◌, ◌-◌, ◌^◌, ◌<◌, ◌≡◌, ◌&&◌, ◌-ℤ◌}
+use Rattle.theory.specs.Prelude.{ℕ, zero, suc, arith, sym, ap, ◌∙◌, Bool, true, false, cond, ℤ, pos, neg_ℤ}
 use lib.IntN.{+ℤ_idl}
 use mir.Facts.{to_z-of_z, to_z_pos, sfits_lit, yes_ltb}
 use mir.Val.{SFits, to_z}

@@ -1,6 +1,7 @@
 -- Laws of the constraint graph in lent arrays: one constraint more, and each constraint out again. Assumes nothing.
-use Rattle.theory.specs.Prelude.{ℕ, zero, suc, ◌+◌, ◌-◌, ◌%◌, ◌/◌, ◌<◌, ◌≤◌, le_of_suc-le-suc, pow-succ', arith, ◌≡◌, refl, sym, ap, ◌∙◌, subst, ◌≢◌}
-use Rattle.theory.specs.Prelude.{⊎_elim, true, false, ◌||◌, not, List, [], ◌∷◌, ◌++◌, map, map-append, append_assoc, leb-true, leb, ℤ, pos, negsuc}
+use Rattle.std.specs.Prelude.{◌+◌, ◌-◌, ◌%◌, ◌/◌, ◌<◌, ◌≤◌, ◌≡◌, ◌≢◌, ◌||◌, ◌∷◌, ◌++◌}
+use Rattle.theory.specs.Prelude.{ℕ, zero, suc, le_of_suc-le-suc, pow-succ', arith, refl, sym, ap, ◌∙◌, subst}
+use Rattle.theory.specs.Prelude.{⊎_elim, true, false, not, List, [], map, map-append, append_assoc, leb-true, leb, ℤ, pos, negsuc}
 use Rattle.theory.specs.Prelude.{pow_pos, count_trailing_zeros, under, length, get_or, set, replicate, length-map, length-append, List·getD-append}
 use Rattle.theory.specs.Prelude.{set-append_seam}
 use Rattle.std.specs.Int.Count.{count_leading_zeros, leading_unique}

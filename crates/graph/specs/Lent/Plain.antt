@@ -1,5 +1,6 @@
 -- A sheet without circles has no contacts: the numbers of its sizes are the sizes. Assumes nothing.
-use Rattle.theory.specs.Prelude.{ℕ, arith, ◌≡◌, refl, sym, ap, ap₂, ◌∙◌, true, false, List, [], ◌∷◌, ◌++◌, map, eqb, ℤ, pos}
+use Rattle.std.specs.Prelude.{◌≡◌, ◌∷◌, ◌++◌}
+use Rattle.theory.specs.Prelude.{ℕ, arith, refl, sym, ap, ap₂, ◌∙◌, true, false, List, [], map, eqb, ℤ, pos}
 use Rattle.theory.specs.Block.{block}
 use Rattle.theory.specs.Set.{at}
 use Rattle.theory.specs.Set.Laws.{at_zero}

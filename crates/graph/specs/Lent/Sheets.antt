@@ -1,7 +1,8 @@
 -- The arrays that hold an accepted sheet's facts are drawn, and hold its constraint graph: rules 6 and 7 make its constraints a simple graph. Assumes
 -- nothing.
-use Rattle.theory.specs.Prelude.{ℕ, ◌<◌, ◌≤◌, arith, eq-eqb, ◌≡◌, refl, sym, ap, ap₂, ◌∙◌, subst, inl, inr, Bool, true, false, ◌&&◌, ◌||◌, List, []}
-use Rattle.theory.specs.Prelude.{◌∷◌, ◌++◌, map, T, eqb, ℤ, pos, length, take, length-map, pow_mono, length-take-le}
+use Rattle.std.specs.Prelude.{◌<◌, ◌≤◌, ◌≡◌, ◌&&◌, ◌||◌, ◌∷◌, ◌++◌}
+use Rattle.theory.specs.Prelude.{ℕ, arith, eq-eqb, refl, sym, ap, ap₂, ◌∙◌, subst, inl, inr, Bool, true, false, List, []}
+use Rattle.theory.specs.Prelude.{map, T, eqb, ℤ, pos, length, take, length-map, pow_mono, length-take-le}
 use Rattle.theory.specs.Block.Laws.{length-block, take-block}
 use Rattle.theory.specs.Constraints.{pair, Among, Below, NotOver}
 use Rattle.theory.specs.Constraints.Laws.{pair_one}

@@ -1,5 +1,6 @@
 -- What is found decides the judgement in lent arrays. Assumes nothing.
-use Rattle.theory.specs.Prelude.{◌≡◌, ◌≢◌, refl, sym, ap, ap₂, ◌∙◌, Bool, false, List, ℕ, ◌+◌, ◌*◌, ◌≤◌, ℕ_discrete, arith, eqb, eqb-true}
+use Rattle.std.specs.Prelude.{◌≡◌, ◌≢◌, ◌+◌, ◌*◌, ◌≤◌}
+use Rattle.theory.specs.Prelude.{refl, sym, ap, ap₂, ◌∙◌, Bool, false, List, ℕ, ℕ_discrete, arith, eqb, eqb-true}
 use Rattle.theory.specs.Prelude.{length, take}
 use Rattle.theory.specs.Constraints.{NotOver}
 use Rattle.theory.specs.Merge.{Merge, final, left}

@@ -1,5 +1,6 @@
 -- A list of merges in arrays: how many steps it has, and its own verdict from what they hold. Assumes nothing.
-use Rattle.theory.specs.Prelude.{ℕ, ◌+◌, ◌*◌, ◌≤◌, arith, ◌≡◌, sym, ap, ◌∙◌, List, [], length, take}
+use Rattle.std.specs.Prelude.{◌+◌, ◌*◌, ◌≤◌, ◌≡◌}
+use Rattle.theory.specs.Prelude.{ℕ, arith, sym, ap, ◌∙◌, List, [], length, take}
 use Rattle.theory.specs.Block.{block}
 use Rattle.theory.specs.Block.Laws.{length-block, take-block}
 use Rattle.theory.specs.Constraints.{Pairs, NotOver}

@@ -1,5 +1,6 @@
 -- `longest::strip` meets its contract. The loop's invariant: the front of the block is the strip for as many k as have been passed. Assumes nothing.
-use Rattle.theory.specs.Prelude.{◌≡◌, refl, ap, subst, [], ◌∷◌, ℕ, ◌+◌, ◌*◌, arith, take, length-set}
+use Rattle.std.specs.Prelude.{◌≡◌, ◌∷◌, ◌+◌, ◌*◌}
+use Rattle.theory.specs.Prelude.{refl, ap, subst, [], ℕ, arith, take, length-set}
 use Rattle.sheet.specs.declared.Constraint.{Constraint}
 use Rattle.longest.specs.Longest.{strip}
 use Rattle.longest.specs.Longest.Block.{strip-next}

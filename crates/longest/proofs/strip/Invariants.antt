@@ -1,5 +1,6 @@
 -- `longest::strip` meets its contract. The loop's invariant: the front of the block is the strip for as many k as have been passed. Assumes nothing.
-use Rattle.theory.specs.Prelude.{◌≡◌, ◌≤◌, ◌+◌, ◌*◌, ◌-◌, length, take}
+use Rattle.std.specs.Prelude.{◌≡◌, ◌≤◌, ◌+◌, ◌*◌, ◌-◌}
+use Rattle.theory.specs.Prelude.{length, take}
 use Rattle.longest.specs.Longest.{strip}
 use Rattle.longest.proofs.strip.Given as goal
 

@@ -1,5 +1,6 @@
 -- `longest::write_strip` meets its contract: the blocks hold the facts of the sheet, which no rule refuses. Assumes nothing.
-use Rattle.theory.specs.Prelude.{refl, ap, ◌∙◌, ◌*◌, ◌-◌, arith, rules}
+use Rattle.std.specs.Prelude.{◌*◌, ◌-◌}
+use Rattle.theory.specs.Prelude.{refl, ap, ◌∙◌, arith, rules}
 use Rattle.space.specs.Space.{answer, after}
 use Rattle.sheet.specs.declared.Opening.TheVariants.{Pf01}
 use Rattle.sheet.specs.Facts.{Facts}

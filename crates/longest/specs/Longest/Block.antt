@@ -1,5 +1,6 @@
 -- The strip in a block of constraints, and the sheet in blocks. Assumes nothing.
-use Rattle.theory.specs.Prelude.{◌≡◌, refl, sym, ap, ◌∙◌, true, List, [], ◌∷◌, ◌++◌, ℕ, zero, suc, ◌+◌, ◌*◌, ◌-◌, ◌≤◌, ◌<◌, arith, le-leb, length}
+use Rattle.std.specs.Prelude.{◌≡◌, ◌∷◌, ◌++◌, ◌+◌, ◌*◌, ◌-◌, ◌≤◌, ◌<◌}
+use Rattle.theory.specs.Prelude.{refl, sym, ap, ◌∙◌, true, List, [], ℕ, zero, suc, arith, le-leb, length}
 use Rattle.theory.specs.Prelude.{take, set, length-set, take-suc-set}
 use Rattle.sheet.specs.declared.Opening.TheVariants.{Pf01}
 use Rattle.sheet.specs.declared.Element.{Element}

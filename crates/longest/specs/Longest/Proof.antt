@@ -1,6 +1,7 @@
 -- What is promised of the sheet with the longest plan. Every maximal list of merges of it leaves one cluster, since it peels off to its last element;
 -- so it has (e - 1) / 2 = n - 2 steps, and no list of a sheet that isn't over has more. Assumes nothing.
-use Rattle.theory.specs.Prelude.{◌≡◌, refl, sym, ap, subst, true, List, ℕ, zero, suc, ◌+◌, ◌*◌, ◌-◌, ◌≤◌, arith, ones, length, length-map}
+use Rattle.std.specs.Prelude.{◌≡◌, ◌+◌, ◌*◌, ◌-◌, ◌≤◌}
+use Rattle.theory.specs.Prelude.{refl, sym, ap, subst, true, List, ℕ, zero, suc, arith, ones, length, length-map}
 use Rattle.theory.specs.Prelude.{length-replicate}
 use Rattle.theory.specs.Set.Laws.{size-zero}
 use Rattle.theory.specs.Constraints.{Below}

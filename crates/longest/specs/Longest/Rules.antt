@@ -1,7 +1,8 @@
 -- No rule refuses the facts of the strip: each constraint joins the next element to one of the two before it, as none before it does.
 -- Assumes nothing.
-use Rattle.theory.specs.Prelude.{◌≡◌, refl, sym, ap, ap₂, ◌∙◌, subst, Bool, true, false, ◌&&◌, List, [], ◌∷◌, ◌++◌, append_assoc, append-nil, ℕ, zero}
-use Rattle.theory.specs.Prelude.{suc, ◌+◌, ◌*◌, ◌-◌, ◌<◌, arith, lt-ltb, le-leb, ne_eqb, eqb, length, get_or, length-append, length-replicate}
+use Rattle.std.specs.Prelude.{◌≡◌, ◌&&◌, ◌∷◌, ◌++◌, ◌+◌, ◌*◌, ◌-◌, ◌<◌}
+use Rattle.theory.specs.Prelude.{refl, sym, ap, ap₂, ◌∙◌, subst, Bool, true, false, List, [], append_assoc, append-nil, ℕ, zero}
+use Rattle.theory.specs.Prelude.{suc, arith, lt-ltb, le-leb, ne_eqb, eqb, length, get_or, length-append, length-replicate}
 use Rattle.sheet.specs.declared.Element.{Element}
 use Rattle.sheet.specs.declared.Constraint.{Constraint}
 use Rattle.sheet.specs.declared.Opening.TheVariants.{Pf01}

@@ -1,6 +1,7 @@
 -- The strip is not over, and each set of elements has one with at most two constraints in it, its highest: every constraint joins an element to one
 -- of the two before it. Assumes nothing.
-use Rattle.theory.specs.Prelude.{◌≡◌, ap, ◌∙◌, ◌⊎◌, inl, inr, List, [], ◌∷◌, ◌++◌, map, ℕ, zero, suc, ◌+◌, ◌*◌, ◌-◌, ◌^◌, ◌≤◌, ◌<◌, arith, dec_le}
+use Rattle.std.specs.Prelude.{◌≡◌, ◌⊎◌, ◌∷◌, ◌++◌, ◌+◌, ◌*◌, ◌-◌, ◌^◌, ◌≤◌, ◌<◌}
+use Rattle.theory.specs.Prelude.{ap, ◌∙◌, inl, inr, List, [], map, ℕ, zero, suc, arith, dec_le}
 use Rattle.theory.specs.Prelude.{ones, length-replicate, pow-lt}
 use Rattle.theory.specs.Set.{◌∈◌, ◌∩◌, ◌⊑◌, at, full}
 use Rattle.theory.specs.Set.Laws.{at-le, bit, ⊑⇒size≤, some, two_in, both, counted, a∩b⊑a, at_same, below-full, cut_below, out}

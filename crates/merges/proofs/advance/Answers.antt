@@ -1,5 +1,6 @@
 -- `merges::advance` meets its contract: the loop keeps `Running`. Assumes nothing.
-use Rattle.theory.specs.Prelude.{sym, ap, ◌∙◌, inl, inr, ◌+◌, ◌<◌, arith, rules}
+use Rattle.std.specs.Prelude.{◌+◌, ◌<◌}
+use Rattle.theory.specs.Prelude.{sym, ap, ◌∙◌, inl, inr, arith, rules}
 use Rattle.merges.specs.Search.{hit_of}
 use Rattle.merges.proofs.Running.{running-few, running_kept, running-ended, running-fewer, running-next}
 use Rattle.merges.proofs.advance.Goals as goal

@@ -1,5 +1,6 @@
 -- `merges::advance` meets its contract: the loop keeps `Running`. Assumes nothing.
-use Rattle.theory.specs.Prelude.{◌-◌, ◌≤◌, take}
+use Rattle.std.specs.Prelude.{◌-◌, ◌≤◌}
+use Rattle.theory.specs.Prelude.{take}
 use Rattle.merges.specs.Search.{Running}
 use Rattle.merges.proofs.advance.Given as goal
 

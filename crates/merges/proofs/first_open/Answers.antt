@@ -1,5 +1,6 @@
 -- `merges::first_open` meets its contract: what it finds is tested, and by `Finding` it is the first. Assumes nothing.
-use Rattle.theory.specs.Prelude.{sym, ◌∙◌, subst, ◌/◌, ◌%◌, ◌<◌, arith, T}
+use Rattle.std.specs.Prelude.{◌/◌, ◌%◌, ◌<◌}
+use Rattle.theory.specs.Prelude.{sym, ◌∙◌, subst, arith, T}
 use Rattle.theory.specs.Merge.{slot, merge}
 use Rattle.theory.specs.Merge.Threes.{open_at}
 use Rattle.theory.specs.Plan.Laws.{first_is}

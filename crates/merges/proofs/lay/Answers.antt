@@ -1,5 +1,6 @@
 -- `merges::lay` meets its contract: the clusters passed stand in the array. Assumes nothing.
-use Rattle.theory.specs.Prelude.{◌≡◌, sym, ap, ◌∙◌, List, ℕ, ◌+◌, ◌<◌, arith, add-one, rules, length, get_or, set, take, length-take}
+use Rattle.std.specs.Prelude.{◌≡◌, ◌+◌, ◌<◌}
+use Rattle.theory.specs.Prelude.{sym, ap, ◌∙◌, List, ℕ, arith, add-one, rules, length, get_or, set, take, length-take}
 use Rattle.theory.specs.Prelude.{take-suc}
 use Rattle.theory.specs.Block.{block}
 use Rattle.theory.specs.Block.Laws.{store-block}

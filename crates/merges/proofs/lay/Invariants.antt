@@ -1,5 +1,6 @@
 -- `merges::lay` meets its contract: the clusters passed stand in the array. Assumes nothing.
-use Rattle.theory.specs.Prelude.{◌≡◌, ◌-◌, ◌≤◌, take}
+use Rattle.std.specs.Prelude.{◌≡◌, ◌-◌, ◌≤◌}
+use Rattle.theory.specs.Prelude.{take}
 use Rattle.theory.specs.Block.{block}
 use Rattle.merges.proofs.lay.Given as goal
 

@@ -1,6 +1,7 @@
 -- Lists of merges: one merge more at the end, how many numbers, and one merge in an array. Assumes nothing.
-use Rattle.theory.specs.Prelude.{◌≡◌, refl, sym, ap, ◌∙◌, List, [], ◌∷◌, ◌++◌, map, append_assoc, map-append, ℕ, suc, ◌+◌, ◌*◌, ◌<◌, arith, length}
-use Rattle.theory.specs.Prelude.{take, set, length-append, length-map, length-set, ◌≢◌, Bool, true, false, eqb, eqb-true, eqb-false, eq-eqb, ne_eqb}
+use Rattle.std.specs.Prelude.{◌≡◌, ◌∷◌, ◌++◌, ◌+◌, ◌*◌, ◌<◌, ◌≢◌}
+use Rattle.theory.specs.Prelude.{refl, sym, ap, ◌∙◌, List, [], map, append_assoc, map-append, ℕ, suc, arith, length}
+use Rattle.theory.specs.Prelude.{take, set, length-append, length-map, length-set, Bool, true, false, eqb, eqb-true, eqb-false, eq-eqb, ne_eqb}
 use Rattle.theory.specs.Block.{block}
 use Rattle.theory.specs.Block.Laws.{get_or-block, set-block, store-block, take-block}
 use Rattle.theory.specs.Merge.{Merge, three, OpenAt, union, joint, cleared, put, Valid, final, joints, left}

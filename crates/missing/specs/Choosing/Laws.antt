@@ -1,6 +1,7 @@
 -- Laws of the choice: one pair more among all elements, pairs of tight sets, and the choice of numbers. Assumes nothing.
-use Rattle.theory.specs.Prelude.{◌≡◌, refl, sym, ap, ap₂, ◌∙◌, subst, ◌≢◌, inl, inr, ⊎_elim, Bool, true, false, List, [], ◌∷◌, map, ℕ, ◌+◌, ◌*◌, ◌-◌}
-use Rattle.theory.specs.Prelude.{◌/◌, ◌%◌, ◌^◌, ◌≤◌, ◌<◌, arith, ℕ_discrete, bit_and, ones, length, get_or, set, length-set, get_or-set_same}
+use Rattle.std.specs.Prelude.{◌≡◌, ◌≢◌, ◌∷◌, ◌+◌, ◌*◌, ◌-◌, ◌/◌, ◌%◌, ◌^◌, ◌≤◌, ◌<◌}
+use Rattle.theory.specs.Prelude.{refl, sym, ap, ap₂, ◌∙◌, subst, inl, inr, ⊎_elim, Bool, true, false, List, [], map, ℕ}
+use Rattle.theory.specs.Prelude.{arith, ℕ_discrete, bit_and, ones, length, get_or, set, length-set, get_or-set_same}
 use Rattle.theory.specs.Prelude.{get_or-set_other}
 use Rattle.theory.specs.Set.{◌∈◌, ◌∩◌, ◌∪◌, ◌⊑◌, at, full}
 use Rattle.theory.specs.Set.Laws.{⊑⇒size≤, a∩b⊑a, below-full, two_in, ∈-∪⁻, at_zero}

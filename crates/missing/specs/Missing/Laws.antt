@@ -1,6 +1,7 @@
 -- The answer is the cheapest list, of which there is one, or 23 where there is none. Assumes nothing.
-use Rattle.theory.specs.Prelude.{◌≡◌, refl, sym, ap, ◌∙◌, subst, ◌≢◌, inl, inr, Bool, true, false, List, [], ◌∷◌, map, Option, none, some, ℕ, ◌+◌}
-use Rattle.theory.specs.Prelude.{◌*◌, ◌≤◌, arith, eq-eqb, ne_eqb, T, eqb, eqb→eq, length}
+use Rattle.std.specs.Prelude.{◌≡◌, ◌≢◌, ◌∷◌, ◌+◌, ◌*◌, ◌≤◌}
+use Rattle.theory.specs.Prelude.{refl, sym, ap, ◌∙◌, subst, inl, inr, Bool, true, false, List, [], map, Option, none, some, ℕ}
+use Rattle.theory.specs.Prelude.{arith, eq-eqb, ne_eqb, T, eqb, eqb→eq, length}
 use Rattle.theory.specs.Constraints.{Among, Pairs, Below, NotOver}
 use Rattle.theory.specs.Graph.{Graph}
 use Rattle.sheet.specs.Field.{Field, value, refused, demand}

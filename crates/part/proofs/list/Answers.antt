@@ -1,5 +1,6 @@
 -- `part::list` meets its contract: the lines are put into a block that has room for them, and from there into the lent space. Assumes nothing.
-use Rattle.theory.specs.Prelude.{ℕ, List, arith, ◌≡◌, ◌≤◌, ap, length}
+use Rattle.std.specs.Prelude.{◌≡◌, ◌≤◌}
+use Rattle.theory.specs.Prelude.{ℕ, List, arith, ap, length}
 use Rattle.theory.specs.declared.Step.{Step}
 use Rattle.sheet.specs.Field.{Field}
 use Rattle.sheet.specs.Answer.Laws.{answers-refused, answers-items}

@@ -1,6 +1,7 @@
 -- How many steps a cluster has: twice as many and one are 2m-3, m being its elements; so twice its steps are at most e. Each step stands in one
 -- living cluster, once. Assumes nothing.
-use Rattle.theory.specs.Prelude.{ℕ, suc, ◌+◌, ◌-◌, ◌*◌, ◌≤◌, ◌<◌, ℕ_discrete, arith, ◌≡◌, refl, sym, ap, ◌∙◌, subst, ◌≢◌, List, [], ◌∷◌, ◌++◌, length}
+use Rattle.std.specs.Prelude.{◌+◌, ◌-◌, ◌*◌, ◌≤◌, ◌<◌, ◌≡◌, ◌≢◌, ◌∷◌, ◌++◌}
+use Rattle.theory.specs.Prelude.{ℕ, suc, ℕ_discrete, arith, refl, sym, ap, ◌∙◌, subst, List, [], length}
 use Rattle.theory.specs.Prelude.{get_or, length-append}
 use Rattle.theory.specs.Constraints.{Pairs, Perm, same, then}
 use Rattle.theory.specs.Merge.{Merge, slot, three, union, OpenAt, put, Valid, final, weight, weights}

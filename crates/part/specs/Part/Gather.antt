@@ -1,7 +1,8 @@
 -- The steps of the living clusters, one cluster after another: a merge adds its own step to them, and moves no other to another cluster. So no step
 -- stands in two clusters, nor twice in one. Assumes nothing.
-use Rattle.theory.specs.Prelude.{ℕ, zero, suc, ◌+◌, ◌≤◌, ◌<◌, ℕ_discrete, arith, eq-eqb, ne_eqb, ◌≡◌, refl, sym, ap, ◌∙◌, subst, ◌≢◌, Ne-symm, List}
-use Rattle.theory.specs.Prelude.{[], ◌∷◌, ◌++◌, append_assoc, append-nil, eqb, ones, length, set, get_or, length-append, List·getD-append}
+use Rattle.std.specs.Prelude.{◌+◌, ◌≤◌, ◌<◌, ◌≡◌, ◌≢◌, ◌∷◌, ◌++◌}
+use Rattle.theory.specs.Prelude.{ℕ, zero, suc, ℕ_discrete, arith, eq-eqb, ne_eqb, refl, sym, ap, ◌∙◌, subst, Ne-symm, List}
+use Rattle.theory.specs.Prelude.{[], append_assoc, append-nil, eqb, ones, length, set, get_or, length-append, List·getD-append}
 use Rattle.theory.specs.Prelude.{get_or-set_other, get_or-append-add, ext_get_or}
 use Rattle.theory.specs.Set.Laws.{size-zero, ⊑⇒size≤}
 use Rattle.theory.specs.Constraints.{Perm, same, skip, swap, then, one_if}

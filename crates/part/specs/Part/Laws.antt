@@ -1,6 +1,7 @@
 -- Laws of a cluster's steps: none of an initial one; those of the three parts and then its own; they depend on lower steps alone. Assumes nothing.
-use Rattle.theory.specs.Prelude.{ℕ, zero, suc, ◌+◌, ◌-◌, ◌≤◌, ◌<◌, arith, lt-ltb, le-ltb, ltb-false, ◌≡◌, refl, ap, ◌∙◌, Bool, true, false, List, []}
-use Rattle.theory.specs.Prelude.{◌∷◌, ◌++◌, ltb}
+use Rattle.std.specs.Prelude.{◌+◌, ◌-◌, ◌≤◌, ◌<◌, ◌≡◌, ◌∷◌, ◌++◌}
+use Rattle.theory.specs.Prelude.{ℕ, zero, suc, arith, lt-ltb, le-ltb, ltb-false, refl, ap, ◌∙◌, Bool, true, false, List, []}
+use Rattle.theory.specs.Prelude.{ltb}
 use Rattle.theory.specs.declared.Step.{Step}
 use Rattle.part.specs.Part.{under, part_steps_of}
 use Rattle.part.specs.Tallies.{Lower}

@@ -1,5 +1,6 @@
 -- The steps of a cluster are those from which it is made, in order. Assumes nothing.
-use Rattle.theory.specs.Prelude.{ℕ, zero, suc, ◌+◌, ◌-◌, ◌≤◌, ◌<◌, dec_lt, arith, ◌≡◌, refl, sym, ap, ◌∙◌, subst, ◌⊎◌, inl, inr, List, [], ◌∷◌, ◌++◌}
+use Rattle.std.specs.Prelude.{◌+◌, ◌-◌, ◌≤◌, ◌<◌, ◌≡◌, ◌⊎◌, ◌∷◌, ◌++◌}
+use Rattle.theory.specs.Prelude.{ℕ, zero, suc, dec_lt, arith, refl, sym, ap, ◌∙◌, subst, inl, inr, List, []}
 use Rattle.theory.specs.Prelude.{length}
 use Rattle.theory.specs.Constraints.{Pairs, Among, Perm, then}
 use Rattle.theory.specs.Graph.{SizedGraph, steps_of}

@@ -1,5 +1,6 @@
 -- What a measure says of the steps, and the space after it. Assumes nothing.
-use Rattle.theory.specs.Prelude.{ℕ, ◌≤◌, arith, ◌≡◌, refl, sym, ap, ◌∙◌, List, [], length}
+use Rattle.std.specs.Prelude.{◌≤◌, ◌≡◌}
+use Rattle.theory.specs.Prelude.{ℕ, arith, refl, sym, ap, ◌∙◌, List, [], length}
 use Rattle.theory.specs.declared.Step.{Step}
 use Rattle.sheet.specs.Field.{Field, value, refused}
 use Rattle.sheet.specs.Field.Laws.{refused-value}

@@ -1,5 +1,6 @@
 -- A cluster number of a graph that is not over, and what the answer is then. Assumes nothing.
-use Rattle.theory.specs.Prelude.{ℕ, ◌+◌, ◌≤◌, ◌<◌, lt-ltb, le-ltb, ◌≡◌, ap, ◌∙◌, Bool, cond, [], length}
+use Rattle.std.specs.Prelude.{◌+◌, ◌≤◌, ◌<◌, ◌≡◌}
+use Rattle.theory.specs.Prelude.{ℕ, lt-ltb, le-ltb, ap, ◌∙◌, Bool, cond, [], length}
 use Rattle.theory.specs.Plan.{plan_of}
 use Rattle.theory.specs.Graph.{SizedGraph}
 use Rattle.sheet.specs.Field.{value, refused}

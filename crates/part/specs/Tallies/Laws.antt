@@ -1,5 +1,6 @@
 -- One list of steps after another. Assumes nothing.
-use Rattle.theory.specs.Prelude.{ℕ, ◌+◌, arith, ◌≡◌, refl, sym, ap, ◌∙◌, List, [], ◌∷◌, ◌++◌, append_assoc, length, length-append}
+use Rattle.std.specs.Prelude.{◌+◌, ◌≡◌, ◌∷◌, ◌++◌}
+use Rattle.theory.specs.Prelude.{ℕ, arith, refl, sym, ap, ◌∙◌, List, [], append_assoc, length, length-append}
 use Rattle.theory.specs.declared.Step.{Step}
 use Rattle.report.specs.Report.{step_line, step_lines}
 use Rattle.report.specs.Block.{Stands}

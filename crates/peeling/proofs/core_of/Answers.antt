@@ -1,6 +1,7 @@
 -- `core_of` meets its contract. The loop's invariant: elements are taken away down to left, those of the work list are
 -- light there, and the others not. Assumes nothing.
-use Rattle.theory.specs.Prelude.{◌≡◌, ap, ◌∙◌, ◌-◌, min, arith}
+use Rattle.std.specs.Prelude.{◌≡◌, ◌-◌}
+use Rattle.theory.specs.Prelude.{ap, ◌∙◌, min, arith}
 use Rattle.theory.specs.Set.{◌∩◌, full}
 use Rattle.theory.specs.Set.Laws.{a∩b⊑b}
 use Rattle.sets.specs.Image.Laws.{image-sub}

@@ -1,5 +1,6 @@
 -- `light_all` meets its contract. The loop's invariant: the elements found are light. Assumes nothing.
-use Rattle.theory.specs.Prelude.{ap, ◌∙◌, subst, inl, inr, ℕ, ◌≤◌, ◌<◌, arith, bit_or, ones, get_or}
+use Rattle.std.specs.Prelude.{◌≤◌, ◌<◌}
+use Rattle.theory.specs.Prelude.{ap, ◌∙◌, subst, inl, inr, ℕ, arith, bit_or, ones, get_or}
 use Rattle.theory.specs.Set.{full}
 use Rattle.peeling.specs.Core.Neighbours.{light-none, light-all-code, light-same, two-most, three-least, heavy-tried}
 use Rattle.peeling.proofs.light_all.Goals as goal

@@ -1,5 +1,6 @@
 -- `light_all` meets its contract. The loop's invariant: the elements found are light. Assumes nothing.
-use Rattle.theory.specs.Prelude.{◌≡◌, ℕ, ◌-◌, ◌≤◌, ◌<◌, ones, get_or}
+use Rattle.std.specs.Prelude.{◌≡◌, ◌-◌, ◌≤◌, ◌<◌}
+use Rattle.theory.specs.Prelude.{ℕ, ones, get_or}
 use Rattle.theory.specs.Set.{at, full}
 use Rattle.peeling.specs.Core.{Light}
 use Rattle.peeling.proofs.light_all.Given as goal

@@ -1,5 +1,6 @@
 -- `light_of` meets its contract. The loop's invariant: the elements found are light, and those to be tried are left. Assumes nothing.
-use Rattle.theory.specs.Prelude.{◌≡◌, sym, ap, ◌∙◌, subst, inl, inr, ℕ, ◌-◌, ◌≤◌, arith, bit_and, bit_or, ones, get_or, pow_pos}
+use Rattle.std.specs.Prelude.{◌≡◌, ◌-◌, ◌≤◌}
+use Rattle.theory.specs.Prelude.{sym, ap, ◌∙◌, subst, inl, inr, ℕ, arith, bit_and, bit_or, ones, get_or, pow_pos}
 use Rattle.theory.specs.Set.{◌∈◌, ◌∩◌, ◌⊑◌, at}
 use Rattle.theory.specs.Set.Laws.{at-le, at_zero, ⊑_trans}
 use Rattle.theory.specs.Set.Less.{at_room, less_other, less-sub}

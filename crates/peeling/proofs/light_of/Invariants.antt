@@ -1,5 +1,6 @@
 -- `light_of` meets its contract. The loop's invariant: the elements found are light, and those to be tried are left. Assumes nothing.
-use Rattle.theory.specs.Prelude.{◌≡◌, ℕ, ◌≤◌, ones, get_or}
+use Rattle.std.specs.Prelude.{◌≡◌, ◌≤◌}
+use Rattle.theory.specs.Prelude.{ℕ, ones, get_or}
 use Rattle.theory.specs.Set.{◌∈◌, ◌∩◌, ◌⊑◌, at}
 use Rattle.peeling.specs.Core.{Light}
 use Rattle.peeling.proofs.light_of.Given as goal

@@ -1,5 +1,6 @@
 -- `mark_hard` meets its contract. The loop's invariant: left is the core of the first c constraints, and those from c on are noted. Assumes nothing.
-use Rattle.theory.specs.Prelude.{◌≡◌, sym, subst, ℕ, suc, ◌-◌, ◌<◌, arith, take, le_refl}
+use Rattle.std.specs.Prelude.{◌≡◌, ◌-◌, ◌<◌}
+use Rattle.theory.specs.Prelude.{sym, subst, ℕ, suc, arith, take, le_refl}
 use Rattle.theory.specs.Set.{◌⊑◌}
 use Rattle.theory.specs.Near.Laws.{standing-count, standing-item, standing-two}
 use Rattle.peeling.specs.Hard.{Linked, Left, Marks}

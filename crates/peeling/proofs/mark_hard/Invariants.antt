@@ -1,5 +1,6 @@
 -- `mark_hard` meets its contract. The loop's invariant: left is the core of the first c constraints, and those from c on are noted. Assumes nothing.
-use Rattle.theory.specs.Prelude.{◌≤◌, take}
+use Rattle.std.specs.Prelude.{◌≤◌}
+use Rattle.theory.specs.Prelude.{take}
 use Rattle.peeling.specs.Hard.{Left, Marks}
 use Rattle.peeling.proofs.mark_hard.Given as goal
 

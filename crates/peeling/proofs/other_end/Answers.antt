@@ -1,5 +1,6 @@
 -- `other_end` meets its contract. Assumes nothing.
-use Rattle.theory.specs.Prelude.{sym, subst, ℕ, ◌-◌, ◌^◌, ◌<◌, arith}
+use Rattle.std.specs.Prelude.{◌-◌, ◌^◌, ◌<◌}
+use Rattle.theory.specs.Prelude.{sym, subst, ℕ, arith}
 use Rattle.theory.specs.Set.{◌∈◌}
 use Rattle.theory.specs.Set.Less.{at_room, less-in, less-some}
 use Rattle.peeling.proofs.other_end.Goals as goal

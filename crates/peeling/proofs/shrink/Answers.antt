@@ -1,6 +1,7 @@
 -- `shrink` meets its contract. The loop's invariant: those of the work list are light, and what is left can be taken
 -- down to so far. Assumes nothing.
-use Rattle.theory.specs.Prelude.{◌-◌, arith, get_or}
+use Rattle.std.specs.Prelude.{◌-◌}
+use Rattle.theory.specs.Prelude.{arith, get_or}
 use Rattle.theory.specs.Set.{◌∩◌, ◌∪◌}
 use Rattle.theory.specs.Set.Laws.{a∩b⊑b}
 use Rattle.peeling.specs.Core.Peeling.{peel-room, todo-room, peel-less, light-next}

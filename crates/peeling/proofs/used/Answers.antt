@@ -1,5 +1,6 @@
 -- `peeling::used` meets its contract: the elements passed have no neighbour. Assumes nothing.
-use Rattle.theory.specs.Prelude.{ℕ, ◌-◌, ◌≤◌, ◌<◌, ℕ_discrete, arith, ◌≡◌, ap, ◌∙◌, List, get_or}
+use Rattle.std.specs.Prelude.{◌-◌, ◌≤◌, ◌<◌, ◌≡◌}
+use Rattle.theory.specs.Prelude.{ℕ, ℕ_discrete, arith, ap, ◌∙◌, List, get_or}
 use Rattle.peeling.specs.Core.{Beyond}
 use Rattle.peeling.proofs.used.Goals as goal
 

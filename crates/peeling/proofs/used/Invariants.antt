@@ -1,5 +1,5 @@
 -- `peeling::used` meets its contract: the elements passed have no neighbour. Assumes nothing.
-use Rattle.theory.specs.Prelude.{◌≤◌}
+use Rattle.std.specs.Prelude.{◌≤◌}
 use Rattle.peeling.specs.Core.{Beyond}
 use Rattle.peeling.proofs.used.Given as goal
 

@@ -1,7 +1,8 @@
 -- Constraints that are peeled off to the last element: 2n-3 of them on n elements end in one cluster, whatever list of merges is made.
 -- Assumes nothing.
-use Rattle.theory.specs.Prelude.{◌≡◌, refl, sym, ap, ◌∙◌, subst, ◌≢◌, ◌⊎◌, inl, inr, Ne-symm, List, [], ◌∷◌, ℕ, zero, suc, ◌+◌, ◌*◌, ◌-◌, ◌^◌, ◌≤◌}
-use Rattle.theory.specs.Prelude.{◌<◌, arith, ℕ_discrete, dec_le, ones, length, set, pow_pos, pow_mono, get_or-set_other}
+use Rattle.std.specs.Prelude.{◌≡◌, ◌≢◌, ◌⊎◌, ◌∷◌, ◌+◌, ◌*◌, ◌-◌, ◌^◌, ◌≤◌, ◌<◌}
+use Rattle.theory.specs.Prelude.{refl, sym, ap, ◌∙◌, subst, inl, inr, Ne-symm, List, [], ℕ, zero, suc}
+use Rattle.theory.specs.Prelude.{arith, ℕ_discrete, dec_le, ones, length, set, pow_pos, pow_mono, get_or-set_other}
 use Rattle.theory.specs.Set.{◌∈◌, ◌∩◌, ◌⊑◌, at, full}
 use Rattle.theory.specs.Set.Laws.{at-le, at_zero, bit, zero-ext, ⊑⇒size≤, ⊑-size-≡, size-zero, size-full, ⊑_refl, other, two_in, both, ∈-∩⁻}
 use Rattle.theory.specs.Constraints.{Among, Pairs, Below, carried, NotOver}

@@ -1,5 +1,6 @@
 -- Elements with two neighbours at most. Assumes nothing.
-use Rattle.theory.specs.Prelude.{◌≡◌, sym, ap, ◌∙◌, subst, ◌≢◌, ◌⊎◌, inl, inr, ⊎_elim, List, ℕ, zero, suc, ◌-◌, ◌^◌, ◌≤◌, ◌<◌, ℕ_discrete, dec_le}
+use Rattle.std.specs.Prelude.{◌≡◌, ◌≢◌, ◌⊎◌, ◌-◌, ◌^◌, ◌≤◌, ◌<◌}
+use Rattle.theory.specs.Prelude.{sym, ap, ◌∙◌, subst, inl, inr, ⊎_elim, List, ℕ, zero, suc, ℕ_discrete, dec_le}
 use Rattle.theory.specs.Prelude.{arith, bit_and, bit_or, ones, get_or, pow-lt}
 use Rattle.theory.specs.Set.{◌∈◌, ◌∩◌, ◌∪◌, ◌⊑◌, at, full}
 use Rattle.theory.specs.Set.Laws.{at-∪, at-le, at_zero, at_same, at_other, bit, size-zero, size_none, ⊑⇒size≤, ⊑_refl, a∩b⊑a, ∩-comm, ∩-mono}

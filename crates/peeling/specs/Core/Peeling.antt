@@ -1,6 +1,7 @@
 -- Elements with at most two constraints are taken away one by one: what is left is a core. A least over set has three constraints at each element, so
 -- none loses any. Assumes nothing.
-use Rattle.theory.specs.Prelude.{◌≡◌, sym, ap, subst, ◌⊎◌, inl, inr, List, ℕ, ◌+◌, ◌*◌, ◌-◌, ◌^◌, ◌≤◌, ◌<◌, dec_le, arith, bit_and, bit_or, ones, length}
+use Rattle.std.specs.Prelude.{◌≡◌, ◌⊎◌, ◌+◌, ◌*◌, ◌-◌, ◌^◌, ◌≤◌, ◌<◌}
+use Rattle.theory.specs.Prelude.{sym, ap, subst, inl, inr, List, ℕ, dec_le, arith, bit_and, bit_or, ones, length}
 use Rattle.theory.specs.Prelude.{refl, ◌∙◌, zero, suc, sub-zero, and_le_r, take, get_or, take-length, pow_pos}
 use Rattle.theory.specs.Set.{◌∈◌, ◌∩◌, ◌∪◌, ◌⊑◌, at, full}
 use Rattle.theory.specs.Set.Laws.{at-∩, at-le, bit, size-zero, ⊑⇒size≤, ⊑_trans, a∩b⊑a, a∩b⊑b, ∩-comm, out, below-full}

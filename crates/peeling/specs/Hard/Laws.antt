@@ -1,6 +1,7 @@
 -- From the last constraint to the first: what is left without it, and that a constraint which does not lie in what is left closes no over set.
 -- Assumes nothing.
-use Rattle.theory.specs.Prelude.{◌≡◌, refl, sym, ap, ap₂, ◌∙◌, subst, ◌≢◌, inl, inr, List, [], ◌∷◌, ◌++◌, ℕ, zero, suc, ◌-◌, ◌^◌, ◌≤◌, ◌<◌}
+use Rattle.std.specs.Prelude.{◌≡◌, ◌≢◌, ◌∷◌, ◌++◌, ◌-◌, ◌^◌, ◌≤◌, ◌<◌}
+use Rattle.theory.specs.Prelude.{refl, sym, ap, ap₂, ◌∙◌, subst, inl, inr, List, [], ℕ, zero, suc}
 use Rattle.theory.specs.Prelude.{ℕ_discrete, dec_lt, le_refl, arith, bit_and, ones, count_trailing_zeros, length, take, get_or, set, length-set, replicate}
 use Rattle.theory.specs.Prelude.{take-suc, take-take, take_all, get_or-set_same, get_or-set_other}
 use Rattle.theory.specs.Set.{◌∈◌, ◌∩◌, ◌⊑◌, at}

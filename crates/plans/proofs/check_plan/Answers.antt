@@ -1,5 +1,6 @@
 -- `plans::check_plan` meets its contract: the loop keeps `Checking`. Assumes nothing.
-use Rattle.theory.specs.Prelude.{◌≡◌, sym, ap, ◌∙◌, List, ℕ, ◌+◌, ◌<◌, arith, get_or}
+use Rattle.std.specs.Prelude.{◌≡◌, ◌+◌, ◌<◌}
+use Rattle.theory.specs.Prelude.{sym, ap, ◌∙◌, List, ℕ, arith, get_or}
 use Rattle.theory.specs.Merge.{Merge, merge, OpenAt, final}
 use Rattle.theory.specs.Plan.{ascending}
 use Rattle.merges.specs.Run.{most_steps}

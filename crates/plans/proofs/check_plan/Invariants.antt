@@ -1,5 +1,6 @@
 -- `plans::check_plan` meets its contract: the loop keeps `Checking`. Assumes nothing.
-use Rattle.theory.specs.Prelude.{◌-◌, length, take}
+use Rattle.std.specs.Prelude.{◌-◌}
+use Rattle.theory.specs.Prelude.{length, take}
 use Rattle.plans.proofs.Checking.{Checking}
 use Rattle.plans.proofs.check_plan.Given as goal
 

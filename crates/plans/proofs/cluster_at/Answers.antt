@@ -1,5 +1,6 @@
 -- `plans::cluster_at` meets its contract. Assumes nothing.
-use Rattle.theory.specs.Prelude.{sym, arith, length, List·getD-eq-default, ◌≤◌}
+use Rattle.std.specs.Prelude.{◌≤◌}
+use Rattle.theory.specs.Prelude.{sym, arith, length, List·getD-eq-default}
 use Rattle.plans.proofs.cluster_at.Goals as goal
 
 pub returns-else-i-lt-CLUSTERS : goal.returns-else-i-lt-CLUSTERS

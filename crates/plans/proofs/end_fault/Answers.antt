@@ -1,5 +1,6 @@
 -- `plans::end_fault` meets its contract: where one cluster is left no merge is open, and else the search decides. Assumes nothing.
-use Rattle.theory.specs.Prelude.{ℕ, arith, ◌≡◌, sym, ap, ◌∙◌, List, [], Bool, true, false}
+use Rattle.std.specs.Prelude.{◌≡◌}
+use Rattle.theory.specs.Prelude.{ℕ, arith, sym, ap, ◌∙◌, List, [], Bool, true, false}
 use Rattle.theory.specs.Merge.{final, left, Ended}
 use Rattle.theory.specs.Merge.Count.{left-put, steps-left}
 use Rattle.theory.specs.Plan.{first_of, is_some}

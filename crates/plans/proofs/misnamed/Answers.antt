@@ -1,5 +1,6 @@
 -- `plans::misnamed` meets its contract: each test is one part of rule 13. Assumes nothing.
-use Rattle.theory.specs.Prelude.{sym, ◌||◌, eqb, eq-eqb, ne_eqb}
+use Rattle.std.specs.Prelude.{◌||◌}
+use Rattle.theory.specs.Prelude.{sym, eqb, eq-eqb, ne_eqb}
 use Rattle.plans.specs.Check.{misnamed}
 use Rattle.plans.proofs.misnamed.Goals as goal
 

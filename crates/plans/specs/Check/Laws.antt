@@ -1,6 +1,7 @@
 -- A saved plan is accepted if and only if it is a maximal list of merges, and which rule refuses it when. Assumes nothing.
-use Rattle.theory.specs.Prelude.{◌≡◌, refl, sym, ap, ◌∙◌, subst, ◌≢◌, ◌↔◌, Bool, true, false, ◌||◌, List, [], ◌∷◌, ◌++◌, Option, ℕ, zero, suc, ◌%◌}
-use Rattle.theory.specs.Prelude.{◌≤◌, arith, T, eqb, length, eqb-true, eqb-false, ne_eqb, eq-eqb}
+use Rattle.std.specs.Prelude.{◌≡◌, ◌≢◌, ◌↔◌, ◌||◌, ◌∷◌, ◌++◌, ◌%◌, ◌≤◌}
+use Rattle.theory.specs.Prelude.{refl, sym, ap, ◌∙◌, subst, Bool, true, false, List, [], Option, ℕ, zero, suc}
+use Rattle.theory.specs.Prelude.{arith, T, eqb, length, eqb-true, eqb-false, ne_eqb, eq-eqb}
 use Rattle.theory.specs.Merge.{slot, Merge, OpenAt, put, Valid, final, Maximal}
 use Rattle.theory.specs.Plan.{open_test, first_of, is_some}
 use Rattle.theory.specs.Plan.Search.{Found, found, nothing, first_found, open-test, test-open}

@@ -1,5 +1,6 @@
 -- The check answers every list of numbers as it would with rule 14, where two living clusters share at most one element. Assumes nothing.
-use Rattle.theory.specs.Prelude.{◌≡◌, refl, ap, ◌∙◌, Bool, true, false, ◌||◌, List, [], ◌∷◌, ℕ, zero, suc, ◌%◌, arith, eqb, ones, length, lt-leb}
+use Rattle.std.specs.Prelude.{◌≡◌, ◌||◌, ◌∷◌, ◌%◌}
+use Rattle.theory.specs.Prelude.{refl, ap, ◌∙◌, Bool, true, false, List, [], ℕ, zero, suc, arith, eqb, ones, length, lt-leb}
 use Rattle.theory.specs.Set.{◌∩◌}
 use Rattle.theory.specs.Merge.{slot, Merge, put, Valid, final, ShareOne}
 use Rattle.theory.specs.Plan.{open_test}

@@ -1,5 +1,6 @@
 -- `reader::opens` meets its contract. Assumes nothing.
-use Rattle.theory.specs.Prelude.{◌-◌, ◌≤◌, ◌≡◌, drop}
+use Rattle.std.specs.Prelude.{◌-◌, ◌≤◌, ◌≡◌}
+use Rattle.theory.specs.Prelude.{drop}
 use Rattle.sheet.specs.Field.{begins}
 use Rattle.reader.proofs.opens.Given as goal
 

@@ -1,5 +1,6 @@
 -- `reader::pass_tag` meets its contract: a tag is twice the bit's bytes, all there or cut. Assumes nothing.
-use Rattle.theory.specs.Prelude.{ℕ, zero, suc, ◌+◌, ◌*◌, ◌-◌, ◌<◌, ◌≤◌, add-zero, arith, ◌≡◌, List, rules, eqb, length, drop}
+use Rattle.std.specs.Prelude.{◌+◌, ◌*◌, ◌-◌, ◌<◌, ◌≤◌, ◌≡◌}
+use Rattle.theory.specs.Prelude.{ℕ, zero, suc, add-zero, arith, List, rules, eqb, length, drop}
 use mir.Facts.{to_z-of_z}
 use mir.Syntax.{w32}
 use Rattle.sheet.specs.Field.{value, refused}

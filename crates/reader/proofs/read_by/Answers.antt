@@ -1,5 +1,6 @@
 -- `reader::read_by` meets its contract: rules 8 and 20 of what the map announces, the size and the tag. Assumes nothing.
-use Rattle.theory.specs.Prelude.{rules, arith, ◌≡◌, sym, ap, ◌∙◌, true, pos, drop}
+use Rattle.std.specs.Prelude.{◌≡◌}
+use Rattle.theory.specs.Prelude.{rules, arith, sym, ap, ◌∙◌, true, pos, drop}
 use mir.Facts.{to_z-of_z}
 use mir.Syntax.{w32}
 use Rattle.sheet.specs.Rules.{pair_of, size_by, size_allowed, radii_differ}

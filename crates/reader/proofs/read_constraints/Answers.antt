@@ -1,6 +1,7 @@
 -- `reader::read_constraints` meets its contract: whatever the elements and the constraints before are, what is left gives the answer (`Turn`).
 -- Assumes nothing.
-use Rattle.theory.specs.Prelude.{ℕ, arith, ℤ, List, ◌≡◌, refl, sym, ap, ◌∙◌, rules, drop}
+use Rattle.std.specs.Prelude.{◌≡◌}
+use Rattle.theory.specs.Prelude.{ℕ, arith, ℤ, List, refl, sym, ap, ◌∙◌, rules, drop}
 use mir.Facts.{to_z-of_z}
 use mir.Syntax.{w32}
 use Rattle.sheet.specs.declared.Size.{Size}

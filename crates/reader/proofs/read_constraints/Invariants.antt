@@ -1,6 +1,7 @@
 -- `reader::read_constraints` meets its contract: whatever the elements and the constraints before are, what is left gives the answer (`Turn`).
 -- Assumes nothing.
-use Rattle.theory.specs.Prelude.{◌-◌, ◌≤◌, List, ◌≡◌, length}
+use Rattle.std.specs.Prelude.{◌-◌, ◌≤◌, ◌≡◌}
+use Rattle.theory.specs.Prelude.{List, length}
 use Rattle.sheet.specs.declared.Element.{Element}
 use Rattle.sheet.specs.declared.Constraint.{Constraint}
 use Rattle.sheet.specs.Facts.Kinds.{KindsIn}

@@ -1,5 +1,6 @@
 -- `reader::read_ends` meets its contract: the rules in their order, each after the bytes that it rules. Assumes nothing.
-use Rattle.theory.specs.Prelude.{arith, true, ◌≡◌, sym, ◌∙◌}
+use Rattle.std.specs.Prelude.{◌≡◌}
+use Rattle.theory.specs.Prelude.{arith, true, sym, ◌∙◌}
 use Rattle.sheet.specs.Rules.Laws.{ends-true}
 use Rattle.sheet.specs.Rules.{ends_ascend}
 use Rattle.sheet.specs.Decode.{constraint}

@@ -1,5 +1,6 @@
 -- `reader::read_front` meets its contract: the fields before the constraints, one after another. Assumes nothing.
-use Rattle.theory.specs.Prelude.{arith, true, false, ◌≡◌, sym, ap, ◌∙◌, subst, List, length, drop}
+use Rattle.std.specs.Prelude.{◌≡◌}
+use Rattle.theory.specs.Prelude.{arith, true, false, sym, ap, ◌∙◌, subst, List, length, drop}
 use Rattle.sheet.specs.declared.Element.{Element}
 use Rattle.sheet.specs.Facts.Kinds.{KindsIn}
 use Rattle.sheet.specs.Field.{Field, value, refused, next}

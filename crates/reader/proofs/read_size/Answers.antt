@@ -1,5 +1,6 @@
 -- `reader::read_size` meets its contract. Assumes nothing.
-use Rattle.theory.specs.Prelude.{◌≡◌, sym, ap, ◌∙◌, rules, drop}
+use Rattle.std.specs.Prelude.{◌≡◌}
+use Rattle.theory.specs.Prelude.{sym, ap, ◌∙◌, rules, drop}
 use mir.Syntax.{w32}
 use mir.Facts.{to_z-of_z}
 use Rattle.sheet.specs.Field.{value, field, signed32}

@@ -1,5 +1,6 @@
 -- `reader::signed` meets its contract. Assumes nothing.
-use Rattle.theory.specs.Prelude.{ℕ, suc, ◌-◌, ◌<◌, ◌≤◌, ◌^◌, arith, ◌≡◌, ap, lt-ltb, le-ltb, negsuc, ◌+ℤ◌}
+use Rattle.std.specs.Prelude.{◌-◌, ◌<◌, ◌≤◌, ◌^◌, ◌≡◌, ◌+ℤ◌}
+use Rattle.theory.specs.Prelude.{ℕ, suc, arith, ap, lt-ltb, le-ltb, negsuc}
 use mir.Syntax.{w32}
 use mir.Val.{to_z, SFits}
 use mir.Facts.{to_z_pos, to_z-of_z}

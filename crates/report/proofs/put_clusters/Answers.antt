@@ -1,5 +1,6 @@
 -- `report::put_clusters` meets its contract: the lines of the clusters from `c` on are still to be put. Assumes nothing.
-use Rattle.theory.specs.Prelude.{ℕ, ◌+◌, ◌*◌, ◌^◌, ◌≤◌, ◌<◌, arith, ◌≡◌, sym, ap, ◌∙◌, List, ◌++◌, length, take, drop, get_or}
+use Rattle.std.specs.Prelude.{◌+◌, ◌*◌, ◌^◌, ◌≤◌, ◌<◌, ◌≡◌, ◌++◌}
+use Rattle.theory.specs.Prelude.{ℕ, arith, sym, ap, ◌∙◌, List, length, take, drop, get_or}
 use Rattle.report.specs.Report.{slot_line, cluster_lines}
 use Rattle.report.specs.Pieces.{wide}
 use Rattle.report.specs.Report.Laws.{clusters-next, clusters-none, length-wide, wide_at}

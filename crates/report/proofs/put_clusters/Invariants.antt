@@ -1,5 +1,6 @@
 -- `report::put_clusters` meets its contract: the lines of the clusters from `c` on are still to be put. Assumes nothing.
-use Rattle.theory.specs.Prelude.{◌-◌, ◌≤◌, take, drop}
+use Rattle.std.specs.Prelude.{◌-◌, ◌≤◌}
+use Rattle.theory.specs.Prelude.{take, drop}
 use Rattle.report.specs.Report.{cluster_lines}
 use Rattle.report.specs.Pieces.{wide}
 use Rattle.report.specs.Block.{Stands}

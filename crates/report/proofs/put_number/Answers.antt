@@ -1,5 +1,6 @@
 -- `report::put_number` meets its contract: the four bytes of the table begin with the number. Assumes nothing.
-use Rattle.theory.specs.Prelude.{ℕ, suc, ◌+◌, ◌*◌, ◌-◌, ◌<◌, add-zero, arith, ◌≡◌, ap, List, ◌∷◌, length, get_or, set, replicate, sets}
+use Rattle.std.specs.Prelude.{◌+◌, ◌*◌, ◌-◌, ◌<◌, ◌≡◌, ◌∷◌}
+use Rattle.theory.specs.Prelude.{ℕ, suc, add-zero, arith, ap, List, length, get_or, set, replicate, sets}
 use Rattle.space.specs.Text.{decimal}
 use Rattle.space.specs.Text.Laws.{decimal-length}
 use Rattle.report.specs.Block.{Stands, Numerals}

@@ -1,5 +1,6 @@
 -- `report::put_report` meets its contract: its front and its clusters make the report. Assumes nothing.
-use Rattle.theory.specs.Prelude.{arith, ℕ, ◌+◌, List, take}
+use Rattle.std.specs.Prelude.{◌+◌}
+use Rattle.theory.specs.Prelude.{arith, ℕ, List, take}
 use Rattle.theory.specs.declared.Verdict.{Verdict}
 use Rattle.theory.specs.declared.Step.{Step}
 use Rattle.engine.specs.Steps.{steps_in}

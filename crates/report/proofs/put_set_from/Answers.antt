@@ -1,5 +1,6 @@
 -- `report::put_set_from` meets its contract: the elements of `rest` are still to be put. Assumes nothing.
-use Rattle.theory.specs.Prelude.{rules, ℕ, ◌-◌, arith, ap, ◌∙◌, and_le_l, and_le_r, trailing_le}
+use Rattle.std.specs.Prelude.{◌-◌}
+use Rattle.theory.specs.Prelude.{rules, ℕ, arith, ap, ◌∙◌, and_le_l, and_le_r, trailing_le}
 use Rattle.report.specs.Elements.{elements}
 use Rattle.report.specs.Pieces.{numbers, above}
 use Rattle.report.specs.Report.Laws.{above-lowest, above-none}

@@ -1,5 +1,5 @@
 -- `report::put_set_from` meets its contract: the elements of `rest` are still to be put. Assumes nothing.
-use Rattle.theory.specs.Prelude.{◌^◌, ◌<◌}
+use Rattle.std.specs.Prelude.{◌^◌, ◌<◌}
 use Rattle.report.specs.Elements.{elements}
 use Rattle.report.specs.Pieces.{numbers, above}
 use Rattle.report.specs.Block.{Stands}

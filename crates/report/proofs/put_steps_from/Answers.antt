@@ -1,5 +1,6 @@
 -- `report::put_steps_from` meets its contract: the lines of the steps from `t` on are still to be put. Assumes nothing.
-use Rattle.theory.specs.Prelude.{ℕ, ◌≡◌, arith, sym, ap, subst, List}
+use Rattle.std.specs.Prelude.{◌≡◌}
+use Rattle.theory.specs.Prelude.{ℕ, arith, sym, ap, subst, List}
 use Rattle.theory.specs.declared.Step.{Step}
 use Rattle.report.specs.Block.Laws.{stands-as}
 use Rattle.engine.specs.Steps.{step_at}

@@ -1,5 +1,5 @@
 -- `report::put_steps_from` meets its contract: the lines of the steps from `t` on are still to be put. Assumes nothing.
-use Rattle.theory.specs.Prelude.{◌-◌, ◌≤◌}
+use Rattle.std.specs.Prelude.{◌-◌, ◌≤◌}
 use Rattle.engine.specs.Steps.{step_at, steps_for}
 use Rattle.report.specs.Report.{step_lines}
 use Rattle.report.specs.Block.{Stands}

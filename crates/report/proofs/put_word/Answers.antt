@@ -1,5 +1,6 @@
 -- `report::put_word` meets its contract: the bytes from `i` on are still to be put. Assumes nothing.
-use Rattle.theory.specs.Prelude.{add-zero, add-one, arith, refl, ◌∙◌, [], ◌∷◌, get_or, drop_of_length-le, drop-cons}
+use Rattle.std.specs.Prelude.{◌∷◌}
+use Rattle.theory.specs.Prelude.{add-zero, add-one, arith, refl, ◌∙◌, [], get_or, drop_of_length-le, drop-cons}
 use Rattle.report.specs.Block.Laws.{stands-all}
 use Rattle.report.proofs.Standing.{stands}
 use Rattle.report.specs.Going.Laws.{start, put_next, put_last}

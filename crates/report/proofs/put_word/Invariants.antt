@@ -1,5 +1,6 @@
 -- `report::put_word` meets its contract: the bytes from `i` on are still to be put. Assumes nothing.
-use Rattle.theory.specs.Prelude.{◌+◌, ◌-◌, ◌≤◌, length, drop}
+use Rattle.std.specs.Prelude.{◌+◌, ◌-◌, ◌≤◌}
+use Rattle.theory.specs.Prelude.{length, drop}
 use Rattle.report.specs.Block.{Stands}
 use Rattle.report.specs.Going.{Going}
 use Rattle.report.proofs.put_word.Given as goal

@@ -1,5 +1,6 @@
 -- `report::write_report` meets its contract: the buffer has room for the report. Assumes nothing.
-use Rattle.theory.specs.Prelude.{arith, ℕ, ◌+◌, List, take, replicate, length-replicate}
+use Rattle.std.specs.Prelude.{◌+◌}
+use Rattle.theory.specs.Prelude.{arith, ℕ, List, take, replicate, length-replicate}
 use Rattle.engine.specs.Steps.{steps_in}
 use Rattle.report.specs.Report.{report}
 use Rattle.report.specs.Pieces.{wide}

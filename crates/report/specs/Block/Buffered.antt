@@ -1,5 +1,6 @@
 -- Lines put into a buffer that has room for them, then its part up to their end into lent space. Assumes nothing.
-use Rattle.theory.specs.Prelude.{ℕ, ◌-◌, ◌≤◌, arith, ◌≡◌, ap, ◌∙◌, List, length, take}
+use Rattle.std.specs.Prelude.{◌-◌, ◌≤◌, ◌≡◌}
+use Rattle.theory.specs.Prelude.{ℕ, arith, ap, ◌∙◌, List, length, take}
 use Rattle.space.specs.declared.Written.{Written}
 use Rattle.space.specs.Space.{answer, after}
 use Rattle.report.specs.Block.{Stands}

@@ -1,6 +1,7 @@
 -- Laws of the block: one piece of writing after another is the writing of both; what the table holds of a number. Assumes nothing.
-use Rattle.theory.specs.Prelude.{ℕ, zero, suc, ◌+◌, ◌*◌, ◌-◌, ◌/◌, ◌%◌, ◌≤◌, ◌<◌, add-zero, zero-add, add-suc, suc-add, arith, ◌≡◌, refl, sym, ap}
-use Rattle.theory.specs.Prelude.{ap₂, ◌∙◌, Bool, true, false, cond, List, [], ◌∷◌, ◌++◌, append_assoc, append-nil, T, ltb, eqb, eqb→eq, length, get_or}
+use Rattle.std.specs.Prelude.{◌+◌, ◌*◌, ◌-◌, ◌/◌, ◌%◌, ◌≤◌, ◌<◌, ◌≡◌, ◌∷◌, ◌++◌}
+use Rattle.theory.specs.Prelude.{ℕ, zero, suc, add-zero, zero-add, add-suc, suc-add, arith, refl, sym, ap}
+use Rattle.theory.specs.Prelude.{ap₂, ◌∙◌, Bool, true, false, cond, List, [], append_assoc, append-nil, T, ltb, eqb, eqb→eq, length, get_or}
 use Rattle.theory.specs.Prelude.{take, set, length-append, replicate, sets, length-take-le, take_at}
 use Rattle.std.proofs.lemmas.List.Edits.{sets-eq}
 use Rattle.std.proofs.Math.Seq.{length-sets}

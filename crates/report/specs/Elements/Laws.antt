@@ -1,6 +1,7 @@
 -- Laws of a set's elements, listed: the lowest comes first, and those of the set without it follow; they are not more than the set's size,
 -- and not more than 64. Assumes nothing.
-use Rattle.theory.specs.Prelude.{ℕ, zero, suc, ◌+◌, ◌-◌, ◌*◌, ◌/◌, ◌%◌, ◌^◌, ◌≤◌, ◌<◌, arith, ◌≡◌, refl, sym, ap, ap₂, ◌∙◌, ◌≢◌, List, [], ◌∷◌, ◌++◌}
+use Rattle.std.specs.Prelude.{◌+◌, ◌-◌, ◌*◌, ◌/◌, ◌%◌, ◌^◌, ◌≤◌, ◌<◌, ◌≡◌, ◌≢◌, ◌∷◌, ◌++◌}
+use Rattle.theory.specs.Prelude.{ℕ, zero, suc, arith, refl, sym, ap, ap₂, ◌∙◌, List, []}
 use Rattle.theory.specs.Prelude.{map, append-nil, bit_and, and_step, and_self, ones, ones_step, count_trailing_zeros, under, length, length-map}
 use Rattle.std.specs.Int.Bits.{block_half, block_odd}
 use Rattle.theory.specs.Set.{at}

@@ -1,5 +1,6 @@
 -- A piece put, and the last one. Assumes nothing.
-use Rattle.theory.specs.Prelude.{ℕ, ◌+◌, ◌≡◌, List, [], ◌++◌, length}
+use Rattle.std.specs.Prelude.{◌+◌, ◌≡◌, ◌++◌}
+use Rattle.theory.specs.Prelude.{ℕ, List, [], length}
 use Rattle.report.specs.Going.{Standing, Composes, Going}
 
 pub start : {P : Standing} {space : List ℕ} {at : ℕ} (whole : List ℕ) → Going P space at whole space at whole

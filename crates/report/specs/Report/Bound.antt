@@ -1,7 +1,8 @@
 -- A bound on the report's length: 42 + 37 * e - 6 * steps bytes for every list of merges, at most 4,667 on a sheet that is not over. A step line
 -- has at most 57 bytes; the line of a cluster of m elements has 27 + 3m at most, and 4 for each of the 2m - 3 constraints it rests on; e is the
 -- clusters left and twice the steps, and the sum of 2m - 3. Assumes nothing.
-use Rattle.theory.specs.Prelude.{ℕ, zero, suc, ◌+◌, ◌*◌, ◌≤◌, ◌<◌, arith, ◌≡◌, ◌≢◌, Bool, true, false, List, [], ◌∷◌, ltb, eqb, ones, ℤ, nat_abs, ◌-ℤ◌}
+use Rattle.std.specs.Prelude.{◌+◌, ◌*◌, ◌≤◌, ◌<◌, ◌≡◌, ◌≢◌, ◌∷◌, ◌-ℤ◌}
+use Rattle.theory.specs.Prelude.{ℕ, zero, suc, arith, Bool, true, false, List, [], ltb, eqb, ones, ℤ, nat_abs}
 use Rattle.theory.specs.Prelude.{length, length-append}
 use Rattle.theory.specs.Set.{◌∩◌, full}
 use Rattle.theory.specs.Set.Laws.{size-full}

@@ -1,5 +1,6 @@
 -- A report is its front and then its clusters. Assumes nothing.
-use Rattle.theory.specs.Prelude.{ℕ, ◌+◌, ◌≡◌, sym, ap, ◌∙◌, List, ◌++◌, append_assoc, length, length-append}
+use Rattle.std.specs.Prelude.{◌+◌, ◌≡◌, ◌++◌}
+use Rattle.theory.specs.Prelude.{ℕ, sym, ap, ◌∙◌, List, append_assoc, length, length-append}
 use Rattle.theory.specs.declared.Verdict.{Verdict}
 use Rattle.theory.specs.declared.Step.{Step}
 use Rattle.report.specs.Report.{verdict_line, elements_line, step_lines, cluster_lines, report}

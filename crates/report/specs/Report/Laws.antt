@@ -1,6 +1,7 @@
 -- Laws of the report's bytes: pieces of its lines. Assumes nothing.
-use Rattle.theory.specs.Prelude.{ℕ, zero, suc, ◌+◌, ◌-◌, ◌*◌, ◌^◌, ◌≤◌, ◌<◌, add-one, arith, ◌≡◌, refl, sym, ap, ap₂, ◌∙◌, subst, ◌≢◌, List, [], ◌∷◌}
-use Rattle.theory.specs.Prelude.{◌++◌, map, append_assoc, append-nil, eq-eqb, ne_eqb, bit_and, count_trailing_zeros, length, get_or, take, drop, length-take}
+use Rattle.std.specs.Prelude.{◌+◌, ◌-◌, ◌*◌, ◌^◌, ◌≤◌, ◌<◌, ◌≡◌, ◌≢◌, ◌∷◌, ◌++◌}
+use Rattle.theory.specs.Prelude.{ℕ, zero, suc, add-one, arith, refl, sym, ap, ap₂, ◌∙◌, subst, List, []}
+use Rattle.theory.specs.Prelude.{map, append_assoc, append-nil, eq-eqb, ne_eqb, bit_and, count_trailing_zeros, length, get_or, take, drop, length-take}
 use Rattle.theory.specs.Prelude.{drop_of_length-le, drop-cons, get_or-take}
 use Rattle.space.specs.Text.{ascii, decimal}
 use Rattle.theory.specs.declared.Verdict.TheVariants.{Over}

@@ -1,6 +1,7 @@
 -- How long a report is. Document 01, "Refused", rule 17, asks for space of that length. Assumes nothing.
-use Rattle.theory.specs.Prelude.{ℕ, zero, suc, ◌+◌, ◌*◌, ◌/◌, ◌%◌, ◌≤◌, ◌<◌, arith, lt-ltb, ◌≡◌, refl, ap, ◌∙◌, Bool, true, false, cond, List, []}
-use Rattle.theory.specs.Prelude.{◌∷◌, ◌++◌, ltb, length, length-append, length-map}
+use Rattle.std.specs.Prelude.{◌+◌, ◌*◌, ◌/◌, ◌%◌, ◌≤◌, ◌<◌, ◌≡◌, ◌∷◌, ◌++◌}
+use Rattle.theory.specs.Prelude.{ℕ, zero, suc, arith, lt-ltb, refl, ap, ◌∙◌, Bool, true, false, cond, List, []}
+use Rattle.theory.specs.Prelude.{ltb, length, length-append, length-map}
 use Rattle.theory.specs.Set.{at}
 use Rattle.theory.specs.Merge.{living}
 use Rattle.theory.specs.declared.Verdict.{Verdict}

@@ -1,5 +1,6 @@
 -- `rests::carry` meets its contract: after each step the words are those of the clusters that live then. Assumes nothing.
-use Rattle.theory.specs.Prelude.{◌≡◌, sym, ◌∙◌, subst, List, ℕ, ◌+◌, ◌*◌, ◌≤◌, ◌<◌, arith, get_or, set, take}
+use Rattle.std.specs.Prelude.{◌≡◌, ◌+◌, ◌*◌, ◌≤◌, ◌<◌}
+use Rattle.theory.specs.Prelude.{sym, ◌∙◌, subst, List, ℕ, arith, get_or, set, take}
 use Rattle.theory.specs.Set.{◌∪◌}
 use Rattle.rests.specs.Words.{Listed, Told}
 use Rattle.rests.specs.Words.Laws.{alone-low, alone-high, below, told-start, told-next, told-end}

@@ -1,5 +1,6 @@
 -- `rests::carry` meets its contract: after each step the words are those of the clusters that live then. Assumes nothing.
-use Rattle.theory.specs.Prelude.{◌-◌, ◌≤◌, take}
+use Rattle.std.specs.Prelude.{◌-◌, ◌≤◌}
+use Rattle.theory.specs.Prelude.{take}
 use Rattle.rests.specs.Words.{Listed, Told}
 use Rattle.rests.proofs.carry.Given as goal
 

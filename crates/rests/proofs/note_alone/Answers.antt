@@ -1,5 +1,6 @@
 -- `rests::note_alone` meets its contract: the words of the numbers passed stand. Assumes nothing.
-use Rattle.theory.specs.Prelude.{◌≡◌, refl, sym, ap, ◌∙◌, List, ℕ, ◌+◌, ◌-◌, ◌^◌, ◌≤◌, ◌<◌, arith, ℕ_discrete, get_or, set, length-set}
+use Rattle.std.specs.Prelude.{◌≡◌, ◌+◌, ◌-◌, ◌^◌, ◌≤◌, ◌<◌}
+use Rattle.theory.specs.Prelude.{refl, sym, ap, ◌∙◌, List, ℕ, arith, ℕ_discrete, get_or, set, length-set}
 use Rattle.theory.specs.Prelude.{get_or-set_same, get_or-set_other}
 use Rattle.theory.specs.Block.Laws.{get_or-blank}
 use Rattle.rests.specs.Words.{Alone}

@@ -1,5 +1,5 @@
 -- `rests::note_alone` meets its contract: the words of the numbers passed stand. Assumes nothing.
-use Rattle.theory.specs.Prelude.{◌-◌, ◌≤◌}
+use Rattle.std.specs.Prelude.{◌-◌, ◌≤◌}
 use Rattle.rests.specs.Words.{Alone}
 use Rattle.rests.proofs.note_alone.Given as goal
 

@@ -1,5 +1,6 @@
 -- The words of what clusters rest on, merge after merge. Assumes nothing.
-use Rattle.theory.specs.Prelude.{◌≡◌, refl, sym, ap, ap₂, ◌∙◌, subst, ◌≢◌, List, [], ◌∷◌, map, ℕ, zero, suc, ◌+◌, ◌-◌, ◌*◌, ◌/◌, ◌%◌, ◌^◌, ◌≤◌, ◌<◌}
+use Rattle.std.specs.Prelude.{◌≡◌, ◌≢◌, ◌∷◌, ◌+◌, ◌-◌, ◌*◌, ◌/◌, ◌%◌, ◌^◌, ◌≤◌, ◌<◌}
+use Rattle.theory.specs.Prelude.{refl, sym, ap, ap₂, ◌∙◌, subst, List, [], map, ℕ, zero, suc}
 use Rattle.theory.specs.Prelude.{arith, add-one, dec_lt, pow-lt, pow-add, length, get_or, set, take, length-set, length-take}
 use Rattle.theory.specs.Prelude.{length-map, List·getD-map, get_or-set_same, get_or-set_other, take-suc, take_all}
 use Rattle.std.proofs.lemmas.Nat.{or_shr, or_mod, shl-shr}

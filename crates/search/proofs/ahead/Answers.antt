@@ -1,5 +1,6 @@
 -- `search::ahead` meets its contract: none, all or the lowest digits. Assumes nothing.
-use Rattle.theory.specs.Prelude.{ap, ◌∙◌, ◌*◌, ◌-◌, min, arith}
+use Rattle.std.specs.Prelude.{◌*◌, ◌-◌}
+use Rattle.theory.specs.Prelude.{ap, ◌∙◌, min, arith}
 use Rattle.theory.specs.Set.{at}
 use Rattle.search.specs.State.Sheet.{in-full}
 use Rattle.search.proofs.ahead.Goals as goal

@@ -1,5 +1,6 @@
 -- `search::best` meets its contract: the loop keeps `Leading`. Assumes nothing.
-use Rattle.theory.specs.Prelude.{sym, subst, ◌-◌, arith, rules, bit_and, and_le_r, trailing_le}
+use Rattle.std.specs.Prelude.{◌-◌}
+use Rattle.theory.specs.Prelude.{sym, subst, arith, rules, bit_and, and_le_r, trailing_le}
 use Rattle.theory.specs.Set.Lowest.{lowest-below}
 use Rattle.theory.specs.Set.{◌∩◌}
 use Rattle.search.specs.State.{linked, Joined}

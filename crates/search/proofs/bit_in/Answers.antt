@@ -1,5 +1,6 @@
 -- `search::bit_in` meets its contract: one digit. Assumes nothing.
-use Rattle.theory.specs.Prelude.{◌∙◌, ◌*◌, ◌%◌, ◌^◌, one-mul, lt-suc_self, arith, shl_exact}
+use Rattle.std.specs.Prelude.{◌*◌, ◌%◌, ◌^◌}
+use Rattle.theory.specs.Prelude.{◌∙◌, one-mul, lt-suc_self, arith, shl_exact}
 use Rattle.search.proofs.Sets3.{alone-one, alone-none}
 use Rattle.search.proofs.bit_in.Goals as goal
 

@@ -1,5 +1,6 @@
 -- `search::enter` meets its contract: the loop keeps `Entering`. Assumes nothing.
-use Rattle.theory.specs.Prelude.{refl, ◌∙◌, ◌-◌, ◌%◌, ◌^◌, ◌<◌, one-mul, lt-suc_self, arith, shl_exact, rules, and_le_r, count_trailing_zeros}
+use Rattle.std.specs.Prelude.{◌-◌, ◌%◌, ◌^◌, ◌<◌}
+use Rattle.theory.specs.Prelude.{refl, ◌∙◌, one-mul, lt-suc_self, arith, shl_exact, rules, and_le_r, count_trailing_zeros}
 use Rattle.theory.specs.Set.Lowest.{lowest-below}
 use Rattle.search.proofs.Storing.{entering-none, entering-next, entering-all}
 use Rattle.search.proofs.enter.Goals as goal

@@ -1,6 +1,7 @@
 -- `search::first_reaching` meets its contract: the loop keeps `Passed`. Assumes nothing.
 use Rattle.theory.specs.Set.{◌∩◌}
-use Rattle.theory.specs.Prelude.{◌-◌, ◌<◌, arith, rules, and_le_r, count_trailing_zeros}
+use Rattle.std.specs.Prelude.{◌-◌, ◌<◌}
+use Rattle.theory.specs.Prelude.{arith, rules, and_le_r, count_trailing_zeros}
 use Rattle.theory.specs.Set.Lowest.{lowest-below}
 use Rattle.search.proofs.Passing.{passed_none, passed-next, passed_here, passed-end}
 use Rattle.search.proofs.first_reaching.Goals as goal

@@ -1,5 +1,6 @@
 -- `search::holders` meets its contract: each of the three words has the entries passed. Assumes nothing.
-use Rattle.theory.specs.Prelude.{subst, ℕ, ◌+◌, ◌-◌, ◌<◌, arith, rules, bit_and, bit_or, count_trailing_zeros, get_or}
+use Rattle.std.specs.Prelude.{◌+◌, ◌-◌, ◌<◌}
+use Rattle.theory.specs.Prelude.{subst, ℕ, arith, rules, bit_and, bit_or, count_trailing_zeros, get_or}
 use Rattle.sets.specs.Each.Laws.{each_none, each_all, each-lowest, each-less}
 use Rattle.sets.specs.Image.Laws.{joined-next}
 use Rattle.search.proofs.holders.Goals as goal

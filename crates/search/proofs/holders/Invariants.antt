@@ -1,5 +1,6 @@
 -- `search::holders` meets its contract: each of the three words has the entries passed. Assumes nothing.
-use Rattle.theory.specs.Prelude.{List, ℕ, ◌+◌, get_or}
+use Rattle.std.specs.Prelude.{◌+◌}
+use Rattle.theory.specs.Prelude.{List, ℕ, get_or}
 use Rattle.sets.specs.Each.{Each}
 use Rattle.sets.specs.Image.Laws.{Joined}
 use Rattle.search.proofs.holders.Given as goal

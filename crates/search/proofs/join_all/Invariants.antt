@@ -1,5 +1,5 @@
 -- `search::join_all` meets its contract: the loop keeps `Begun` of the clusters passed. Assumes nothing.
-use Rattle.theory.specs.Prelude.{◌-◌, ◌≤◌}
+use Rattle.std.specs.Prelude.{◌-◌, ◌≤◌}
 use Rattle.search.specs.State.{Begun}
 use Rattle.search.proofs.join_all.Given as goal
 

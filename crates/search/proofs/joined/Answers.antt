@@ -1,5 +1,6 @@
 -- `search::joined` meets its contract: the two elements that z is linked with. Assumes nothing.
-use Rattle.theory.specs.Prelude.{◌-◌, ◌^◌, ◌<◌, arith, bit_and, and_le_l, and_le_r, trailing_le, get_or, rules}
+use Rattle.std.specs.Prelude.{◌-◌, ◌^◌, ◌<◌}
+use Rattle.theory.specs.Prelude.{arith, bit_and, and_le_l, and_le_r, trailing_le, get_or, rules}
 use Rattle.theory.specs.Set.{◌∩◌}
 use Rattle.theory.specs.Set.Lowest.{lowest-below}
 use Rattle.search.proofs.Two.{joined-none, joined-one, joined-two}

@@ -1,5 +1,6 @@
 -- `search::lowest_reaching` meets its contract: word after word, `Swept`. Assumes nothing.
-use Rattle.theory.specs.Prelude.{◌<◌, arith, trailing_le}
+use Rattle.std.specs.Prelude.{◌<◌}
+use Rattle.theory.specs.Prelude.{arith, trailing_le}
 use Rattle.search.proofs.Swept.{swept_none, swept-next, swept-found, swept-end}
 use Rattle.search.proofs.lowest_reaching.Goals as goal
 

@@ -1,5 +1,6 @@
 -- `search::outs` meets its contract: the loop keeps `Seen`. Assumes nothing.
-use Rattle.theory.specs.Prelude.{◌-◌, ◌<◌, arith, rules, and_le_r, count_trailing_zeros}
+use Rattle.std.specs.Prelude.{◌-◌, ◌<◌}
+use Rattle.theory.specs.Prelude.{arith, rules, and_le_r, count_trailing_zeros}
 use Rattle.theory.specs.Set.Lowest.{lowest-below}
 use Rattle.search.proofs.Gather.{seen_none, seen_next, seen_all}
 use Rattle.search.proofs.outs.Goals as goal

@@ -1,5 +1,6 @@
 -- `search::rejoin` meets its contract: the loop keeps `Rejoining`. Assumes nothing.
-use Rattle.theory.specs.Prelude.{refl, ◌-◌, ◌<◌, arith, rules, and_le_r, count_trailing_zeros}
+use Rattle.std.specs.Prelude.{◌-◌, ◌<◌}
+use Rattle.theory.specs.Prelude.{refl, arith, rules, and_le_r, count_trailing_zeros}
 use Rattle.theory.specs.Set.Lowest.{lowest-below}
 use Rattle.search.proofs.Rejoining.{rejoining-none, rejoining-next, rejoining-all}
 use Rattle.search.proofs.rejoin.Goals as goal

@@ -1,5 +1,6 @@
 -- An element that a cluster reaches gives exactly one merge of it, and the first of these merges is the first of all. Assumes nothing.
-use Rattle.theory.specs.Prelude.{◌≡◌, sym, ap, ◌∙◌, subst, ◌≢◌, ◌⊎◌, inl, inr, Ne-symm, List, ℕ, ◌/◌, ◌%◌, ◌≤◌, ◌<◌, min, max, arith, ℕ_discrete}
+use Rattle.std.specs.Prelude.{◌≡◌, ◌≢◌, ◌⊎◌, ◌/◌, ◌%◌, ◌≤◌, ◌<◌}
+use Rattle.theory.specs.Prelude.{sym, ap, ◌∙◌, subst, inl, inr, Ne-symm, List, ℕ, min, max, arith, ℕ_discrete}
 use Rattle.theory.specs.Prelude.{dec_le, dec_lt}
 use Rattle.theory.specs.Set.{◌∈◌, ◌∩◌, at}
 use Rattle.theory.specs.Set.Laws.{at-le, both, ∈-∩⁻, two_in, filled}

@@ -1,6 +1,7 @@
 -- Where two living clusters share at most one element, the clusters that take part in an open merge are those that reach an element by their
 -- part of the rim. Assumes nothing.
-use Rattle.theory.specs.Prelude.{◌≡◌, sym, ap, subst, ◌≢◌, Ne-symm, List, ℕ, arith}
+use Rattle.std.specs.Prelude.{◌≡◌, ◌≢◌}
+use Rattle.theory.specs.Prelude.{sym, ap, subst, Ne-symm, List, ℕ, arith}
 use Rattle.theory.specs.Set.{◌∈◌, ◌∩◌, at}
 use Rattle.theory.specs.Set.Laws.{both, ∈-∩⁻}
 use Rattle.theory.specs.Merge.{slot, merge, OpenAt, ShareOne}

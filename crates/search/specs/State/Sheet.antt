@@ -1,5 +1,6 @@
 -- The search is ready at the start of a sheet that is not over, and again after each merge. Assumes nothing.
-use Rattle.theory.specs.Prelude.{◌≡◌, refl, sym, ap, ◌∙◌, ◌≢◌, List, ℕ, ◌+◌, ◌^◌, ◌≤◌, ◌<◌, arith, dec_lt, length, List·getD-eq-default, pow-lt}
+use Rattle.std.specs.Prelude.{◌≡◌, ◌≢◌, ◌+◌, ◌^◌, ◌≤◌, ◌<◌}
+use Rattle.theory.specs.Prelude.{refl, sym, ap, ◌∙◌, List, ℕ, arith, dec_lt, length, List·getD-eq-default, pow-lt}
 use Rattle.theory.specs.Set.{◌∈◌, at, full}
 use Rattle.theory.specs.Set.Laws.{at_zero, at-le, at_same, below-full, filled}
 use Rattle.theory.specs.Set.Lowest.{at-below}

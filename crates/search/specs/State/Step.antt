@@ -1,5 +1,6 @@
 -- After a merge the rim, the links, the holders and the waiting clusters are again those of the clusters. Assumes nothing.
-use Rattle.theory.specs.Prelude.{◌≡◌, refl, sym, ap, ◌∙◌, subst, ◌≢◌, ◌⊎◌, inl, inr, ⊎_elim, Ne-symm, List, ℕ, ◌≤◌, ◌<◌, arith, ℕ_discrete, length}
+use Rattle.std.specs.Prelude.{◌≡◌, ◌≢◌, ◌⊎◌, ◌≤◌, ◌<◌}
+use Rattle.theory.specs.Prelude.{refl, sym, ap, ◌∙◌, subst, inl, inr, ⊎_elim, Ne-symm, List, ℕ, arith, ℕ_discrete, length}
 use Rattle.theory.specs.Prelude.{List·getD-eq-default}
 use Rattle.theory.specs.Set.{◌∈◌, ◌∩◌, ◌∪◌, at}
 use Rattle.theory.specs.Set.Laws.{at-le, at_zero, both, ∈-∩⁻, ∈-∪⁻, ∈-∪ˡ, ∈-∪ʳ, out, filled, other as another}

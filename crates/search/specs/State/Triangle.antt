@@ -1,5 +1,6 @@
 -- Three clusters make an open merge where they meet in three different elements, its corners. Assumes nothing.
-use Rattle.theory.specs.Prelude.{◌≡◌, subst, ◌≢◌, List, ℕ, arith, ℕ_discrete, ones}
+use Rattle.std.specs.Prelude.{◌≡◌, ◌≢◌}
+use Rattle.theory.specs.Prelude.{subst, List, ℕ, arith, ℕ_discrete, ones}
 use Rattle.theory.specs.Set.{◌∈◌, ◌∩◌, at}
 use Rattle.theory.specs.Set.Laws.{some, two_in, both, ∈-∩⁻, filled, counted, out, same-single}
 use Rattle.theory.specs.Merge.{slot, merge, OpenAt, ShareOne}

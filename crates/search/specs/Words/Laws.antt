@@ -1,5 +1,6 @@
 -- A union gathered one element after another. Assumes nothing.
-use Rattle.theory.specs.Prelude.{◌≡◌, sym, ap, ◌∙◌, subst, ◌≢◌, ◌⊎◌, inl, inr, List, ℕ, ◌+◌, ◌-◌, ◌^◌, ◌<◌, arith, ℕ_discrete, bit_and, bit_or, and_le_l}
+use Rattle.std.specs.Prelude.{◌≡◌, ◌≢◌, ◌⊎◌, ◌+◌, ◌-◌, ◌^◌, ◌<◌}
+use Rattle.theory.specs.Prelude.{sym, ap, ◌∙◌, subst, inl, inr, List, ℕ, arith, ℕ_discrete, bit_and, bit_or, and_le_l}
 use Rattle.theory.specs.Prelude.{count_trailing_zeros}
 use Rattle.theory.specs.Set.{◌∈◌, ◌∩◌, ◌∪◌, at}
 use Rattle.theory.specs.Set.Laws.{at_zero, ∈-∩⁻, ∈-∪⁻, ∈-∪ˡ, ∈-∪ʳ}

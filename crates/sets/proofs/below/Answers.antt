@@ -1,5 +1,6 @@
 -- `sets::below` meets its contract. Assumes nothing.
-use Rattle.theory.specs.Prelude.{◌≡◌, ap, min, arith, pow_pos}
+use Rattle.std.specs.Prelude.{◌≡◌}
+use Rattle.theory.specs.Prelude.{ap, min, arith, pow_pos}
 use Rattle.theory.specs.Set.{full}
 use Rattle.sets.proofs.below.Goals as goal
 

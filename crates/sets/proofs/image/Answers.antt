@@ -1,5 +1,6 @@
 -- `sets::image` meets its contract: the loop keeps `Imaged`. Assumes nothing.
-use Rattle.theory.specs.Prelude.{◌<◌, arith, rules, count_trailing_zeros}
+use Rattle.std.specs.Prelude.{◌<◌}
+use Rattle.theory.specs.Prelude.{arith, rules, count_trailing_zeros}
 use Rattle.sets.specs.Each.Laws.{each-lowest, each-less}
 use Rattle.sets.specs.Image.Laws.{imaged-none, imaged-next, imaged-all}
 use Rattle.sets.proofs.image.Goals as goal

@@ -1,5 +1,6 @@
 -- `single` meets its contract. Assumes nothing.
-use Rattle.theory.specs.Prelude.{◌∙◌, ◌^◌, one-mul, lt-suc_self, arith, shl_exact}
+use Rattle.std.specs.Prelude.{◌^◌}
+use Rattle.theory.specs.Prelude.{◌∙◌, one-mul, lt-suc_self, arith, shl_exact}
 use Rattle.sets.proofs.single.Goals as goal
 
 pub returns : goal.returns

@@ -1,5 +1,6 @@
 -- A walk over the elements of a set, lowest first: `while rest != 0`, with the lowest element of `rest` looked at and taken away. Assumes nothing.
-use Rattle.theory.specs.Prelude.{◌≡◌, sym, ap, ◌∙◌, subst, ◌≢◌, ℕ, ◌-◌, ◌^◌, ◌<◌, arith, ℕ_discrete, bit_and, and_le_l, and_le_r, count_trailing_zeros}
+use Rattle.std.specs.Prelude.{◌≡◌, ◌≢◌, ◌-◌, ◌^◌, ◌<◌}
+use Rattle.theory.specs.Prelude.{sym, ap, ◌∙◌, subst, ℕ, arith, ℕ_discrete, bit_and, and_le_l, and_le_r, count_trailing_zeros}
 use Rattle.theory.specs.Set.{◌∈◌, ◌∩◌, at}
 use Rattle.theory.specs.Set.Laws.{at_zero, ∈-∩⁻}
 use Rattle.theory.specs.Set.Lowest.{lowest-in, lowest-below, rest-other}

@@ -1,5 +1,6 @@
 -- The image of a set, gathered one element after another. Assumes nothing.
-use Rattle.theory.specs.Prelude.{◌≡◌, ◌≢◌, ◌⊎◌, inl, inr, ⊎_elim, List, ℕ, ◌-◌, ◌^◌, ◌≤◌, ◌<◌, arith, bit_and, bit_or, count_trailing_zeros, get_or}
+use Rattle.std.specs.Prelude.{◌≡◌, ◌≢◌, ◌⊎◌, ◌-◌, ◌^◌, ◌≤◌, ◌<◌}
+use Rattle.theory.specs.Prelude.{inl, inr, ⊎_elim, List, ℕ, arith, bit_and, bit_or, count_trailing_zeros, get_or}
 use Rattle.theory.specs.Set.{◌∈◌, ◌∪◌, ◌⊑◌, at}
 use Rattle.theory.specs.Set.Laws.{at_zero, at-le, bit, ∈-∪⁻, ∈-∪ˡ, ∈-∪ʳ}
 use Rattle.sets.specs.Each.{Each}

@@ -1,5 +1,6 @@
 -- `sheet::bits_used` meets its contract: the number is below 2 ^ n, and any number of 64 bits where n is 64. Assumes nothing.
-use Rattle.theory.specs.Prelude.{lt-ltb, ℕ, ◌^◌, ◌<◌, ◌≤◌, ◌≡◌, sym, subst, one-mul, mod-eq_of_lt, arith, pow-lt}
+use Rattle.std.specs.Prelude.{◌^◌, ◌<◌, ◌≤◌, ◌≡◌}
+use Rattle.theory.specs.Prelude.{lt-ltb, ℕ, sym, subst, one-mul, mod-eq_of_lt, arith, pow-lt}
 use Rattle.sheet.proofs.bits_used.Goals as goal
 
 -- 64 bits have none from 64 on

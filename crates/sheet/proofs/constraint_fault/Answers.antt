@@ -1,5 +1,6 @@
 -- `sheet::constraint_fault` meets its contract: the rules in their order, the kinds of the ends by sets and radii. Assumes nothing.
-use Rattle.theory.specs.Prelude.{◌<◌, ◌≤◌, arith, ◌≡◌, sym, ◌∙◌, true, ℕ}
+use Rattle.std.specs.Prelude.{◌<◌, ◌≤◌, ◌≡◌}
+use Rattle.theory.specs.Prelude.{arith, sym, ◌∙◌, true, ℕ}
 use Rattle.sheet.specs.Facts.Laws.{kind-in}
 use Rattle.sheet.specs.Rules.{ends_ascend, constraint_fault}
 use Rattle.sheet.specs.Rules.Laws.{ends-true}

@@ -1,6 +1,7 @@
 -- `sheet::constraints_fault` meets its contract. The loop's invariant: the constraints before i are noted, and the faults from i on are those of the
 -- whole list. Assumes nothing.
-use Rattle.theory.specs.Prelude.{rules, ℕ, ◌+◌, ◌<◌, ◌≤◌, arith, add-one, ◌≡◌, refl, sym, ap, ◌∙◌, List, length, take, drop, get_or, take-suc}
+use Rattle.std.specs.Prelude.{◌+◌, ◌<◌, ◌≤◌, ◌≡◌}
+use Rattle.theory.specs.Prelude.{rules, ℕ, arith, add-one, refl, sym, ap, ◌∙◌, List, length, take, drop, get_or, take-suc}
 use Rattle.theory.specs.Prelude.{pos}
 use Rattle.sheet.specs.declared.Element.{Element}
 use Rattle.sheet.specs.declared.Size.TheVariants.{Given}

@@ -1,6 +1,7 @@
 -- `sheet::constraints_fault` meets its contract. The loop's invariant: the constraints before i are noted, and the faults from i on are those of the
 -- whole list. Assumes nothing.
-use Rattle.theory.specs.Prelude.{◌-◌, ◌≤◌, ◌≡◌, List, [], length, take, drop}
+use Rattle.std.specs.Prelude.{◌-◌, ◌≤◌, ◌≡◌}
+use Rattle.theory.specs.Prelude.{List, [], length, take, drop}
 use Rattle.sheet.specs.declared.Element.{Element}
 use Rattle.sheet.specs.Facts.Kinds.{KindsIn}
 use Rattle.sheet.specs.Rules.{constraints_fault}

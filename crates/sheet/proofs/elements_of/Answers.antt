@@ -1,5 +1,6 @@
 -- `sheet::elements_of` meets its contract: the elements before i stand, the places from i on are blank. Assumes nothing.
-use Rattle.theory.specs.Prelude.{rules, ℕ, ◌+◌, ◌<◌, ◌≤◌, add-one, arith, ◌≡◌, refl, ap, ◌∙◌, List, length, take, set, get_or}
+use Rattle.std.specs.Prelude.{◌+◌, ◌<◌, ◌≤◌, ◌≡◌}
+use Rattle.theory.specs.Prelude.{rules, ℕ, add-one, arith, refl, ap, ◌∙◌, List, length, take, set, get_or}
 use Rattle.theory.specs.Prelude.{length-set, take-suc-set, take-suc, take_all}
 use Rattle.sheet.specs.declared.Kind.{Kind}
 use Rattle.sheet.specs.declared.Element.{Element}

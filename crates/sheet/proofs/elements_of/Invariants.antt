@@ -1,5 +1,6 @@
 -- `sheet::elements_of` meets its contract: the elements before i stand, the places from i on are blank. Assumes nothing.
-use Rattle.theory.specs.Prelude.{◌-◌, ◌≤◌, ◌≡◌, List, length, take, drop, replicate}
+use Rattle.std.specs.Prelude.{◌-◌, ◌≤◌, ◌≡◌}
+use Rattle.theory.specs.Prelude.{List, length, take, drop, replicate}
 use Rattle.sheet.specs.declared.Element.{Element}
 use Rattle.sheet.specs.Facts.{blank_element}
 use Rattle.sheet.specs.Facts.Kinds.{KindsIn}

@@ -1,6 +1,7 @@
 -- `sheet::kinds_of` meets its contract: the bits from the last element down, and the radii from i on; the numbers stay below 2 ^ 64.
 -- Assumes nothing.
-use Rattle.theory.specs.Prelude.{rules, ℕ, ◌+◌, ◌*◌, ◌-◌, ◌<◌, ◌≤◌, ◌^◌, pow-le-pow_right, ℕ_discrete, arith, ◌≡◌, sym, ap, ◌∙◌, Bool, true, false}
+use Rattle.std.specs.Prelude.{◌+◌, ◌*◌, ◌-◌, ◌<◌, ◌≤◌, ◌^◌, ◌≡◌}
+use Rattle.theory.specs.Prelude.{rules, ℕ, pow-le-pow_right, ℕ_discrete, arith, sym, ap, ◌∙◌, Bool, true, false}
 use Rattle.theory.specs.Prelude.{List, length, take, drop, set, get_or, length-drop, length-set, List·getD-eq-default, length-take-le, get_or-take}
 use Rattle.theory.specs.Prelude.{get_or-set_same, get_or-set_other}
 use Rattle.sheet.specs.declared.Kind.{Kind}

@@ -1,6 +1,7 @@
 -- `sheet::kinds_of` meets its contract: the bits from the last element down, and the radii from i on; the numbers stay below 2 ^ 64.
 -- Assumes nothing.
-use Rattle.theory.specs.Prelude.{ℕ, ◌≤◌, ◌≡◌, true}
+use Rattle.std.specs.Prelude.{◌≤◌, ◌≡◌}
+use Rattle.theory.specs.Prelude.{ℕ, true}
 use Rattle.theory.specs.Prelude.{List, length, take, drop, get_or}
 use Rattle.sheet.specs.declared.Element.{Element}
 use Rattle.sheet.specs.Facts.{is_line, is_circle, radius_of, set_of, kind_at}

@@ -1,5 +1,6 @@
 -- `sheet::note_pair` meets its contract: each end is noted at the other. Assumes nothing.
-use Rattle.theory.specs.Prelude.{◌<◌, ◌^◌, one-mul, mod-eq_of_lt, arith, pow-lt}
+use Rattle.std.specs.Prelude.{◌<◌, ◌^◌}
+use Rattle.theory.specs.Prelude.{one-mul, mod-eq_of_lt, arith, pow-lt}
 use Rattle.sheet.specs.Noted.Laws.{noted_more}
 use Rattle.sheet.proofs.note_pair.Goals as goal
 

@@ -1,5 +1,6 @@
 -- `sheet::radii_in_range` meets its contract: the circles before i have radii in range. Assumes nothing.
-use Rattle.theory.specs.Prelude.{rules, ◌≤◌, arith, ◌≡◌, refl, sym, ◌∙◌, length}
+use Rattle.std.specs.Prelude.{◌≤◌, ◌≡◌}
+use Rattle.theory.specs.Prelude.{rules, arith, refl, sym, ◌∙◌, length}
 use Rattle.sheet.specs.Facts.{blank_element}
 use Rattle.sheet.specs.Rules.Kinds.{radii-turn, radii-spent}
 use Rattle.sheet.proofs.radii_in_range.Goals as goal

@@ -1,5 +1,6 @@
 -- `sheet::radii_in_range` meets its contract: the circles before i have radii in range. Assumes nothing.
-use Rattle.theory.specs.Prelude.{◌-◌, ◌≤◌, ◌≡◌, take, drop}
+use Rattle.std.specs.Prelude.{◌-◌, ◌≤◌, ◌≡◌}
+use Rattle.theory.specs.Prelude.{take, drop}
 use Rattle.sheet.specs.Rules.{radii_in_range}
 use Rattle.sheet.proofs.radii_in_range.Given as goal
 

@@ -1,5 +1,6 @@
 -- `sheet::sheet_fault` meets its contract: the rules in their order. Assumes nothing.
-use Rattle.theory.specs.Prelude.{rules, ◌≤◌, ◌≡◌, refl, sym, ◌∙◌, true, length, length-take-le}
+use Rattle.std.specs.Prelude.{◌≤◌, ◌≡◌}
+use Rattle.theory.specs.Prelude.{rules, refl, sym, ◌∙◌, true, length, length-take-le}
 use Rattle.sheet.specs.declared.Sheet.{Sheet}
 use Rattle.sheet.specs.Facts.{facts_of}
 use Rattle.sheet.specs.Rules.{elements_in_range, elements_fault, sheet_fault}

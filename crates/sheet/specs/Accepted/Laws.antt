@@ -1,7 +1,8 @@
 -- Facts that no rule refuses: each constraint of theirs, every order of their constraints (document 01, "Every order of merging"), and the blocks of
 -- a sheet that hold them. Assumes nothing.
-use Rattle.theory.specs.Prelude.{ℕ, ◌≤◌, ℕ_discrete, arith, eq-eqb, ne_eqb, not-true, ◌≡◌, refl, sym, ap₂, ◌∙◌, subst, Bool, true, false, ◌&&◌, ◌||◌}
-use Rattle.theory.specs.Prelude.{not, or_assoc, List, [], ◌∷◌, ◌++◌, T, eqb, length, take, take-append_seam, length-take-le}
+use Rattle.std.specs.Prelude.{◌≤◌, ◌≡◌, ◌&&◌, ◌||◌, ◌∷◌, ◌++◌}
+use Rattle.theory.specs.Prelude.{ℕ, ℕ_discrete, arith, eq-eqb, ne_eqb, not-true, refl, sym, ap₂, ◌∙◌, subst, Bool, true, false}
+use Rattle.theory.specs.Prelude.{not, or_assoc, List, [], T, eqb, length, take, take-append_seam, length-take-le}
 use Rattle.std.proofs.Math.Bool.{or_comm}
 use Rattle.theory.specs.Constraints.{Perm, same, skip, swap, then}
 use Rattle.theory.specs.Constraints.Laws.{length-perm}

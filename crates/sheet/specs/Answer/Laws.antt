@@ -1,5 +1,6 @@
 -- Laws of answers over lent space. Assumes nothing.
-use Rattle.theory.specs.Prelude.{ℕ, zero, suc, ◌≡◌, refl, List, []}
+use Rattle.std.specs.Prelude.{◌≡◌}
+use Rattle.theory.specs.Prelude.{ℕ, zero, suc, refl, List, []}
 use Rattle.space.specs.declared.Written.{Written}
 use Rattle.space.specs.declared.Written.TheVariants.{Refused}
 use Rattle.space.specs.Space.{answer, after}

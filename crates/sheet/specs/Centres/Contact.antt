@@ -1,6 +1,7 @@
 -- What a contact means, and that the distance derived from it is 1 to 80,000 in magnitude on a sheet that no rule refuses. Assumes nothing.
-use Rattle.theory.specs.Prelude.{ℕ, zero, suc, ◌+◌, ◌-◌, ◌≤◌, ◌<◌, arith, dec_lt, leb-true, eqb-false, not-true, ◌≡◌, refl, sym, ap, subst, inl, inr}
-use Rattle.theory.specs.Prelude.{Bool, true, false, cond, not, ◌&&◌, ◌||◌, List, [], ◌∷◌, ◌++◌, T, eqb, leb, ℤ, pos, neg_ℤ, nat_abs, length, get_or}
+use Rattle.std.specs.Prelude.{◌+◌, ◌-◌, ◌≤◌, ◌<◌, ◌≡◌, ◌&&◌, ◌||◌, ◌∷◌, ◌++◌}
+use Rattle.theory.specs.Prelude.{ℕ, zero, suc, arith, dec_lt, leb-true, eqb-false, not-true, refl, sym, ap, subst, inl, inr}
+use Rattle.theory.specs.Prelude.{Bool, true, false, cond, not, List, [], T, eqb, leb, ℤ, pos, neg_ℤ, nat_abs, length, get_or}
 use Rattle.sheet.specs.declared.Kind.{Kind}
 use Rattle.sheet.specs.declared.Kind.TheVariants.{Point, Line, Circle}
 use Rattle.sheet.specs.declared.Element.{Element}

@@ -1,5 +1,6 @@
 -- The graph of the sketch of centres is the sheet's own, and so are the sizes, so that all that is found of the graph is the same. Assumes nothing.
-use Rattle.theory.specs.Prelude.{ℕ, ◌+◌, ◌-◌, ◌≤◌, arith, ◌≡◌, refl, sym, ap, ap₂, Bool, true, false, cond, List, [], ◌∷◌, map, leb-true, leb-false}
+use Rattle.std.specs.Prelude.{◌+◌, ◌-◌, ◌≤◌, ◌≡◌, ◌∷◌}
+use Rattle.theory.specs.Prelude.{ℕ, arith, refl, sym, ap, ap₂, Bool, true, false, cond, List, [], map, leb-true, leb-false}
 use Rattle.theory.specs.Prelude.{leb, pos, neg_ℤ, length-map}
 use Rattle.sheet.specs.declared.Kind.{Kind}
 use Rattle.sheet.specs.declared.Kind.TheVariants.{Point, Line, Circle}

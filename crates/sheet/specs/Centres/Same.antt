@@ -1,6 +1,7 @@
 -- What goes through the graph is the same for a round light and for the sketch of its centres: the verdict, the plan, the final clusters, the over
 -- answer, the check of a saved plan and the whole report are each one instance of `answer`. Assumes nothing.
-use Rattle.theory.specs.Prelude.{ℕ, zero, suc, ◌≡◌, refl, sym, ap, List, []}
+use Rattle.std.specs.Prelude.{◌≡◌}
+use Rattle.theory.specs.Prelude.{ℕ, zero, suc, refl, sym, ap, List, []}
 use Rattle.theory.specs.Graph.{SizedGraph}
 use Rattle.sheet.specs.Facts.{Facts}
 use Rattle.sheet.specs.Field.{Field, value, next}

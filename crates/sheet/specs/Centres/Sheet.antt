@@ -1,5 +1,6 @@
 -- The sketch of centres is a PF01 sheet itself where no derived distance is above 40,000: no rule refuses its facts. Assumes nothing.
-use Rattle.theory.specs.Prelude.{ℕ, zero, suc, ◌≤◌, ◌<◌, arith, le-leb, ◌≡◌, refl, sym, ap, ap₂, ◌∙◌, subst, true, List, [], ◌∷◌, ◌++◌, map, T, ℤ}
+use Rattle.std.specs.Prelude.{◌≤◌, ◌<◌, ◌≡◌, ◌∷◌, ◌++◌}
+use Rattle.theory.specs.Prelude.{ℕ, zero, suc, arith, le-leb, refl, sym, ap, ap₂, ◌∙◌, subst, true, List, [], map, T, ℤ}
 use Rattle.theory.specs.Prelude.{pos, neg_ℤ, nat_abs, length, get_or, length-map, List·getD-map}
 use Rattle.sheet.specs.declared.Opening.TheVariants.{Pf01}
 use Rattle.sheet.specs.declared.Kind.{Kind}

@@ -1,6 +1,7 @@
 -- The kinds field in the papers' words: element i is bit (i mod 8) of byte (i div 8), bit 0 the lowest; under PF02 two bits each, four elements a
 -- byte. Assumes nothing.
-use Rattle.theory.specs.Prelude.{ℕ, zero, suc, ◌+◌, ◌*◌, ◌-◌, ◌/◌, ◌%◌, ◌<◌, dec_lt, arith, ◌≡◌, refl, sym, ap, ap₂, ◌∙◌, List, [], ◌∷◌, get_or}
+use Rattle.std.specs.Prelude.{◌+◌, ◌*◌, ◌-◌, ◌/◌, ◌%◌, ◌<◌, ◌≡◌, ◌∷◌}
+use Rattle.theory.specs.Prelude.{ℕ, zero, suc, dec_lt, arith, refl, sym, ap, ap₂, ◌∙◌, List, [], get_or}
 use Rattle.theory.specs.Set.{at}
 use Rattle.theory.specs.Set.Laws.{at_zero}
 use Rattle.sheet.specs.declared.Opening.TheVariants.{Pf01, Pf02}

@@ -1,5 +1,6 @@
 -- Laws of the bytes of a sheet: how many there are, and those of a list of constraints. Assumes nothing.
-use Rattle.theory.specs.Prelude.{ℕ, ◌+◌, ◌*◌, ◌/◌, ◌%◌, ◌≤◌, add-one, arith, ◌≡◌, refl, Bool, true, false, List, [], ◌∷◌, ◌++◌, append-nil}
+use Rattle.std.specs.Prelude.{◌+◌, ◌*◌, ◌/◌, ◌%◌, ◌≤◌, ◌≡◌, ◌∷◌, ◌++◌}
+use Rattle.theory.specs.Prelude.{ℕ, add-one, arith, refl, Bool, true, false, List, [], append-nil}
 use Rattle.theory.specs.Prelude.{append_assoc, eqb, length, take, get_or, length-append, length-map, take-suc}
 use Rattle.sheet.specs.declared.Opening.{Opening}
 use Rattle.sheet.specs.declared.Opening.TheVariants.{Pf01, Pf02}

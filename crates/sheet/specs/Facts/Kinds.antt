@@ -1,5 +1,6 @@
 -- The elements of a sheet as the code holds them: the lines and the circles as sets, the radii of the circles in a list.
-use Rattle.theory.specs.Prelude.{ℕ, ◌≡◌, true, cond, List, eqb, get_or}
+use Rattle.std.specs.Prelude.{◌≡◌}
+use Rattle.theory.specs.Prelude.{ℕ, true, cond, List, eqb, get_or}
 use Rattle.theory.specs.Set.{at}
 use Rattle.sheet.specs.declared.Kind.{Kind}
 use Rattle.sheet.specs.declared.Kind.TheVariants.{Point, Line, Circle}

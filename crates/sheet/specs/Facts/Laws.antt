@@ -1,6 +1,7 @@
 -- Laws of the elements in numbers, and of a block that is filled from the front. Assumes nothing.
-use Rattle.theory.specs.Prelude.{ℕ, zero, suc, ◌+◌, ◌*◌, ◌-◌, ◌/◌, ◌%◌, ◌^◌, ◌≤◌, ◌<◌, pow-zero, pow-succ', add-one, arith, ◌≡◌, refl, sym, ap, ◌∙◌}
-use Rattle.theory.specs.Prelude.{subst, Bool, true, false, ◌&&◌, cond, not, List, [], ◌∷◌, map, T, eqb, length, take, drop, get_or, set, replicate}
+use Rattle.std.specs.Prelude.{◌+◌, ◌*◌, ◌-◌, ◌/◌, ◌%◌, ◌^◌, ◌≤◌, ◌<◌, ◌≡◌, ◌&&◌, ◌∷◌}
+use Rattle.theory.specs.Prelude.{ℕ, zero, suc, pow-zero, pow-succ', add-one, arith, refl, sym, ap, ◌∙◌}
+use Rattle.theory.specs.Prelude.{subst, Bool, true, false, cond, not, List, [], map, T, eqb, length, take, drop, get_or, set, replicate}
 use Rattle.theory.specs.Prelude.{take-append-drop, drop_of_length-le, drop-set-lt, drop-drop, drop-cons, get_or-take, length-take-le}
 use Rattle.theory.specs.Set.{at}
 use Rattle.sheet.specs.declared.Opening.{Opening}

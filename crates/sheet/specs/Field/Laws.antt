@@ -1,7 +1,8 @@
 -- Laws of fields: numbers of any count of bytes and their bytes are each other's inverse, and what a field that is read says of the bytes.
 -- Assumes nothing.
-use Rattle.theory.specs.Prelude.{ℕ, zero, suc, ◌+◌, ◌*◌, ◌-◌, ◌/◌, ◌%◌, ◌^◌, ◌<◌, ◌≤◌, pow-zero, pow-succ', arith, lt-ltb, le-ltb, ltb-false}
-use Rattle.theory.specs.Prelude.{eqb-true, ◌≡◌, refl, sym, ap, Bool, true, false, cond, List, [], ◌∷◌, ◌++◌, ltb, eqb, ℤ, pos, negsuc, length, take}
+use Rattle.std.specs.Prelude.{◌+◌, ◌*◌, ◌-◌, ◌/◌, ◌%◌, ◌^◌, ◌<◌, ◌≤◌, ◌≡◌, ◌∷◌, ◌++◌}
+use Rattle.theory.specs.Prelude.{ℕ, zero, suc, pow-zero, pow-succ', arith, lt-ltb, le-ltb, ltb-false}
+use Rattle.theory.specs.Prelude.{eqb-true, refl, sym, ap, Bool, true, false, cond, List, [], ltb, eqb, ℤ, pos, negsuc, length, take}
 use Rattle.theory.specs.Prelude.{drop, get_or, length-append, take-append-drop, take_at, drop_at, length-take-le, get_or-drop, mag}
 use Rattle.std.proofs.Common.{div-lt_iff_lt-mul, mul_comm}
 use Rattle.sheet.specs.declared.Opening.{Opening}

@@ -1,6 +1,7 @@
 -- A PF01 sheet is refused by one of rules 1 to 10 alone, and one that is read has at most 1,814 bytes. Assumes nothing.
-use Rattle.theory.specs.Prelude.{ℕ, zero, suc, ◌+◌, ◌*◌, ◌/◌, ◌^◌, ◌≤◌, arith, ◌≡◌, refl, sym, ap, ◌∙◌, subst, Bool, true, false, cond, not, ◌&&◌}
-use Rattle.theory.specs.Prelude.{List, [], ◌∷◌, ◌++◌, ltb, leb, length, take, drop, length-drop}
+use Rattle.std.specs.Prelude.{◌+◌, ◌*◌, ◌/◌, ◌^◌, ◌≤◌, ◌≡◌, ◌&&◌, ◌∷◌, ◌++◌}
+use Rattle.theory.specs.Prelude.{ℕ, zero, suc, arith, refl, sym, ap, ◌∙◌, subst, Bool, true, false, cond, not}
+use Rattle.theory.specs.Prelude.{List, [], ltb, leb, length, take, drop, length-drop}
 use Rattle.sheet.specs.declared.Opening.TheVariants.{Pf01}
 use Rattle.sheet.specs.declared.Element.{Element}
 use Rattle.sheet.specs.declared.PairKind.{PairKind}

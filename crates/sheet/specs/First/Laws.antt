@@ -1,6 +1,7 @@
 -- Bytes that begin with PF01, and all that do not begin with PF02, are read as document 01 alone reads them. Assumes nothing.
-use Rattle.theory.specs.Prelude.{ℕ, zero, suc, ◌+◌, ◌/◌, ◌%◌, ◌^◌, ◌<◌, ◌≤◌, arith, ne_eqb, le-ltb, ◌≡◌, refl, sym, ◌∙◌, Bool, true, false, cond}
-use Rattle.theory.specs.Prelude.{◌&&◌, List, [], ◌∷◌, ◌++◌, eqb, ltb, drop}
+use Rattle.std.specs.Prelude.{◌+◌, ◌/◌, ◌%◌, ◌^◌, ◌<◌, ◌≤◌, ◌≡◌, ◌&&◌, ◌∷◌, ◌++◌}
+use Rattle.theory.specs.Prelude.{ℕ, zero, suc, arith, ne_eqb, le-ltb, refl, sym, ◌∙◌, Bool, true, false, cond}
+use Rattle.theory.specs.Prelude.{List, [], eqb, ltb, drop}
 use Rattle.sheet.specs.declared.Opening.TheVariants.{Pf01, Pf02}
 use Rattle.sheet.specs.declared.Kind.{Kind}
 use Rattle.sheet.specs.declared.Element.{Element}

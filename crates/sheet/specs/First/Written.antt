@@ -1,6 +1,7 @@
 -- Accepted facts with the opening PF01 are written as document 01 alone writes them, in at most 1,414 bytes, and their graph has the sizes given.
 -- Assumes nothing.
-use Rattle.theory.specs.Prelude.{ℕ, zero, suc, ◌≤◌, arith, ◌≡◌, refl, sym, ap₂, subst, Bool, true, false, not, List, [], ◌∷◌, ◌++◌, map, T, length}
+use Rattle.std.specs.Prelude.{◌≤◌, ◌≡◌, ◌∷◌, ◌++◌}
+use Rattle.theory.specs.Prelude.{ℕ, zero, suc, arith, refl, sym, ap₂, subst, Bool, true, false, not, List, [], map, T, length}
 use Rattle.theory.specs.Prelude.{length-append}
 use Rattle.sheet.specs.declared.Opening.TheVariants.{Pf01}
 use Rattle.sheet.specs.declared.Kind.{Kind}

@@ -1,5 +1,6 @@
 -- The graph of a sheet that no rule refuses, and rule 11. An accepted sheet whose verdict isn't over meets demand 3. Assumes nothing.
-use Rattle.theory.specs.Prelude.{ℕ, ◌^◌, ◌<◌, arith, ◌≢◌, inl, inr, ◌≡◌, refl, sym, ap, ◌∙◌, subst, List, [], ◌∷◌, ◌++◌, map, ones, length}
+use Rattle.std.specs.Prelude.{◌^◌, ◌<◌, ◌≢◌, ◌≡◌, ◌∷◌, ◌++◌}
+use Rattle.theory.specs.Prelude.{ℕ, arith, inl, inr, refl, sym, ap, ◌∙◌, subst, List, [], map, ones, length}
 use Rattle.theory.specs.Prelude.{length-map}
 use Rattle.theory.specs.Constraints.{Among, Pairs, Below, Perm}
 use Rattle.theory.specs.Constraints.Laws.{perm-map, size-pair, pair-below}

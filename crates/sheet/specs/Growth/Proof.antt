@@ -1,5 +1,6 @@
 -- A sheet with more dimensions that isn't over: the parts of the old sheet stay whole. Assumes nothing.
-use Rattle.theory.specs.Prelude.{sym, ◌∙◌, ◌≢◌, List}
+use Rattle.std.specs.Prelude.{◌≢◌}
+use Rattle.theory.specs.Prelude.{sym, ◌∙◌, List}
 use Rattle.theory.specs.Merge.{Merge, Valid, Maximal}
 use Rattle.theory.specs.Graph.{verdict_of}
 use Rattle.theory.specs.Demand as demand

@@ -1,6 +1,7 @@
 -- Laws of the noted constraints: a pair's bit says whether the pair stands, and one constraint more. Assumes nothing.
-use Rattle.theory.specs.Prelude.{ℕ, ◌/◌, ◌%◌, ◌^◌, ◌<◌, arith, ◌≡◌, refl, sym, ap, ◌∙◌, ◌↔◌, inl, inr, Bool, true, false, ◌&&◌, ◌||◌, List, [], ◌∷◌}
-use Rattle.theory.specs.Prelude.{◌++◌, map, eqb-true, eq-eqb, ne_eqb, bit_or, eqb, get_or, set, replicate}
+use Rattle.std.specs.Prelude.{◌/◌, ◌%◌, ◌^◌, ◌<◌, ◌≡◌, ◌↔◌, ◌&&◌, ◌||◌, ◌∷◌, ◌++◌}
+use Rattle.theory.specs.Prelude.{ℕ, arith, refl, sym, ap, ◌∙◌, inl, inr, Bool, true, false, List, []}
+use Rattle.theory.specs.Prelude.{map, eqb-true, eq-eqb, ne_eqb, bit_or, eqb, get_or, set, replicate}
 use Rattle.theory.specs.Set.{◌∈◌, at}
 use Rattle.theory.specs.Set.Laws.{at-div}
 use Rattle.theory.specs.Constraints.{Among, pair}

@@ -1,6 +1,7 @@
 -- A sheet is refused by one of rules 1 to 10 and 18 to 20, and facts by one of 3, 5 to 9 and 18 to 20. Assumes nothing.
-use Rattle.theory.specs.Prelude.{ℕ, zero, suc, ◌%◌, ◌/◌, arith, leb-true, ◌≡◌, refl, subst, ◌≢◌, ◌⊎◌, inl, inr, Bool, true, false, not, ◌&&◌, cond}
-use Rattle.theory.specs.Prelude.{List, [], ◌∷◌, ◌++◌, ltb, leb, eqb, pos, length}
+use Rattle.std.specs.Prelude.{◌%◌, ◌/◌, ◌≡◌, ◌≢◌, ◌⊎◌, ◌&&◌, ◌∷◌, ◌++◌}
+use Rattle.theory.specs.Prelude.{ℕ, zero, suc, arith, leb-true, refl, subst, inl, inr, Bool, true, false, not, cond}
+use Rattle.theory.specs.Prelude.{List, [], ltb, leb, eqb, pos, length}
 use Rattle.sheet.specs.declared.Opening.{Opening}
 use Rattle.sheet.specs.declared.Opening.TheVariants.{Pf01, Pf02}
 use Rattle.sheet.specs.declared.Kind.{Kind}

@@ -1,6 +1,7 @@
 -- Bytes that the reader takes are, without their tags, those of the facts it reads, and no rule refuses these. Assumes nothing.
-use Rattle.theory.specs.Prelude.{ℕ, zero, suc, ◌+◌, ◌*◌, ◌/◌, ◌%◌, ◌^◌, ◌<◌, ◌≤◌, arith, ltb-true, eqb-true, not-true, ◌≡◌, refl, sym, ap, ◌∙◌, Bool}
-use Rattle.theory.specs.Prelude.{true, false, cond, not, ◌||◌, List, [], ◌∷◌, ◌++◌, append-nil, append_assoc, eqb, ltb, pos, length, drop}
+use Rattle.std.specs.Prelude.{◌+◌, ◌*◌, ◌/◌, ◌%◌, ◌^◌, ◌<◌, ◌≤◌, ◌≡◌, ◌||◌, ◌∷◌, ◌++◌}
+use Rattle.theory.specs.Prelude.{ℕ, zero, suc, arith, ltb-true, eqb-true, not-true, refl, sym, ap, ◌∙◌, Bool}
+use Rattle.theory.specs.Prelude.{true, false, cond, not, List, [], append-nil, append_assoc, eqb, ltb, pos, length, drop}
 use Rattle.theory.specs.Prelude.{length-append, length-map, drop_at}
 use Rattle.sheet.specs.declared.Opening.{Opening}
 use Rattle.sheet.specs.declared.Opening.TheVariants.{Pf01, Pf02}

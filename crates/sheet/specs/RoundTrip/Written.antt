@@ -1,6 +1,7 @@
 -- The bytes of accepted facts, read field by field, give the facts. Assumes nothing.
-use Rattle.theory.specs.Prelude.{ℕ, zero, suc, ◌+◌, ◌*◌, ◌^◌, ◌<◌, ◌≤◌, pow-le-pow_right, lt_of_lt_of_le, pow-zero, pow-succ', mul-zero, mul-suc}
-use Rattle.theory.specs.Prelude.{arith, lt-ltb, leb-true, ◌≡◌, refl, sym, ◌∙◌, true, false, ◌&&◌, ◌||◌, not, or-false, List, [], ◌∷◌, ◌++◌}
+use Rattle.std.specs.Prelude.{◌+◌, ◌*◌, ◌^◌, ◌<◌, ◌≤◌, ◌≡◌, ◌&&◌, ◌||◌, ◌∷◌, ◌++◌}
+use Rattle.theory.specs.Prelude.{ℕ, zero, suc, pow-le-pow_right, lt_of_lt_of_le, pow-zero, pow-succ', mul-zero, mul-suc}
+use Rattle.theory.specs.Prelude.{arith, lt-ltb, leb-true, refl, sym, ◌∙◌, true, false, not, or-false, List, []}
 use Rattle.theory.specs.Prelude.{append-nil, append_assoc, ltb, leb, ℤ, pos, negsuc, length, pow-add, mag}
 use Rattle.sheet.specs.declared.Opening.{Opening}
 use Rattle.sheet.specs.declared.Opening.TheVariants.{Pf01, Pf02}

@@ -1,5 +1,6 @@
 -- Laws of the rules on elements: which openings allow which circles, and a walk over the radii. Assumes nothing.
-use Rattle.theory.specs.Prelude.{ℕ, zero, suc, ◌+◌, ◌*◌, ◌≤◌, ◌<◌, arith, ◌≡◌, refl, sym, ◌∙◌, Bool, true, false, ◌&&◌, ◌||◌, not, List, [], ◌∷◌}
+use Rattle.std.specs.Prelude.{◌+◌, ◌*◌, ◌≤◌, ◌<◌, ◌≡◌, ◌&&◌, ◌||◌, ◌∷◌}
+use Rattle.theory.specs.Prelude.{ℕ, zero, suc, arith, refl, sym, ◌∙◌, Bool, true, false, not, List, []}
 use Rattle.theory.specs.Prelude.{ne_eqb, eqb, length, take, drop, get_or}
 use Rattle.sheet.specs.declared.Opening.TheVariants.{Pf01, Pf02}
 use Rattle.sheet.specs.declared.Element.{Element}

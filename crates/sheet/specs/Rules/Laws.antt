@@ -1,6 +1,7 @@
 -- Laws of the rules on facts: what a rule that refuses nothing says. Assumes nothing.
-use Rattle.theory.specs.Prelude.{ℕ, zero, suc, ◌+◌, ◌<◌, ◌≤◌, add-one, arith, ◌≡◌, refl, Bool, true, false, ◌&&◌, ◌||◌, or-false, or_assoc, List}
-use Rattle.theory.specs.Prelude.{[], ◌∷◌, ◌++◌, ltb-true, leb-true, eqb, ltb, leb, length, get_or, take, drop, take-suc}
+use Rattle.std.specs.Prelude.{◌+◌, ◌<◌, ◌≤◌, ◌≡◌, ◌&&◌, ◌||◌, ◌∷◌, ◌++◌}
+use Rattle.theory.specs.Prelude.{ℕ, zero, suc, add-one, arith, refl, Bool, true, false, or-false, or_assoc, List}
+use Rattle.theory.specs.Prelude.{[], ltb-true, leb-true, eqb, ltb, leb, length, get_or, take, drop, take-suc}
 use Rattle.sheet.specs.declared.Opening.{Opening}
 use Rattle.sheet.specs.declared.Element.{Element}
 use Rattle.sheet.specs.declared.Constraint.{Constraint}

@@ -1,5 +1,6 @@
 -- Laws of a sheet without its tags, from the walk over its constraints. Assumes nothing.
-use Rattle.theory.specs.Prelude.{ℕ, zero, suc, ◌+◌, ◌*◌, ◌-◌, ◌/◌, ◌%◌, arith, eqb-true, ◌≡◌, refl, sym, ap, ◌∙◌, true, List, [], ◌∷◌, ◌++◌}
+use Rattle.std.specs.Prelude.{◌+◌, ◌*◌, ◌-◌, ◌/◌, ◌%◌, ◌≡◌, ◌∷◌, ◌++◌}
+use Rattle.theory.specs.Prelude.{ℕ, zero, suc, arith, eqb-true, refl, sym, ap, ◌∙◌, true, List, []}
 use Rattle.theory.specs.Prelude.{append_assoc, eqb, length, take, drop, get_or, length-append, take-append-drop, take_at, drop_at, get_or-append-add}
 use Rattle.sheet.specs.declared.Opening.{Opening}
 use Rattle.sheet.specs.declared.Opening.TheVariants.{Pf01, Pf02}

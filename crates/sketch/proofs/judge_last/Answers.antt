@@ -1,5 +1,6 @@
 -- `sketch::judge_last` meets its contract: what is told decides. Assumes nothing.
-use Rattle.theory.specs.Prelude.{arith, ℕ, ◌≡◌, sym, ap, ◌∙◌}
+use Rattle.std.specs.Prelude.{◌≡◌}
+use Rattle.theory.specs.Prelude.{arith, ℕ, sym, ap, ◌∙◌}
 use Rattle.theory.specs.Verdict.{verdict_number}
 use Rattle.theory.specs.declared.Verdict.{Verdict}
 use Rattle.theory.specs.declared.Verdict.TheVariants.{Over}

@@ -1,5 +1,6 @@
 -- `sketch::place_next` meets its contract: each refusal in its turn, else what the last constraint is answered. Assumes nothing.
-use Rattle.theory.specs.Prelude.{rules, ℕ, ◌<◌, ◌≤◌, arith, ◌≡◌, refl, sym, ap, ◌∙◌, ◌+◌, ◌*◌, List, ℤ, length}
+use Rattle.std.specs.Prelude.{◌<◌, ◌≤◌, ◌≡◌, ◌+◌, ◌*◌}
+use Rattle.theory.specs.Prelude.{rules, ℕ, arith, refl, sym, ap, ◌∙◌, List, ℤ, length}
 use mir.Facts.{to_z-of_z}
 use mir.Syntax.{w32}
 use Rattle.sheet.specs.declared.Constraint.{Constraint}

@@ -1,6 +1,7 @@
 -- `sketch::placing` meets its contract: the constraint is stored where it is answered with a verdict. Assumes nothing.
 use Rattle.theory.specs.Prelude.{List, ℤ}
-use Rattle.theory.specs.Prelude.{rules, ℕ, ◌<◌, arith, ◌≡◌, refl, sym, ap₂, ◌∙◌, [], ◌∷◌, ◌++◌, length, length-append, length-take}
+use Rattle.std.specs.Prelude.{◌<◌, ◌≡◌, ◌∷◌, ◌++◌}
+use Rattle.theory.specs.Prelude.{rules, ℕ, arith, refl, sym, ap₂, ◌∙◌, [], length, length-append, length-take}
 use Rattle.sheet.specs.declared.Constraint.{Constraint}
 use Rattle.sheet.specs.declared.Sheet.{Sheet}
 use Rattle.sheet.specs.Facts.{facts_of}

@@ -1,5 +1,6 @@
 -- What is found of a graph with one constraint more says whether it was over without it. Assumes nothing.
-use Rattle.theory.specs.Prelude.{ℕ, zero, suc, ◌+◌, ◌*◌, ◌≤◌, ◌<◌, ℕ_discrete, add-one, arith, ◌≡◌, refl, sym, ap, ◌∙◌, subst, List, [], ◌∷◌, ◌++◌}
+use Rattle.std.specs.Prelude.{◌+◌, ◌*◌, ◌≤◌, ◌<◌, ◌≡◌, ◌∷◌, ◌++◌}
+use Rattle.theory.specs.Prelude.{ℕ, zero, suc, ℕ_discrete, add-one, arith, refl, sym, ap, ◌∙◌, subst, List, []}
 use Rattle.theory.specs.Prelude.{map-append, eq-eqb, ne_eqb, ℤ, length, take, length-append, take-append_seam, take-length}
 use Rattle.std.proofs.lemmas.List.{take-append-le}
 use Rattle.theory.specs.Constraints.{NotOver}

@@ -1,5 +1,6 @@
 -- A held sketch after any run of asks and placings: the parts of the sheet that was held stay whole (document 02, 2026-13). Assumes nothing.
-use Rattle.theory.specs.Prelude.{sym, subst, ◌≢◌, List}
+use Rattle.std.specs.Prelude.{◌≢◌}
+use Rattle.theory.specs.Prelude.{sym, subst, List}
 use Rattle.theory.specs.Constraints.{Perm, same}
 use Rattle.theory.specs.Graph.{verdict_of}
 use Rattle.theory.specs.Graph.Laws.{fine-not-over}

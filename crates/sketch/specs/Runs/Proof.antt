@@ -1,6 +1,7 @@
 -- Every run of asks and placings, by induction on it: one event is answered as a plain list answers it. Assumes nothing.
-use Rattle.theory.specs.Prelude.{ℕ, zero, suc, ◌<◌, ℕ_discrete, arith, ◌≡◌, refl, sym, ap, ◌∙◌, subst, ◌≢◌, ◌⊎◌, inl, inr, Bool, true, false, cond}
-use Rattle.theory.specs.Prelude.{not, List, [], ◌∷◌, ◌++◌, map, append-nil, append_assoc, length, length-set, length-append, length-take}
+use Rattle.std.specs.Prelude.{◌<◌, ◌≡◌, ◌≢◌, ◌⊎◌, ◌∷◌, ◌++◌}
+use Rattle.theory.specs.Prelude.{ℕ, zero, suc, ℕ_discrete, arith, refl, sym, ap, ◌∙◌, subst, inl, inr, Bool, true, false, cond}
+use Rattle.theory.specs.Prelude.{not, List, [], map, append-nil, append_assoc, length, length-set, length-append, length-take}
 use Rattle.theory.specs.Prelude.{length-replicate}
 use Rattle.theory.specs.Constraints.{Among}
 use Rattle.theory.specs.declared.Finding.{Finding}

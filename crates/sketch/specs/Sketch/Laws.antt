@@ -1,5 +1,6 @@
 -- What one constraint more changes, and which rule refuses it. Assumes nothing.
-use Rattle.theory.specs.Prelude.{ℕ, zero, suc, ◌+◌, ◌≤◌, ◌<◌, add-one, arith, ◌≡◌, refl, ◌∙◌, ap, sym, true, List, [], ◌∷◌, ◌++◌, append-nil}
+use Rattle.std.specs.Prelude.{◌+◌, ◌≤◌, ◌<◌, ◌≡◌, ◌∷◌, ◌++◌}
+use Rattle.theory.specs.Prelude.{ℕ, zero, suc, add-one, arith, refl, ◌∙◌, ap, sym, true, List, [], append-nil}
 use Rattle.theory.specs.Prelude.{append_assoc, le-leb, eq-eqb, ℤ, length, length-append, take-suc-set}
 use Rattle.sheet.specs.declared.Element.{Element}
 use Rattle.sheet.specs.declared.Constraint.{Constraint}

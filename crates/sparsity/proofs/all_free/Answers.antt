@@ -1,5 +1,6 @@
 -- `sparsity::all_free`
-use Rattle.theory.specs.Prelude.{sym, subst, [], ◌∷◌, ℕ, ◌+◌, arith, set}
+use Rattle.std.specs.Prelude.{◌∷◌, ◌+◌}
+use Rattle.theory.specs.Prelude.{sym, subst, [], ℕ, arith, set}
 use Rattle.sparsity.specs.Freedoms.{FreeBelow}
 use Rattle.sparsity.specs.Freedoms.Laws.{free-none, free-next}
 use Rattle.sparsity.proofs.all_free.Goals as goal

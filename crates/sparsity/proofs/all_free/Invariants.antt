@@ -1,5 +1,5 @@
 -- `sparsity::all_free`
-use Rattle.theory.specs.Prelude.{◌-◌, ◌≤◌}
+use Rattle.std.specs.Prelude.{◌-◌, ◌≤◌}
 use Rattle.sparsity.specs.Freedoms.{FreeBelow}
 use Rattle.sparsity.proofs.all_free.Given as goal
 

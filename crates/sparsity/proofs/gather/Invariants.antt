@@ -1,6 +1,6 @@
 -- `gather` meets its contract. The loops' invariants: the same constraints use the freedoms in another way; on the way back the freedoms from place
 -- p to place `to` are turned. Assumes nothing.
-use Rattle.theory.specs.Prelude.{◌+◌, ◌-◌}
+use Rattle.std.specs.Prelude.{◌+◌, ◌-◌}
 use Rattle.sparsity.specs.Freedoms.{free}
 use Rattle.sparsity.specs.Reach.{Lent, Rebalanced, Way, Walked}
 use Rattle.sparsity.proofs.gather.Given as goal

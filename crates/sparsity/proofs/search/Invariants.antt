@@ -1,5 +1,6 @@
 -- `search` meets its contract. The loop's invariant: the constraints before c use freedoms and are not over. Assumes nothing.
-use Rattle.theory.specs.Prelude.{◌-◌, ◌≤◌, take}
+use Rattle.std.specs.Prelude.{◌-◌, ◌≤◌}
+use Rattle.theory.specs.Prelude.{take}
 use Rattle.sparsity.specs.Reach.{Lent}
 use Rattle.sparsity.specs.Answer.{Using}
 use Rattle.sparsity.proofs.search.Given as goal

@@ -1,6 +1,6 @@
 -- `seek` meets its contract. The loop's invariant: the queue has what is reached so far, none of it has a free entry, and the first p places are
 -- scanned. Assumes nothing.
-use Rattle.theory.specs.Prelude.{◌-◌, ◌≤◌}
+use Rattle.std.specs.Prelude.{◌-◌, ◌≤◌}
 use Rattle.sparsity.specs.Reach.{Reached, Scanned, Shut}
 use Rattle.sparsity.proofs.seek.Given as goal
 

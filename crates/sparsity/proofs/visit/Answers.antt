@@ -1,5 +1,6 @@
 -- `visit` meets its contract. Assumes nothing.
-use Rattle.theory.specs.Prelude.{sym, subst, ℕ, ◌+◌, arith, rules, bit_or, set}
+use Rattle.std.specs.Prelude.{◌+◌}
+use Rattle.theory.specs.Prelude.{sym, subst, ℕ, arith, rules, bit_or, set}
 use Rattle.theory.specs.Set.{◌∪◌}
 use Rattle.theory.specs.Set.Less.{meets_at, misses-at}
 use Rattle.sparsity.specs.Reach.{Visit, known, fresh}

@@ -1,6 +1,7 @@
 -- Laws of the answer: the search from its start, one constraint more that uses a freedom or finds none, a constraint that does not lie in u.
 -- Assumes nothing.
-use Rattle.theory.specs.Prelude.{◌≡◌, sym, ap, ap₂, ◌∙◌, subst, ◌≢◌, inl, inr, List, [], ℕ, suc, ◌+◌, ◌*◌, ◌^◌, ◌≤◌, ◌<◌, le_refl, arith, ones}
+use Rattle.std.specs.Prelude.{◌≡◌, ◌≢◌, ◌+◌, ◌*◌, ◌^◌, ◌≤◌, ◌<◌}
+use Rattle.theory.specs.Prelude.{sym, ap, ap₂, ◌∙◌, subst, inl, inr, List, [], ℕ, suc, le_refl, arith, ones}
 use Rattle.theory.specs.Prelude.{length, take, get_or}
 use Rattle.theory.specs.Set.{◌∈◌, ◌∩◌, ◌⊑◌, at}
 use Rattle.theory.specs.Set.Laws.{at-∩, ⊑_trans, a∩b⊑a, a∩b⊑b, two_in}

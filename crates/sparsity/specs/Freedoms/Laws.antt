@@ -1,5 +1,6 @@
 -- What the table of freedoms says of a set, and the table at the start. Assumes nothing.
-use Rattle.theory.specs.Prelude.{◌≡◌, refl, sym, ap, ◌∙◌, subst, ◌≢◌, ◌⊎◌, inl, inr, List, [], ◌∷◌, ℕ, zero, suc, ◌+◌, ◌*◌, ◌^◌, ◌≤◌, ◌<◌}
+use Rattle.std.specs.Prelude.{◌≡◌, ◌≢◌, ◌⊎◌, ◌∷◌, ◌+◌, ◌*◌, ◌^◌, ◌≤◌, ◌<◌}
+use Rattle.theory.specs.Prelude.{refl, sym, ap, ◌∙◌, subst, inl, inr, List, [], ℕ, zero, suc}
 use Rattle.theory.specs.Prelude.{zero-add, zero-lt-suc, not-suc-le-zero, le_of_suc-le-suc, le_refl, arith, ℕ_discrete, ones, length, get_or, set}
 use Rattle.theory.specs.Prelude.{length-set, replicate, length-replicate, get_or-replicate, get_or-set_same, get_or-set_other}
 use Rattle.theory.specs.Set.{◌∈◌, at}

@@ -1,5 +1,6 @@
 -- The effect of one store in the table of freedoms, and the balance that placing and turning keep. Assumes nothing.
-use Rattle.theory.specs.Prelude.{◌≡◌, sym, ap, ap₂, ◌∙◌, subst, ◌≢◌, inl, inr, List, [], ℕ, ◌+◌, ◌*◌, ◌<◌, le_of_suc-le-suc, arith, ℕ_discrete}
+use Rattle.std.specs.Prelude.{◌≡◌, ◌≢◌, ◌+◌, ◌*◌, ◌<◌}
+use Rattle.theory.specs.Prelude.{sym, ap, ap₂, ◌∙◌, subst, inl, inr, List, [], ℕ, le_of_suc-le-suc, arith, ℕ_discrete}
 use Rattle.theory.specs.Prelude.{length, get_or, set, length-set, get_or-set_same, get_or-set_other}
 use Rattle.theory.specs.Set.{◌∈◌, ◌⊑◌, at}
 use Rattle.theory.specs.Set.Laws.{at-le, bit}

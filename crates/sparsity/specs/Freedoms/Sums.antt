@@ -1,5 +1,6 @@
 -- Sums over a set's elements. Assumes nothing.
-use Rattle.theory.specs.Prelude.{◌≡◌, refl, sym, ap, ◌∙◌, ◌≢◌, inl, inr, ⊎_elim, List, ℕ, ◌+◌, ◌*◌, ◌^◌, ◌≤◌, ◌<◌, one-mul, arith, ones}
+use Rattle.std.specs.Prelude.{◌≡◌, ◌≢◌, ◌+◌, ◌*◌, ◌^◌, ◌≤◌, ◌<◌}
+use Rattle.theory.specs.Prelude.{refl, sym, ap, ◌∙◌, inl, inr, ⊎_elim, List, ℕ, one-mul, arith, ones}
 use Rattle.std.proofs.Common.{zero-mul}
 use Rattle.theory.specs.Set.{◌∈◌, at}
 use Rattle.theory.specs.Set.Laws.{at-le, bit, size-sum}

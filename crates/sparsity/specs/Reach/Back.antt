@@ -1,5 +1,6 @@
 -- The way back from a place of the queue to the first two, which turns one freedom at each step, and what is gathered so. Assumes nothing.
-use Rattle.theory.specs.Prelude.{◌≡◌, refl, sym, ap, ap₂, ◌∙◌, subst, ◌≢◌, inl, inr, ⊎_elim, List, ℕ, suc, ◌+◌, ◌≤◌, ◌<◌, lt_trans, lt-suc_self}
+use Rattle.std.specs.Prelude.{◌≡◌, ◌≢◌, ◌+◌, ◌≤◌, ◌<◌}
+use Rattle.theory.specs.Prelude.{refl, sym, ap, ap₂, ◌∙◌, subst, inl, inr, ⊎_elim, List, ℕ, suc, lt_trans, lt-suc_self}
 use Rattle.theory.specs.Prelude.{zero-lt-suc, le_refl, le_of_suc-le-suc, ℕ_discrete, dec_lt, arith}
 use Rattle.theory.specs.Set.{at}
 use Rattle.theory.specs.Set.Laws.{bit}

@@ -1,5 +1,6 @@
 -- The search from its start to its end, and what its end says. Assumes nothing.
-use Rattle.theory.specs.Prelude.{◌≡◌, sym, ap, ap₂, ◌∙◌, subst, ◌≢◌, ⊎_elim, List, ℕ, zero, suc, ◌+◌, ◌^◌, ◌≤◌, ◌<◌, lt_of_lt_of_le, lt-suc_self}
+use Rattle.std.specs.Prelude.{◌≡◌, ◌≢◌, ◌+◌, ◌^◌, ◌≤◌, ◌<◌}
+use Rattle.theory.specs.Prelude.{sym, ap, ap₂, ◌∙◌, subst, ⊎_elim, List, ℕ, zero, suc, lt_of_lt_of_le, lt-suc_self}
 use Rattle.theory.specs.Prelude.{zero-lt-suc, le_refl, ne_of_lt, not-suc-le-zero, le_of_suc-le-suc, eq-or-lt_of_le, ℕ_discrete, dec_lt, arith, bit_or}
 use Rattle.theory.specs.Prelude.{or_lt, ones, ones-le, set, length-set, pow-lt, get_or-set_same, get_or-set_other}
 use Rattle.theory.specs.Set.{◌∈◌, ◌∪◌, ◌⊑◌, at}

@@ -1,5 +1,6 @@
 -- A visit: an element that is known, or goes to the end of the queue. Assumes nothing.
-use Rattle.theory.specs.Prelude.{◌≡◌, refl, sym, ap, ◌∙◌, subst, ◌≢◌, ⊎_elim, List, ℕ, ◌+◌, ◌^◌, ◌≤◌, ◌<◌, lt_trans, le_refl, ne_of_lt}
+use Rattle.std.specs.Prelude.{◌≡◌, ◌≢◌, ◌+◌, ◌^◌, ◌≤◌, ◌<◌}
+use Rattle.theory.specs.Prelude.{refl, sym, ap, ◌∙◌, subst, ⊎_elim, List, ℕ, lt_trans, le_refl, ne_of_lt}
 use Rattle.theory.specs.Prelude.{eq-or-lt_of_le, ℕ_discrete, arith, or_lt, ones, ones-le, length, set, length-set, pow-lt, get_or-set_same}
 use Rattle.theory.specs.Prelude.{get_or-set_other}
 use Rattle.theory.specs.Set.{◌∈◌, ◌∪◌, at}

@@ -1,5 +1,6 @@
 -- Reading and storing in a block is reading and storing in its list. Assumes nothing.
-use Rattle.theory.specs.Prelude.{◌≡◌, refl, sym, ap, ◌∙◌, List, [], ◌∷◌, ◌++◌, append_assoc, ℕ, zero, suc, ◌-◌, ◌≤◌, ◌<◌, arith, length, get_or}
+use Rattle.std.specs.Prelude.{◌≡◌, ◌∷◌, ◌++◌, ◌-◌, ◌≤◌, ◌<◌}
+use Rattle.theory.specs.Prelude.{refl, sym, ap, ◌∙◌, List, [], append_assoc, ℕ, zero, suc, arith, length, get_or}
 use Rattle.theory.specs.Prelude.{set, take, replicate, length-append, length-replicate, length-set, set-append_seam, take_at}
 use Rattle.std.proofs.lemmas.List.{set-append_left}
 use Rattle.theory.specs.Block.{block}

@@ -1,6 +1,7 @@
 -- The greedy choice is the cheapest completion, first among equals; and there is a completion only if it is one. Assumes nothing.
-use Rattle.theory.specs.Prelude.{◌≡◌, refl, sym, ap, ap₂, ◌∙◌, subst, ◌↔◌, ◌⊎◌, inl, inr, ⊎_elim, List, [], ◌∷◌, ◌++◌, append_assoc, ℕ, ◌+◌, ◌*◌, ◌^◌}
-use Rattle.theory.specs.Prelude.{◌≤◌, ◌<◌, arith, ones, length, length-append}
+use Rattle.std.specs.Prelude.{◌≡◌, ◌↔◌, ◌⊎◌, ◌∷◌, ◌++◌, ◌+◌, ◌*◌, ◌^◌, ◌≤◌, ◌<◌}
+use Rattle.theory.specs.Prelude.{refl, sym, ap, ap₂, ◌∙◌, subst, inl, inr, ⊎_elim, List, [], append_assoc, ℕ}
+use Rattle.theory.specs.Prelude.{arith, ones, length, length-append}
 use Rattle.theory.specs.Set.{◌⊑◌}
 use Rattle.theory.specs.Set.Laws.{⊑_refl}
 use Rattle.theory.specs.Constraints.{Among, Pairs, Below, has, carried, NotOver}

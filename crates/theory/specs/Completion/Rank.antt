@@ -1,6 +1,7 @@
 -- Of two lists of constraints that are not over, one is not longer than the other if each of its constraints lies in a set that is tight in the
 -- other. (Not being over makes a matroid.) Assumes nothing.
-use Rattle.theory.specs.Prelude.{◌≡◌, refl, sym, ap, subst, ◌⊎◌, inl, inr, ⊎_elim, List, [], ◌∷◌, ℕ, zero, suc, ◌+◌, ◌*◌, ◌≤◌, min, arith, dec_le}
+use Rattle.std.specs.Prelude.{◌≡◌, ◌⊎◌, ◌∷◌, ◌+◌, ◌*◌, ◌≤◌}
+use Rattle.theory.specs.Prelude.{refl, sym, ap, subst, inl, inr, ⊎_elim, List, [], ℕ, zero, suc, min, arith, dec_le}
 use Rattle.theory.specs.Prelude.{ones, length}
 use Rattle.theory.specs.Set.{◌∩◌, ◌∪◌, ◌⊑◌}
 use Rattle.theory.specs.Set.Laws.{size-∪, ⊑⇒size≤, ⊑_refl, ⊑_trans, a⊑a∪b, b⊑a∪b, a∩b⊑a, a∩b⊑b, ∩-greatest}

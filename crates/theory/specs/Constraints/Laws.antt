@@ -1,7 +1,8 @@
 -- Laws of constraints: what is carried by two sets, by three and a fourth, by the sheet's own elements, in any order of the constraints.
 -- Assumes nothing.
-use Rattle.theory.specs.Prelude.{◌≡◌, refl, sym, ap, ap₂, ◌∙◌, subst, ◌≢◌, ◌↔◌, ◌⊎◌, inl, inr, ⊎_elim, Iff-trans, Iff-rfl, Bool, true, false}
-use Rattle.theory.specs.Prelude.{List, [], ◌∷◌, map, ℕ, zero, suc, ◌+◌, ◌*◌, ◌^◌, ◌≤◌, ◌<◌, arith, ℕ_discrete, dec_le, or_lt, eqb, eqb→eq}
+use Rattle.std.specs.Prelude.{◌≡◌, ◌≢◌, ◌↔◌, ◌⊎◌, ◌∷◌, ◌+◌, ◌*◌, ◌^◌, ◌≤◌, ◌<◌}
+use Rattle.theory.specs.Prelude.{refl, sym, ap, ap₂, ◌∙◌, subst, inl, inr, ⊎_elim, Iff-trans, Iff-rfl, Bool, true, false}
+use Rattle.theory.specs.Prelude.{List, [], map, ℕ, zero, suc, arith, ℕ_discrete, dec_le, or_lt, eqb, eqb→eq}
 use Rattle.theory.specs.Prelude.{eqb_refl, T, ones, length, pow-lt}
 use Rattle.theory.specs.Set.{◌∈◌, ◌∩◌, ◌∪◌, at, ◌⊑◌, full}
 use Rattle.theory.specs.Set.Laws.{at-∪, at-le, bit, ⊑⇒size≤, ⊑-size-≡, ⊑_refl, ⊑_trans, a⊑a∪b, b⊑a∪b, a∩b⊑a, a∩b⊑b, ∩-greatest, ⊑⇒∩≡}

@@ -1,5 +1,6 @@
 -- Further laws of every list of merges of an accepted sheet that isn't over. Assumes nothing.
-use Rattle.theory.specs.Prelude.{◌≡◌, refl, ◌≢◌, List, [], ◌∷◌, ℕ, ◌+◌, ◌*◌, ◌≤◌, length}
+use Rattle.std.specs.Prelude.{◌≡◌, ◌≢◌, ◌∷◌, ◌+◌, ◌*◌, ◌≤◌}
+use Rattle.theory.specs.Prelude.{refl, List, [], ℕ, length}
 use Rattle.theory.specs.Set.{◌⊑◌}
 use Rattle.theory.specs.Constraints.{Among}
 use Rattle.theory.specs.Merge.{Merge, slot, Valid, final, Ended, Maximal, live}

@@ -1,6 +1,7 @@
 -- Demand 3 holds: Lemmas 3.3 to 3.5, Theorem 3.6, Corollary 3.7 and Theorem 4.3 of Fudos and Hoffmann (document 001),
 -- from every order of the constraints. Assumes nothing.
-use Rattle.theory.specs.Prelude.{refl, sym, List, ◌≤◌, arith}
+use Rattle.std.specs.Prelude.{◌≤◌}
+use Rattle.theory.specs.Prelude.{refl, sym, List, arith}
 use Rattle.theory.specs.Constraints.{Pairs, Below, NotOver}
 use Rattle.theory.specs.Constraints.Laws.{pairs-perm, below-perm, fine-perm}
 use Rattle.theory.specs.Merge.{Merge, slot, Valid, final, live}

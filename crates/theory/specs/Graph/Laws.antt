@@ -1,6 +1,7 @@
 -- The verdict is over if and only if some set carries too much; else it is that of every maximal list of merges, in every order of the
 -- constraints. The steps of a list of merges are as many, and have its joints. Assumes nothing.
-use Rattle.theory.specs.Prelude.{◌≡◌, refl, sym, ap, ap₂, ◌∙◌, ◌≢◌, List, [], ◌∷◌, map, ℕ, suc, length}
+use Rattle.std.specs.Prelude.{◌≡◌, ◌≢◌, ◌∷◌}
+use Rattle.theory.specs.Prelude.{refl, sym, ap, ap₂, ◌∙◌, List, [], map, ℕ, suc, length}
 use Rattle.theory.specs.Constraints.{Pairs, Below, Perm, same, NotOver}
 use Rattle.theory.specs.Constraints.Laws.{length-perm}
 use Rattle.theory.specs.Over.{IsOver}

@@ -1,6 +1,7 @@
 -- Verdicts that need no list of merges. Assumes nothing.
-use Rattle.theory.specs.Prelude.{◌≡◌, refl, sym, ap, ap₂, ◌∙◌, subst, ◌≢◌, inl, inr, Bool, true, false, ◌||◌, List, [], ◌∷◌, ℕ, ◌+◌, ◌*◌, ◌≤◌}
-use Rattle.theory.specs.Prelude.{◌<◌, arith, ones, T, eqb, eqb→eq, length}
+use Rattle.std.specs.Prelude.{◌≡◌, ◌≢◌, ◌||◌, ◌∷◌, ◌+◌, ◌*◌, ◌≤◌, ◌<◌}
+use Rattle.theory.specs.Prelude.{refl, sym, ap, ap₂, ◌∙◌, subst, inl, inr, Bool, true, false, List, [], ℕ}
+use Rattle.theory.specs.Prelude.{arith, ones, T, eqb, eqb→eq, length}
 use Rattle.theory.specs.Tests.{eq_test}
 use Rattle.theory.specs.Set.Laws.{⊑⇒size≤}
 use Rattle.theory.specs.Constraints.{Among, Pairs, Below}

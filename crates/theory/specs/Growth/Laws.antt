@@ -1,5 +1,6 @@
 -- A list and one with more, anywhere and in any order: what it has, what its sets carry, at which numbers it stands. Assumes nothing.
-use Rattle.theory.specs.Prelude.{◌≡◌, sym, ap, inl, inr, List, [], ◌∷◌, ◌++◌, map, map-append, ℕ, zero, suc, ◌≤◌, ◌<◌, arith, length}
+use Rattle.std.specs.Prelude.{◌≡◌, ◌∷◌, ◌++◌, ◌≤◌, ◌<◌}
+use Rattle.theory.specs.Prelude.{sym, ap, inl, inr, List, [], map, map-append, ℕ, zero, suc, arith, length}
 use Rattle.theory.specs.Constraints.{Among, Pairs, Below, Perm, same, skip, swap, then, carried, NotOver}
 use Rattle.theory.specs.Constraints.Laws.{among-perm, carried-perm, perm-map}
 use Rattle.theory.specs.Merge.{slot}

@@ -1,6 +1,7 @@
 -- A graph with more constraints that isn't over: every cluster of the old graph lies inside one final cluster of the new, and what it rests on stays
 -- in that part. Assumes nothing.
-use Rattle.theory.specs.Prelude.{◌≡◌, refl, sym, ◌∙◌, subst, ◌≢◌, List, ℕ, ◌≤◌, ◌<◌, ℕ_discrete, arith, ones, length}
+use Rattle.std.specs.Prelude.{◌≡◌, ◌≢◌, ◌≤◌, ◌<◌}
+use Rattle.theory.specs.Prelude.{refl, sym, ◌∙◌, subst, List, ℕ, ℕ_discrete, arith, ones, length}
 use Rattle.theory.specs.Set.{◌∩◌, ◌⊑◌}
 use Rattle.theory.specs.Set.Laws.{⊑_trans, ⊑⇒size≤, ∩-greatest}
 use Rattle.theory.specs.Merge.{Merge, slot, Valid, final, Maximal}

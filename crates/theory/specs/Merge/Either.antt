@@ -1,6 +1,7 @@
 -- Either way round, by number: once one of two open merges is made, the other is open, the union standing in for a
 -- cluster in common. Theorem 3.6 of Fudos and Hoffmann (document 001), of numbered clusters. Assumes nothing.
-use Rattle.theory.specs.Prelude.{◌≡◌, refl, sym, ap, ◌∙◌, subst, ◌≢◌, ◌↔◌, inl, inr, Iff-trans, Iff-symm, Bool, true, false, ◌||◌, List, eqb}
+use Rattle.std.specs.Prelude.{◌≡◌, ◌≢◌, ◌↔◌, ◌||◌}
+use Rattle.theory.specs.Prelude.{refl, sym, ap, ◌∙◌, subst, inl, inr, Iff-trans, Iff-symm, Bool, true, false, List, eqb}
 use Rattle.theory.specs.Prelude.{eqb→eq, T, ℕ, length}
 use Rattle.theory.specs.Tests.{eq_test}
 use Rattle.theory.specs.Constraints.{NotOver, Pairs}

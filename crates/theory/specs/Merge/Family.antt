@@ -1,7 +1,8 @@
 -- The clusters as a family of sets, a predicate: the numbers and the order of the clusters are of no account there. Families are what the
 -- proofs of "Every order of merging" work with; the numbered clusters are shown to step as their family does. A name
 -- that ends in In is of families what the name without it is of numbered clusters. Assumes nothing.
-use Rattle.theory.specs.Prelude.{◌≡◌, ◌≢◌, ◌↔◌, ◌⊎◌, List, [], ◌∷◌, length, ℕ, zero, ◌+◌, ◌*◌, dec_le, ones}
+use Rattle.std.specs.Prelude.{◌≡◌, ◌≢◌, ◌↔◌, ◌⊎◌, ◌∷◌, ◌+◌, ◌*◌}
+use Rattle.theory.specs.Prelude.{List, [], length, ℕ, zero, dec_le, ones}
 use Rattle.theory.specs.Merge.{Open, Three, union, joint, Merge, slot, three, put, final, joints, live}
 use Rattle.theory.specs.Set.{◌∩◌, ◌∪◌}
 use Rattle.theory.specs.Constraints.{carried, Among}

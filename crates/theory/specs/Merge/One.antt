@@ -1,6 +1,7 @@
 -- A list of merges that leaves one cluster shows that the constraints are not over: what a set carries is at most the sum of 2m - 3 over its parts in
 -- the living clusters, m being a part's elements, and a merge never lowers that sum. Assumes nothing.
-use Rattle.theory.specs.Prelude.{◌≡◌, refl, ap, ◌∙◌, inl, inr, List, [], ◌∷◌, ℕ, zero, suc, ◌+◌, ◌≤◌, arith, ones}
+use Rattle.std.specs.Prelude.{◌≡◌, ◌∷◌, ◌+◌, ◌≤◌}
+use Rattle.theory.specs.Prelude.{refl, ap, ◌∙◌, inl, inr, List, [], ℕ, zero, suc, arith, ones}
 use Rattle.theory.specs.Set.{◌∩◌, ◌∪◌}
 use Rattle.theory.specs.Set.Laws.{size-∪, ⊑⇒size≤, size-zero, ∩-distrib-∪, a∩b⊑a, a∩b⊑b, ∩-mono, ∪-mono, ⊑_refl, ⊑⇒∩≡, a⊑a∪b, b⊑a∪b}
 use Rattle.theory.specs.Constraints.{Pairs, carried, has, NotOver}

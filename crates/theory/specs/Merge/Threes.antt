@@ -1,5 +1,6 @@
 -- Laws of three open sets: the sizes of union and joint, that each has two elements or more, and what they have in common. Assumes nothing.
-use Rattle.theory.specs.Prelude.{◌≡◌, sym, ap, ◌∙◌, subst, ◌≢◌, Ne-symm, List, ℕ, ◌+◌, ◌≤◌, arith, ones}
+use Rattle.std.specs.Prelude.{◌≡◌, ◌≢◌, ◌+◌, ◌≤◌}
+use Rattle.theory.specs.Prelude.{sym, ap, ◌∙◌, subst, Ne-symm, List, ℕ, arith, ones}
 use Rattle.theory.specs.Merge.{Open, Three, union, joint, Merge, slot, OpenAt}
 use Rattle.theory.specs.Set.{◌∩◌, ◌∪◌, ◌⊑◌}
 use Rattle.theory.specs.Set.Laws.{size-∪, ⊑⇒size≤, ⊑_trans, a⊑a∪b, b⊑a∪b, a∩b⊑b, ∩-distrib-∪, singles-apart, singles-or, ∪-least, a∩b⊑a}

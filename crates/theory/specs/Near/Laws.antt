@@ -1,6 +1,7 @@
 -- Laws of who is constrained with whom: lists that grow at their end, both ends noted, and what an element carries. Assumes nothing.
-use Rattle.theory.specs.Prelude.{◌≡◌, refl, sym, ap, ◌∙◌, subst, ◌≢◌, ◌↔◌, ◌⊎◌, inl, inr, ⊎_elim, Ne-symm, List, [], ◌∷◌, ◌++◌, ℕ, zero, suc}
-use Rattle.theory.specs.Prelude.{◌+◌, ◌-◌, ◌^◌, ◌≤◌, ◌<◌, ℕ_discrete, arith, bit_or, ones, length, take, get_or, set, length-set, replicate}
+use Rattle.std.specs.Prelude.{◌≡◌, ◌≢◌, ◌↔◌, ◌⊎◌, ◌∷◌, ◌++◌, ◌+◌, ◌-◌, ◌^◌, ◌≤◌, ◌<◌}
+use Rattle.theory.specs.Prelude.{refl, sym, ap, ◌∙◌, subst, inl, inr, ⊎_elim, Ne-symm, List, [], ℕ, zero, suc}
+use Rattle.theory.specs.Prelude.{ℕ_discrete, arith, bit_or, ones, length, take, get_or, set, length-set, replicate}
 use Rattle.theory.specs.Prelude.{length-replicate, get_or-set_same, get_or-set_other, get_or-take, length-take-le}
 use Rattle.theory.specs.Set.{◌∈◌, ◌∩◌, ◌∪◌, ◌⊑◌, at}
 use Rattle.theory.specs.Set.Laws.{at-∪, at-le, at_zero, at_same, at_other, bit, ⊑-size-≡, size-pow, size-add, ∈-∪ˡ}

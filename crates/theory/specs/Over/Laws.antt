@@ -1,7 +1,8 @@
 -- Laws of "over". Among the sets that hold both ends of a constraint and carry exactly 2m-3 there is exactly one smallest, which lies within every
 -- other; what is found is determined; the tests find it; elements that no constraint names change nothing. Assumes nothing.
-use Rattle.theory.specs.Prelude.{◌≡◌, refl, sym, ap, ap₂, ◌∙◌, subst, inl, inr, Bool, true, false, List, [], ◌∷◌, ◌++◌, ℕ, zero, suc, ◌+◌, ◌*◌}
-use Rattle.theory.specs.Prelude.{◌^◌, ◌≤◌, ◌<◌, le_antisymm, le_refl, le_step, lt-suc_self, arith, ℕ_discrete, dec_le, dec_lt, T, leb, ltb, eqb}
+use Rattle.std.specs.Prelude.{◌≡◌, ◌∷◌, ◌++◌, ◌+◌, ◌*◌, ◌^◌, ◌≤◌, ◌<◌}
+use Rattle.theory.specs.Prelude.{refl, sym, ap, ap₂, ◌∙◌, subst, inl, inr, Bool, true, false, List, [], ℕ, zero, suc}
+use Rattle.theory.specs.Prelude.{le_antisymm, le_refl, le_step, lt-suc_self, arith, ℕ_discrete, dec_le, dec_lt, T, leb, ltb, eqb}
 use Rattle.theory.specs.Prelude.{leb→le, le→leb, ltb→lt, lt→ltb, eqb→eq, ones, length, take, get_or, take-suc, take-length}
 use Rattle.theory.specs.Tests.{and_intro, and_both, eq_test}
 use Rattle.theory.specs.Set.{◌∩◌, ◌∪◌, ◌⊑◌, full}

@@ -1,5 +1,6 @@
 -- The engine's plan: it is a maximal list of merges, and the only one whose every step is the first open merge. Assumes nothing.
-use Rattle.theory.specs.Prelude.{◌≡◌, refl, sym, ap, ap₂, subst, inl, inr, List, [], ◌∷◌, Option, none, some, ℕ, zero, suc, ◌≤◌, ◌<◌, arith}
+use Rattle.std.specs.Prelude.{◌≡◌, ◌∷◌, ◌≤◌, ◌<◌}
+use Rattle.theory.specs.Prelude.{refl, sym, ap, ap₂, subst, inl, inr, List, [], Option, none, some, ℕ, zero, suc, arith}
 use Rattle.theory.specs.Prelude.{length}
 use Rattle.theory.specs.Constraints.{Pairs}
 use Rattle.theory.specs.Merge.{Merge, put, Valid, final, Ended, Maximal, left}

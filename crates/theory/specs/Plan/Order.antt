@@ -1,6 +1,7 @@
 -- The order of the three numbers of a merge does not matter: the merge with its numbers ascending is open where it is, has the same joint, and
 -- leaves the same clusters. Assumes nothing.
-use Rattle.theory.specs.Prelude.{◌≡◌, refl, sym, ap, ap₂, ◌∙◌, subst, ◌≢◌, Ne-symm, List, [], ◌∷◌, ◌++◌, ℕ, zero, suc, ◌≤◌, ◌<◌, min, max}
+use Rattle.std.specs.Prelude.{◌≡◌, ◌≢◌, ◌∷◌, ◌++◌, ◌≤◌, ◌<◌}
+use Rattle.theory.specs.Prelude.{refl, sym, ap, ap₂, ◌∙◌, subst, Ne-symm, List, [], ℕ, zero, suc, min, max}
 use Rattle.theory.specs.Prelude.{arith, dec_le, ones, set}
 use Rattle.theory.specs.Set.{◌∩◌, ◌∪◌}
 use Rattle.theory.specs.Set.Laws.{at-∪, ext, ∩-comm, ∪-comm}

@@ -1,6 +1,7 @@
 -- The search for the first open merge finds it, or there is none. Assumes nothing.
-use Rattle.theory.specs.Prelude.{◌≡◌, refl, sym, ◌∙◌, subst, inl, inr, List, [], ◌∷◌, Bool, true, false, not, Option, none, some, ℕ, zero, suc}
-use Rattle.theory.specs.Prelude.{◌+◌, ◌≤◌, ◌<◌, arith, ℕ_discrete, T, eqb, eqb→eq, ones}
+use Rattle.std.specs.Prelude.{◌≡◌, ◌∷◌, ◌+◌, ◌≤◌, ◌<◌}
+use Rattle.theory.specs.Prelude.{refl, sym, ◌∙◌, subst, inl, inr, List, [], Bool, true, false, not, Option, none, some, ℕ, zero, suc}
+use Rattle.theory.specs.Prelude.{arith, ℕ_discrete, T, eqb, eqb→eq, ones}
 use Rattle.theory.specs.Tests.{and_intro, and_both, eq_test, ne_test, test-ne}
 use Rattle.theory.specs.Set.{◌∩◌}
 use Rattle.theory.specs.Merge.{Merge, merge, slot, Open, OpenAt, Ended}

@@ -1,6 +1,7 @@
 -- What clusters rest on is kept by every merge: each constraint stands in one living cluster, which holds both its
 -- ends, and a cluster of m elements has 2m-3 of them. Assumes nothing.
-use Rattle.theory.specs.Prelude.{◌≡◌, refl, sym, ap, ◌∙◌, subst, ◌≢◌, ◌⊎◌, inl, inr, List, [], ◌∷◌, ℕ, zero, suc, ◌+◌, ◌*◌, ◌^◌, ◌≤◌, ◌<◌, arith}
+use Rattle.std.specs.Prelude.{◌≡◌, ◌≢◌, ◌⊎◌, ◌∷◌, ◌+◌, ◌*◌, ◌^◌, ◌≤◌, ◌<◌}
+use Rattle.theory.specs.Prelude.{refl, sym, ap, ◌∙◌, subst, inl, inr, List, [], ℕ, zero, suc, arith}
 use Rattle.theory.specs.Prelude.{ℕ_discrete, dec_lt, ones, length, List·getD-eq-default, pow-lt}
 use Rattle.std.proofs.Math.Pow.{ones_lt}
 use Rattle.theory.specs.Set.{◌∩◌, ◌∪◌, ◌∈◌, ◌⊑◌, at, full}

@@ -1,6 +1,7 @@
 -- On a sheet that is not over, stripping leaves lines if and only if there is a ring of four or more final clusters; every order of merging has the
 -- same rings; and there is none where fewer than four lines, or one cluster, are. Assumes nothing.
-use Rattle.theory.specs.Prelude.{◌≡◌, refl, sym, ap, ◌∙◌, subst, ◌≢◌, ◌↔◌, Bool, true, false, List, ℕ, zero, suc, ◌≤◌, ◌<◌, arith, dec_le}
+use Rattle.std.specs.Prelude.{◌≡◌, ◌≢◌, ◌↔◌, ◌≤◌, ◌<◌}
+use Rattle.theory.specs.Prelude.{refl, sym, ap, ◌∙◌, subst, Bool, true, false, List, ℕ, zero, suc, arith, dec_le}
 use Rattle.theory.specs.Prelude.{ℕ_discrete, ones, T, set, get_or-set_other}
 use Rattle.theory.specs.Tests.{iff-same, ne_test, test-ne}
 use Rattle.theory.specs.Set.{◌∈◌, ◌∩◌, ◌⊑◌, at}

@@ -1,5 +1,6 @@
 -- What stripping leaves: a ring's lines stay, and if lines are left each lies in two clusters that hold another of them. Assumes nothing.
-use Rattle.theory.specs.Prelude.{◌≡◌, refl, sym, ap, ◌∙◌, subst, ◌≢◌, ⊎_elim, Bool, true, false, cond, List, [], ◌∷◌, ℕ, zero, suc, ◌≤◌, ◌<◌}
+use Rattle.std.specs.Prelude.{◌≡◌, ◌≢◌, ◌∷◌, ◌≤◌, ◌<◌}
+use Rattle.theory.specs.Prelude.{refl, sym, ap, ◌∙◌, subst, ⊎_elim, Bool, true, false, cond, List, [], ℕ, zero, suc}
 use Rattle.theory.specs.Prelude.{arith, ℕ_discrete, dec_le, dec_lt, leb, T, leb→le, le→leb, ones}
 use Rattle.theory.specs.Set.{◌∈◌, ◌∩◌, ◌⊑◌, at}
 use Rattle.theory.specs.Set.Laws.{at-le, at_zero, ⊑-size-≡, ⊑_refl, ⊑_trans, two_in, both, ∈-∩⁻, ∈-∪⁻, ∈-∪ˡ, ∈-∪ʳ}

@@ -1,5 +1,6 @@
 -- Lines each of which lies in two clusters that hold another of them: from line to cluster to line one comes round. Assumes nothing.
-use Rattle.theory.specs.Prelude.{◌≡◌, refl, sym, ap, ◌∙◌, subst, ◌≢◌, ◌⊎◌, inl, inr, List, ℕ, zero, suc, ◌+◌, ◌-◌, ◌^◌, ◌≤◌, ◌<◌, arith}
+use Rattle.std.specs.Prelude.{◌≡◌, ◌≢◌, ◌⊎◌, ◌+◌, ◌-◌, ◌^◌, ◌≤◌, ◌<◌}
+use Rattle.theory.specs.Prelude.{refl, sym, ap, ◌∙◌, subst, inl, inr, List, ℕ, zero, suc, arith}
 use Rattle.theory.specs.Prelude.{ℕ_discrete, ones}
 use Rattle.theory.specs.Set.{◌∈◌, ◌∩◌, ◌∪◌, at}
 use Rattle.theory.specs.Set.Laws.{at-le, at_zero, at_other, size-zero, ⊑⇒size≤, size-add, some, other, ∈-∩⁻, ∈-∪⁻}

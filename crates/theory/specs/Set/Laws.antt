@@ -1,5 +1,6 @@
 -- Laws of sets: digits of the operations, sets equal by their elements, sizes, inclusion, single elements. Assumes nothing.
-use Rattle.theory.specs.Prelude.{◌≡◌, refl, sym, ap, ◌∙◌, subst, ◌≢◌, ◌⊎◌, inl, inr, ℕ, zero, suc, ◌+◌, ◌*◌, ◌/◌, ◌%◌, ◌^◌, ◌≤◌, ◌<◌, min, max}
+use Rattle.std.specs.Prelude.{◌≡◌, ◌≢◌, ◌⊎◌, ◌+◌, ◌*◌, ◌/◌, ◌%◌, ◌^◌, ◌≤◌, ◌<◌}
+use Rattle.theory.specs.Prelude.{refl, sym, ap, ◌∙◌, subst, inl, inr, ℕ, zero, suc, min, max}
 use Rattle.theory.specs.Prelude.{le_refl, le_trans, le_antisymm, pow-succ', mod-eq_of_lt, not-suc-le-zero, le_of_suc-le-suc, arith, ℕ_discrete}
 use Rattle.theory.specs.Prelude.{bin_ind, and_step, ones, ones_step, pow-lt}
 use Rattle.std.proofs.Common.{div-one}

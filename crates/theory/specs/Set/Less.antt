@@ -1,5 +1,6 @@
 -- Laws of sets as masks with one element taken out, `a - 2 ^ x`, and of the lowest element. Assumes nothing.
-use Rattle.theory.specs.Prelude.{◌≡◌, refl, sym, ap, ◌∙◌, subst, ◌≢◌, ⊎_elim, ℕ, zero, suc, ◌-◌, ◌/◌, ◌%◌, ◌^◌, ◌≤◌, ◌<◌, lt_of_lt_of_le}
+use Rattle.std.specs.Prelude.{◌≡◌, ◌≢◌, ◌-◌, ◌/◌, ◌%◌, ◌^◌, ◌≤◌, ◌<◌}
+use Rattle.theory.specs.Prelude.{refl, sym, ap, ◌∙◌, subst, ⊎_elim, ℕ, zero, suc, lt_of_lt_of_le}
 use Rattle.theory.specs.Prelude.{pow-le-pow_right, zero-lt-suc, pow-succ', arith, ℕ_discrete, dec_lt, bin_ind, bit_and, and_step, and_self}
 use Rattle.theory.specs.Prelude.{and_le_r, ones, ones_step, under, count_trailing_zeros}
 use Rattle.std.proofs.Math.Nat.{div-eq_of_lt, zero-mod}

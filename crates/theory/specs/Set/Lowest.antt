@@ -1,5 +1,6 @@
 -- The lowest element of a set, the set without it, and what one set has beyond another, as the machine's words give them. Assumes nothing.
-use Rattle.theory.specs.Prelude.{◌≡◌, refl, ap, ◌∙◌, ◌≢◌, ℕ, zero, suc, ◌-◌, ◌/◌, ◌%◌, ◌^◌, ◌≤◌, ◌<◌, min, arith, bit_and, bit_xor, and_step}
+use Rattle.std.specs.Prelude.{◌≡◌, ◌≢◌, ◌-◌, ◌/◌, ◌%◌, ◌^◌, ◌≤◌, ◌<◌}
+use Rattle.theory.specs.Prelude.{refl, ap, ◌∙◌, ℕ, zero, suc, min, arith, bit_and, bit_xor, and_step}
 use Rattle.theory.specs.Prelude.{count_trailing_zeros, under}
 use Rattle.std.specs.Int.Bits.{differ, xor_step}
 use Rattle.theory.specs.Set.{◌∈◌, ◌∩◌, at}

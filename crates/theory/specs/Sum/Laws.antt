@@ -1,5 +1,6 @@
 -- Laws of sums over the numbers below a bound. Assumes nothing.
-use Rattle.theory.specs.Prelude.{◌≡◌, refl, sym, ap, ◌∙◌, subst, ◌≢◌, ⊎_elim, ℕ, zero, suc, ◌+◌, ◌*◌, ◌≤◌, ◌<◌, le_refl, le_step, lt-suc_self}
+use Rattle.std.specs.Prelude.{◌≡◌, ◌≢◌, ◌+◌, ◌*◌, ◌≤◌, ◌<◌}
+use Rattle.theory.specs.Prelude.{refl, sym, ap, ◌∙◌, subst, ⊎_elim, ℕ, zero, suc, le_refl, le_step, lt-suc_self}
 use Rattle.theory.specs.Prelude.{eq-or-lt_of_le, le_of_suc-le-suc, not-suc-le-zero, mul-zero, mul-add, ne_of_lt, arith}
 use Rattle.std.proofs.Common.{ne_of_gt}
 use Rattle.theory.specs.Sum.{sum}

@@ -1,6 +1,7 @@
 -- What the verdict names say, by the tests and by the relation. Assumes nothing.
-use Rattle.theory.specs.Prelude.{◌≡◌, refl, sym, ap, ap₂, subst, ◌≢◌, ◌↔◌, ◌⊎◌, inl, inr, ⊎_elim, Bool, true, false, ◌||◌, List, [], ◌∷◌, ℕ}
-use Rattle.theory.specs.Prelude.{◌+◌, ◌*◌, ◌≤◌, ◌<◌, arith, T, eqb, eqb→eq, length}
+use Rattle.std.specs.Prelude.{◌≡◌, ◌≢◌, ◌↔◌, ◌⊎◌, ◌||◌, ◌∷◌, ◌+◌, ◌*◌, ◌≤◌, ◌<◌}
+use Rattle.theory.specs.Prelude.{refl, sym, ap, ap₂, subst, inl, inr, ⊎_elim, Bool, true, false, List, [], ℕ}
+use Rattle.theory.specs.Prelude.{arith, T, eqb, eqb→eq, length}
 use Rattle.theory.specs.Tests.{eq_test, false-ne, iff-same}
 use Rattle.theory.specs.Set.{◌∩◌}
 use Rattle.theory.specs.Set.Laws.{∩≡⇒⊑, ⊑⇒∩≡}

@@ -1,5 +1,6 @@
 -- `writer::byte_at` meets its contract. Assumes nothing.
-use Rattle.theory.specs.Prelude.{ℕ, zero, suc, ◌≤◌, le_of_suc-le-suc, arith, ◌≡◌, refl, List, [], ◌∷◌, length, get_or}
+use Rattle.std.specs.Prelude.{◌≤◌, ◌≡◌, ◌∷◌}
+use Rattle.theory.specs.Prelude.{ℕ, zero, suc, le_of_suc-le-suc, arith, refl, List, [], length, get_or}
 use Rattle.writer.proofs.byte_at.Goals as goal
 
 past : (s : List ℕ) (i : ℕ) → length s ≤ i → ◌≡◌ {A = ℕ} 0 (get_or s i 0)

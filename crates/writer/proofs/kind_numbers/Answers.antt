@@ -1,5 +1,6 @@
 -- `writer::kind_numbers` meets its contract. Assumes nothing.
-use Rattle.theory.specs.Prelude.{rules, ◌≤◌, min, arith, ◌≡◌, ap, ◌∙◌, length, take, take-take}
+use Rattle.std.specs.Prelude.{◌≤◌, ◌≡◌}
+use Rattle.theory.specs.Prelude.{rules, min, arith, ap, ◌∙◌, length, take, take-take}
 use Rattle.sheet.specs.Facts.{kinds_number}
 use Rattle.writer.specs.Spread.{kinds_in_eight}
 use Rattle.writer.proofs.Spread.{front-least, rest-least, allowed-take, rest-few}

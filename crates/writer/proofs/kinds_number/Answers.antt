@@ -1,5 +1,6 @@
 -- `writer::kinds_number` meets its contract: the kinds from the last element down; the number stays below 2 ^ 64. Assumes nothing.
-use Rattle.theory.specs.Prelude.{rules, ◌+◌, ◌*◌, ◌-◌, ◌≤◌, ◌<◌, ◌^◌, arith, ◌≡◌, sym, ap, length, get_or}
+use Rattle.std.specs.Prelude.{◌+◌, ◌*◌, ◌-◌, ◌≤◌, ◌<◌, ◌^◌, ◌≡◌}
+use Rattle.theory.specs.Prelude.{rules, arith, sym, ap, length, get_or}
 use Rattle.sheet.specs.Facts.{kind_digit, kinds_number, blank_element}
 use Rattle.sheet.specs.Facts.Laws.{spent}
 use Rattle.writer.proofs.Spread.{one_more, more-fits}

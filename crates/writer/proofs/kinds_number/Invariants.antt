@@ -1,5 +1,6 @@
 -- `writer::kinds_number` meets its contract: the kinds from the last element down; the number stays below 2 ^ 64. Assumes nothing.
-use Rattle.theory.specs.Prelude.{◌≤◌, ◌≡◌, take, drop}
+use Rattle.std.specs.Prelude.{◌≤◌, ◌≡◌}
+use Rattle.theory.specs.Prelude.{take, drop}
 use Rattle.sheet.specs.declared.Opening.{Opening}
 use Rattle.sheet.specs.Facts.{kind_base, kinds_number}
 use Rattle.writer.proofs.kinds_number.Given as goal

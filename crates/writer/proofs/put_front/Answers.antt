@@ -1,5 +1,6 @@
 -- `writer::put_front` meets its contract: one piece after another. Assumes nothing.
-use Rattle.theory.specs.Prelude.{rules, ◌-◌, ◌≤◌, min, arith, ◌≡◌, ap, ◌∙◌, length, take, length-append, length-take-le}
+use Rattle.std.specs.Prelude.{◌-◌, ◌≤◌, ◌≡◌}
+use Rattle.theory.specs.Prelude.{rules, min, arith, ap, ◌∙◌, length, take, length-append, length-take-le}
 use Rattle.sheet.specs.Field.{digits, kind_bytes}
 use Rattle.sheet.specs.Field.Laws.{length_digits, opening-length}
 use Rattle.sheet.specs.Encode.Laws.{kinds-length}

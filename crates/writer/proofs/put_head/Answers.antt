@@ -1,5 +1,6 @@
 -- `writer::put_head` meets its contract. Assumes nothing.
-use Rattle.theory.specs.Prelude.{suc, ◌+◌, arith, ◌≡◌, refl, length-set}
+use Rattle.std.specs.Prelude.{◌+◌, ◌≡◌}
+use Rattle.theory.specs.Prelude.{suc, arith, refl, length-set}
 use Rattle.space.specs.Space.Laws.{put_all, put-short}
 use Rattle.writer.proofs.put_head.Goals as goal
 

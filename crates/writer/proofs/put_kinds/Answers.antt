@@ -1,5 +1,6 @@
 -- `writer::put_kinds` meets its contract: one number after the other. Assumes nothing.
-use Rattle.theory.specs.Prelude.{◌-◌, arith}
+use Rattle.std.specs.Prelude.{◌-◌}
+use Rattle.theory.specs.Prelude.{arith}
 use Rattle.sheet.specs.Field.Laws.{length_digits}
 use Rattle.sheet.specs.Encode.Laws.{kinds-length}
 use Rattle.space.specs.Space.Laws.{put_as, ◌then◌}

@@ -1,6 +1,7 @@
 -- `writer::put_number` meets its contract. The loop's invariant: the bytes of what is left, put from the place reached, make the space that all make.
 -- Assumes nothing.
-use Rattle.theory.specs.Prelude.{suc, ◌+◌, ◌-◌, add-one, arith, ◌≡◌, refl, sym, ◌∙◌, length-set}
+use Rattle.std.specs.Prelude.{◌+◌, ◌-◌, ◌≡◌}
+use Rattle.theory.specs.Prelude.{suc, add-one, arith, refl, sym, ◌∙◌, length-set}
 use Rattle.sheet.specs.Field.{digits}
 use Rattle.sheet.specs.Field.Laws.{length_digits}
 use Rattle.space.specs.Space.Laws.{put_all, put-short}

@@ -1,6 +1,7 @@
 -- `writer::put_number` meets its contract. The loop's invariant: the bytes of what is left, put from the place reached, make the space that all make.
 -- Assumes nothing.
-use Rattle.theory.specs.Prelude.{◌-◌, ◌≤◌, ◌≡◌, length, sets}
+use Rattle.std.specs.Prelude.{◌-◌, ◌≤◌, ◌≡◌}
+use Rattle.theory.specs.Prelude.{length, sets}
 use Rattle.sheet.specs.Field.{digits}
 use Rattle.writer.proofs.put_number.Given as goal
 

@@ -1,5 +1,6 @@
 -- `writer::put_radii` meets its contract. The loop's invariant: the radii of the elements passed are put. Assumes nothing.
-use Rattle.theory.specs.Prelude.{rules, ◌+◌, ◌≤◌, arith, ◌≡◌, sym, length, take, length-take-le}
+use Rattle.std.specs.Prelude.{◌+◌, ◌≤◌, ◌≡◌}
+use Rattle.theory.specs.Prelude.{rules, arith, sym, length, take, length-take-le}
 use Rattle.sheet.specs.Encode.{radii_bytes}
 use Rattle.sheet.specs.Encode.Laws.{radii-most}
 use Rattle.sheet.specs.Facts.{blank_element}

@@ -1,5 +1,6 @@
 -- `writer::put_radii` meets its contract. The loop's invariant: the radii of the elements passed are put. Assumes nothing.
-use Rattle.theory.specs.Prelude.{◌-◌, ◌≤◌, take}
+use Rattle.std.specs.Prelude.{◌-◌, ◌≤◌}
+use Rattle.theory.specs.Prelude.{take}
 use Rattle.sheet.specs.Encode.{radii_bytes}
 use Rattle.space.specs.Space.{Put}
 use Rattle.writer.proofs.put_radii.Given as goal

@@ -1,6 +1,7 @@
 -- `writer::put_sheet` meets its contract. The loop's invariant: the bytes of the constraints passed are put, after what precedes them.
 -- Assumes nothing.
-use Rattle.theory.specs.Prelude.{rules, ◌+◌, ◌≤◌, arith, ◌≡◌, sym, length, take, length-take, length-take-le}
+use Rattle.std.specs.Prelude.{◌+◌, ◌≤◌, ◌≡◌}
+use Rattle.theory.specs.Prelude.{rules, arith, sym, length, take, length-take, length-take-le}
 use Rattle.sheet.specs.Facts.{facts_of}
 use Rattle.sheet.specs.Encode.{constraints_bytes, sheet_bytes}
 use Rattle.sheet.specs.Encode.Laws.{constraints-more, constraints-length}

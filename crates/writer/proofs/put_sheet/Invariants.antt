@@ -1,6 +1,7 @@
 -- `writer::put_sheet` meets its contract. The loop's invariant: the bytes of the constraints passed are put, after what precedes them.
 -- Assumes nothing.
-use Rattle.theory.specs.Prelude.{◌-◌, ◌≤◌, take}
+use Rattle.std.specs.Prelude.{◌-◌, ◌≤◌}
+use Rattle.theory.specs.Prelude.{take}
 use Rattle.sheet.specs.Encode.{constraints_bytes}
 use Rattle.space.specs.Space.{Put}
 use Rattle.writer.proofs.put_sheet.Given as goal

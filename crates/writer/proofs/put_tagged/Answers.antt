@@ -1,5 +1,6 @@
 -- `writer::put_tagged` meets its contract: three pieces, one after the other. Assumes nothing.
-use Rattle.theory.specs.Prelude.{◌+◌, arith, append_assoc}
+use Rattle.std.specs.Prelude.{◌+◌}
+use Rattle.theory.specs.Prelude.{arith, append_assoc}
 use Rattle.space.specs.Space.Laws.{put_as, ◌then◌}
 use Rattle.writer.proofs.Untagged.{cut-least}
 use Rattle.writer.proofs.put_tagged.Goals as goal

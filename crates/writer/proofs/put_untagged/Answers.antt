@@ -1,5 +1,6 @@
 -- `writer::put_untagged` meets its contract, by the walk of `Untagged`. Assumes nothing.
-use Rattle.theory.specs.Prelude.{◌+◌, ◌≤◌, ◌<◌, arith, ◌≡◌, ◌∙◌, length, length-drop}
+use Rattle.std.specs.Prelude.{◌+◌, ◌≤◌, ◌<◌, ◌≡◌}
+use Rattle.theory.specs.Prelude.{arith, ◌∙◌, length, length-drop}
 use Rattle.space.specs.Space.Laws.{put_as}
 use Rattle.sheet.specs.WithoutTags.{listed}
 use Rattle.writer.proofs.Untagged.{before-some, take_rest, walk_none, walk-plain, walk-tagged, walked-short, walked_all}

@@ -1,5 +1,5 @@
 -- `writer::put_untagged` meets its contract, by the walk of `Untagged`. Assumes nothing.
-use Rattle.theory.specs.Prelude.{◌-◌}
+use Rattle.std.specs.Prelude.{◌-◌}
 use Rattle.sheet.specs.WithoutTags.{listed}
 use Rattle.writer.proofs.Untagged.{Walk}
 use Rattle.writer.proofs.put_untagged.Given as goal

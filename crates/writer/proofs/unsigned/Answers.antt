@@ -1,5 +1,6 @@
 -- `writer::unsigned` meets its contract: a negative number -(m + 1) is 2 ^ 32 - (m + 1). Assumes nothing.
-use Rattle.theory.specs.Prelude.{ltb-true, le-ltb, ℕ, suc, ◌-◌, ◌≤◌, ◌<◌, ◌^◌, arith, ◌≡◌, refl, ap, true, false, ℤ, pos, negsuc, ◌-ℤ◌, lt_z}
+use Rattle.std.specs.Prelude.{◌-◌, ◌≤◌, ◌<◌, ◌^◌, ◌≡◌, ◌-ℤ◌}
+use Rattle.theory.specs.Prelude.{ltb-true, le-ltb, ℕ, suc, arith, refl, ap, true, false, ℤ, pos, negsuc, lt_z}
 use mir.Syntax.{w32}
 use mir.Val.{to_z, of_z, SFits}
 use mir.Facts.{to_z-of_z, to_z_pos}

@@ -1,6 +1,7 @@
 -- `writer::write_accepted` meets its contract: one run over space for the largest sheet, else a run over no space that measures, then the run that
 -- writes. Assumes nothing.
-use Rattle.theory.specs.Prelude.{◌<◌, ◌≤◌, zero-add, le_trans, arith, ◌≡◌, true, [], length, length-take}
+use Rattle.std.specs.Prelude.{◌<◌, ◌≤◌, ◌≡◌}
+use Rattle.theory.specs.Prelude.{zero-add, le_trans, arith, true, [], length, length-take}
 use Rattle.sheet.specs.Facts.{facts_of}
 use Rattle.sheet.specs.Encode.{sheet_bytes}
 use Rattle.sheet.specs.Accepted.Laws.{sheet_fault-none}

@@ -1,6 +1,7 @@
 -- `writer::write_untagged` meets its contract: one run over space for every byte, else a run over no space that measures, then the run that writes.
 -- Assumes nothing.
-use Rattle.theory.specs.Prelude.{◌<◌, ◌≤◌, zero-add, le_trans, ◌≡◌, [], length}
+use Rattle.std.specs.Prelude.{◌<◌, ◌≤◌, ◌≡◌}
+use Rattle.theory.specs.Prelude.{zero-add, le_trans, [], length}
 use Rattle.sheet.specs.WithoutTags.{without_tags}
 use Rattle.space.specs.Space.Laws.{none_left, put_refused, put-done}
 use Rattle.writer.proofs.Untagged.{without_tags-length}

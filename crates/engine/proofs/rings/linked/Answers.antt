@@ -1,5 +1,6 @@
 -- `engine::rings::linked` meets its contract: what is left without the lowest line tells whether there are two. Assumes nothing.
-use Rattle.theory.specs.Prelude.{◌≡◌, ap, ◌-◌, arith, bit_and, ones}
+use Rattle.std.specs.Prelude.{◌≡◌, ◌-◌}
+use Rattle.theory.specs.Prelude.{ap, arith, bit_and, ones}
 use Rattle.theory.specs.Set.Laws.{size-zero}
 use Rattle.theory.specs.Set.Less.{drop-low}
 use Rattle.engine.specs.Turns.Laws.{many, few, one_in, two_in}

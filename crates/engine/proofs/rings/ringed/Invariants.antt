@@ -1,5 +1,6 @@
 -- `engine::rings::ringed` meets its contract: a turn does not change the answer, and one that takes nothing off ends it. Assumes nothing.
-use Rattle.theory.specs.Prelude.{◌≡◌, ones}
+use Rattle.std.specs.Prelude.{◌≡◌}
+use Rattle.theory.specs.Prelude.{ones}
 use Rattle.theory.specs.Ring.{ringed}
 use Rattle.engine.proofs.rings.ringed.Given as goal
 

@@ -1,7 +1,8 @@
 -- A good family: each set carries exactly 2m-3 constraints and no constraint lies in two. A merge leaves a good family,
 -- and in one two sets share at most one element: Lemmas 3.4 and 3.5 of Fudos and Hoffmann (document 001).
 -- Assumes nothing.
-use Rattle.theory.specs.Prelude.{◌≡◌, refl, sym, ap, ◌∙◌, subst, ◌≢◌, inl, inr, List, ℕ, zero, ◌+◌, ◌*◌, ◌≤◌, arith, ℕ_discrete, ones}
+use Rattle.std.specs.Prelude.{◌≡◌, ◌≢◌, ◌+◌, ◌*◌, ◌≤◌}
+use Rattle.theory.specs.Prelude.{refl, sym, ap, ◌∙◌, subst, inl, inr, List, ℕ, zero, arith, ℕ_discrete, ones}
 use Rattle.theory.specs.Tests.{one_of}
 use Rattle.theory.specs.Merge.{Three, union}
 use Rattle.theory.specs.Set.{◌∩◌, ◌∪◌, ◌⊑◌}

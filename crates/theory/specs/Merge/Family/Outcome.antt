@@ -1,7 +1,8 @@
 -- Every maximal list of merges of a sheet that is not over ends in the same clusters, with the same joints and the same
 -- number of steps: Corollary 3.7 and Theorem 4.3 of Fudos and Hoffmann (document 001). More constraints never make a
 -- final cluster smaller. Assumes nothing.
-use Rattle.theory.specs.Prelude.{◌≡◌, ap, ◌∙◌, subst, refl, sym, ◌⊎◌, inl, inr, Iff-trans, ◌↔◌, ⊎_elim, Iff-rfl, List, [], ◌∷◌, ℕ, suc, length}
+use Rattle.std.specs.Prelude.{◌≡◌, ◌⊎◌, ◌↔◌, ◌∷◌}
+use Rattle.theory.specs.Prelude.{ap, ◌∙◌, subst, refl, sym, inl, inr, Iff-trans, ⊎_elim, Iff-rfl, List, [], ℕ, suc, length}
 use Rattle.theory.specs.Set.{◌⊑◌}
 use Rattle.theory.specs.Set.Laws.{⊑_refl, ⊑_trans}
 use Rattle.theory.specs.Constraints.{NotOver, Among, Pairs, Perm}
