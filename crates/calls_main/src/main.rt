@@ -104,12 +104,19 @@ fn lines(
     Ok(())
 }
 
+fn start(rt: &HostRuntime, text: &[u8]) -> io::Result<()> {
+    if byte(text, 0) == b'2' {
+        lines(rt, &rt.stderr(), text, 2)
+    } else {
+        lines(rt, &rt.stdout(), text, 0)
+    }
+}
+
 fn main(rt: HostRuntime) -> io::Result<()> {
     let mut text = [0u8; 65536];
-    let n = console::read(&mut rt.reader(), &mut text)?;
-    if byte(&text[..n], 0) == b'2' {
-        lines(&rt, &rt.stderr(), &text[..n], 2)
-    } else {
-        lines(&rt, &rt.stdout(), &text[..n], 0)
-    }
+    let n = match console::read(&mut rt.reader(), &mut text) {
+        Ok(n) => n,
+        Err(error) => return console::fail(&rt, "standard input", &error),
+    };
+    start(&rt, &text[..n])
 }

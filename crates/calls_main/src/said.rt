@@ -76,9 +76,13 @@ pub fn say_bytes(to: &impl Print, text: bool, space: &[u8]) -> io::Result<()> {
     Ok(())
 }
 
+fn say_short(to: &impl Print, n: u16) -> io::Result<()> {
+    say_number(to, b" ", n as u64)
+}
+
 pub fn say_shorts(to: &impl Print, space: &[u16]) -> io::Result<()> {
     for n in space {
-        say_number(to, b" ", *n as u64)?;
+        say_short(to, *n)?;
     }
     Ok(())
 }
