@@ -55,4 +55,4 @@ returns c =
     let f = facts-read c.args.bytes.now _ _ _ _ c.read_graph-got.ensures c.in-Value.is in
     let l = c.plan_on-steps.new in
     let h = held f (run_in c.plan_on-steps.result l.parts l.joints l.slots) c.plan_on-steps.ensures in
-    answers-items c.put_all16.ensures (rw f.reads (ap (λ (l : List ℕ). value l []) (sym h.plan_is)))
+    answers-items (c.put_all16.ensures.answers, c.put_all16.ensures.leaves) (rw f.reads (ap (λ (l : List ℕ). value l []) (sym h.plan_is)))
