@@ -81,7 +81,7 @@ class Programs(antt.Reader):
     def name(self, toks, i, scope):
         """A name or a path of code; answers the place behind it."""
         path, j = [toks[i]], i + 1
-        if j + 1 < len(toks) and toks[j].text == "!" and toks[j + 1].text in OPEN and path[0].text in MACROS:
+        if path[0].text in MACROS and j + 1 < len(toks) and toks[j].text == "!" and toks[j + 1].text in OPEN:
             self.mark(path[0].start, path[0].end, "kit", "a macro of the language's own")
             self.last = None
             return j + 1

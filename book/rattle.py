@@ -142,7 +142,7 @@ class Reader(Programs):
         decl = self.file.declare(toks[i + 1].text, "method" if owner else "function", toks[i + 1], owner and "impl")
         decl.owner, decl.marks, decl.around = owner, {x.text for x in toks[begin:i]}, self.around
         body = i + 2
-        while toks[body].text not in ("{", ";") or toks[body].text == "{" and {toks[body - 1].text, toks[body - 2].text} & {"requires", "ensures"}:
+        while not self.opens(toks, body):
             body = closing(toks, body) + 1 if toks[body].text in ("(", "[", "{") else body + 1
         end = closing(toks, body) if toks[body].text == "{" else body
         decl.type = self.file.text[toks[begin].start : toks[body].start].rstrip()
@@ -151,6 +151,12 @@ class Reader(Programs):
         decl.comment = self.file.comment_above(decl.first)
         self.bodies.append((decl, toks[i : end + 1], owner))
         return end
+
+    @staticmethod
+    def opens(toks, i):
+        """Whether a brace opens a body, and not a clause with a name or without; a semicolon stands for no body."""
+        clause = {toks[i - 1].text, toks[i - 2].text} & {"requires", "ensures"}
+        return toks[i].text == ";" or toks[i].text == "{" and not clause
 
     # ---- what the names mean
 

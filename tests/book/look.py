@@ -15,8 +15,8 @@ BOOK = "file://" + os.path.join(ROOT, "target/book/")
 PATH = [
     ('"over": some set', "main", "promises/", None),
     ("IsOver", "main", ".antt.html#IsOver", "IsOver"),
-    ("isOver-over", "[id='IsOver'] .promised", ".antt.html#isOver-over", "isOver-over"),
-    ("find_over", "[id='isOver-over'] .promised", ".rt.html#find_over", "find_over"),
+    ("is_over-over", "[id='IsOver'] .promised", ".antt.html#is_over-over", "is_over-over"),
+    ("find_over", "[id='is_over-over'] .promised", ".rt.html#find_over", "find_over"),
     ("sparsity/never_over", "[id='find_over'] .promised", "never_over.html", None),
 ]
 #: Calls whose answers are known.
@@ -78,10 +78,10 @@ def names_told(browser):
     """The mouse over a name shows its comment and its type."""
     browser.open(BOOK + "promises/index.html")
     browser.follow(mark(browser, PATH[0][0]))
-    browser.mouse(mark(browser, "isOver-over"), False)
+    browser.mouse(mark(browser, "is_over-over"), False)
     must(browser.holds("document.getElementById('hover')"), "nothing is shown where the mouse rests on a name")
     text = browser.ask("document.getElementById('hover')?.textContent")
-    must(text and "isOver-over :" in text and "→" in text, f"the type is not shown: {text}")
+    must(text and "is_over-over :" in text and "→" in text, f"the type is not shown: {text}")
     browser.mouse("h1", False)
     must(browser.holds("!document.getElementById('hover')"), "what is shown stays when the mouse has gone")
 

@@ -16,11 +16,11 @@ returns-in_default c =     answers-refused
 
 pub clusters-requires : goal.clusters-requires
 clusters-requires c = 
-    let facts : FactsIn (held_record c.args.lent.now) c.in-Value.front c.read_held-got.new.1.0 c.read_held-got.new.1.1.0 c.read_held-got.new.1.1.1.0 c.read_held-got.new.1.1.1.1.0 = facts-in _ _ _ _ c.read_held-got.ensures c.in-Value.is in
+    let facts : FactsIn (held_record c.args.lent.now) c.in-Value.front c.read_held-got.new.near c.read_held-got.new.start c.read_held-got.new.codes c.read_held-got.new.radii = facts-in _ _ _ _ c.read_held-got.ensures c.in-Value.is in
     head-drawn facts c.head_of.ensures
 
 pub returns : goal.returns
 returns c = let f = 
-    let facts : FactsIn (held_record c.args.lent.now) c.in-Value.front c.read_held-got.new.1.0 c.read_held-got.new.1.1.0 c.read_held-got.new.1.1.1.0 c.read_held-got.new.1.1.1.1.0 = facts-in _ _ _ _ c.read_held-got.ensures c.in-Value.is in
+    let facts : FactsIn (held_record c.args.lent.now) c.in-Value.front c.read_held-got.new.near c.read_held-got.new.start c.read_held-got.new.codes c.read_held-got.new.radii = facts-in _ _ _ _ c.read_held-got.ensures c.in-Value.is in
     facts in
     answers-items c.clusters.ensures (items-are f c.head_of.ensures final_clusters)

@@ -22,14 +22,14 @@ over_fault-requires c = rw c.head_of.ensures (drawn-in c.fill-front.ensures)
 pub returns-then-over_fault-ne0 : goal.returns-then-over_fault-ne0
 returns-then-over_fault-ne0 c =
     let over-is : c.over_fault.result ≡ over_fault (graph_of (facts_of c.args.s)) =
-    c.over_fault.ensures ∙ ap (λ (h : Head). over_fault (graph_in h c.fill-front.new.1.1.0)) c.head_of.ensures
+    c.over_fault.ensures ∙ ap (λ (h : Head). over_fault (graph_in h c.fill-front.new.start)) c.head_of.ensures
     ∙ ap over_fault (graph_is c.fill-front.ensures) in
     value-over _ (sym c.sheet_fault.ensures ∙ c.if-sheet_fault-ne0.false) (λ e. c.if-over_fault-ne0.true (over-is ∙ e))
 
 pub returns : goal.returns
 returns c =
     let over-is : c.over_fault.result ≡ over_fault (graph_of (facts_of c.args.s)) =
-    c.over_fault.ensures ∙ ap (λ (h : Head). over_fault (graph_in h c.fill-front.new.1.1.0)) c.head_of.ensures
+    c.over_fault.ensures ∙ ap (λ (h : Head). over_fault (graph_in h c.fill-front.new.start)) c.head_of.ensures
     ∙ ap over_fault (graph_is c.fill-front.ensures) in (
       _,
       [],

@@ -16,11 +16,11 @@ returns-in_default c =     answers-refused
 
 pub rests-requires : goal.rests-requires
 rests-requires c = 
-    let facts : FactsIn (held_value c.args.s) c.in-Value.front c.read-got.new.1.0 c.read-got.new.1.1.0 c.read-got.new.1.1.1.0 c.read-got.new.1.1.1.1.0 = facts-in _ _ _ _ c.read-got.ensures c.in-Value.is in
+    let facts : FactsIn (held_value c.args.s) c.in-Value.front c.read-got.new.near c.read-got.new.start c.read-got.new.codes c.read-got.new.radii = facts-in _ _ _ _ c.read-got.ensures c.in-Value.is in
     head-drawn facts c.head_of.ensures
 
 pub returns : goal.returns
 returns c = let f = 
-    let facts : FactsIn (held_value c.args.s) c.in-Value.front c.read-got.new.1.0 c.read-got.new.1.1.0 c.read-got.new.1.1.1.0 c.read-got.new.1.1.1.1.0 = facts-in _ _ _ _ c.read-got.ensures c.in-Value.is in
+    let facts : FactsIn (held_value c.args.s) c.in-Value.front c.read-got.new.near c.read-got.new.start c.read-got.new.codes c.read-got.new.radii = facts-in _ _ _ _ c.read-got.ensures c.in-Value.is in
     facts in
     answers-items c.rests.ensures (items-are f c.head_of.ensures rest_numbers)

@@ -29,7 +29,7 @@ returns-then-over-ne0 c =
     let f = sheet-found c.args.bytes.now _ _ _ _ _ c.read_codes-got.ensures c.in-Value.is in
     let over-is : c.over_fault-over.result ≡ over_fault (graph_of f.facts) =
     c.over_fault-over.ensures
-    ∙ ap over_fault (ap (λ (h : Head). graph_in h c.read_codes-got.new.1.1.0) c.head_of.ensures ∙ f.graph_read) in
+    ∙ ap over_fault (ap (λ (h : Head). graph_in h c.read_codes-got.new.start) c.head_of.ensures ∙ f.graph_read) in
     rw f.reads (c.refuse-then-over-ne0.ensures ∙ ap as_reading (sym (rule-some _ _ over-is c.if-over-ne0.true)))
 
 pub sheet_of-sheet-requires : goal.sheet_of-sheet-requires
@@ -43,6 +43,6 @@ returns c =
     let f = sheet-found c.args.bytes.now _ _ _ _ _ c.read_codes-got.ensures c.in-Value.is in
     let over-is : c.over_fault-over.result ≡ over_fault (graph_of f.facts) =
     c.over_fault-over.ensures
-    ∙ ap over_fault (ap (λ (h : Head). graph_in h c.read_codes-got.new.1.1.0) c.head_of.ensures ∙ f.graph_read) in
+    ∙ ap over_fault (ap (λ (h : Head). graph_in h c.read_codes-got.new.start) c.head_of.ensures ∙ f.graph_read) in
     rw (f.reads, sym over-is ∙ c.if-over-ne0.false)
     (ap (λ (s : Sheet). record { outcome = Accepted; sheet = s }) (c.sheet_of-sheet.ensures f.facts _ f.sheet_in))

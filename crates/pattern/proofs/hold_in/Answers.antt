@@ -28,7 +28,7 @@ returns-then-fault-ne0 c =
     let f = sheet-found c.args.bytes.now _ _ _ _ _ c.read_codes-got.ensures c.in-Value.is in
     let over-is : c.over_fault-fault.result ≡ over_fault (graph_of f.facts) =
     c.over_fault-fault.ensures
-    ∙ ap over_fault (ap (λ (h : Head). graph_in h c.read_codes-got.new.1.1.0) c.head_of.ensures ∙ f.graph_read) in
+    ∙ ap over_fault (ap (λ (h : Head). graph_in h c.read_codes-got.new.start) c.head_of.ensures ∙ f.graph_read) in
     answers-refused (rw (f.reads, rule-some (value f.facts f.rest) _ over-is c.if-fault-ne0.true))
 
 pub sheet_of-sheet-requires : goal.sheet_of-sheet-requires
@@ -47,7 +47,7 @@ returns c =
     let f = sheet-found c.args.bytes.now _ _ _ _ _ c.read_codes-got.ensures c.in-Value.is in
     let over-is : c.over_fault-fault.result ≡ over_fault (graph_of f.facts) =
     c.over_fault-fault.ensures
-    ∙ ap over_fault (ap (λ (h : Head). graph_in h c.read_codes-got.new.1.1.0) c.head_of.ensures ∙ f.graph_read) in
+    ∙ ap over_fault (ap (λ (h : Head). graph_in h c.read_codes-got.new.start) c.head_of.ensures ∙ f.graph_read) in
     let sheet-is : facts_of c.sheet_of-sheet.result ≡ f.facts =
     ap facts_of (c.sheet_of-sheet.ensures f.facts _ f.sheet_in) ∙ facts_of-sheet_of f.facts in
     answers-items c.write.ensures (rw (f.reads, sym over-is ∙ c.if-fault-ne0.false, sheet-is))

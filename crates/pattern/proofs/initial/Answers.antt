@@ -27,4 +27,4 @@ slice_bounds-put_all64-end c = sym (length-take-le _ _ (within (facts-read c.arg
 pub returns : goal.returns
 returns c =
     let f = facts-read c.args.bytes.now _ _ _ _ c.read_graph-got.ensures c.in-Value.is in
-    answers-items c.put_all64.ensures (rw f.reads (ap (λ (g : Graph). value g.clusters []) (sym f.graph_read)))
+    answers-items (c.put_all64.ensures.answers, c.put_all64.ensures.leaves) (rw f.reads (ap (λ (g : Graph). value g.clusters []) (sym f.graph_read)))

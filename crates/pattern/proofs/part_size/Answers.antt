@@ -34,4 +34,4 @@ pub returns : goal.returns
 returns c =
     let f = facts-read c.args.bytes.now _ _ _ _ c.read_graph-got.ensures c.in-Value.is in
     let a = c.args in
-    measured a.bytes.now a.number (sized_in c.in-Value.head c.read_graph-got.new.1.1.0 c.read_graph-got.new.1.1.1.0) c.measure.ensures f.sized_read f.reads
+    measured a.bytes.now a.number (sized_in c.in-Value.head c.read_graph-got.new.start c.read_graph-got.new.sizes) c.measure.ensures f.sized_read f.reads

@@ -32,27 +32,27 @@ plan_on-steps-requires c =
 pub overflow_mul-count : goal.overflow_mul-count
 overflow_mul-count c =
     let f = facts-read c.args.bytes.now _ _ _ _ c.read_graph-got.ensures c.in-Value.is in
-    let l = c.plan_on-steps.new.1.1.1 in
-    let h = held f (run_in c.plan_on-steps.result l.1.0 l.1.1.0 l.0) c.plan_on-steps.ensures in
+    let l = c.plan_on-steps.new in
+    let h = held f (run_in c.plan_on-steps.result l.parts l.joints l.slots) c.plan_on-steps.ensures in
     omega (arith, h.few_steps)
 
 pub slice_bounds-parts-end : goal.slice_bounds-parts-end
 slice_bounds-parts-end c =
     let f = facts-read c.args.bytes.now _ _ _ _ c.read_graph-got.ensures c.in-Value.is in
-    let l = c.plan_on-steps.new.1.1.1 in
-    let h = held f (run_in c.plan_on-steps.result l.1.0 l.1.1.0 l.0) c.plan_on-steps.ensures in
+    let l = c.plan_on-steps.new in
+    let h = held f (run_in c.plan_on-steps.result l.parts l.joints l.slots) c.plan_on-steps.ensures in
     omega (arith, h.few_steps, h.all_parts)
 
 pub slice_bounds-put_all16-end : goal.slice_bounds-put_all16-end
 slice_bounds-put_all16-end c =
     let f = facts-read c.args.bytes.now _ _ _ _ c.read_graph-got.ensures c.in-Value.is in
-    let l = c.plan_on-steps.new.1.1.1 in
-    let h = held f (run_in c.plan_on-steps.result l.1.0 l.1.1.0 l.0) c.plan_on-steps.ensures in
-    sym (length-take-le _ l.1.0 (omega (arith, h.few_steps, h.all_parts)))
+    let l = c.plan_on-steps.new in
+    let h = held f (run_in c.plan_on-steps.result l.parts l.joints l.slots) c.plan_on-steps.ensures in
+    sym (length-take-le _ l.parts (omega (arith, h.few_steps, h.all_parts)))
 
 pub returns : goal.returns
 returns c =
     let f = facts-read c.args.bytes.now _ _ _ _ c.read_graph-got.ensures c.in-Value.is in
-    let l = c.plan_on-steps.new.1.1.1 in
-    let h = held f (run_in c.plan_on-steps.result l.1.0 l.1.1.0 l.0) c.plan_on-steps.ensures in
-    answers-items c.put_all16.ensures (rw f.reads (ap (λ (l : List ℕ). value l []) (sym h.plan_is)))
+    let l = c.plan_on-steps.new in
+    let h = held f (run_in c.plan_on-steps.result l.parts l.joints l.slots) c.plan_on-steps.ensures in
+    answers-items (c.put_all16.ensures.answers, c.put_all16.ensures.leaves) (rw f.reads (ap (λ (l : List ℕ). value l []) (sym h.plan_is)))

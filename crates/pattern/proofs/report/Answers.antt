@@ -20,5 +20,5 @@ report-requires c = (facts-read c.args.bytes.now _ _ _ _ c.read_graph-got.ensure
 pub returns : goal.returns
 returns c =
     let f = facts-read c.args.bytes.now _ _ _ _ c.read_graph-got.ensures c.in-Value.is in
-    answers-items {items = report_of (sized_in c.in-Value.head c.read_graph-got.new.1.1.0 c.read_graph-got.new.1.1.1.0)} c.report.ensures
+    answers-items {items = report_of (sized_in c.in-Value.head c.read_graph-got.new.start c.read_graph-got.new.sizes)} c.report.ensures
     (rw f.reads (ap (λ (g : SizedGraph). value (report_of g) []) (sym f.sized_read)))

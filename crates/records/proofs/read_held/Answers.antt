@@ -16,9 +16,9 @@ pub returns-in_default : goal.returns-in_default
 returns-in_default c = let r = c.read-got in
     let is = c.in_default.is in
     subst (λ (y : CodesRead). SheetRead (held_record c.args.lent.now) y
-    r.new.1.0 r.new.1.1.0 r.new.1.1.1.0 r.new.1.1.1.1.0) (sym is)
+    r.new.near r.new.start r.new.codes r.new.radii) (sym is)
     (held-unread _ (subst (λ (y : CodesRead). SheetRead (record_sheet c.args.lent.now) y
-    r.new.1.0 r.new.1.1.0 r.new.1.1.1.0 r.new.1.1.1.1.0) is r.ensures))
+    r.new.near r.new.start r.new.codes r.new.radii) is r.ensures))
 
 pub over_fault-requires : goal.over_fault-requires
 over_fault-requires c =
@@ -29,12 +29,12 @@ pub returns-then-over_fault-ne0 : goal.returns-then-over_fault-ne0
 returns-then-over_fault-ne0 c =
     let f = facts-in {x = record_sheet c.args.lent.now} _ _ _ _ c.read-got.ensures c.in-Value.is in
     let over-is : c.over_fault.result ≡ over_fault (graph_of f.facts) =
-    c.over_fault.ensures ∙ ap (λ (h : Head). over_fault (graph_in h c.read-got.new.1.1.0)) c.head_of.ensures ∙ ap over_fault (graph_is f.sheet_in) in
+    c.over_fault.ensures ∙ ap (λ (h : Head). over_fault (graph_in h c.read-got.new.start)) c.head_of.ensures ∙ ap over_fault (graph_is f.sheet_in) in
     held-over _ f.reads (λ e. c.if-over_fault-ne0.true (over-is ∙ e))
 
 pub returns : goal.returns
 returns c =
     let f = facts-in {x = record_sheet c.args.lent.now} _ _ _ _ c.read-got.ensures c.in-Value.is in
     let over-is : c.over_fault.result ≡ over_fault (graph_of f.facts) =
-    c.over_fault.ensures ∙ ap (λ (h : Head). over_fault (graph_in h c.read-got.new.1.1.0)) c.head_of.ensures ∙ ap over_fault (graph_is f.sheet_in) in
+    c.over_fault.ensures ∙ ap (λ (h : Head). over_fault (graph_in h c.read-got.new.start)) c.head_of.ensures ∙ ap over_fault (graph_is f.sheet_in) in
     (f.facts, _, held-value _ f.reads (sym over-is ∙ c.if-over_fault-ne0.false), f.sheet_in)
