@@ -1,5 +1,6 @@
 // The text of the calls: the lists that a line has, and what is made of their items.
-ghost use Rattle.std.specs.Prelude.{◌≤◌, length};
+ghost use Rattle.io.specs.Counts.{IsPrefixLen};
+ghost use Rattle.std.specs.Prelude.{◌≤◌};
 
 use sheet::Constraint;
 
@@ -68,7 +69,7 @@ pub struct Taken {
 
 // The list in hexadecimal that stands here, up to a space or the end of the line, to the front of a buffer.
 pub fn list(text: &[u8], from: usize, out: &mut [u8]) -> Taken
-    ensures { result.count ≤ length out.new }
+    ensures { IsPrefixLen result.count out.new }
 {
     let mut n: usize = 0;
     let mut at = from;

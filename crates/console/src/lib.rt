@@ -3,6 +3,7 @@
 #![tactic(auto)]
 
 ghost use Rattle.std.specs.Prelude.{◌≡◌, ◌+◌, ◌*◌, ◌≤◌, ◌++◌, length, take, drop, IfOk};
+ghost use Rattle.io.specs.Counts.{IsPrefixLen};
 ghost use Rattle.console.specs.Numbers.{numbers_for};
 ghost use Rattle.console.specs.Refused.{refused_line};
 
@@ -57,7 +58,7 @@ pub fn print(rt: &(impl Print + Eprint + Alloc), written: Written, out: &[u8]) -
 
 // Reads until the buffer is full or the input ends; answers how many bytes stand at the front of the buffer.
 pub fn read(input: &mut impl Read, buffer: &mut [u8]) -> io::Result<usize>
-    ensures { IfOk result (λ count. count ≤ length buffer.new) }
+    ensures { IfOk result (λ count. IsPrefixLen count buffer.new) }
 {
     let mut count: usize = 0;
     while count < buffer.len() {
@@ -72,7 +73,7 @@ pub fn read(input: &mut impl Read, buffer: &mut [u8]) -> io::Result<usize>
 
 // Reads the file of a name, as `read` does.
 pub fn read_file(rt: &impl Files, name: &str, buffer: &mut [u8]) -> io::Result<usize>
-    ensures { IfOk result (λ count. count ≤ length buffer.new) }
+    ensures { IfOk result (λ count. IsPrefixLen count buffer.new) }
 {
     let mut file = File::open(rt, name)?;
     read(&mut file, buffer)
@@ -87,7 +88,7 @@ fn number(low: u8, high: u8) -> u16
 
 // The 16-bit numbers of a file, lowest byte first, to the front of a list, as many as it takes; answers how many there are.
 pub fn numbers(bytes: &[u8], list: &mut [u16]) -> usize
-    ensures prefix_len { result ≤ length list.new }
+    ensures prefix_len { IsPrefixLen result list.new }
     ensures value { result ≡ length (numbers_for (length list.old) bytes.now) }
     ensures list_after { list.new ≡ numbers_for (length list.old) bytes.now ++ drop result list.old }
 {

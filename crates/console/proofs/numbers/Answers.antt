@@ -1,6 +1,7 @@
 -- The first i places hold the first i numbers: `Filling`, which ends where the list has no place left or the file no number.
 use native.Mathlib.Omega.{arith}
 use mathlib.Core.Logic.{inl, inr}
+use Rattle.console.proofs.Counting.{counts}
 use Rattle.console.specs.Numbers.Laws.{filling-none, filling-more, filled}
 use Rattle.console.proofs.numbers.Goals as goal
 
@@ -11,7 +12,7 @@ pub returns-then-bytes-i : goal.returns-then-bytes-i
 returns-then-bytes-i c =
     let l = c.loop-i in
     let all = filled l.invariant (inr c.if-bytes-i.true) in
-    record { prefix_len = omega (arith, l.invariant.long, l.invariant.within); value = all.0; list_after = all.1 }
+    record { prefix_len = counts l.i l.list (omega (arith, l.invariant.long, l.invariant.within)); value = all.0; list_after = all.1 }
 
 pub loop-i-preserved : goal.loop-i-preserved
 loop-i-preserved c = filling-more c.loop-i.invariant c.number.result (omega arith) c.if-bytes-i.false c.number.ensures
@@ -20,4 +21,4 @@ pub returns : goal.returns
 returns c =
     let l = c.loop-i in
     let all = filled l.invariant (inl (omega (arith, c.loop-i-test.false, l.invariant.long))) in
-    record { prefix_len = omega (arith, l.invariant.long, l.invariant.within); value = all.0; list_after = all.1 }
+    record { prefix_len = counts l.i l.list (omega (arith, l.invariant.long, l.invariant.within)); value = all.0; list_after = all.1 }
