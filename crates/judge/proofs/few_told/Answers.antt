@@ -1,6 +1,6 @@
 -- `judge::few_told` meets its contract: what peels off to the last element is well, what is found over is over, and else no angle makes it under.
 -- Assumes nothing.
-use Rattle.theory.specs.Prelude.{rules, arith, sym, ◌∙◌}
+use Rattle.theory.specs.Prelude.{arith, sym, ◌∙◌}
 use Rattle.graph.specs.Lent.Sheets.{counted}
 use Rattle.judge.specs.Judged.Short.{first-tells, fine-tells, fewer-is, few-peeled}
 use Rattle.judge.proofs.few_told.Goals as goal

@@ -1,5 +1,5 @@
 -- `judge::judge_full` meets its contract: one cluster left shows that it is not over, else what is found decides. Assumes nothing.
-use Rattle.theory.specs.Prelude.{rules, arith, sym, ◌∙◌}
+use Rattle.theory.specs.Prelude.{arith, sym, ◌∙◌}
 use Rattle.graph.specs.Lent.Sheets.{found-fine}
 use Rattle.judge.specs.Judged.Laws.{starts}
 use Rattle.judge.proofs.judge_full.Goals as goal

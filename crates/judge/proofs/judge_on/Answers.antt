@@ -1,5 +1,5 @@
 -- `judge::judge_on` meets its contract: what is found decides. Assumes nothing.
-use Rattle.theory.specs.Prelude.{rules, sym, ◌∙◌}
+use Rattle.theory.specs.Prelude.{sym, ◌∙◌}
 use Rattle.graph.specs.Lent.Sheets.{found-fine}
 use Rattle.judge.specs.Judged.Laws.{fine-starts}
 use Rattle.judge.proofs.judge_on.Goals as goal

@@ -1,5 +1,5 @@
 -- `judge::over_after` meets its contract: 11 of more than 2n-3 constraints, 0 where one cluster is left, else what is found decides. Assumes nothing.
-use Rattle.theory.specs.Prelude.{rules, arith, sym, ◌∙◌}
+use Rattle.theory.specs.Prelude.{arith, sym, ◌∙◌}
 use Rattle.sheet.specs.Graph.Laws.{fine-fault, first-fault}
 use Rattle.graph.specs.Lent.{graph_in}
 use Rattle.graph.specs.Lent.Sheets.{counted}

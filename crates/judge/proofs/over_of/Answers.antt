@@ -1,5 +1,4 @@
 -- `judge::over_of` meets its contract: the search finds what the definition does. Assumes nothing.
-use borrow.Author.Rules.{rules}
 use Rattle.judge.proofs.over_of.Goals as goal
 
 pub returns : goal.returns

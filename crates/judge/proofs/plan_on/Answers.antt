@@ -1,5 +1,5 @@
 -- `judge::plan_on` meets its contract: more than 2n-3 constraints are over, and else the judgement decides. Assumes nothing.
-use Rattle.theory.specs.Prelude.{rules, arith, sym, ap, ◌∙◌, []}
+use Rattle.theory.specs.Prelude.{arith, sym, ap, ◌∙◌, []}
 use Rattle.graph.specs.Lent.{graph_in}
 use Rattle.graph.specs.Lent.Sheets.{counted}
 use Rattle.judge.specs.Judged.{Judged}

@@ -1,5 +1,5 @@
 -- `judge::verdict_of` meets its contract: more than 2n-3 constraints are over, and else it is the verdict told. Assumes nothing.
-use Rattle.theory.specs.Prelude.{rules, arith, sym}
+use Rattle.theory.specs.Prelude.{arith, sym}
 use Rattle.graph.specs.Lent.Sheets.{counted}
 use Rattle.judge.specs.Judged.Short.{more-is}
 use Rattle.judge.proofs.verdict_of.Goals as goal

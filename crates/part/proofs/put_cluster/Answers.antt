@@ -1,7 +1,7 @@
 -- `part::put_cluster` meets its contract: the verdict's number tells 11, the count of clusters 26, and the arrays hold the plan's steps. Assumes
 -- nothing.
-use Rattle.std.specs.Prelude.{◌≡◌, ◌≢◌}
-use Rattle.theory.specs.Prelude.{refl, sym, ap, ◌∙◌, ℕ, List, ℤ, arith}
+use Rattle.std.specs.Prelude.{◌≡◌}
+use Rattle.theory.specs.Prelude.{refl, sym, ap, ◌∙◌, ℕ, List, arith}
 use Rattle.theory.specs.Verdict.{verdict_number}
 use Rattle.theory.specs.Graph.{SizedGraph}
 use Rattle.sheet.specs.Field.{refused}

@@ -2,7 +2,7 @@
 use Rattle.theory.specs.Prelude.{arith, refl, length, take, length-take, sets, ◌≤◌}
 use Rattle.space.specs.Space.{Put}
 use Rattle.space.specs.Space.Laws.{put-none, put_all, ◌then◌}
-use Rattle.report.specs.Going.{Composes, Going}
+use Rattle.report.specs.Going.{Composes}
 use Rattle.report.specs.Going.Laws.{start, put_next, put_last, place}
 use Rattle.steps.specs.Records.Laws.{length-numbers, numbers-next, numbers-none}
 use Rattle.steps.proofs.put_records.Goals as goal

@@ -1,12 +1,8 @@
 -- `steps::put_records` meets its contract: the numbers of the records from `i` on are still to be put. Assumes nothing.
-use Rattle.theory.specs.Prelude.{◌-◌, ◌≤◌, arith, refl, length, take, drop, length-take, length-map, sets}
-use Rattle.theory.specs.contracts.Step as T
+use Rattle.theory.specs.Prelude.{◌-◌, ◌≤◌, take, drop}
 use Rattle.space.specs.Space.{Put}
-use Rattle.space.specs.Space.Laws.{put-none, put_all, ◌then◌}
-use Rattle.report.specs.Going.{Composes, Going}
-use Rattle.report.specs.Going.Laws.{start, put_next, put_last, place}
+use Rattle.report.specs.Going.{Going}
 use Rattle.steps.specs.Records.{step_numbers}
-use Rattle.steps.specs.Records.Laws.{length-numbers, numbers-next, numbers-none}
 use Rattle.steps.proofs.put_records.Given as goal
 
 abbrev pub invariant-loop-i : goal.invariant-loop-i

@@ -1,5 +1,5 @@
 -- `steps::refused` meets its contract. Assumes nothing.
-use Rattle.theory.specs.Prelude.{rules, ap, List}
+use Rattle.theory.specs.Prelude.{ap, List}
 use Rattle.theory.specs.declared.Step.{Step}
 use Rattle.steps.specs.Listing.{listing_of}
 use Rattle.steps.proofs.refused.Goals as goal
