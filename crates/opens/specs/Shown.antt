@@ -1,6 +1,7 @@
 -- What is shown of the list of the open merges. Document 02, 2026-07: each once and no other, by the lowest element of the joint, then by document
 -- 01's comparison.
-use Rattle.theory.specs.Prelude.{ℕ, ◌+◌, ◌≤◌, ◌<◌, ◌≡◌, ◌≢◌, ◌↔◌, ◌⊎◌, List, [], ◌∷◌, length, take}
+use Rattle.std.specs.Prelude.{◌+◌, ◌≤◌, ◌<◌, ◌≡◌, ◌≢◌, ◌↔◌, ◌⊎◌, ◌∷◌}
+use Rattle.theory.specs.Prelude.{ℕ, List, [], length, take}
 use Rattle.theory.specs.Set.{◌∈◌}
 use Rattle.theory.specs.Merge.{Merge, OpenAt, three, joint, final}
 use Rattle.theory.specs.Plan.{plan_of, ascending, NotAfter}

@@ -1,6 +1,7 @@
 -- At most n-2 merges are open among the clusters of n elements: they have different joints, and each stays open, with its joint, once another is
 -- made, so that all of them can be made one after another. Assumes nothing.
-use Rattle.theory.specs.Prelude.{◌≡◌, refl, sym, ap, ◌∙◌, subst, ◌≢◌, ◌⊎◌, inl, inr, List, [], ◌∷◌, ◌++◌, map, ℕ, ◌+◌, ◌≤◌, ◌<◌, arith, length}
+use Rattle.std.specs.Prelude.{◌≡◌, ◌≢◌, ◌⊎◌, ◌∷◌, ◌++◌, ◌+◌, ◌≤◌, ◌<◌}
+use Rattle.theory.specs.Prelude.{refl, sym, ap, ◌∙◌, subst, inl, inr, List, [], map, ℕ, arith, length}
 use Rattle.theory.specs.Prelude.{length-append, length-map}
 use Rattle.theory.specs.Set.{◌∈◌, ◌∩◌, ◌∪◌}
 use Rattle.theory.specs.Set.Laws.{two_in, both, ∈-∪ˡ, ∈-∪ʳ, ∈-∪⁻, ∈-∩⁻}

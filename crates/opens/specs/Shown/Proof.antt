@@ -1,5 +1,6 @@
 -- What is shown of the list of open merges holds of every graph that is not over. Assumes nothing.
-use Rattle.theory.specs.Prelude.{ℕ, zero, suc, ◌≤◌, ◌<◌, arith, dec_lt, ◌≡◌, refl, sym, ap, ◌∙◌, subst, ◌≢◌, ◌⊎◌, inl, inr, List, [], ◌∷◌, map, length}
+use Rattle.std.specs.Prelude.{◌≤◌, ◌<◌, ◌≡◌, ◌≢◌, ◌⊎◌, ◌∷◌}
+use Rattle.theory.specs.Prelude.{ℕ, zero, suc, arith, dec_lt, refl, sym, ap, ◌∙◌, subst, inl, inr, List, [], map, length}
 use Rattle.theory.specs.Prelude.{take, length-map}
 use Rattle.theory.specs.Constraints.{Pairs, NotOver}
 use Rattle.theory.specs.Merge.{Merge, OpenAt, three, joint, put, Valid, Ended, final}

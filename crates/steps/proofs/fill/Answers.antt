@@ -1,5 +1,6 @@
 -- `steps::fill` meets its contract: as many records as are taken are stored, and the rest of the list is as it was. Assumes nothing.
-use Rattle.theory.specs.Prelude.{◌≡◌, ap, ◌∙◌, ◌≤◌, arith, List, length}
+use Rattle.std.specs.Prelude.{◌≡◌, ◌≤◌}
+use Rattle.theory.specs.Prelude.{ap, ◌∙◌, arith, List, length}
 use Rattle.theory.specs.declared.Step.{Step}
 use Rattle.steps.specs.declared.Listing.{Listing}
 use Rattle.steps.specs.declared.Taken.{Taken}

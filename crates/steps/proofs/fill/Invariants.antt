@@ -1,5 +1,5 @@
 -- `steps::fill` meets its contract: after i turns the first i records are stored. Assumes nothing.
-use Rattle.theory.specs.Prelude.{◌≡◌, ◌-◌, ◌≤◌}
+use Rattle.std.specs.Prelude.{◌≡◌, ◌-◌, ◌≤◌}
 use Rattle.steps.specs.Listing.{unset}
 use Rattle.steps.proofs.Stores.{stores}
 use Rattle.steps.proofs.fill.Given as goal

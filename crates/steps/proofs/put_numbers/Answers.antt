@@ -1,5 +1,6 @@
 -- `steps::put_numbers` meets its contract: the rule that refused, 17, or the numbers of the records. Assumes nothing.
-use Rattle.theory.specs.Prelude.{arith, ◌≡◌, length}
+use Rattle.std.specs.Prelude.{◌≡◌}
+use Rattle.theory.specs.Prelude.{arith, length}
 use Rattle.steps.specs.Records.Laws.{numbers-short, numbers-put}
 use Rattle.steps.proofs.put_numbers.Goals as goal
 

@@ -1,5 +1,6 @@
 -- `steps::put_record` meets its contract: seven numbers, one after another. Assumes nothing.
-use Rattle.theory.specs.Prelude.{ℕ, ap, [], ◌∷◌}
+use Rattle.std.specs.Prelude.{◌∷◌}
+use Rattle.theory.specs.Prelude.{ℕ, ap, []}
 use Rattle.space.specs.Space.Laws.{put_as, ◌then◌}
 use Rattle.steps.proofs.put_record.Goals as goal
 

@@ -1,5 +1,6 @@
 -- `steps::put_records` meets its contract: the numbers of the records from `i` on are still to be put. Assumes nothing.
-use Rattle.theory.specs.Prelude.{arith, refl, length, take, length-take, sets, ◌≤◌}
+use Rattle.std.specs.Prelude.{◌≤◌}
+use Rattle.theory.specs.Prelude.{arith, refl, length, take, length-take, sets}
 use Rattle.space.specs.Space.{Put}
 use Rattle.space.specs.Space.Laws.{put-none, put_all, ◌then◌}
 use Rattle.report.specs.Going.{Composes}

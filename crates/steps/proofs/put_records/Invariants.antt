@@ -1,5 +1,6 @@
 -- `steps::put_records` meets its contract: the numbers of the records from `i` on are still to be put. Assumes nothing.
-use Rattle.theory.specs.Prelude.{◌-◌, ◌≤◌, take, drop}
+use Rattle.std.specs.Prelude.{◌-◌, ◌≤◌}
+use Rattle.theory.specs.Prelude.{take, drop}
 use Rattle.space.specs.Space.{Put}
 use Rattle.report.specs.Going.{Going}
 use Rattle.steps.specs.Records.{step_numbers}

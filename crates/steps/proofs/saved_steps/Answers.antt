@@ -1,5 +1,6 @@
 -- `steps::saved_steps` meets its contract: the rule that refuses the plan, else the steps of its merges. Assumes nothing.
-use Rattle.theory.specs.Prelude.{◌≡◌, ◌≢◌, sym, ap, ◌∙◌, ℕ, List, []}
+use Rattle.std.specs.Prelude.{◌≡◌, ◌≢◌}
+use Rattle.theory.specs.Prelude.{sym, ap, ◌∙◌, ℕ, List, []}
 use Rattle.theory.specs.Merge.{Merge}
 use Rattle.theory.specs.Graph.{SizedGraph, steps_of}
 use Rattle.sheet.specs.Field.{value, refused}

@@ -1,6 +1,7 @@
 -- The steps that the arrays of a run give are those of its list of merges, and what is filled from a listing is what its field gives. Assumes nothing.
-use Rattle.theory.specs.Prelude.{ℕ, zero, suc, ◌+◌, ◌*◌, ◌≤◌, ◌<◌, min, arith, add-one, lt-ltb, le-ltb, ltb-true, ltb-false, ◌≡◌, refl, sym, ap, ◌∙◌}
-use Rattle.theory.specs.Prelude.{subst, ◌≢◌, Bool, true, false, cond, List, [], ◌∷◌, ◌++◌, ltb, ℤ, length, get_or, take, drop, length-take}
+use Rattle.std.specs.Prelude.{◌+◌, ◌*◌, ◌≤◌, ◌<◌, ◌≡◌, ◌≢◌, ◌∷◌, ◌++◌}
+use Rattle.theory.specs.Prelude.{ℕ, zero, suc, min, arith, add-one, lt-ltb, le-ltb, ltb-true, ltb-false, refl, sym, ap, ◌∙◌}
+use Rattle.theory.specs.Prelude.{subst, Bool, true, false, cond, List, [], ltb, ℤ, length, get_or, take, drop, length-take}
 use Rattle.theory.specs.Prelude.{drop_of_length-le, List·getD-eq-default, drop-cons, ext_get_or, get_or-take, take_all, take-append_seam}
 use Rattle.theory.specs.Block.{block}
 use Rattle.theory.specs.Block.Laws.{length-block, get_or-block, take-block}

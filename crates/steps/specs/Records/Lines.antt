@@ -1,5 +1,6 @@
 -- A record holds what the step's report line gives: the report's step lines are the lines of the records, in their order. Assumes nothing.
-use Rattle.theory.specs.Prelude.{ℕ, ◌≡◌, refl, ap, ◌∙◌, List, ◌++◌, length}
+use Rattle.std.specs.Prelude.{◌≡◌, ◌++◌}
+use Rattle.theory.specs.Prelude.{ℕ, refl, ap, ◌∙◌, List, length}
 use Rattle.theory.specs.Merge.{Merge}
 use Rattle.theory.specs.Plan.{plan_of}
 use Rattle.theory.specs.declared.Finding.TheVariants.{Fine}
