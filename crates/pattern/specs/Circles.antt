@@ -1,6 +1,7 @@
 -- What is promised of circles of known radius (document 02, 2026-01): "A round light must get the verdict and plan of the sketch of its centres", and
 -- PF01 sheets stay what document 01 alone says. `sheet` Centres and First say what these are.
-use Rattle.theory.specs.Prelude.{ℕ, ◌≤◌, ◌<◌, ◌≡◌, true, false, List, [], map, nat_abs, length, get_or}
+use Rattle.std.specs.Prelude.{◌≤◌, ◌<◌, ◌≡◌}
+use Rattle.theory.specs.Prelude.{ℕ, true, false, List, [], map, nat_abs, length, get_or}
 use Rattle.theory.specs.Graph.{Graph, verdict_of}
 use Rattle.sheet.specs.declared.Opening.TheVariants.{Pf01, Pf02}
 use Rattle.sheet.specs.declared.Constraint.{Constraint}

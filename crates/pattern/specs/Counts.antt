@@ -1,6 +1,7 @@
 -- How many items a call answers at most, whatever the bytes: a report, a sheet and a list are short, so that no count for C is cut (`as_count` of
 -- `pattern_c` Numbers). Document 01, "Refused", rule 17, asks for space of that length. Shown by `counts` of Counts/Proof.antt.
-use Rattle.theory.specs.Prelude.{ℕ, ◌≤◌, ◌≡◌, List, some, length}
+use Rattle.std.specs.Prelude.{◌≤◌, ◌≡◌}
+use Rattle.theory.specs.Prelude.{ℕ, List, some, length}
 use Rattle.sheet.specs.declared.Constraint.{Constraint}
 use Rattle.sheet.specs.declared.Sheet.{Sheet}
 use Rattle.sheet.specs.Field.{Field, value, Bytes}

@@ -1,7 +1,8 @@
 -- The page of the held sketch, beside Promises: what is answered of it after any run of asks and placings. Document 02, 2026-04: every cluster carries
 -- the set of constraint numbers it came from, in the held sketch too; 2026-05: placing answers as asking would. Shown by `held-page` of
 -- Held/Proof.antt; the contracts of the entry points cite the same fields.
-use Rattle.theory.specs.Prelude.{ℕ, ◌+◌, ◌≤◌, ◌≡◌, ◌↔◌, List, [], length}
+use Rattle.std.specs.Prelude.{◌+◌, ◌≤◌, ◌≡◌, ◌↔◌}
+use Rattle.theory.specs.Prelude.{ℕ, List, [], length}
 use Rattle.theory.specs.Constraints.{Among}
 use Rattle.theory.specs.Merge.{Merge, Valid, Maximal, final, live, left}
 use Rattle.theory.specs.Plan.{plan_of}

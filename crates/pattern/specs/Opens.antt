@@ -1,5 +1,6 @@
 -- What is promised of the merges that are open, over the bytes of a sheet that may be held. Document 02, 2026-07. `opens` Shown says what is listed.
-use Rattle.theory.specs.Prelude.{ℕ, ◌≡◌, List, []}
+use Rattle.std.specs.Prelude.{◌≡◌}
+use Rattle.theory.specs.Prelude.{ℕ, List, []}
 use Rattle.sheet.specs.Facts.{Facts}
 use Rattle.sheet.specs.Field.{value, Bytes}
 use Rattle.sheet.specs.Graph.{graph_of}

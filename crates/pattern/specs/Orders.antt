@@ -1,7 +1,8 @@
 -- Every order of the constraints, over bytes. Document 01, "Every order of merging": in whichever order a sheet's
 -- constraints stand, "what precedes the constraints, and each constraint's own fields, stay", and every list of merges
 -- comes to the same verdict, final clusters, joints and count of steps.
-use Rattle.theory.specs.Prelude.{ℕ, zero, suc, ◌+◌, ◌≡◌, ◌≢◌, ◌↔◌, List, [], ◌∷◌, ◌++◌, map, ones, length, take, drop}
+use Rattle.std.specs.Prelude.{◌+◌, ◌≡◌, ◌≢◌, ◌↔◌, ◌∷◌, ◌++◌}
+use Rattle.theory.specs.Prelude.{ℕ, zero, suc, List, [], map, ones, length, take, drop}
 use Rattle.theory.specs.Constraints.{Among, Perm}
 use Rattle.theory.specs.Merge.{Merge, Valid, Maximal, joints}
 use Rattle.theory.specs.Plan.{plan_of}

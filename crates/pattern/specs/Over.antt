@@ -1,7 +1,8 @@
 -- Over, of all that meets it: some set of m ≥ 2 elements carries more than 2m-3 constraints (demand 2). Document 01,
 -- "Verdict names": over is tried first, and of an over sheet no plan is made and no final cluster is given; "Refused":
 -- rule 11; "A held sketch"; document 02.
-use Rattle.theory.specs.Prelude.{ℕ, ◌≡◌, ◌↔◌, List, [], ◌∷◌, length}
+use Rattle.std.specs.Prelude.{◌≡◌, ◌↔◌, ◌∷◌}
+use Rattle.theory.specs.Prelude.{ℕ, List, [], length}
 use Rattle.theory.specs.Over.{IsOver, FirstOver}
 use Rattle.theory.specs.Graph.{Graph}
 use Rattle.theory.specs.declared.Verdict.TheVariants.{Over}

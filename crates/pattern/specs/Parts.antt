@@ -1,6 +1,7 @@
 -- What is promised of the steps of one cluster, over the bytes of a sheet that may be held. Document 02, 2026-14: its steps and bytes can be had
 -- beforehand and equal what is then written; a number not below e plus the steps is refused as 26. `part` Shown says what the steps are.
-use Rattle.theory.specs.Prelude.{ℕ, ◌+◌, ◌≤◌, ◌<◌, ◌≡◌, List, [], length}
+use Rattle.std.specs.Prelude.{◌+◌, ◌≤◌, ◌<◌, ◌≡◌}
+use Rattle.theory.specs.Prelude.{ℕ, List, [], length}
 use Rattle.theory.specs.Plan.{plan_of}
 use Rattle.theory.specs.declared.Step.{Step}
 use Rattle.space.specs.declared.Written.TheVariants.{Done, Refused}

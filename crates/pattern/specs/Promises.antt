@@ -1,7 +1,8 @@
 -- The page a buyer reads: what is promised of every list of bytes that `read_sheet` accepts, with its facts f. Document 01, "Verdict names", "Every
 -- order of merging", "Clusters and merges" and "The report"; document 02, 2026-04, 2026-08 and 2026-13. Shown by `promises` of Promises/Proof.antt; the
 -- contracts of the entry points cite the same fields (Entries).
-use Rattle.theory.specs.Prelude.{ℕ, ◌+◌, ◌*◌, ◌%◌, ◌≤◌, ◌<◌, ◌≡◌, ◌≢◌, ◌↔◌, true, List, [], map, Option, length}
+use Rattle.std.specs.Prelude.{◌+◌, ◌*◌, ◌%◌, ◌≤◌, ◌<◌, ◌≡◌, ◌≢◌, ◌↔◌}
+use Rattle.theory.specs.Prelude.{ℕ, true, List, [], map, Option, length}
 use Rattle.theory.specs.Set.{◌⊑◌}
 use Rattle.theory.specs.Constraints.{Among}
 use Rattle.theory.specs.Merge.{Merge, Valid, Maximal, final, joints, live, left}

@@ -1,7 +1,8 @@
 -- Reading and writing, of what is called (demand 2). Document 01: "reading a written sheet gives its facts, writing an
 -- accepted sheet's facts gives its bytes"; document 02, 2026-11: a sheet with tags, once read and written, is the same
 -- sheet with bit 1 clear and the tag bytes gone.
-use Rattle.theory.specs.Prelude.{ℕ, ◌≡◌, true, List, [], length}
+use Rattle.std.specs.Prelude.{◌≡◌}
+use Rattle.theory.specs.Prelude.{ℕ, true, List, [], length}
 use Rattle.sheet.specs.declared.Sheet.{Sheet}
 use Rattle.sheet.specs.Facts.{Facts, facts_of}
 use Rattle.sheet.specs.Field.{value, Bytes}

@@ -1,5 +1,6 @@
 -- Demand 1: nothing is refused except by a numbered rule. Which rules refuse a call of each entry point, for all bytes, plans and lent space.
-use Rattle.theory.specs.Prelude.{ℕ, ◌≤◌, ◌<◌, ◌≡◌, ◌↔◌, ◌⊎◌, List, [], ◌∷◌, Option, some, length}
+use Rattle.std.specs.Prelude.{◌≤◌, ◌<◌, ◌≡◌, ◌↔◌, ◌⊎◌, ◌∷◌}
+use Rattle.theory.specs.Prelude.{ℕ, List, [], Option, some, length}
 use Rattle.theory.specs.Constraints.{Among}
 use Rattle.theory.specs.Graph.{Graph}
 use Rattle.space.specs.declared.Written.TheVariants.{Refused}

@@ -1,6 +1,7 @@
 -- Rule 14 is not used, of bytes and plans. Document 02, 2026-06: on a sheet that isn't over, two living clusters never
 -- share two elements, whatever merges came before; every plan gets the answer that it got with rule 14, and never 14.
-use Rattle.theory.specs.Prelude.{ℕ, ◌≡◌, ◌≢◌, List, []}
+use Rattle.std.specs.Prelude.{◌≡◌, ◌≢◌}
+use Rattle.theory.specs.Prelude.{ℕ, List, []}
 use Rattle.theory.specs.Merge.{Merge, Valid, final, ShareOne}
 use Rattle.theory.specs.Graph.{steps_of}
 use Rattle.theory.specs.declared.Step.{Step}

@@ -1,5 +1,6 @@
 -- Tags are read and dropped (document 02, 2026-11): every entry point answers as on the sheet without its tags.
-use Rattle.theory.specs.Prelude.{ℕ, ◌≡◌, List}
+use Rattle.std.specs.Prelude.{◌≡◌}
+use Rattle.theory.specs.Prelude.{ℕ, List}
 use Rattle.theory.specs.Graph.{Graph}
 use Rattle.sheet.specs.Facts.{Facts}
 use Rattle.sheet.specs.Field.{value, Bytes}

@@ -1,7 +1,8 @@
 -- Runs of asks and placings on a record in lent bytes (document 02, 2026-05): they answer as the same run on a value that holds the same facts, and so
 -- as a plain list of constraints would (`sketch` Runs); in a record that is too short a placing is refused by 17 (document 01, "Refused") and changes
 -- nothing. `RecordRuns` is shown of every record and every run by `record-runs` of Runs/Proof.antt.
-use Rattle.theory.specs.Prelude.{ℕ, ◌≤◌, ◌<◌, ◌≡◌, ◌↔◌, cond, eqb, List, [], ◌∷◌, map, length}
+use Rattle.std.specs.Prelude.{◌≤◌, ◌<◌, ◌≡◌, ◌↔◌, ◌∷◌}
+use Rattle.theory.specs.Prelude.{ℕ, cond, eqb, List, [], map, length}
 use Rattle.sheet.specs.declared.Constraint.{Constraint}
 use Rattle.sheet.specs.declared.Sheet.{Sheet}
 use Rattle.sheet.specs.Facts.{Facts, facts_of}

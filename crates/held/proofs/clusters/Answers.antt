@@ -1,5 +1,5 @@
 -- `held::clusters` meets its contract: the final clusters of the sketch that is read. Assumes nothing.
-use Rattle.theory.specs.Prelude.{rules, refl}
+use Rattle.theory.specs.Prelude.{refl}
 use Rattle.sheet.specs.Answer.Laws.{answers-refused, answers-items}
 use Rattle.judge.specs.Judged.{final_clusters}
 use Rattle.records.specs.Record.Laws.{FactsIn, facts-in}
@@ -11,16 +11,16 @@ pub read-got-requires : goal.read-got-requires
 read-got-requires c = (refl, refl, refl, refl)
 
 pub returns-in_default : goal.returns-in_default
-returns-in_default c =     answers-refused
+returns-in_default c = answers-refused
     (items_refused _ _ _ _ _ final_clusters _ c.read-got.ensures c.in_default.is c.refusal.ensures)
 
 pub clusters-requires : goal.clusters-requires
-clusters-requires c = 
+clusters-requires c =
     let facts : FactsIn (held_value c.args.s) c.in-Value.front c.read-got.new.near c.read-got.new.start c.read-got.new.codes c.read-got.new.radii = facts-in _ _ _ _ c.read-got.ensures c.in-Value.is in
     head-drawn facts c.head_of.ensures
 
 pub returns : goal.returns
-returns c = let f = 
+returns c = let f =
     let facts : FactsIn (held_value c.args.s) c.in-Value.front c.read-got.new.near c.read-got.new.start c.read-got.new.codes c.read-got.new.radii = facts-in _ _ _ _ c.read-got.ensures c.in-Value.is in
     facts in
     answers-items c.clusters.ensures (items-are f c.head_of.ensures final_clusters)

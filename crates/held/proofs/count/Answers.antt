@@ -1,5 +1,5 @@
 -- `held::count` meets its contract: the count of the sketch by value that is read. Assumes nothing.
-use Rattle.theory.specs.Prelude.{rules, refl, ◌∙◌}
+use Rattle.theory.specs.Prelude.{refl, ◌∙◌}
 use Rattle.held.specs.Held.Laws.{count-is}
 use Rattle.held.proofs.count.Goals as goal
 

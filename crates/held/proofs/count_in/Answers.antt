@@ -1,5 +1,5 @@
 -- `held::count_in` meets its contract: the count of the sketch in the record that is read. Assumes nothing.
-use Rattle.theory.specs.Prelude.{rules, refl, ◌∙◌}
+use Rattle.theory.specs.Prelude.{refl, ◌∙◌}
 use Rattle.held.specs.Held.Laws.{count-is}
 use Rattle.held.proofs.count_in.Goals as goal
 

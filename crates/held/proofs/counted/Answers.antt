@@ -1,5 +1,5 @@
 -- `held::counted` meets its contract, by what was read. Assumes nothing.
-use Rattle.theory.specs.Prelude.{rules, sym, ap}
+use Rattle.theory.specs.Prelude.{sym, ap}
 use Rattle.held.specs.Held.Laws.{count_read}
 use Rattle.held.proofs.counted.Goals as goal
 

@@ -1,7 +1,7 @@
 -- `held::read` meets its contract: the facts of the sketch in the arrays, unless a rule of the writer or 11 refuses them. Assumes nothing.
-use Rattle.theory.specs.Prelude.{rules, ◌≡◌, sym, ap, ◌∙◌, []}
+use Rattle.std.specs.Prelude.{◌≡◌}
+use Rattle.theory.specs.Prelude.{sym, ap, ◌∙◌, []}
 use Rattle.sheet.specs.Facts.{facts_of}
-use Rattle.sheet.specs.Rules.{sheet_fault}
 use Rattle.sheet.specs.Graph.{graph_of, over_fault}
 use Rattle.graph.specs.declared.Head.{Head}
 use Rattle.graph.specs.Lent.{graph_in}

@@ -1,5 +1,6 @@
 -- What a held sketch that is read into arrays says of the fields that are asked of it. Assumes nothing.
-use Rattle.theory.specs.Prelude.{ℕ, zero, suc, ◌≡◌, refl, sym, ap, ◌∙◌, List, [], ℤ}
+use Rattle.std.specs.Prelude.{◌≡◌}
+use Rattle.theory.specs.Prelude.{ℕ, zero, suc, refl, sym, ap, ◌∙◌, List, [], ℤ}
 use Rattle.theory.specs.Graph.{Graph}
 use Rattle.space.specs.declared.Written.{Written}
 use Rattle.space.specs.declared.Written.TheVariants.{Done, Refused as Not}

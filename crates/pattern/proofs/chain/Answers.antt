@@ -1,5 +1,5 @@
 -- `pattern::chain` meets its contract: the chain of the graph that is read. Assumes nothing.
-use Rattle.theory.specs.Prelude.{rules, refl}
+use Rattle.theory.specs.Prelude.{refl}
 use Rattle.pattern.specs.Entries.{held_sheet}
 use Rattle.pattern.specs.Entries.Reading.{refused-read, facts-read}
 use Rattle.pattern.specs.Entries.Chains.{chain-read}

@@ -1,5 +1,6 @@
 -- `pattern::check_plan` meets its contract: 11 and the plan check, of the graph that is read. Assumes nothing.
-use Rattle.theory.specs.Prelude.{rules, ℕ, ◌≡◌, refl, subst, List}
+use Rattle.std.specs.Prelude.{◌≡◌}
+use Rattle.theory.specs.Prelude.{ℕ, refl, subst, List}
 use Rattle.theory.specs.Graph.{SizedGraph}
 use Rattle.sheet.specs.Answer.{by_rule, Answers}
 use Rattle.space.specs.declared.Written.{Written}

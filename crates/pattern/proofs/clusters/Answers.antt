@@ -1,5 +1,5 @@
 -- `pattern::clusters` meets its contract: the final clusters of the graph that is read. Assumes nothing.
-use Rattle.theory.specs.Prelude.{rules, refl, sym, ap, []}
+use Rattle.theory.specs.Prelude.{refl, sym, ap, []}
 use Rattle.theory.specs.Graph.{Graph}
 use Rattle.judge.specs.Judged.{final_clusters}
 use Rattle.sheet.specs.Field.{value}

@@ -1,5 +1,6 @@
 -- `pattern::hold` meets its contract: 11 of the graph that is read, else the sheet out of the arrays. Assumes nothing.
-use Rattle.theory.specs.Prelude.{rules, ◌≡◌, refl, sym, ap, ◌∙◌}
+use Rattle.std.specs.Prelude.{◌≡◌}
+use Rattle.theory.specs.Prelude.{refl, sym, ap, ◌∙◌}
 use Rattle.sheet.specs.declared.Sheet.{Sheet}
 use Rattle.sheet.specs.Graph.{graph_of, over_fault}
 use Rattle.sheet.specs.Answer.Laws.{rule-some}

@@ -1,5 +1,6 @@
 -- `pattern::hold_in` meets its contract: 11 of the graph that is read, else the record of the sheet out of the arrays. Assumes nothing.
-use Rattle.theory.specs.Prelude.{rules, ◌≡◌, refl, sym, ap, ◌∙◌}
+use Rattle.std.specs.Prelude.{◌≡◌}
+use Rattle.theory.specs.Prelude.{refl, sym, ap, ◌∙◌}
 use Rattle.sheet.specs.Facts.{facts_of}
 use Rattle.sheet.specs.Field.{value}
 use Rattle.sheet.specs.Rules.{sheet_fault}

@@ -1,5 +1,6 @@
 -- `pattern::initial` meets its contract: the clusters of the graph that is read. Assumes nothing.
-use Rattle.theory.specs.Prelude.{rules, arith, ℕ, List, refl, sym, ap, [], ◌≤◌, length, length-take-le}
+use Rattle.std.specs.Prelude.{◌≤◌}
+use Rattle.theory.specs.Prelude.{arith, ℕ, List, refl, sym, ap, [], length, length-take-le}
 use Rattle.theory.specs.Graph.{Graph}
 use Rattle.graph.specs.declared.Head.{Head}
 use Rattle.graph.specs.Lent.{Drawn}

@@ -1,5 +1,6 @@
 -- `pattern::length_before` meets its contract, by the opening. Assumes nothing.
-use Rattle.theory.specs.Prelude.{rules, ◌+◌, ◌*◌, ◌≤◌, ◌<◌, ◌^◌, ℕ, arith, sym, ap, ones, ones-le}
+use Rattle.std.specs.Prelude.{◌+◌, ◌*◌, ◌≤◌, ◌<◌, ◌^◌}
+use Rattle.theory.specs.Prelude.{rules, ℕ, arith, sym, ap, ones, ones-le}
 use Rattle.sheet.specs.declared.Opening.{Opening}
 use Rattle.sheet.specs.Field.{kind_bytes}
 use Rattle.pattern.proofs.length_before.Goals as goal

@@ -1,5 +1,6 @@
 -- `pattern::missing` meets its contract: 11 and the rules of the price list, of the graph that is read. Assumes nothing.
-use Rattle.theory.specs.Prelude.{rules, ℕ, ◌≡◌, refl, subst, List}
+use Rattle.std.specs.Prelude.{◌≡◌}
+use Rattle.theory.specs.Prelude.{ℕ, refl, subst, List}
 use Rattle.theory.specs.Graph.{Graph}
 use Rattle.sheet.specs.Answer.{by_rule, Answers}
 use Rattle.space.specs.declared.Written.{Written}

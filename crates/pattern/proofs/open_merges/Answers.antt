@@ -1,5 +1,6 @@
 -- `pattern::open_merges` meets its contract: 11 and the open merges, of the graph that is read. Assumes nothing.
-use Rattle.theory.specs.Prelude.{rules, ℕ, ◌≡◌, refl, subst, List}
+use Rattle.std.specs.Prelude.{◌≡◌}
+use Rattle.theory.specs.Prelude.{ℕ, refl, subst, List}
 use Rattle.theory.specs.Graph.{Graph}
 use Rattle.sheet.specs.Answer.{Answers}
 use Rattle.space.specs.declared.Written.{Written}

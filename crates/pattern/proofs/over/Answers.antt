@@ -1,5 +1,6 @@
 -- `pattern::over` meets its contract: what is found of the graph that is read. Assumes nothing.
-use Rattle.theory.specs.Prelude.{rules, arith, ◌≡◌, refl, sym, ap, ◌∙◌, []}
+use Rattle.std.specs.Prelude.{◌≡◌}
+use Rattle.theory.specs.Prelude.{arith, refl, sym, ap, ◌∙◌, []}
 use Rattle.theory.specs.Graph.{Graph, finding_of}
 use Rattle.sheet.specs.Graph.{graph_of}
 use Rattle.sheet.specs.Answer.Laws.{answers-refused, answers-items}

@@ -1,5 +1,6 @@
 -- `pattern::part` meets its contract: 11, 26 and 17 of the graph that is read. Assumes nothing.
-use Rattle.theory.specs.Prelude.{rules, ℕ, ◌≡◌, refl, subst, List}
+use Rattle.std.specs.Prelude.{◌≡◌}
+use Rattle.theory.specs.Prelude.{ℕ, refl, subst, List}
 use Rattle.space.specs.declared.Written.{Written}
 use Rattle.theory.specs.Graph.{SizedGraph}
 use Rattle.sheet.specs.Answer.{Answers}

@@ -1,5 +1,4 @@
 -- `pattern::part_bytes` meets its contract: the count of the measure. Assumes nothing.
-use borrow.Author.Rules.{rules}
 use Rattle.pattern.specs.Entries.{part_of}
 use Rattle.pattern.specs.Entries.Parts.{bytes_counted, bytes-refused}
 use Rattle.pattern.proofs.part_bytes.Goals as goal

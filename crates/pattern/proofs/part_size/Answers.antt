@@ -1,5 +1,6 @@
 -- `pattern::part_size` meets its contract: 11 and 26 of the graph that is read. Assumes nothing.
-use Rattle.theory.specs.Prelude.{rules, ℕ, ◌≡◌, refl, sym, ap, ◌∙◌, List}
+use Rattle.std.specs.Prelude.{◌≡◌}
+use Rattle.theory.specs.Prelude.{ℕ, refl, sym, ap, ◌∙◌, List}
 use Rattle.theory.specs.Graph.{SizedGraph}
 use Rattle.sheet.specs.Facts.{Facts}
 use Rattle.sheet.specs.Field.{value}

@@ -1,5 +1,4 @@
 -- `pattern::part_steps` meets its contract: the count of the measure. Assumes nothing.
-use borrow.Author.Rules.{rules}
 use Rattle.pattern.specs.Entries.{part_of}
 use Rattle.pattern.specs.Entries.Parts.{steps-counted, steps_refused}
 use Rattle.pattern.proofs.part_steps.Goals as goal

@@ -1,5 +1,6 @@
 -- `pattern::plan` meets its contract: the numbers of the judgement of the graph that is read. Assumes nothing.
-use Rattle.theory.specs.Prelude.{◌≡◌, rules, refl, sym, ap, ◌∙◌, List, [], ℕ, ℤ, ◌*◌, arith, length-take-le}
+use Rattle.std.specs.Prelude.{◌≡◌}
+use Rattle.theory.specs.Prelude.{refl, sym, ap, ◌∙◌, List, [], ℕ, ℤ, arith, length-take-le}
 use Rattle.theory.specs.Graph.{Graph}
 use Rattle.sheet.specs.Graph.{graph_of}
 use Rattle.graph.specs.declared.Head.{Head}

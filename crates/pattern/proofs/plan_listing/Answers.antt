@@ -1,5 +1,5 @@
 -- `pattern::plan_listing` meets its contract: 11, or the steps of the engine's plan, of the graph that is read. Assumes nothing.
-use Rattle.theory.specs.Prelude.{rules, refl, []}
+use Rattle.theory.specs.Prelude.{refl, []}
 use Rattle.sheet.specs.Field.{value}
 use Rattle.steps.specs.Records.{plan_steps}
 use Rattle.pattern.specs.Entries.Reading.{refused-read, facts-read}

@@ -1,5 +1,6 @@
 -- `pattern::put_two`
-use Rattle.theory.specs.Prelude.{rules, lt-ltb, refl, [], ◌∷◌}
+use Rattle.std.specs.Prelude.{◌∷◌}
+use Rattle.theory.specs.Prelude.{lt-ltb, refl, []}
 use Rattle.space.specs.Space.{answer, after}
 use Rattle.pattern.specs.Entries.Reading.{stored-items}
 use Rattle.pattern.proofs.put_two.Goals as goal

@@ -1,5 +1,5 @@
 -- `pattern::report` meets its contract: the report of the graph that is read. Assumes nothing.
-use Rattle.theory.specs.Prelude.{rules, refl, sym, ap, []}
+use Rattle.theory.specs.Prelude.{refl, sym, ap, []}
 use Rattle.theory.specs.Graph.{SizedGraph}
 use Rattle.graph.specs.Lent.{sized_in}
 use Rattle.account.specs.Account.{report_of}

@@ -1,5 +1,5 @@
 -- `pattern::rests` meets its contract: what the final clusters of the graph that is read rest on. Assumes nothing.
-use Rattle.theory.specs.Prelude.{rules, refl, sym, ap, []}
+use Rattle.theory.specs.Prelude.{refl, sym, ap, []}
 use Rattle.theory.specs.Graph.{Graph}
 use Rattle.account.specs.Resting.{rest_numbers}
 use Rattle.sheet.specs.Field.{value}

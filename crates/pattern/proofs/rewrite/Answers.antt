@@ -1,5 +1,5 @@
 -- `pattern::rewrite` meets its contract: the reader accepts the bytes, and they are copied without their tags. Assumes nothing.
-use Rattle.theory.specs.Prelude.{rules, refl, ◌∙◌}
+use Rattle.theory.specs.Prelude.{refl, ◌∙◌}
 use Rattle.sheet.specs.Answer.Laws.{answers-refused, answers-items}
 use Rattle.pattern.specs.Entries.Reading.{refused-sheet, sheet-found}
 use Rattle.pattern.specs.Entries.Rewriting.{before-found}

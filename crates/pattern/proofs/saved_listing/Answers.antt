@@ -1,5 +1,5 @@
 -- `pattern::saved_listing` meets its contract: 11, and the check of the saved plan, of the graph that is read. Assumes nothing.
-use Rattle.theory.specs.Prelude.{rules, refl}
+use Rattle.theory.specs.Prelude.{refl}
 use Rattle.steps.specs.Records.{saved_records}
 use Rattle.pattern.specs.Entries.Reading.{refused-read, facts-read}
 use Rattle.pattern.specs.Entries.Steps.{refused-listed, read-listed}

@@ -1,5 +1,4 @@
 -- `pattern::saved_step_numbers` meets its contract: the numbers of the list that was filled. Assumes nothing.
-use borrow.Author.Rules.{rules}
 use Rattle.pattern.specs.Entries.Steps.{listed-numbers}
 use Rattle.pattern.proofs.saved_step_numbers.Goals as goal
 

@@ -1,5 +1,4 @@
 -- `pattern::step_numbers` meets its contract: the numbers of the list that was filled. Assumes nothing.
-use borrow.Author.Rules.{rules}
 use Rattle.pattern.specs.Entries.Steps.{listed-numbers}
 use Rattle.pattern.proofs.step_numbers.Goals as goal
 

@@ -1,5 +1,5 @@
 -- `pattern::verdict` meets its contract: the verdict of the graph that is read. Assumes nothing.
-use Rattle.theory.specs.Prelude.{rules, refl, ap, ◌∙◌}
+use Rattle.theory.specs.Prelude.{refl, ap, ◌∙◌}
 use Rattle.theory.specs.Graph.{verdict_of}
 use Rattle.sketch.specs.declared.Judgement.TheVariants.{Is}
 use Rattle.pattern.specs.Entries.Reading.{refused-read, facts-read}

@@ -1,5 +1,6 @@
 -- The promises of circles hold: every answer goes through the graph, which is that of the centres. Assumes nothing.
-use Rattle.theory.specs.Prelude.{ℕ, ◌≡◌, sym, ap, ◌∙◌, List, [], ◌∷◌, map, map-append}
+use Rattle.std.specs.Prelude.{◌≡◌, ◌∷◌}
+use Rattle.theory.specs.Prelude.{ℕ, sym, ap, ◌∙◌, List, [], map, map-append}
 use Rattle.theory.specs.Graph.{Graph, SizedGraph, verdict_of}
 use Rattle.sheet.specs.declared.Opening.TheVariants.{Pf01}
 use Rattle.sheet.specs.declared.Constraint.{Constraint}

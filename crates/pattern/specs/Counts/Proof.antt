@@ -1,5 +1,6 @@
 -- What a call answers is short: the bounds of reports and sheets, and of the merges of constraints that are not over. Assumes nothing.
-use Rattle.theory.specs.Prelude.{ℕ, zero, suc, ◌+◌, ◌*◌, ◌-◌, ◌≤◌, arith, ◌≡◌, refl, sym, ap, ◌∙◌, subst, List, [], map, some}
+use Rattle.std.specs.Prelude.{◌+◌, ◌*◌, ◌-◌, ◌≤◌, ◌≡◌}
+use Rattle.theory.specs.Prelude.{ℕ, zero, suc, arith, refl, sym, ap, ◌∙◌, subst, List, [], map, some}
 use Rattle.theory.specs.Prelude.{length, length-map, length-append, length-replicate, replicate}
 use Rattle.theory.specs.Constraints.{NotOver}
 use Rattle.theory.specs.Over.Laws.{over_of-fine, fine-most}

@@ -1,5 +1,6 @@
 -- The chain of a sheet that is read is that of its graph. Assumes nothing.
-use Rattle.theory.specs.Prelude.{ℕ, ◌≡◌, sym, subst, List, Option}
+use Rattle.std.specs.Prelude.{◌≡◌}
+use Rattle.theory.specs.Prelude.{ℕ, sym, subst, List, Option}
 use Rattle.theory.specs.Graph.{Graph}
 use Rattle.sheet.specs.Facts.{Facts}
 use Rattle.sheet.specs.Field.{Field, value}

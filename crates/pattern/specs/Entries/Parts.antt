@@ -1,5 +1,6 @@
 -- The steps of one cluster of a sheet that is read: 11 and 26 go by its graph; what is had beforehand is what is then written. Assumes nothing.
-use Rattle.theory.specs.Prelude.{ℕ, ◌+◌, ◌≤◌, ◌<◌, ◌≡◌, refl, sym, ap, ◌∙◌, Bool, true, false, cond, List, [], ltb-true, ltb, length}
+use Rattle.std.specs.Prelude.{◌+◌, ◌≤◌, ◌<◌, ◌≡◌}
+use Rattle.theory.specs.Prelude.{ℕ, refl, sym, ap, ◌∙◌, Bool, true, false, cond, List, [], ltb-true, ltb, length}
 use Rattle.theory.specs.Graph.{SizedGraph}
 use Rattle.theory.specs.Plan.{plan_of}
 use Rattle.theory.specs.declared.Step.{Step}

@@ -1,5 +1,6 @@
 -- What a sheet that is read into arrays says of the field that it answers. Assumes nothing.
-use Rattle.theory.specs.Prelude.{ℕ, ◌≤◌, ◌≡◌, refl, sym, ap, ◌∙◌, subst, List, ℤ, length, sets}
+use Rattle.std.specs.Prelude.{◌≤◌, ◌≡◌}
+use Rattle.theory.specs.Prelude.{ℕ, refl, sym, ap, ◌∙◌, subst, List, ℤ, length, sets}
 use Rattle.space.specs.Space.Laws.{put_all, put-after, long-answer}
 use Rattle.space.specs.declared.Written.TheVariants.{Done}
 use Rattle.space.specs.Space.{answer, after}

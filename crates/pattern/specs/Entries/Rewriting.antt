@@ -1,6 +1,7 @@
 -- How many bytes precede the constraints of a sheet that is read, by its facts. Assumes nothing.
-use Rattle.theory.specs.Prelude.{ℕ, zero, suc, ◌+◌, ◌*◌, ◌<◌, arith, ltb-true, ◌≡◌, refl, sym, ap, ap₂, ◌∙◌, Bool, true, false, cond, List, [], ◌∷◌}
-use Rattle.theory.specs.Prelude.{◌++◌, ones, ones_step, eqb, ltb, ℤ, length, take, drop}
+use Rattle.std.specs.Prelude.{◌+◌, ◌*◌, ◌<◌, ◌≡◌, ◌∷◌, ◌++◌}
+use Rattle.theory.specs.Prelude.{ℕ, zero, suc, arith, ltb-true, refl, sym, ap, ap₂, ◌∙◌, Bool, true, false, cond, List, []}
+use Rattle.theory.specs.Prelude.{ones, ones_step, eqb, ltb, ℤ, length, take, drop}
 use Rattle.sheet.specs.declared.Opening.{Opening}
 use Rattle.sheet.specs.declared.Opening.TheVariants.{Pf01, Pf02}
 use Rattle.sheet.specs.declared.Element.{Element}

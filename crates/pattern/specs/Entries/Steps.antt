@@ -1,5 +1,6 @@
 -- The steps of a sheet that is read, by value: what the arrays give is what the bytes stand for. Assumes nothing.
-use Rattle.theory.specs.Prelude.{ℕ, arith, ◌≡◌, refl, sym, ap, ◌∙◌, subst, ⊎_elim, List, ℤ, length, replicate}
+use Rattle.std.specs.Prelude.{◌≡◌}
+use Rattle.theory.specs.Prelude.{ℕ, arith, refl, sym, ap, ◌∙◌, subst, ⊎_elim, List, ℤ, length, replicate}
 use Rattle.theory.specs.Graph.{SizedGraph}
 use Rattle.theory.specs.declared.Step.{Step}
 use Rattle.space.specs.declared.Written.{Written}

@@ -1,5 +1,6 @@
 -- The page of the held sketch holds: the facts after any run are accepted and not over. Assumes nothing.
-use Rattle.theory.specs.Prelude.{ℕ, ◌+◌, ◌≤◌, ◌≡◌, sym, ap, ◌∙◌, ◌≢◌, List, [], length, length-append}
+use Rattle.std.specs.Prelude.{◌+◌, ◌≤◌, ◌≡◌, ◌≢◌}
+use Rattle.theory.specs.Prelude.{ℕ, sym, ap, ◌∙◌, List, [], length, length-append}
 use Rattle.theory.specs.Constraints.{Pairs, NotOver}
 use Rattle.theory.specs.Merge.{final}
 use Rattle.theory.specs.Plan.{plan_of}

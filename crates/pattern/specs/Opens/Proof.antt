@@ -1,5 +1,6 @@
 -- The promises of the open merges hold. Assumes nothing.
-use Rattle.theory.specs.Prelude.{ℕ, ◌≤◌, arith, ◌≡◌, ap, List, length}
+use Rattle.std.specs.Prelude.{◌≤◌, ◌≡◌}
+use Rattle.theory.specs.Prelude.{ℕ, arith, ap, List, length}
 use Rattle.sheet.specs.Facts.{Facts}
 use Rattle.sheet.specs.Field.{Field, value, next, Bytes}
 use Rattle.sheet.specs.Field.Laws.{next-value}

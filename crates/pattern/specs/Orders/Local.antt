@@ -1,6 +1,7 @@
 -- What a field of a sheet says goes by its own bytes alone, whatever follows them. Assumes nothing.
-use Rattle.theory.specs.Prelude.{ℕ, zero, suc, ◌+◌, ◌*◌, ◌/◌, ◌%◌, ◌≤◌, arith, ◌≡◌, refl, sym, ap, ◌∙◌, Bool, true}
-use Rattle.theory.specs.Prelude.{false, cond, not, List, [], ◌∷◌, ◌++◌}
+use Rattle.std.specs.Prelude.{◌+◌, ◌*◌, ◌/◌, ◌%◌, ◌≤◌, ◌≡◌, ◌∷◌, ◌++◌}
+use Rattle.theory.specs.Prelude.{ℕ, zero, suc, arith, refl, sym, ap, ◌∙◌, Bool, true}
+use Rattle.theory.specs.Prelude.{false, cond, not, List, []}
 use Rattle.theory.specs.Prelude.{append_assoc, eqb, ltb, pos, length, take, drop, length-append, take-append-drop}
 use Rattle.theory.specs.Prelude.{take_at, drop_at, length-take-le, le-ltb}
 use Rattle.theory.specs.Prelude.{ltb-false, get_or}

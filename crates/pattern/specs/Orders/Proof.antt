@@ -1,6 +1,7 @@
 -- The promises of every order hold: demand 3 is brought to the answers of two sheets whose constraints stand in
 -- different orders. Assumes nothing.
-use Rattle.theory.specs.Prelude.{ℕ, zero, suc, ◌≡◌, refl, sym, ap, ◌∙◌, ◌≢◌, Iff-trans, Iff-symm, List, [], length}
+use Rattle.std.specs.Prelude.{◌≡◌, ◌≢◌}
+use Rattle.theory.specs.Prelude.{ℕ, zero, suc, refl, sym, ap, ◌∙◌, Iff-trans, Iff-symm, List, [], length}
 use Rattle.theory.specs.Prelude.{length-map}
 use Rattle.theory.specs.Constraints.{Perm}
 use Rattle.theory.specs.Merge.{Merge, Maximal, final, joints}

@@ -1,6 +1,7 @@
 -- A sheet with its constraints in another order reads as its facts in that order. Assumes nothing.
-use Rattle.theory.specs.Prelude.{ℕ, zero, suc, ◌+◌, ◌*◌, ◌-◌, arith, ◌≡◌, refl, sym, ap, ◌∙◌, subst, true, false, Bool}
-use Rattle.theory.specs.Prelude.{cond, List, [], ◌∷◌, ◌++◌}
+use Rattle.std.specs.Prelude.{◌+◌, ◌*◌, ◌-◌, ◌≡◌, ◌∷◌, ◌++◌}
+use Rattle.theory.specs.Prelude.{ℕ, zero, suc, arith, refl, sym, ap, ◌∙◌, subst, true, false, Bool}
+use Rattle.theory.specs.Prelude.{cond, List, []}
 use Rattle.theory.specs.Prelude.{append-nil, append_assoc, eqb, ltb, length, take, drop, get_or, length-append, take_at}
 use Rattle.theory.specs.Prelude.{drop_at, get_or-append-add, ltb-true}
 use Rattle.theory.specs.Constraints.{Perm}

@@ -1,5 +1,6 @@
 -- A held sketch answers by the rule that refuses one constraint more, and then by the verdict with it. Assumes nothing.
-use Rattle.theory.specs.Prelude.{ℕ, arith, ◌≡◌, ap, ◌∙◌, length, length-take}
+use Rattle.std.specs.Prelude.{◌≡◌}
+use Rattle.theory.specs.Prelude.{ℕ, arith, ap, ◌∙◌, length, length-take}
 use Rattle.theory.specs.Graph.{verdict_of}
 use Rattle.theory.specs.declared.Verdict.{Verdict}
 use Rattle.sheet.specs.declared.Constraint.{Constraint}

@@ -1,7 +1,8 @@
 -- Over is one finding that every answer goes by. Assumes nothing.
-use Rattle.theory.specs.Prelude.{ℕ, zero, suc, ◌+◌, arith, ◌≡◌, refl, sym, ap, ◌∙◌, subst, ◌≢◌, ◌↔◌, Iff-trans, Bool}
-use Rattle.theory.specs.Prelude.{true, false, cond, ◌&&◌, ltb}
-use Rattle.theory.specs.Prelude.{List, [], ◌∷◌, ◌++◌, length, get_or, inl, inr, map}
+use Rattle.std.specs.Prelude.{◌+◌, ◌≡◌, ◌≢◌, ◌↔◌, ◌&&◌, ◌∷◌, ◌++◌}
+use Rattle.theory.specs.Prelude.{ℕ, zero, suc, arith, refl, sym, ap, ◌∙◌, subst, Iff-trans, Bool}
+use Rattle.theory.specs.Prelude.{true, false, cond, ltb}
+use Rattle.theory.specs.Prelude.{List, [], length, get_or, inl, inr, map}
 use Rattle.theory.specs.Constraints.{Pairs, Below}
 use Rattle.theory.specs.Over.{IsOver, FirstOver}
 use Rattle.theory.specs.Over.Laws.{over_of-first}

@@ -1,5 +1,6 @@
 -- The promises of one cluster's steps hold. Assumes nothing.
-use Rattle.theory.specs.Prelude.{ℕ, ◌≤◌, ◌<◌, arith, lt-ltb, le-ltb, ◌≡◌, refl, ap, ◌∙◌, Bool, true, false, cond, List}
+use Rattle.std.specs.Prelude.{◌≤◌, ◌<◌, ◌≡◌}
+use Rattle.theory.specs.Prelude.{ℕ, arith, lt-ltb, le-ltb, refl, ap, ◌∙◌, Bool, true, false, cond, List}
 use Rattle.theory.specs.Prelude.{[], ltb, length}
 use Rattle.theory.specs.declared.Step.{Step}
 use Rattle.space.specs.declared.Written.TheVariants.{Done, Refused}

@@ -1,6 +1,7 @@
 -- More dimensions, never a smaller part, of what the entry points answer (document 02, 2026-13): `sheet` Growth and `sketch`
 -- Runs/Growth brought to bytes. Assumes nothing.
-use Rattle.theory.specs.Prelude.{ℕ, ◌≡◌, refl, sym, ap, ◌∙◌, subst, ◌≢◌, ◌↔◌, List, []}
+use Rattle.std.specs.Prelude.{◌≡◌, ◌≢◌, ◌↔◌}
+use Rattle.theory.specs.Prelude.{ℕ, refl, sym, ap, ◌∙◌, subst, List, []}
 use Rattle.theory.specs.Set.{◌⊑◌}
 use Rattle.theory.specs.Constraints.{Among}
 use Rattle.theory.specs.Merge.{final, live, slot}

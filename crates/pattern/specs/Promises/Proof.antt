@@ -1,7 +1,8 @@
 -- The promises hold: the answers' lists are those of `account` Own; over and orders are shown beside (Over, Orders).
 -- Assumes nothing.
-use Rattle.theory.specs.Prelude.{ℕ, zero, suc, ◌+◌, ◌*◌, ◌%◌, ◌≤◌, ◌<◌, ◌≡◌, refl, sym, ap, ap₂, ◌∙◌, subst, ◌≢◌, ◌↔◌}
-use Rattle.theory.specs.Prelude.{Iff-trans, List, [], ◌∷◌, map}
+use Rattle.std.specs.Prelude.{◌+◌, ◌*◌, ◌%◌, ◌≤◌, ◌<◌, ◌≡◌, ◌≢◌, ◌↔◌, ◌∷◌}
+use Rattle.theory.specs.Prelude.{ℕ, zero, suc, refl, sym, ap, ap₂, ◌∙◌, subst}
+use Rattle.theory.specs.Prelude.{Iff-trans, List, [], map}
 use Rattle.theory.specs.Prelude.{arith, lt-ltb, length}
 use Rattle.theory.specs.Constraints.{Among, Pairs, Below, NotOver}
 use Rattle.theory.specs.Constraints.Perm.{same}

@@ -1,5 +1,6 @@
 -- The promises of reading and writing hold. Assumes nothing.
-use Rattle.theory.specs.Prelude.{ℕ, zero, suc, ◌≡◌, refl, ap, ◌∙◌, List, [], length}
+use Rattle.std.specs.Prelude.{◌≡◌}
+use Rattle.theory.specs.Prelude.{ℕ, zero, suc, refl, ap, ◌∙◌, List, [], length}
 use Rattle.sheet.specs.declared.Sheet.{Sheet}
 use Rattle.sheet.specs.Facts.{Facts, sheet_of, facts_of}
 use Rattle.sheet.specs.Field.{value, Bytes}

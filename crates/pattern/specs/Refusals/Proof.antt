@@ -1,6 +1,7 @@
 -- Each entry point refuses by its numbered rules alone: those of the fields that it reads, one after another. Assumes nothing.
-use Rattle.theory.specs.Prelude.{ℕ, zero, suc, ◌≤◌, ◌<◌, dec_lt, arith, ltb-true, ◌≡◌, refl, sym, ◌∙◌, subst, ◌↔◌, ◌⊎◌, inl, inr, Bool, true, false, cond, ◌&&◌, List}
-use Rattle.theory.specs.Prelude.{[], ◌∷◌, eqb, ltb, Option, none, some, length}
+use Rattle.std.specs.Prelude.{◌≤◌, ◌<◌, ◌≡◌, ◌↔◌, ◌⊎◌, ◌&&◌, ◌∷◌}
+use Rattle.theory.specs.Prelude.{ℕ, zero, suc, dec_lt, arith, ltb-true, refl, sym, ◌∙◌, subst, inl, inr, Bool, true, false, cond, List}
+use Rattle.theory.specs.Prelude.{[], eqb, ltb, Option, none, some, length}
 use Rattle.theory.specs.declared.Finding.{Finding}
 use Rattle.theory.specs.declared.Finding.TheVariants.{Fine, First}
 use Rattle.theory.specs.Graph.{Graph, finding_of, verdict_of, steps_of}

@@ -1,5 +1,6 @@
 -- The promises of rule 14 hold. Assumes nothing.
-use Rattle.theory.specs.Prelude.{ℕ, arith, ◌≡◌, refl, ap, subst, inl, inr, List, []}
+use Rattle.std.specs.Prelude.{◌≡◌}
+use Rattle.theory.specs.Prelude.{ℕ, arith, refl, ap, subst, inl, inr, List, []}
 use Rattle.theory.specs.Graph.Laws.{fine-not-over}
 use Rattle.sheet.specs.Facts.{Facts}
 use Rattle.sheet.specs.Field.{Field, value, refused, next, Bytes}

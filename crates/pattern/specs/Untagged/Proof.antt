@@ -1,5 +1,6 @@
 -- Every entry point goes through `read_sheet`, so that sheets which read alike are answered alike. Assumes nothing.
-use Rattle.theory.specs.Prelude.{ℕ, ◌≡◌, sym, List}
+use Rattle.std.specs.Prelude.{◌≡◌}
+use Rattle.theory.specs.Prelude.{ℕ, sym, List}
 use Rattle.sheet.specs.Decode.{read_sheet}
 use Rattle.sheet.specs.WithoutTags.{without_tags}
 use Rattle.sheet.specs.RoundTrip.{read-without-tags, without-tags-again}

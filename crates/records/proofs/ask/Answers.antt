@@ -1,5 +1,5 @@
 -- `records::ask` meets its contract: the sheet that is read, and placing by the number that it holds. Assumes nothing.
-use Rattle.theory.specs.Prelude.{rules, refl, sym, ap, ◌∙◌, ℕ}
+use Rattle.theory.specs.Prelude.{refl, sym, ap, ◌∙◌, ℕ}
 use Rattle.theory.specs.Graph.{verdict_of}
 use Rattle.sheet.specs.Graph.{graph_of}
 use Rattle.graph.specs.declared.Head.{Head}

@@ -1,5 +1,5 @@
 -- `records::judged` meets its contract, by what was written. Assumes nothing.
-use Rattle.theory.specs.Prelude.{rules, sym, ap}
+use Rattle.theory.specs.Prelude.{sym, ap}
 use Rattle.space.specs.declared.Written.{Written}
 use Rattle.records.specs.Record.{place_judged}
 use Rattle.records.proofs.judged.Goals as goal

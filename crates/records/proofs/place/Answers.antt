@@ -1,10 +1,9 @@
 -- `records::place` meets its contract: the sheet that is read, the constraint placed in its arrays, and the record of both. Assumes nothing.
-use Rattle.theory.specs.Prelude.{rules, arith, ◌≡◌, refl, ap, ◌∙◌}
-use Rattle.sheet.specs.Facts.{Facts, facts_of}
+use Rattle.theory.specs.Prelude.{arith, refl, ap, ◌∙◌}
+use Rattle.sheet.specs.Facts.{facts_of}
 use Rattle.sheet.specs.Rules.{sheet_fault}
 use Rattle.sheet.specs.Accepted.Laws.{facts_of-sheet_of, sheet_of-fault}
 use Rattle.graph.specs.Lent.Sheets.{drawn-in}
-use Rattle.sketch.specs.Placing.{PlacedIn}
 use Rattle.records.specs.Record.{record_sheet}
 use Rattle.records.specs.Record.Laws.{read-refused, facts-in, placed-unread, placed-refused, placed-none, placed-taken}
 use Rattle.records.proofs.place.Goals as goal

@@ -1,5 +1,6 @@
 -- `records::read` meets its contract: the count in the first two bytes, and the sheet of so many that follow. Assumes nothing.
-use Rattle.theory.specs.Prelude.{rules, ℕ, ◌+◌, ◌*◌, ◌-◌, ◌≤◌, arith, ◌≡◌, refl, sym, ap, ◌∙◌, List, length, take, drop}
+use Rattle.std.specs.Prelude.{◌+◌, ◌*◌, ◌-◌, ◌≤◌, ◌≡◌}
+use Rattle.theory.specs.Prelude.{ℕ, arith, refl, sym, ap, ◌∙◌, List, length, take, drop}
 use Rattle.sheet.specs.Decode.{read_sheet}
 use Rattle.records.specs.Record.{as27, record_sheet}
 use Rattle.records.specs.Record.Laws.{told, record-short, record-cut, record-whole, read-refused, facts-in}
@@ -32,7 +33,7 @@ returns c =
       f.facts,
       f.rest,
       whole c.args.lent.now (c.wide.result + 256 * c.wide-2.result) (omega (arith, c.wide-2.ensures.0, c.wide.ensures.0)) c.if-room-lt2.false
-      c.if-room-end.false
-      ∙ ap as27 f.reads,
+          c.if-room-end.false
+          ∙ ap as27 f.reads,
       f.sheet_in,
     )

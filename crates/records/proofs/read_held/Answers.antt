@@ -1,15 +1,14 @@
 -- `records::read_held` meets its contract: the sheet that is read, unless it is over. Assumes nothing.
-use Rattle.theory.specs.Prelude.{rules, ℕ, ◌≡◌, refl, sym, ap, ◌∙◌, subst, List}
-use Rattle.sheet.specs.Facts.{Facts}
+use Rattle.std.specs.Prelude.{◌≡◌}
+use Rattle.theory.specs.Prelude.{sym, ap, ◌∙◌, subst}
 use Rattle.sheet.specs.Graph.{graph_of, over_fault}
-use Rattle.graph.specs.declared.Front.{Front}
 use Rattle.graph.specs.declared.Head.{Head}
-use Rattle.graph.specs.Lent.{graph_in, head_in, SheetIn}
+use Rattle.graph.specs.Lent.{graph_in}
 use Rattle.graph.specs.Lent.Sheets.{graph_is, drawn-in}
 use Rattle.reader.specs.declared.CodesRead.{CodesRead}
 use Rattle.reader.specs.Answers.{SheetRead}
 use Rattle.records.specs.Record.{record_sheet, held_record}
-use Rattle.records.specs.Record.Laws.{FactsIn, facts-in, held-unread, held-over, held-value}
+use Rattle.records.specs.Record.Laws.{facts-in, held-unread, held-over, held-value}
 use Rattle.records.proofs.read_held.Goals as goal
 
 pub returns-in_default : goal.returns-in_default

@@ -1,5 +1,5 @@
 -- `records::sheet` meets its contract: the sketch that is read, written. Assumes nothing.
-use Rattle.theory.specs.Prelude.{rules, ◌≡◌, refl, ap, ◌∙◌}
+use Rattle.theory.specs.Prelude.{refl, ap, ◌∙◌}
 use Rattle.sheet.specs.Facts.{facts_of}
 use Rattle.sheet.specs.Rules.{sheet_fault}
 use Rattle.sheet.specs.Accepted.Laws.{facts_of-sheet_of, sheet_of-fault}

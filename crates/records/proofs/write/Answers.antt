@@ -1,5 +1,5 @@
 -- `records::write` meets its contract: the sheet after two bytes, and then its length in them. Assumes nothing.
-use Rattle.theory.specs.Prelude.{rules, arith}
+use Rattle.theory.specs.Prelude.{arith}
 use Rattle.space.specs.Space.Laws.{put_refused}
 use Rattle.sheet.specs.Facts.{facts_of}
 use Rattle.records.specs.Record.{record_bytes}

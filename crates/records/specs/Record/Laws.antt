@@ -1,5 +1,6 @@
 -- What stands in a record, and what a call over it answers. Assumes nothing.
-use Rattle.theory.specs.Prelude.{ℕ, zero, suc, ◌+◌, ◌*◌, ◌-◌, ◌/◌, ◌%◌, ◌≤◌, ◌<◌, arith, ◌≡◌, refl, sym, ap, ◌∙◌, subst, List, [], ◌∷◌, ◌++◌}
+use Rattle.std.specs.Prelude.{◌+◌, ◌*◌, ◌-◌, ◌/◌, ◌%◌, ◌≤◌, ◌<◌, ◌≡◌, ◌∷◌, ◌++◌}
+use Rattle.theory.specs.Prelude.{ℕ, zero, suc, arith, refl, sym, ap, ◌∙◌, subst, List, []}
 use Rattle.theory.specs.Prelude.{append_assoc, append-nil, dec_lt, lt-ltb, le-ltb, le-leb, lt-leb, ℤ, leb, length, get_or, take, drop, length-append}
 use Rattle.theory.specs.Prelude.{length-drop, length-take, take-append-drop, take_all, drop-length, drop_at}
 use Rattle.theory.specs.declared.Verdict.{Verdict}

@@ -1,5 +1,6 @@
 -- How many bytes a record takes: a held sketch has at most 125 constraints. Assumes nothing.
-use Rattle.theory.specs.Prelude.{ℕ, zero, suc, ◌≤◌, arith, ◌≡◌, refl, List, [], eqb, length, length-append}
+use Rattle.std.specs.Prelude.{◌≤◌, ◌≡◌}
+use Rattle.theory.specs.Prelude.{ℕ, zero, suc, arith, refl, List, [], eqb, length, length-append}
 use Rattle.sheet.specs.declared.Constraint.{Constraint}
 use Rattle.sheet.specs.Facts.{Facts}
 use Rattle.sheet.specs.Field.{value, Bytes}

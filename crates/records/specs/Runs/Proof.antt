@@ -1,5 +1,6 @@
 -- A record and a value that hold the same facts answer alike, event after event. Assumes nothing.
-use Rattle.theory.specs.Prelude.{ℕ, zero, suc, ◌^◌, ◌≤◌, ◌<◌, dec_lt, arith, ◌≡◌, refl, sym, ap, ap₂, ◌∙◌, subst, inl, inr, List, [], ◌∷◌, ◌++◌, map}
+use Rattle.std.specs.Prelude.{◌^◌, ◌≤◌, ◌<◌, ◌≡◌, ◌∷◌, ◌++◌}
+use Rattle.theory.specs.Prelude.{ℕ, zero, suc, dec_lt, arith, refl, sym, ap, ap₂, ◌∙◌, subst, inl, inr, List, [], map}
 use Rattle.theory.specs.Prelude.{append_assoc, le-leb, le-ltb, ne_eqb}
 use Rattle.theory.specs.Prelude.{length, drop, length-append, length-drop, take_at}
 use Rattle.space.specs.Space.{after}
