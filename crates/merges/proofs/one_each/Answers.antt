@@ -1,5 +1,6 @@
 -- `merges::one_each` meets its contract: each test is one part of `open_test`. Assumes nothing.
-use Rattle.theory.specs.Prelude.{sym, eq-eqb, ne_eqb}
+use Rattle.std.specs.Prelude.{◌≢◌}
+use Rattle.theory.specs.Prelude.{sym, arith, eq-eqb, ne_eqb}
 use Rattle.theory.specs.Plan.{open_test}
 use Rattle.merges.proofs.one_each.Goals as goal
 
@@ -42,13 +43,16 @@ returns-then-y-z c a b d x y z = simp (
 
 pub returns : goal.returns
 unfolding open_test
-returns c a b d x y z = simp (
-  sym x,
-  sym y,
-  sym z,
-  eq-eqb _ _ c.if-x-ne1.false,
-  eq-eqb _ _ c.if-y-ne1.false,
-  eq-eqb _ _ c.if-z-ne1.false,
-  ne_eqb _ _ c.if-x-y.false,
-  ne_eqb _ _ c.if-y-z.false,
-)
+returns c a b d x y z =
+    let p : c.args.x ≢ c.args.y = omega arith in
+    let q : c.args.y ≢ c.args.z = omega arith in
+    simp (
+      sym x,
+      sym y,
+      sym z,
+      eq-eqb _ _ c.if-x-ne1.false,
+      eq-eqb _ _ c.if-y-ne1.false,
+      eq-eqb _ _ c.if-z-ne1.false,
+      ne_eqb _ _ p,
+      ne_eqb _ _ q,
+    )

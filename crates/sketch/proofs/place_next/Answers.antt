@@ -66,8 +66,9 @@ unless_over-requires-then-rule-ne0 c = drawn-in c.requires.1
 pub returns-then-rule-ne0 : goal.returns-then-rule-ne0
 returns-then-rule-ne0 c = λ f a.
     let fault = c.constraint_fault-rule.ensures _ _ (elements a) a.kinds_in a.arrays.noted in
+    let told : c.args.held ≡ length f.constraints = omega (arith, count a) in
     unless-in a c.args.c c.args.held c.constraint_fault-rule.result c.unless_over-then-rule-ne0.ensures c.if-rule-ne0.true
-    (place-fault f _ _ (c.if-held-e.false ∙ count a) _ fault c.if-rule-ne0.true)
+    (place-fault f _ _ told _ fault c.if-rule-ne0.true)
 
 pub overflow_add-e-2 : goal.overflow_add-e-2
 overflow_add-e-2 c = omega (arith, small c.requires.1)
@@ -81,8 +82,9 @@ unless_over-requires-then-e-n c = drawn-in c.requires.1
 pub returns-then-e-n : goal.returns-then-e-n
 returns-then-e-n c = λ f a.
     let none = sym (c.constraint_fault-rule.ensures _ _ (elements a) a.kinds_in a.arrays.noted) ∙ c.if-rule-ne0.false in
+    let told : c.args.held ≡ length f.constraints = omega (arith, count a) in
     unless-in a c.args.c c.args.held 11 c.unless_over-then-e-n.ensures (λ z. omega arith)
-    (place-full f _ _ (c.if-held-e.false ∙ count a) a.accepted (few a c.if-n-e.false) none
+    (place-full f _ _ told a.accepted (few a c.if-n-e.false) none
     (omega (arith, c.if-e-n.true, count a, elements a)))
 
 pub note-requires : goal.note-requires
@@ -108,6 +110,7 @@ judge_last-requires c =
 pub returns : goal.returns
 returns c = λ f a.
     let one = c.args.c in
+    let told : c.args.held ≡ length f.constraints = omega (arith, count a) in
     let none = sym (c.constraint_fault-rule.ensures _ _ (elements a) a.kinds_in a.arrays.noted) ∙ c.if-rule-ne0.false in
     let m =
     extended-in one a (few a c.if-n-e.false) none
@@ -117,6 +120,6 @@ returns c = λ f a.
     record {
       answer_is =
           c.judge_last.ensures ∙ ap last_answer (graph_is m) ∙ last-asked f one a.accepted (few a c.if-n-e.false) none
-          ∙ ap (λ (i : ℕ). as_judged i (verdict_of (graph_of (extended f one)))) (sym (place-asked f one _ (c.if-held-e.false ∙ count a)));
+          ∙ ap (λ (i : ℕ). as_judged i (verdict_of (graph_of (extended f one)))) (sym (place-asked f one _ told));
       holds = λ e. m;
     }
