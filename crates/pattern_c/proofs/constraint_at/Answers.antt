@@ -23,7 +23,7 @@ pub returns-then-map-eq0 : goal.returns-then-map-eq0
 returns-then-map-eq0 c = let a = c.args in
     c.constraint_from.ensures
     ∙ ap (constraint_from (get_or a.firsts.now a.i 0) (get_or a.seconds.now a.i 0) (get_or a.maps.now a.i 0))
-    (to_z-of_z {w = w32} (record { sfits = c.size_at-size.type-inv }) ∙ c.size_at-size.ensures)
+    (to_z-of_z {w = w32} (record { sfits = c.size_at-size.type_inv }) ∙ c.size_at-size.ensures)
     ∙ sym (without-size a.firsts.now a.seconds.now a.maps.now a.sizes.now a.i (search rules) (search rules) (search rules)
     c.if-map-eq0.true)
 
@@ -36,6 +36,6 @@ pub returns : goal.returns
 returns c = let a = c.args in
     c.constraint_from-2.ensures
     ∙ ap (constraint_from (get_or a.firsts.now a.i 0) (get_or a.seconds.now a.i 0) (get_or a.maps.now a.i 0))
-    (to_z-of_z {w = w32} (record { sfits = c.size_at-size.type-inv }) ∙ c.size_at-size.ensures)
+    (to_z-of_z {w = w32} (record { sfits = c.size_at-size.type_inv }) ∙ c.size_at-size.ensures)
     ∙ sym (with_size a.firsts.now a.seconds.now a.maps.now a.sizes.now a.i (search rules) (search rules) (search rules)
     c.if-map-eq0.false (search rules))

@@ -1,5 +1,5 @@
 -- `pattern_c::kind_from` meets its contract, by the kind's number. Assumes nothing.
-use Rattle.theory.specs.Prelude.{rules, ℕ, zero, suc, ◌≡◌, refl}
+use Rattle.theory.specs.Prelude.{rules, ℕ, zero, suc, ◌≡◌, refl, arith}
 use Rattle.sheet.specs.declared.Kind.TheVariants.{Circle}
 use Rattle.pattern_c.specs.Columns.{kind_from}
 use Rattle.pattern_c.proofs.kind_from.Goals as goal
@@ -10,4 +10,4 @@ round (suc zero) r a b = absurd (b refl)
 round (suc (suc k)) r a b = refl
 
 pub returns-in_default : goal.returns-in_default
-returns-in_default c = let a = c.args in round a.kind a.radius c.in_default.rest.0.1 c.in_default.rest.1
+returns-in_default c = round c.args.kind c.args.radius (omega arith) (omega arith)

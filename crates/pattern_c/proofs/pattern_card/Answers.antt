@@ -7,5 +7,5 @@ use Rattle.pattern_c.proofs.pattern_card.Goals as goal
 
 pub returns : goal.returns
 returns c = let w = c.verdict_number in
-    counted c.count.result w.result _ (record { sfits = c.count.type-inv }) c.count.ensures
+    counted c.count.result w.result _ (record { sfits = c.count.type_inv }) c.count.ensures
     (w.ensures ∙ ap as_number (ap Is c.card-is.ensures))

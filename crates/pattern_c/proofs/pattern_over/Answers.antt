@@ -4,4 +4,4 @@ use Rattle.pattern_c.specs.Numbers.Laws.{counts}
 use Rattle.pattern_c.proofs.pattern_over.Goals as goal
 
 pub returns : goal.returns
-returns c = counts c.count.result _ (record { sfits = c.count.type-inv }) c.count.ensures c.over.ensures
+returns c = counts c.count.result _ (record { sfits = c.count.type_inv }) c.count.ensures c.over.ensures

@@ -4,4 +4,4 @@ use Rattle.pattern_c.specs.Numbers.Laws.{counted}
 use Rattle.pattern_c.proofs.pattern_part_bytes.Goals as goal
 
 pub returns : goal.returns
-returns c = counted c.count.result _ _ (record { sfits = c.count.type-inv }) c.count.ensures c.part_bytes.ensures
+returns c = counted c.count.result _ _ (record { sfits = c.count.type_inv }) c.count.ensures c.part_bytes.ensures
