@@ -1,7 +1,8 @@
 -- No number that a function for C answers is cut at 2^31-1 (`as_count` of Numbers): it is the count of items itself, or
 -- the place of the verdict, whatever the call is given. Demand 1: no input makes it lose part of a number. The counts
 -- are those of `pattern` Counts.
-use Rattle.theory.specs.Prelude.{ℕ, ◌%◌, ◌≡◌, List, ℤ, pos}
+use Rattle.std.specs.Prelude.{◌%◌, ◌≡◌}
+use Rattle.theory.specs.Prelude.{ℕ, List, ℤ, pos}
 use Rattle.space.specs.declared.Written.{Written}
 use Rattle.space.specs.declared.Written.TheVariants.{Done}
 use Rattle.sheet.specs.declared.Constraint.{Constraint}

@@ -1,6 +1,7 @@
 -- What is promised of `pattern_write`, which takes a sheet's facts in columns. Document 01, "Refused": which rules
 -- refuse it, and no other; demand 2: what it writes is read as those facts.
-use Rattle.theory.specs.Prelude.{ℕ, ◌≡◌, ◌⊎◌, ◌↔◌, false, List, ℤ}
+use Rattle.std.specs.Prelude.{◌≡◌, ◌⊎◌, ◌↔◌}
+use Rattle.theory.specs.Prelude.{ℕ, false, List, ℤ}
 use Rattle.sheet.specs.Field.{value, refused}
 use Rattle.sheet.specs.Refusals.{By}
 use Rattle.sheet.specs.Refusals.Laws.{OfFacts}

@@ -346,14 +346,7 @@ pub fn pattern_ask(lent: &[u8], first: u8, second: u8, map: u8, size: i32) -> i3
 }
 
 // Placing: the answer of asking, and the record then with that constraint; also the rules 24 and 17.
-pub fn pattern_place(
-    lent: &mut [u8],
-    first: u8,
-    second: u8,
-    map: u8,
-    size: i32,
-    held: usize,
-) -> i32
+pub fn pattern_place(lent: &mut [u8], first: u8, second: u8, map: u8, size: i32, held: usize) -> i32
     ensures { PlacedCount (place_field lent.old (constraint_from first second map size) held) lent.old result
         lent.new }
 {

@@ -1,5 +1,5 @@
 -- `pattern_c::chain_items` meets its contract, by cases. Assumes nothing.
-use Rattle.theory.specs.Prelude.{rules, sym, ap}
+use Rattle.theory.specs.Prelude.{sym, ap}
 use Rattle.pattern_c.specs.Numbers.{as_items}
 use Rattle.pattern_c.proofs.chain_items.Goals as goal
 

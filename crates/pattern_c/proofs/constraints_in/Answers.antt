@@ -1,7 +1,7 @@
 -- The first i places hold the constraints of the columns: `Filling`.
-use Rattle.theory.specs.Prelude.{rules, ◌-◌, arith, refl}
+use Rattle.theory.specs.Prelude.{arith, refl}
 use Rattle.pattern_c.specs.Columns.{constraint_in}
-use Rattle.pattern_c.specs.Columns.Laws.{Filling, filling-none, filling-more, filling-all}
+use Rattle.pattern_c.specs.Columns.Laws.{filling-none, filling-more, filling-all}
 use Rattle.pattern_c.proofs.constraints_in.Goals as goal
 
 pub loop-i-init : goal.loop-i-init

@@ -1,5 +1,6 @@
 -- `pattern_c::count`
-use Rattle.theory.specs.Prelude.{rules, lt-ltb, le-ltb, ◌<◌, arith, ◌≡◌, sym, ap, ◌∙◌, pos, ◌-ℤ◌}
+use Rattle.std.specs.Prelude.{◌<◌, ◌≡◌, ◌-ℤ◌}
+use Rattle.theory.specs.Prelude.{rules, lt-ltb, le-ltb, arith, sym, ap, ◌∙◌, pos}
 use mir.Syntax.{w32}
 use mir.Val.{to_z}
 use mir.Facts.{to_z_pos, to_z-of_z}
@@ -28,5 +29,5 @@ returns-else-n-lt2147483648 c = let n = c.in-Done.n in
     sym (ap as_count c.in-Done.is ∙ rw (le-ltb n 2147483648 c.if-n-lt2147483648.false))
 
 pub returns-in-Refused : goal.returns-in-Refused
-returns-in-Refused c =     rw (negative c, to_z-of_z {w = w32} (minus-fits c.in-Refused.k (rule c)))
+returns-in-Refused c = rw (negative c, to_z-of_z {w = w32} (minus-fits c.in-Refused.k (rule c)))
     (sym (ap as_count c.in-Refused.is))

@@ -1,7 +1,7 @@
 -- The first i places hold the elements of the columns: `Filling`.
-use Rattle.theory.specs.Prelude.{rules, ◌-◌, arith, refl}
+use Rattle.theory.specs.Prelude.{arith, refl}
 use Rattle.pattern_c.specs.Columns.{element_in}
-use Rattle.pattern_c.specs.Columns.Laws.{Filling, filling-none, filling-more, filling-all}
+use Rattle.pattern_c.specs.Columns.Laws.{filling-none, filling-more, filling-all}
 use Rattle.pattern_c.proofs.elements_in.Goals as goal
 
 pub loop-i-init : goal.loop-i-init

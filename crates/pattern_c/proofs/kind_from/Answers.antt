@@ -1,5 +1,6 @@
 -- `pattern_c::kind_from` meets its contract, by the kind's number. Assumes nothing.
-use Rattle.theory.specs.Prelude.{rules, ℕ, zero, suc, ◌≡◌, refl, arith}
+use Rattle.std.specs.Prelude.{◌≡◌}
+use Rattle.theory.specs.Prelude.{ℕ, zero, suc, refl, arith}
 use Rattle.sheet.specs.declared.Kind.TheVariants.{Circle}
 use Rattle.pattern_c.specs.Columns.{kind_from}
 use Rattle.pattern_c.proofs.kind_from.Goals as goal

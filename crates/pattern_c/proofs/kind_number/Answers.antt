@@ -1,5 +1,5 @@
 -- `pattern_c::kind_number` meets its contract. Assumes nothing.
-use Rattle.theory.specs.Prelude.{rules, sym, List·getD-eq-default}
+use Rattle.theory.specs.Prelude.{sym, List·getD-eq-default}
 use Rattle.pattern_c.specs.Columns.Laws.{within-list}
 use Rattle.pattern_c.proofs.kind_number.Goals as goal
 

@@ -1,5 +1,6 @@
 -- `pattern_c::kinds_listed` meets its contract: the kinds before i are listed. Assumes nothing.
-use Rattle.theory.specs.Prelude.{rules, ◌-◌, ◌≤◌, arith, ◌≡◌, sym, ap, ◌∙◌, true}
+use Rattle.std.specs.Prelude.{◌≡◌}
+use Rattle.theory.specs.Prelude.{arith, sym, ap, ◌∙◌}
 use Rattle.pattern_c.specs.Columns.{kinds_listed}
 use Rattle.pattern_c.specs.Columns.Laws.{kinds-none-listed, kinds-more, kinds-none}
 use Rattle.pattern_c.proofs.kinds_listed.Goals as goal
@@ -17,10 +18,10 @@ loop-i-smaller c = omega arith
 
 pub loop-i-preserved : goal.loop-i-preserved
 loop-i-preserved c = let l = c.loop-i in (
-      omega (arith, c.loop-i-test.true),
-      kinds-more _ l.i l.invariant.1
-          (rw (← c.kind_number.ensures) c.if-kind_number-gt2.false),
-    )
+  omega (arith, c.loop-i-test.true),
+  kinds-more _ l.i l.invariant.1
+      (rw (← c.kind_number.ensures) c.if-kind_number-gt2.false),
+)
 
 pub returns : goal.returns
 returns c = let l = c.loop-i in

@@ -1,7 +1,7 @@
 -- `pattern_c::kinds_listed` meets its contract: the kinds before i are listed. Assumes nothing.
-use Rattle.theory.specs.Prelude.{rules, ◌-◌, ◌≤◌, arith, ◌≡◌, sym, ap, ◌∙◌, true}
+use Rattle.std.specs.Prelude.{◌-◌, ◌≤◌, ◌≡◌}
+use Rattle.theory.specs.Prelude.{true}
 use Rattle.pattern_c.specs.Columns.{kinds_listed}
-use Rattle.pattern_c.specs.Columns.Laws.{kinds-none-listed, kinds-more, kinds-none}
 use Rattle.pattern_c.proofs.kinds_listed.Given as goal
 
 abbrev pub invariant-loop-i : goal.invariant-loop-i

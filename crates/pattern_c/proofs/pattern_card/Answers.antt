@@ -1,5 +1,5 @@
 -- `pattern_c::pattern_card` meets its contract, as `pattern_verdict` does. Assumes nothing.
-use Rattle.theory.specs.Prelude.{rules, ap, ◌∙◌}
+use Rattle.theory.specs.Prelude.{ap, ◌∙◌}
 use Rattle.sketch.specs.declared.Judgement.TheVariants.{Is}
 use Rattle.pattern_c.specs.Numbers.{as_number}
 use Rattle.pattern_c.specs.Numbers.Laws.{counted}

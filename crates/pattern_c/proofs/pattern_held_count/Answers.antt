@@ -1,5 +1,4 @@
 -- `pattern_c::pattern_held_count` meets its contract: the answer is a count. Assumes nothing.
-use borrow.Author.Rules.{rules}
 use Rattle.pattern_c.specs.Numbers.Laws.{counted}
 use Rattle.pattern_c.proofs.pattern_held_count.Goals as goal
 

@@ -1,5 +1,4 @@
 -- `pattern_c::pattern_held_rests` meets its contract: the answer as a count. Assumes nothing.
-use borrow.Author.Rules.{rules}
 use Rattle.pattern_c.specs.Numbers.Laws.{counts}
 use Rattle.pattern_c.proofs.pattern_held_rests.Goals as goal
 

@@ -1,5 +1,4 @@
 -- `pattern_c::pattern_hold` meets its contract: the answer is counted. Assumes nothing.
-use borrow.Author.Rules.{rules}
 use Rattle.pattern_c.specs.Numbers.Laws.{counts}
 use Rattle.pattern_c.proofs.pattern_hold.Goals as goal
 

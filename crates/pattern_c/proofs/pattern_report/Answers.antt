@@ -1,5 +1,4 @@
 -- `pattern_c::pattern_report`
-use borrow.Author.Rules.{rules}
 use Rattle.pattern_c.specs.Numbers.Laws.{counts}
 use Rattle.pattern_c.proofs.pattern_report.Goals as goal
 

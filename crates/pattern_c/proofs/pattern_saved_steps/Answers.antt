@@ -1,5 +1,4 @@
 -- `pattern_c::pattern_saved_steps`
-use borrow.Author.Rules.{rules}
 use Rattle.pattern_c.specs.Numbers.Laws.{counts}
 use Rattle.pattern_c.proofs.pattern_saved_steps.Goals as goal
 

@@ -1,5 +1,5 @@
 -- `pattern_c::pattern_verdict`
-use Rattle.theory.specs.Prelude.{rules, ap, ◌∙◌}
+use Rattle.theory.specs.Prelude.{ap, ◌∙◌}
 use Rattle.pattern_c.specs.Numbers.{as_number}
 use Rattle.pattern_c.specs.Numbers.Laws.{counted}
 use Rattle.pattern_c.proofs.pattern_verdict.Goals as goal

@@ -1,5 +1,5 @@
 -- `pattern_c::pattern_write` meets its contract: the rules of the columns, then what the writer answers of their sheet. Assumes nothing.
-use Rattle.theory.specs.Prelude.{rules, sym, ◌∙◌}
+use Rattle.theory.specs.Prelude.{sym, ◌∙◌}
 use Rattle.sheet.specs.Answer.Laws.{answers-refused}
 use Rattle.pattern_c.specs.Columns.Laws.{columns-refused, columns-taken}
 use Rattle.pattern_c.specs.Numbers.Laws.{counts}

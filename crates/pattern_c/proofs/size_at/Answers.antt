@@ -1,5 +1,5 @@
 -- `pattern_c::size_at` meets its contract. Assumes nothing.
-use Rattle.theory.specs.Prelude.{rules, sym, pos, List·getD-eq-default}
+use Rattle.theory.specs.Prelude.{sym, pos, List·getD-eq-default}
 use Rattle.pattern_c.proofs.size_at.Goals as goal
 
 pub returns-else-i-sizes : goal.returns-else-i-sizes

@@ -1,5 +1,5 @@
 -- `pattern_c::verdict_number`
-use Rattle.theory.specs.Prelude.{rules, sym, ap, ◌∙◌}
+use Rattle.theory.specs.Prelude.{sym, ap, ◌∙◌}
 use Rattle.space.specs.declared.Written.TheVariants.{Done}
 use Rattle.pattern_c.specs.Numbers.{as_number}
 use Rattle.pattern_c.proofs.verdict_number.Goals as goal

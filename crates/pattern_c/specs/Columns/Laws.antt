@@ -1,6 +1,7 @@
 -- The blocks of a sheet that its columns give: each constraint by the lists that reach it, and a block filled from the front. Assumes nothing.
-use Rattle.theory.specs.Prelude.{ℕ, zero, suc, ◌+◌, ◌%◌, ◌≤◌, ◌<◌, le_of_suc-le-suc, add-one, arith, ◌≡◌, refl, sym, ap, ◌∙◌, Bool, true, false, ◌&&◌}
-use Rattle.theory.specs.Prelude.{List, [], ◌∷◌, eq-eqb, ne_eqb, lt-ltb, le-ltb, ltb-true, ltb-false, ltb, ℤ, pos, length, get_or, take, set, length-set}
+use Rattle.std.specs.Prelude.{◌+◌, ◌%◌, ◌≤◌, ◌<◌, ◌≡◌, ◌&&◌, ◌∷◌}
+use Rattle.theory.specs.Prelude.{ℕ, zero, suc, le_of_suc-le-suc, add-one, arith, refl, sym, ap, ◌∙◌, Bool, true, false}
+use Rattle.theory.specs.Prelude.{List, [], eq-eqb, ne_eqb, lt-ltb, le-ltb, ltb-true, ltb-false, ltb, ℤ, pos, length, get_or, take, set, length-set}
 use Rattle.theory.specs.Prelude.{take-suc-set, take_all}
 use Rattle.sheet.specs.declared.Opening.{Opening}
 use Rattle.sheet.specs.declared.Element.{Element}

@@ -1,5 +1,6 @@
 -- No answer is cut at 2^31-1: its items are at most some thousand (`pattern` Counts). Assumes nothing.
-use Rattle.theory.specs.Prelude.{ℕ, ◌<◌, arith, ◌≡◌, List, lt-ltb, pos, length}
+use Rattle.std.specs.Prelude.{◌<◌, ◌≡◌}
+use Rattle.theory.specs.Prelude.{ℕ, arith, List, lt-ltb, pos, length}
 use Rattle.space.specs.declared.Written.TheVariants.{Done}
 use Rattle.sheet.specs.Field.{Field, value}
 use Rattle.pattern.specs.Counts.{AtMost}

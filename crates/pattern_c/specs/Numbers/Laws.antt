@@ -1,5 +1,6 @@
 -- A rule's number with its sign, and a count, in 32 bits. Assumes nothing.
-use Rattle.theory.specs.Prelude.{ℕ, zero, suc, ◌<◌, arith, ◌≡◌, refl, ap, ◌∙◌, List, Option, lt-ltb, ℤ, pos, negsuc, ◌-ℤ◌}
+use Rattle.std.specs.Prelude.{◌<◌, ◌≡◌, ◌-ℤ◌}
+use Rattle.theory.specs.Prelude.{ℕ, zero, suc, arith, refl, ap, ◌∙◌, List, Option, lt-ltb, ℤ, pos, negsuc}
 use Rattle.std.specs.Int.{w32}
 use Rattle.std.proofs.Common.{SFits, to_z, of_z, to_z-of_z}
 use Rattle.space.specs.declared.Written.{Written}

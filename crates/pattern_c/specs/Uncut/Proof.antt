@@ -1,5 +1,6 @@
 -- No number for C is cut: `pattern` Counts and the five verdicts, each far below 2^31. Assumes nothing.
-use Rattle.theory.specs.Prelude.{ℕ, zero, suc, ◌%◌, ◌<◌, ◌≤◌, arith, ◌≡◌, refl, ap, ◌∙◌, Bool, true, false, cond, List}
+use Rattle.std.specs.Prelude.{◌%◌, ◌<◌, ◌≤◌, ◌≡◌}
+use Rattle.theory.specs.Prelude.{ℕ, zero, suc, arith, refl, ap, ◌∙◌, Bool, true, false, cond, List}
 use Rattle.theory.specs.Prelude.{ltb}
 use Rattle.theory.specs.Prelude.{lt-ltb, pos, Option, none, some, length}
 use Rattle.theory.specs.Verdict.{verdict_number}

@@ -1,6 +1,7 @@
 -- The promises of `pattern_write` hold: the columns' own rules, then those of the writer. Assumes nothing.
-use Rattle.theory.specs.Prelude.{ℕ, zero, suc, ◌+◌, arith, ◌≡◌, refl, ap, ◌∙◌, subst, inl, inr, Bool, true, false, List}
-use Rattle.theory.specs.Prelude.{[], ◌∷◌}
+use Rattle.std.specs.Prelude.{◌+◌, ◌≡◌, ◌∷◌}
+use Rattle.theory.specs.Prelude.{ℕ, zero, suc, arith, refl, ap, ◌∙◌, subst, inl, inr, Bool, true, false, List}
+use Rattle.theory.specs.Prelude.{[]}
 use Rattle.theory.specs.Prelude.{ℤ, length, length-append, add-one}
 use Rattle.sheet.specs.Field.{Field, value, refused}
 use Rattle.sheet.specs.Field.Laws.{refused-value}
