@@ -47,7 +47,9 @@ pub extern "C" fn pattern_write(
         (columns_field opening n e kinds.now radii.now firsts.now seconds.now maps.now
         sizes.now) out.old result out.new }
 {
-    pattern_c::pattern_write(opening, n, e, kinds, radii, firsts, seconds, maps, sizes, out)
+    pattern_c::pattern_write(
+        opening, n, e, kinds, radii, firsts, seconds, maps, sizes, out,
+    )
 }
 
 // Whether a sheet is over: the number of the first constraint that makes it so and the smallest set, element i as bit i;
