@@ -2,7 +2,7 @@
 
 #![tactic(auto)]
 
-ghost use Rattle.std.specs.Prelude.{◌≡◌, ◌+◌, ◌*◌, ◌≤◌, ◌++◌, length, take, drop, IfOk};
+ghost use Rattle.std.specs.Prelude.{◌≡◌, ◌+◌, ◌*◌, ◌≤◌, ◌++◌, length, take, drop, IfOk, OnErr};
 ghost use Rattle.io.specs.Counts.{IsPrefixLen};
 ghost use Rattle.console.specs.Numbers.{numbers_for};
 ghost use Rattle.console.specs.Refused.{refused_line};
@@ -58,7 +58,8 @@ pub fn print(rt: &(impl Print + Eprint + Alloc), written: Written, out: &[u8]) -
 
 // Reads until the buffer is full or the input ends; answers how many bytes stand at the front of the buffer.
 pub fn read(input: &mut impl Read, buffer: &mut [u8]) -> io::Result<usize>
-    ensures { IfOk result (λ count. IsPrefixLen count buffer.new) }
+    ensures ok { IfOk result (λ count. IsPrefixLen count buffer.new) }
+    ensures err { OnErr result (length buffer.new ≡ length buffer.old) }
 {
     let mut count: usize = 0;
     while count < buffer.len() {
@@ -73,7 +74,8 @@ pub fn read(input: &mut impl Read, buffer: &mut [u8]) -> io::Result<usize>
 
 // Reads the file of a name, as `read` does.
 pub fn read_file(rt: &impl Files, name: &str, buffer: &mut [u8]) -> io::Result<usize>
-    ensures { IfOk result (λ count. IsPrefixLen count buffer.new) }
+    ensures ok { IfOk result (λ count. IsPrefixLen count buffer.new) }
+    ensures err { OnErr result (length buffer.new ≡ length buffer.old) }
 {
     let mut file = File::open(rt, name)?;
     read(&mut file, buffer)
