@@ -11,7 +11,7 @@ returns-then-core_of-ne0 c = c.judged_told.ensures
 pub returns-then-h : goal.returns-then-h
 returns-then-h c = let (d, few) = c.requires in
     let k = (c.core_of.ensures.1 _ d.sound.simple d.near_is).0 in
-    few-peeled _ d.sound (omega (arith, c.if-h.true, counted d)) k (omega (arith, c.if-core_of-ne0.false)) few
+    few-peeled _ d.sound (omega (arith, c.if-h.true, counted d)) k (omega arith) few
 
 pub returns-in-First : goal.returns-in-First
 returns-in-First c = first-tells _ c.requires.0.sound

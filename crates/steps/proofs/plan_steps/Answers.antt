@@ -20,7 +20,7 @@ returns-then-number-eq0 c =
 pub steps_of-steps-requires : goal.steps_of-steps-requires
 steps_of-steps-requires c =
     let sound = c.requires.sound in
-    let found = found-plan _ c.judge_on-found.ensures sound (λ v. c.if-number-eq0.false (c.number.ensures ∙ v)) in
+    let found = found-plan _ c.judge_on-found.ensures sound (λ v. omega (arith, c.number.ensures)) in
     let few = room c.args.h c.args.start.now sound (counted c.requires) found.not_over (plan_merged (graph_in c.args.h c.args.start.now) sound found.run_is) in
     (few.1, few.3)
 
@@ -28,7 +28,7 @@ pub returns : goal.returns
 unfolding plan_steps
 returns c =
     let sound = c.requires.sound in
-    let found = found-plan _ c.judge_on-found.ensures sound (λ v. c.if-number-eq0.false (c.number.ensures ∙ v)) in
+    let found = found-plan _ c.judge_on-found.ensures sound (λ v. omega (arith, c.number.ensures)) in
     as-listed
     (listed-are c.args.h c.args.start.now c.args.sizes.now sound (counted c.requires) found.not_over (plan_merged (graph_in c.args.h c.args.start.now) sound found.run_is)
     c.steps_of-steps.ensures)
