@@ -133,9 +133,9 @@ pub fn taking(len: usize, rule: u8, count: usize) -> Taken
     }
 }
 
-pub fn record_at(l: Listing, i: usize) -> Step
+pub fn record_at(l: &Listing, i: usize) -> Step
     requires { i < 62 }
-    ensures { result ≡ record_at l i }
+    ensures { result ≡ record_at l.now i }
 {
     l.steps[i]
 }
@@ -148,7 +148,7 @@ pub fn fill(out: &mut [Step], l: Listing) -> Written
     let n = t.n;
     let mut i = 0;
     while i < n {
-        out[i] = record_at(l, i);
+        out[i] = record_at(&l, i);
         i = i + 1;
     }
     t.answer
@@ -162,11 +162,12 @@ pub struct Filled {
 }
 
 // The same with a list of the function's own, lent whole: a caller of this one makes no reference to a record.
-pub fn fill_on(l: Listing, mut old: [Step; STEPS]) -> Filled
+pub fn fill_on(l: Listing, old: [Step; STEPS]) -> Filled
     ensures { result ≡ filled_of old l }
 {
-    let answer = fill(&mut old, l);
-    Filled { answer, list: old }
+    let mut out = old;
+    let answer = fill(&mut out, l);
+    Filled { answer, list: out }
 }
 
 // ---- as numbers, for C
@@ -210,9 +211,9 @@ fn put_record(out: &mut [u64], at: usize, s: Step) -> usize
 }
 
 // The numbers of the first `count` records.
-fn put_records(out: &mut [u64], f: &Filled, count: usize) -> usize
+fn put_records(out: &mut [u64], f: Filled, count: usize) -> usize
     requires { count ≤ 62 }
-    ensures { Put out.old 0 (step_numbers (take count f.now.list)) result out.new }
+    ensures { Put out.old 0 (step_numbers (take count f.list)) result out.new }
 {
     let mut next: usize = 0;
     let mut i: usize = 0;
@@ -242,6 +243,6 @@ pub fn put_numbers(f: Filled, out: &mut [u64]) -> Written
     if out.len() < 7 * count {
         return Written::Refused(17);
     }
-    let next = put_records(out, &f, count);
+    let next = put_records(out, f, count);
     Written::Done(next)
 }

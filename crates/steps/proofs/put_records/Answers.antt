@@ -18,14 +18,14 @@ loop-i-init c = (omega arith, start _)
 pub put_record-next-requires : goal.put_record-next-requires
 put_record-next-requires c =
     let l = c.loop-i in
-    let xs = take c.args.count c.args.f.now.list in
-    omega (arith, place puts l.invariant.1, length-numbers xs, length-take c.args.count c.args.f.now.list, c.requires)
+    let xs = take c.args.count c.args.f.list in
+    omega (arith, place puts l.invariant.1, length-numbers xs, length-take c.args.count c.args.f.list, c.requires)
 
 pub loop-i-preserved : goal.loop-i-preserved
 loop-i-preserved c =
     let l = c.loop-i in
-    let long : c.args.count ≤ length c.args.f.now.list = omega arith in
-    (omega arith, put_next puts (numbers-next c.args.f.now.list c.args.count l.i _ long c.loop-i-test.true) l.invariant.1 c.put_record-next.ensures)
+    let long : c.args.count ≤ length c.args.f.list = omega arith in
+    (omega arith, put_next puts (numbers-next c.args.f.list c.args.count l.i _ long c.loop-i-test.true) l.invariant.1 c.put_record-next.ensures)
 
 pub returns : goal.returns
-returns c = put_last puts (numbers-none c.args.f.now.list c.args.count c.loop-i.i c.loop-i-test.false) c.loop-i.invariant.1
+returns c = put_last puts (numbers-none c.args.f.list c.args.count c.loop-i.i c.loop-i-test.false) c.loop-i.invariant.1
