@@ -274,8 +274,7 @@ pub fn step_numbers(bytes: &[u8], out: &mut [u64]) -> Written
     ensures { Answers (numbers_field (steps_field bytes.now)) out.old result out.new }
 {
     let l = plan_listing(bytes);
-    let list = engine::no_steps();
-    let filled = steps::fill_on(l, list);
+    let filled = steps::fill_on(l, l.steps);
     steps::put_numbers(filled, out)
 }
 
@@ -284,8 +283,7 @@ pub fn saved_step_numbers(bytes: &[u8], plan: &[u16], out: &mut [u64]) -> Writte
     ensures { Answers (numbers_field (saved_steps_field bytes.now plan.now)) out.old result out.new }
 {
     let l = saved_listing(bytes, plan);
-    let list = engine::no_steps();
-    let filled = steps::fill_on(l, list);
+    let filled = steps::fill_on(l, l.steps);
     steps::put_numbers(filled, out)
 }
 

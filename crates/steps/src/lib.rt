@@ -133,9 +133,9 @@ pub fn taking(len: usize, rule: u8, count: usize) -> Taken
     }
 }
 
-pub fn record_at(l: &Listing, i: usize) -> Step
+pub fn record_at(l: Listing, i: usize) -> Step
     requires { i < 62 }
-    ensures { result ≡ record_at l.now i }
+    ensures { result ≡ record_at l i }
 {
     l.steps[i]
 }
@@ -148,7 +148,7 @@ pub fn fill(out: &mut [Step], l: Listing) -> Written
     let n = t.n;
     let mut i = 0;
     while i < n {
-        out[i] = record_at(&l, i);
+        out[i] = record_at(l, i);
         i = i + 1;
     }
     t.answer

@@ -1,8 +1,10 @@
 -- `pattern::saved_step_numbers` meets its contract: the numbers of the list that was filled. Assumes nothing.
-use Rattle.pattern.specs.Entries.Steps.{listed-numbers}
+use Rattle.std.specs.Prelude.{◌≡◌}
+use Rattle.theory.specs.Prelude.{arith, length}
+use Rattle.pattern.specs.Entries.Steps.{listed-numbers-of}
 use Rattle.pattern.proofs.saved_step_numbers.Goals as goal
 
 pub returns : goal.returns
-returns c = let f = c in
-    listed-numbers f.saved_listing-l.ensures f.no_steps-list.ensures f.fill_on-filled.ensures
-    c.put_numbers.ensures
+returns c =
+    let long : length c.saved_listing-l.result.steps ≡ 62 = omega arith in
+    listed-numbers-of c.saved_listing-l.result.steps c.saved_listing-l.ensures long c.fill_on-filled.ensures c.put_numbers.ensures

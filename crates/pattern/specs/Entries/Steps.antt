@@ -43,11 +43,16 @@ module _ (what : SizedGraph → Field (List Step)) (bytes : List ℕ) where
       ∙ ap (λ (g : SizedGraph). by_rule (over_fault g.graph) (what g)) (sym f.sized_read)))
 
 -- the numbers of a list of 62 that is filled
+pub listed-numbers-of : {x : Field (List Step)} {l : Listing} (old : List Step) {f : Filled} {space left : List ℕ} {r : Written} → Listed x l
+    → length old ≡ 62 → f ≡ filled_of old l → Answers (numbers_from f.list f.answer) space r left → Answers (numbers_field x) space r left
+unfolding filled_of
+listed-numbers-of {x} {l} old {f} {space} {left} {r} is long e h =
+    let w = fills old is (refl, refl) in
+    subst (λ (y : Field (List ℕ)). Answers y space r left)
+    (ap (λ (g : Filled). numbers_from g.list g.answer) e ∙ numbers-are is.fit long w) h
+
+-- of a list that was blank
 pub listed-numbers : {x : Field (List Step)} {l : Listing} {old : List Step} {f : Filled} {space left : List ℕ} {r : Written} → Listed x l
     → old ≡ replicate 62 blank_step → f ≡ filled_of old l → Answers (numbers_from f.list f.answer) space r left
     → Answers (numbers_field x) space r left
-unfolding filled_of
-listed-numbers {x} {l} {old} {f} {space} {left} {r} is blank e h =
-    let w = fills old is (refl, refl) in
-    subst (λ (y : Field (List ℕ)). Answers y space r left)
-    (ap (λ (g : Filled). numbers_from g.list g.answer) e ∙ numbers-are is.fit (ap length blank) w) h
+listed-numbers is blank e h = listed-numbers-of _ is (ap length blank) e h
