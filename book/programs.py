@@ -7,7 +7,7 @@ import words
 from meanings import Kit, Local, Scope
 
 RESERVED = set(
-    "as break const continue crate else enum extern false fn for ghost if impl in let loop match mod move mut pub "
+    "_ as break const continue crate else enum extern false fn for ghost if impl in let loop match mod move mut pub "
     "ref return "
     "self Self static struct super trait true type unsafe use where while requires ensures".split()
 )
@@ -125,7 +125,7 @@ class Programs(antt.Reader):
             t = toks[i]
             if t.start in own:
                 self.mark(t.start, t.end, "decl", own[t.start])
-            if i in (1, 2) and t.text == "<" and toks[0].text in ("impl", "struct", "enum"):
+            if i in (1, 2) and t.text == "<" and toks[0].text in ("impl", "struct", "enum", "type"):
                 i = self.generics(toks, i, scope)
                 continue
             if t.start not in own and t.kind == "name" and t.text not in RESERVED:
@@ -243,7 +243,7 @@ class Programs(antt.Reader):
                 i = self.let_code(toks, i + 1, here, t.text)
             elif t.text == "." and after is not None and after.kind in ("name", "number"):
                 if after.kind == "name":
-                    self.member(after, i + 2 < len(toks) and toks[i + 2].text == "(")
+                    self.member(after, i + 2 < len(toks) and toks[i + 2].text in ("(", "::"))
                 i += 2
             elif t.kind != "name" or t.text in RESERVED:
                 self.last = here.find("self") if t.text == "self" else None

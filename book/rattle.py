@@ -64,6 +64,8 @@ class Reader(Programs):
                 self.uses.append((toks[i : end + 1], i > 0 and toks[i - 1].text == "ghost"))
             elif text in ("struct", "enum"):
                 end = self.declare_type(toks, i, begin)
+            elif text == "type" and owner is None:
+                end = self.declare_alias(toks, i, begin)
             elif text == "impl":
                 inside = until(toks, i, "{")
                 end = closing(toks, inside)
@@ -103,6 +105,15 @@ class Reader(Programs):
         decl.type, decl.last = f"{decl.kind} {decl.name}", toks[end].line
         self.heads.append((decl, toks[i:end]))
         self.declare_members(decl, toks[inside + 1 : end])
+        return end
+
+    def declare_alias(self, toks, i, begin):
+        """A name for another type, which is shown as a type of its own that has no member."""
+        decl = self.file.declare(toks[i + 1].text, "struct", toks[i + 1])
+        end = until(toks, i, ";")
+        decl.marks = {x.text for x in toks[begin:i]}
+        decl.type, decl.last = f"type {decl.name}", toks[end].line
+        self.heads.append((decl, toks[i:end]))
         return end
 
     def declare_members(self, decl, toks):

@@ -4,8 +4,8 @@ use Rattle.std.specs.Prelude.{ℕ, List, [], length}
 use Rattle.theory.specs.Merge.{Merge, final}
 use Rattle.theory.specs.Plan.{plan_of}
 use Rattle.theory.specs.Graph.{Graph, SizedGraph, finding_of, list_verdict, steps_of}
-use Rattle.theory.specs.declared.Finding.{Finding}
-use Rattle.theory.specs.declared.Finding.TheVariants.{Fine, First}
+use Rattle.theory.specs.Finding.{Finding}
+use Rattle.theory.specs.Finding.{Fine, First}
 use Rattle.theory.specs.declared.Verdict.{Verdict}
 use Rattle.sheet.specs.Field.{Field, value}
 use Rattle.sheet.specs.Rules.{or_else}

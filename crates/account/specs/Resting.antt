@@ -3,8 +3,8 @@ use Rattle.std.specs.Prelude.{ℕ, zero, suc, List, [], ◌∷◌, length}
 use Rattle.theory.specs.Merge.{final}
 use Rattle.theory.specs.Plan.{plan_of}
 use Rattle.theory.specs.Graph.{Graph, finding_of}
-use Rattle.theory.specs.declared.Finding.{Finding}
-use Rattle.theory.specs.declared.Finding.TheVariants.{Fine, First}
+use Rattle.theory.specs.Finding.{Finding}
+use Rattle.theory.specs.Finding.{Fine, First}
 use Rattle.theory.specs.Rests.{rests_on}
 use Rattle.rests.specs.Words.{word}
 pub mod Pairs

@@ -4,6 +4,7 @@
 #![tactic(auto)]
 
 ghost use Rattle.std.specs.Prelude.{◌≡◌, [], ◌∷◌, ◌+◌, ◌≤◌, ◌<◌, ◌^◌, length, take};
+ghost use Rattle.theory.specs.Rule.{by_number};
 ghost use Rattle.theory.specs.Constraints.{NotOver};
 ghost use Rattle.graph.specs.Lent.{graph_in, sized_in, Sound, Drawn};
 ghost use Rattle.merges.specs.Run.{run_in, Blank, Merged};
@@ -17,9 +18,8 @@ ghost use Rattle.account.specs.Account.{report_with, report_of, saved_field};
 ghost use Rattle.account.specs.Saved.{SavedIn};
 
 use graph::Head;
-use plans::Checked;
-use space::{Written, put_number64};
-use theory::{CLUSTERS, CONSTRAINTS, ELEMENTS, JOINTS, PARTS, Verdict};
+use space::put_item;
+use theory::{CLUSTERS, CONSTRAINTS, ELEMENTS, JOINTS, PARTS, Rule, Verdict};
 
 // The report of a list of merges of the constraints in lent arrays, with the given verdict.
 fn put_list(
@@ -32,11 +32,11 @@ fn put_list(
     joints: &[u64; JOINTS],
     slots: &[u64; CLUSTERS],
     out: &mut [u8],
-) -> Written
+) -> Result<usize, Rule>
     requires { Sound h.n (take h.e start.now) × (length (take h.e start.now) ≡ h.e) × NotOver (take h.e start.now)
         × Merged (take h.e start.now) (run_in count parts.now joints.now slots.now) }
     ensures { (m : Merged (take h.e start.now) (run_in count parts.now joints.now slots.now))
-        → (result ≡ answer (report_with (sized_in h start.now sizes.now) (verdict) m.p) out.old)
+        → (by_number result ≡ answer (report_with (sized_in h start.now sizes.now) (verdict) m.p) out.old)
         × (out.new ≡ after (report_with (sized_in h start.now sizes.now) (verdict) m.p) out.old) }
 {
     let mut low = [0u64; CLUSTERS];
@@ -54,28 +54,33 @@ pub fn report(
     start: &[u64; CONSTRAINTS],
     sizes: &[i32; CONSTRAINTS],
     out: &mut [u8],
-) -> Written
+) -> Result<usize, Rule>
     requires { Drawn h near.now start.now }
-    ensures { (result ≡ answer (report_of (sized_in h start.now sizes.now)) out.old)
+    ensures { (by_number result ≡ answer (report_of (sized_in h start.now sizes.now)) out.old)
         × (out.new ≡ after (report_of (sized_in h start.now sizes.now)) out.old) }
 {
     let mut slots = [0u64; CLUSTERS];
     let mut parts = [0u16; PARTS];
     let mut joints = [0u64; JOINTS];
-    let found = judge::judge_on(h, near, start, &mut slots, &mut parts, &mut joints);
-    let verdict = found.verdict;
-    if verdict.number() == 0 {
-        return report::write_over_report(out, h.n, h.e, found.first, found.set);
+    match judge::judge_on(h, near, start, &mut slots, &mut parts, &mut joints) {
+        Ok(found) => put_list(
+            h,
+            start,
+            sizes,
+            found.verdict,
+            found.steps,
+            &parts,
+            &joints,
+            &slots,
+            out,
+        ),
+        Err(excess) => report::write_over_report(out, h.n, h.e, excess.constraint, excess.set),
     }
-    let count = found.steps;
-    put_list(
-        h, start, sizes, verdict, count, &parts, &joints, &slots, out,
-    )
 }
 
 // ---- a saved plan
 
-// The check of a saved plan, its merges made in blank arrays that the caller lends: 11, then 12 to 16.
+// The check of a saved plan, its merges made in blank arrays that the caller lends: how many there are; 11, then 12 to 16.
 pub fn check_saved(
     h: Head,
     near: &[u64; ELEMENTS],
@@ -84,24 +89,19 @@ pub fn check_saved(
     slots: &mut [u64; CLUSTERS],
     parts: &mut [u16; PARTS],
     joints: &mut [u64; JOINTS],
-) -> Checked
+) -> Result<usize, Rule>
     requires drawn { Drawn h near.now start.now }
     requires lent { Blank slots.old parts.old joints.old }
     ensures { SavedIn (graph_in h start.now) plan.now result parts.new joints.new
         slots.new }
 {
     if 2 * h.n < h.e + 3 {
-        return Checked { rule: 11, steps: 0 };
+        return Err(Rule::OverSheet);
     }
     let checked = plans::check_plan(start, h.e, plan, slots, parts, joints);
-    let over = judge::over_after(h, near, start, checked.steps);
-    if over != 0 {
-        return Checked {
-            rule: over,
-            steps: 0,
-        };
-    }
-    checked
+    judge::check_over_after(h, near, start, checked.steps)?;
+    checked.outcome?;
+    Ok(checked.steps)
 }
 
 // The check of a saved plan, and the report for it: 11, then 12 to 16, then 17.
@@ -112,20 +112,15 @@ pub fn check_plan(
     sizes: &[i32; CONSTRAINTS],
     plan: &[u16],
     out: &mut [u8],
-) -> Written
+) -> Result<usize, Rule>
     requires { Drawn h near.now start.now }
     ensures { Answers (by_rule (over_fault (graph_in h start.now))
-        (saved_field (sized_in h start.now sizes.now) plan.now)) out.old result out.new }
+        (saved_field (sized_in h start.now sizes.now) plan.now)) out.old (by_number result) out.new }
 {
     let mut slots = [0u64; CLUSTERS];
     let mut parts = [0u16; PARTS];
     let mut joints = [0u64; JOINTS];
-    let checked = check_saved(h, near, start, plan, &mut slots, &mut parts, &mut joints);
-    let rule = checked.rule;
-    if rule != 0 {
-        return Written::Refused(rule);
-    }
-    let count = checked.steps;
+    let count = check_saved(h, near, start, plan, &mut slots, &mut parts, &mut joints)?;
     let verdict = engine::settle(&joints, &slots, count, h.n, h.e, h.lines);
     put_list(
         h, start, sizes, verdict, count, &parts, &joints, &slots, out,
@@ -140,9 +135,9 @@ pub fn clusters(
     near: &[u64; ELEMENTS],
     start: &[u64; CONSTRAINTS],
     out: &mut [u64],
-) -> Written
+) -> Result<usize, Rule>
     requires { Drawn h near.now start.now }
-    ensures { (result ≡ answer (final_clusters (graph_in h start.now)) out.old)
+    ensures { (by_number result ≡ answer (final_clusters (graph_in h start.now)) out.old)
         × (out.new ≡ after (final_clusters (graph_in h start.now)) out.old) }
 {
     let mut slots = [0u64; CLUSTERS];
@@ -162,8 +157,8 @@ fn put_pair(out: &mut [u64], at: usize, x: u64, low: u64, high: u64) -> usize
     if x == 0 {
         return at;
     }
-    let a1 = put_number64(out, at, low);
-    put_number64(out, a1, high)
+    let a1 = put_item(out, at, low);
+    put_item(out, a1, high)
 }
 
 // Those of the clusters that live among the first `used` slots, by number.
@@ -179,10 +174,8 @@ fn put_pairs(
         out.new }
 {
     let mut next: usize = 0;
-    let mut c: usize = 0;
-    while c < used {
+    for c in 0..used {
         next = put_pair(out, next, slots[c], low[c], high[c]);
-        c += 1;
     }
     next
 }
@@ -194,20 +187,18 @@ fn put_rests(
     high: &[u64; CLUSTERS],
     used: usize,
     out: &mut [u64],
-) -> Written
+) -> Result<usize, Rule>
     requires { (used ≤ 192) × (length slots.now ≡ 192) × (length low.now ≡ 192) × (length high.now ≡ 192) }
-    ensures { (result ≡ answer (pairs_in (take used slots.now) (take used low.now) (take used high.now))
+    ensures { (by_number result ≡ answer (pairs_in (take used slots.now) (take used low.now) (take used high.now))
         out.old)
         × (out.new ≡ after (pairs_in (take used slots.now) (take used low.now) (take used high.now))
         out.old) }
 {
     let count = put_pairs(&mut out[..0], slots, low, high, used);
     if out.len() < count {
-        Written::Refused(17)
-    } else {
-        let written = put_pairs(out, slots, low, high, used);
-        Written::Done(written)
+        return Err(Rule::NoRoom);
     }
+    Ok(put_pairs(out, slots, low, high, used))
 }
 
 // What the final clusters of a sheet rest on, two words each, by number; none of an over sheet.
@@ -216,22 +207,19 @@ pub fn rests(
     near: &[u64; ELEMENTS],
     start: &[u64; CONSTRAINTS],
     out: &mut [u64],
-) -> Written
+) -> Result<usize, Rule>
     requires { Drawn h near.now start.now }
-    ensures { (result ≡ answer (rest_numbers (graph_in h start.now)) out.old)
+    ensures { (by_number result ≡ answer (rest_numbers (graph_in h start.now)) out.old)
         × (out.new ≡ after (rest_numbers (graph_in h start.now)) out.old) }
 {
     let mut slots = [0u64; CLUSTERS];
     let mut parts = [0u16; PARTS];
     let mut joints = [0u64; JOINTS];
-    let found = judge::judge_on(h, near, start, &mut slots, &mut parts, &mut joints);
-    let name = found.verdict;
-    if name.number() == 0 {
-        return Written::Done(0);
-    }
-    let steps = found.steps;
+    let Ok(found) = judge::judge_on(h, near, start, &mut slots, &mut parts, &mut joints) else {
+        return Ok(0);
+    };
     let mut low = [0u64; CLUSTERS];
     let mut high = [0u64; CLUSTERS];
-    rests::carry(&parts, h.e, steps, &mut low, &mut high);
-    put_rests(&slots, &low, &high, h.e + steps, out)
+    rests::carry(&parts, h.e, found.steps, &mut low, &mut high);
+    put_rests(&slots, &low, &high, h.e + found.steps, out)
 }

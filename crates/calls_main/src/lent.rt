@@ -1,16 +1,17 @@
 // The calls that take lent space, filled with 170 before, or a sketch by value.
 use crate::said::{
-    say, say_bytes, say_judgement, say_longs, say_sheet, say_shorts, say_signed, say_written,
+    say, say_bytes, say_judgement, say_longs, say_number, say_sheet, say_shorts, say_signed,
+    say_written,
 };
 use crate::text::{constraint_of, least, number, some};
-use space::Written;
+use sheet::{Constraint, Element, Kind, Opening, Sheet, Size};
 use std::io;
 use steps::{Filled, Listing};
-use theory::{ELEMENTS, JointKind, STEPS, Step, Ways};
+use theory::{CONSTRAINTS, ELEMENTS, JointKind, Rule, STEPS, Step, Ways};
 
 // ---- bytes
 
-fn in_bytes(entry: u8, numbers: &[u16], bytes: &[u8], out: &mut [u8]) -> Written {
+fn in_bytes(entry: u8, numbers: &[u16], bytes: &[u8], out: &mut [u8]) -> Result<usize, Rule> {
     match entry {
         b'w' => pattern::rewrite(bytes, out),
         b'r' => pattern::report(bytes, out),
@@ -89,9 +90,9 @@ pub fn lend_shorts(
 
 // ---- 64-bit numbers
 
-// A list of 62 marked records, filled with blank ones, as many as are counted, or refused by a rule; its first records
-// then, as numbers.
-fn fill(rule: usize, count: usize, out: &mut [u64]) -> Written {
+// A list of 62 marked records, filled with blank ones, as many as are counted, or left where a rule's number refuses; its first records then, as
+// numbers.
+fn fill(to: &impl Print, rule: usize, count: usize, out: &mut [u64]) -> io::Result<()> {
     let mark = Step {
         made: 170,
         i: 170,
@@ -101,28 +102,34 @@ fn fill(rule: usize, count: usize, out: &mut [u64]) -> Written {
         kind: JointKind::Lll,
         ways: Ways::Known(170),
     };
+    let marked = [mark; STEPS];
     let steps = engine::no_steps();
-    let listing = Listing {
-        rule: (rule % 256) as u8,
-        count,
-        steps,
-    };
-    let filled = steps::fill_on(listing, [mark; STEPS]);
-    let list = filled.list;
-    let answer = Written::Done(out.len() / 7);
-    steps::put_numbers(Filled { answer, list }, out);
-    filled.answer
+    let filled = steps::fill_on(Listing { count, steps }, marked);
+    let answer = Ok(out.len() / 7);
+    if rule % 256 == 0 {
+        let list = filled.list;
+        let _ = steps::put_numbers(Filled { answer, list }, out);
+        return say_written(to, filled.answer);
+    }
+    let _ = steps::put_numbers(
+        Filled {
+            answer,
+            list: marked,
+        },
+        out,
+    );
+    say_number(to, b"refused ", (rule % 256) as u64)?;
+    say(to, b" ")
 }
 
-fn in_longs(entry: u8, numbers: &[u16], bytes: &[u8], out: &mut [u64]) -> Written {
+fn in_longs(entry: u8, bytes: &[u8], out: &mut [u64]) -> Result<usize, Rule> {
     match entry {
         b'o' => pattern::over(bytes, out),
         b'c' => pattern::clusters(bytes, out),
         b'i' => pattern::initial(bytes, out),
         b'q' => pattern::rests(bytes, out),
         b'E' => pattern::held_rests_in(bytes, out),
-        b'T' => pattern::step_numbers(bytes, out),
-        _ => fill(number(numbers, 0), number(numbers, 1), out),
+        _ => pattern::step_numbers(bytes, out),
     }
 }
 
@@ -133,7 +140,10 @@ fn on_longs(
     bytes: &[u8],
     out: &mut [u64],
 ) -> io::Result<()> {
-    say_written(to, in_longs(entry, numbers, bytes, out))?;
+    match entry {
+        b't' => fill(to, number(numbers, 0), number(numbers, 1), out)?,
+        _ => say_written(to, in_longs(entry, bytes, out))?,
+    }
     say_longs(to, out)
 }
 
@@ -191,11 +201,26 @@ pub fn lend_columns(to: &impl Print, room: usize, numbers: &[u16], bytes: &[u8])
 
 // ---- a held sketch
 
+// The sketch that is asked where bytes stand for no sheet: one of no element.
+fn blank() -> Sheet {
+    let none = Constraint {
+        first: 0,
+        second: 0,
+        size: Size::Missing,
+    };
+    Sheet {
+        opening: Opening::Pf01,
+        n: 0,
+        e: 0,
+        elements: [Element { kind: Kind::Point }; ELEMENTS],
+        constraints: [none; CONSTRAINTS],
+    }
+}
+
 // Asked and placed in a sketch by value, by the number told.
 pub fn by_value(to: &impl Print, told: usize, numbers: &[u16], bytes: &[u8]) -> io::Result<()> {
     let c = constraint_of(numbers);
-    let read = pattern::read(bytes);
-    let sketch = read.sheet;
+    let sketch = pattern::read(bytes).unwrap_or(blank());
     say_judgement(to, sketch::asking(sketch, c))?;
     let placed = sketch::placing(sketch, c, told);
     let answer = placed.answer;
@@ -213,7 +238,7 @@ fn in_record(
     lent: &mut [u8],
 ) -> io::Result<()> {
     let c = constraint_of(numbers);
-    pattern::hold_in(bytes, lent);
+    let _ = pattern::hold_in(bytes, lent);
     say_judgement(to, pattern::ask_in(lent, c))?;
     say_judgement(to, pattern::place_in(lent, c, told))?;
     say_bytes(to, false, lent)

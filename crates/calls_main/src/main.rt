@@ -12,7 +12,6 @@ mod text;
 use crate::lent::{by_value, lend_bytes, lend_columns, lend_longs, lend_shorts, part, record};
 use crate::said::{say, say_bytes, say_number, say_reading, say_signed, say_written};
 use crate::text::{byte, list, number, short};
-use space::Written;
 use std::io;
 
 // A call, by its letter.
@@ -35,7 +34,7 @@ fn call(
             say_bytes(to, true, &lines)
         }
         b'R' => {
-            console::print(rt, Written::Refused((room % 256) as u8), bytes)?;
+            console::refuse(rt, (room % 256) as u8)?;
             say(to, b"printed")
         }
         b'S' => {

@@ -1,9 +1,7 @@
 // What is said of an answer. Each goes to the file that is named first.
-use reader::{Outcome, Reading};
 use sheet::Sheet;
-use sketch::Judgement;
-use space::Written;
 use std::io;
+use theory::{Rule, Verdict};
 
 pub fn say(to: &impl Print, text: &[u8]) -> io::Result<()> {
     to.write_all(text)
@@ -14,18 +12,18 @@ pub fn say_number(to: &impl Print, text: &[u8], n: u64) -> io::Result<()> {
     to.print(n)
 }
 
-pub fn say_written(to: &impl Print, w: Written) -> io::Result<()> {
+pub fn say_written(to: &impl Print, w: Result<usize, Rule>) -> io::Result<()> {
     match w {
-        Written::Done(n) => say_number(to, b"done ", n as u64)?,
-        Written::Refused(k) => say_number(to, b"refused ", k as u64)?,
+        Ok(n) => say_number(to, b"done ", n as u64)?,
+        Err(rule) => say_number(to, b"refused ", u64::from(rule.number()))?,
     }
     say(to, b" ")
 }
 
-pub fn say_judgement(to: &impl Print, j: Judgement) -> io::Result<()> {
+pub fn say_judgement(to: &impl Print, j: Result<Verdict, Rule>) -> io::Result<()> {
     match j {
-        Judgement::Is(v) => say_number(to, b"verdict ", v.number() as u64)?,
-        Judgement::Refused(k) => say_number(to, b"refused ", k as u64)?,
+        Ok(v) => say_number(to, b"verdict ", u64::from(v.number()))?,
+        Err(rule) => say_number(to, b"refused ", u64::from(rule.number()))?,
     }
     say(to, b" ")
 }
@@ -101,7 +99,7 @@ fn say_sheet_on(to: &impl Print, s: Sheet, out: &mut [u8]) -> io::Result<()> {
     let written = pattern::write(s, out);
     say_written(to, written)?;
     match written {
-        Written::Done(n) if n <= out.len() => say_bytes(to, false, &out[..n]),
+        Ok(n) if n <= out.len() => say_bytes(to, false, &out[..n]),
         _ => Ok(()),
     }
 }
@@ -111,12 +109,12 @@ pub fn say_sheet(to: &impl Print, s: Sheet) -> io::Result<()> {
     say_sheet_on(to, s, &mut out)
 }
 
-pub fn say_reading(to: &impl Print, r: Reading) -> io::Result<()> {
-    match r.outcome {
-        Outcome::Accepted => {
+pub fn say_reading(to: &impl Print, r: Result<Sheet, Rule>) -> io::Result<()> {
+    match r {
+        Ok(sheet) => {
             say(to, b"accepted ")?;
-            say_sheet(to, r.sheet)
+            say_sheet(to, sheet)
         }
-        Outcome::Refused(k) => say_number(to, b"refused ", k as u64),
+        Err(rule) => say_number(to, b"refused ", u64::from(rule.number())),
     }
 }

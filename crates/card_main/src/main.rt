@@ -2,10 +2,9 @@
 
 #![tactic(auto)]
 
-use space::Written;
 use std::io;
 
 fn main(rt: HostRuntime) -> io::Result<()> {
     let lines = card_counts::lines();
-    console::print(&rt, Written::Done(162), &lines)
+    console::print(&rt, Ok(162), &lines)
 }

@@ -5,14 +5,14 @@ use Rattle.std.proofs.Math.Option.{Option, none, some}
 use Rattle.theory.specs.Merge.{final}
 use Rattle.theory.specs.Plan.{plan_of}
 use Rattle.theory.specs.Graph.{Graph}
-use Rattle.space.specs.declared.Written.{Written}
-use Rattle.space.specs.declared.Written.TheVariants.{Done, Refused as Not}
+use Rattle.space.specs.Written.{Written}
+use Rattle.space.specs.Written.{Done, Refused as Not}
 use Rattle.space.specs.Space.{answer, after}
 use Rattle.sheet.specs.Field.{Field, value, refused}
 use Rattle.sheet.specs.Answer.{by_rule}
 use Rattle.chain.specs.Layers.{chain_of}
-use Rattle.chain.specs.declared.Answer.{Answer}
-use Rattle.chain.specs.declared.Answer.TheVariants.{Run, None, Refused}
+use Rattle.chain.specs.Says.{Answer}
+use Rattle.chain.specs.Says.{Run, None, Refused}
 pub mod Laws
 pub mod Finals
 

@@ -7,10 +7,11 @@ ghost use Rattle.io.specs.Counts.{IsPrefixLen};
 ghost use Rattle.console.specs.Numbers.{numbers_for};
 ghost use Rattle.console.specs.Refused.{refused_line};
 
-use space::{Written, put_byte, put_decimal, put_text};
+use space::{put_decimal, put_item, put_text};
 use std::fs::File;
 use std::io::{self, Read};
 use std::rt::Files;
+use theory::Rule;
 
 // The line "refused" and the rule's number, to the front of a block; answers its length.
 fn refusal(rule: u8, out: &mut [u8; 12]) -> usize
@@ -19,7 +20,7 @@ fn refusal(rule: u8, out: &mut [u8; 12]) -> usize
 {
     let a1 = put_text(out, 0, b"refused ");
     let a2 = put_decimal(out, a1, rule as usize);
-    put_byte(out, a2, b'\n')
+    put_item(out, a2, b'\n')
 }
 
 // Says on standard error that a reading or a writing of that name failed, and why.
@@ -41,18 +42,22 @@ fn put(rt: &(impl Print + Eprint + Alloc), bytes: &[u8]) -> io::Result<()> {
 }
 
 // Prints that line.
-fn refuse(rt: &(impl Print + Eprint + Alloc), rule: u8) -> io::Result<()> {
+pub fn refuse(rt: &(impl Print + Eprint + Alloc), rule: u8) -> io::Result<()> {
     let mut line: [u8; 12] = [0; 12];
     let n = refusal(rule, &mut line);
     put(rt, &line[..n])
 }
 
 // Prints what was written into lent space, or the line "refused" and the rule's number.
-pub fn print(rt: &(impl Print + Eprint + Alloc), written: Written, out: &[u8]) -> io::Result<()> {
+pub fn print(
+    rt: &(impl Print + Eprint + Alloc),
+    written: Result<usize, Rule>,
+    out: &[u8],
+) -> io::Result<()> {
     match written {
-        Written::Done(n) if n <= out.len() => put(rt, &out[..n]),
-        Written::Done(_) => Ok(()),
-        Written::Refused(rule) => refuse(rt, rule),
+        Ok(n) if n <= out.len() => put(rt, &out[..n]),
+        Ok(_) => Ok(()),
+        Err(rule) => refuse(rt, rule.number()),
     }
 }
 

@@ -1,14 +1,16 @@
 -- The elements under PF02 in the bytes s: the kinds at a place, and the radii after them (document 02, 2026-01).
-use Rattle.std.specs.Prelude.{◌+◌, ◌*◌, ◌/◌, ◌≡◌, ◌∷◌}
-use Rattle.theory.specs.Prelude.{ℕ, Bool, true, List, [], eqb, length, take, drop, get_or}
+use Rattle.std.specs.Prelude.{◌+◌, ◌*◌, ◌/◌, ◌≡◌, ◌∷◌, Option, Some, None, Result, Ok, Err}
+use Rattle.theory.specs.Prelude.{ℕ, true, false, List, [], eqb, length, take, drop, get_or}
 use Rattle.sheet.specs.declared.Opening.TheVariants.{Pf02}
 use Rattle.sheet.specs.declared.Element.{Element}
+use Rattle.sheet.specs.declared.Kinds.{Kinds}
 use Rattle.sheet.specs.Facts.{kinds_of, bit_of, is_circle, radius_of, kind_at}
 use Rattle.sheet.specs.Field.{Field, value, refused, number}
 use Rattle.sheet.specs.Rules.{kinds_known}
 use Rattle.sheet.specs.Decode.{read_elements}
-use Rattle.elements.specs.declared.fields.PlaceRead.{PlaceRead}
-use Rattle.elements.specs.declared.fields.PlaceRead.TheVariants as place
+use Rattle.theory.specs.Rule.{rule_number}
+use Rattle.theory.specs.declared.Rule.{Rule}
+use Rattle.elements.specs.declared.fields.Cursor.{Cursor}
 pub mod Laws
 pub mod Elements
 
@@ -25,10 +27,15 @@ unfoldable pub places_of : ℕ → List ℕ → ℕ
 places_of j [] = 0
 places_of j (k ∷ ks) = bit_of (eqb k j) + 2 * places_of j ks
 
-pub record SetsOf (ks : List ℕ) (lines circles : ℕ) (known : Bool) : Type 0 where
-  pub lines_are : lines ≡ places_of 1 ks
-  pub circles_are : circles ≡ places_of 2 ks
-  pub known_is : known ≡ kinds_known ks
+pub record SetsOf (ks : List ℕ) (kinds : Kinds) : Type 0 where
+  pub lines_are : kinds.lines ≡ places_of 1 ks
+  pub circles_are : kinds.circles ≡ places_of 2 ks
+  pub known : kinds_known ks ≡ true
+
+-- kinds as sets, if rule 18 refuses none
+abbrev pub KindsOf : List ℕ → Option Kinds → Type 0
+KindsOf ks (Some kinds) = SetsOf ks kinds
+KindsOf ks None = kinds_known ks ≡ false
 
 -- the radius of each circle stands in the list
 abbrev pub RadiiStand : List Element → List ℕ → Type 0
@@ -41,12 +48,12 @@ pub record Stored (x : Element) (i : ℕ) (before after : List ℕ) : Type 0 whe
   pub radius_is : is_circle x.kind ≡ true → get_or after i 0 ≡ radius_of x.kind
 
 -- one element is read, or the rule that refuses it is answered
-abbrev pub ElementRead : Field Element → List ℕ → ℕ → List ℕ → List ℕ → PlaceRead → Type 0
-ElementRead x s i before after (place.Value c) = (e : Element) × (x ≡ value e (drop c.at s)) × Stored e i before after
-ElementRead x s i before after (place.Refused j) = x ≡ refused j
+abbrev pub ElementRead : Field Element → List ℕ → ℕ → List ℕ → List ℕ → Result Cursor Rule → Type 0
+ElementRead x s i before after (Ok c) = (e : Element) × (x ≡ value e (drop c.at s)) × Stored e i before after
+ElementRead x s i before after (Err r) = x ≡ refused (rule_number r)
 
 -- elements of such kinds are read from a place on, or the rule that refuses them is answered
-abbrev pub RadiiRead : List ℕ → List ℕ → ℕ → List ℕ → PlaceRead → Type 0
-RadiiRead ks s from radii (place.Value c) =
+abbrev pub RadiiRead : List ℕ → List ℕ → ℕ → List ℕ → Result Cursor Rule → Type 0
+RadiiRead ks s from radii (Ok c) =
     (es : List Element) × (read_elements ks (drop from s) ≡ value es (drop c.at s)) × RadiiStand es radii
-RadiiRead ks s from radii (place.Refused j) = read_elements ks (drop from s) ≡ refused j
+RadiiRead ks s from radii (Err r) = read_elements ks (drop from s) ≡ refused (rule_number r)

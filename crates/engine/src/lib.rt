@@ -6,6 +6,7 @@
 mod rings;
 
 ghost use Rattle.std.specs.Prelude.{◌≡◌, List, [], ◌∷◌, ℕ, ◌+◌, ◌*◌, ◌≤◌, ◌<◌, ◌^◌, length, take, replicate, nat_abs, ◌-ℤ◌};
+ghost use Rattle.theory.specs.Rule.{by_number};
 ghost use Rattle.theory.specs.Verdict.{angled as someLines, judged};
 ghost use Rattle.theory.specs.Placement.{joint_kind, against as comparison, triangle as triangleWays, strip_of, placed};
 ghost use Rattle.theory.specs.Merge.{left, merge as numbers};
@@ -14,23 +15,16 @@ ghost use Rattle.engine.specs.Steps.{ways_by, step_at, blank_step, Stepped};
 ghost use Rattle.space.specs.Space.{Put, answer, after};
 ghost use Rattle.engine.specs.Lists.{living_of};
 
-use space::{Written, put_number64};
-use theory::{CLUSTERS, CONSTRAINTS, JOINTS, JointKind, PARTS, STEPS, Step, Verdict, Ways};
+use space::put_item;
+use std::cmp::Ordering;
+use theory::{CLUSTERS, CONSTRAINTS, JOINTS, JointKind, PARTS, Rule, STEPS, Step, Verdict, Ways};
 
 // Is some joint three lines?
 pub fn angled(joints: &[u64; JOINTS], steps: usize, lines: u64) -> bool
     requires { (steps ≤ 64) × (length joints.now ≡ 64) }
     ensures { result ≡ someLines lines (take steps joints.now) }
 {
-    let mut i: usize = 0;
-    while i < steps {
-        let j = joints[i];
-        if j & lines == j {
-            return true;
-        }
-        i += 1;
-    }
-    false
+    joints[..steps].iter().any(|joint| joint & lines == *joint)
 }
 
 // The verdict of a list of merges, after "over", by its joints and its final clusters, of which e less two a step are left.
@@ -46,18 +40,11 @@ pub fn settle(
     ensures { (finals : List ℕ) → take (e + steps) slots.now ≡ finals → left finals + 2 * steps ≡ e
         → result ≡ judged lines n e (take steps joints.now) finals }
 {
-    if angled(joints, steps, lines) {
-        return Verdict::Angle;
-    }
-    let all = &slots[..];
-    let used = e + steps;
-    if rings::ringed(&all[0..used], lines) {
-        return Verdict::Angle;
-    }
-    if e + 3 != 2 * n {
-        return Verdict::Under;
-    }
-    if merges::one_left(e, steps) {
+    if angled(joints, steps, lines) || rings::ringed(&slots[..e + steps], lines) {
+        Verdict::Angle
+    } else if e + 3 != 2 * n {
+        Verdict::Under
+    } else if merges::one_left(e, steps) {
         Verdict::Well
     } else {
         Verdict::Stuck
@@ -68,7 +55,7 @@ pub fn settle(
 fn joint_kind(joint: u64, lines: u64) -> JointKind
     ensures { result ≡ joint_kind lines joint }
 {
-    match u64::count_ones(joint & lines) {
+    match (joint & lines).count_ones() {
         0 => JointKind::Ppp,
         1 => JointKind::Ppl,
         2 => JointKind::Pll,
@@ -80,32 +67,25 @@ fn joint_kind(joint: u64, lines: u64) -> JointKind
 fn against(x: u64, y: u64) -> u8
     ensures { result ≡ comparison x y }
 {
-    if y < x {
-        return 0;
+    match x.cmp(&y) {
+        Ordering::Greater => 0,
+        Ordering::Equal => 1,
+        Ordering::Less => 2,
     }
-    if x < y { 2 } else { 1 }
-}
-
-// The absolute value.
-fn magnitude(z: i64) -> u64
-    requires { nat_abs z < 8589934592 }
-    ensures { result ≡ nat_abs z }
-{
-    if z < 0 { (0 - z) as u64 } else { z as u64 }
 }
 
 // The absolute value of a size.
 fn size_of(z: i32) -> u64
     ensures { (result ≡ nat_abs z) × (result < 4294967296) }
 {
-    magnitude(z as i64)
+    u64::from(z.unsigned_abs())
 }
 
 // How far apart two sizes are.
 fn apart(x: i32, y: i32) -> u64
     ensures { result ≡ nat_abs (y -ℤ x) }
 {
-    magnitude(y as i64 - x as i64)
+    u64::from(y.abs_diff(x))
 }
 
 // The placements of three points: the longest distance against the sum of the other two.
@@ -113,9 +93,8 @@ fn triangle(x: u64, y: u64, z: u64) -> u8
     requires { (x < 4294967296) × (y < 4294967296) × (z < 4294967296) }
     ensures { result ≡ triangleWays x y z }
 {
-    let a = if x < y { y } else { x };
-    let b = if a < z { z } else { a };
-    against(b, x + y + z - b)
+    let longest = x.max(y).max(z);
+    against(longest, x + y + z - longest)
 }
 
 // The placements of two points and a line, from the three constraints a, b and a third, and their sizes: the distance between the points against
@@ -124,9 +103,8 @@ fn strip_of(lines: u64, a: u64, b: u64, x: i32, y: i32, z: i32) -> u8
     ensures { result ≡ strip_of lines a b x y z }
 {
     if a & lines == 0 {
-        return against(apart(y, z), size_of(x));
-    }
-    if b & lines == 0 {
+        against(apart(y, z), size_of(x))
+    } else if b & lines == 0 {
         against(apart(x, z), size_of(y))
     } else {
         against(apart(x, y), size_of(z))
@@ -159,25 +137,12 @@ fn ways_of(
     requires { e ≤ 192 }
     ensures { result ≡ ways_by lines (kind) e sizes.now start.now (numbers i j k) }
 {
-    if e <= i {
-        return Ways::Unknown;
-    }
-    if e <= j {
-        return Ways::Unknown;
-    }
-    if e <= k {
+    if e <= i || e <= j || e <= k {
         return Ways::Unknown;
     }
     placements(
         lines, kind, start[i], start[j], sizes[i], sizes[j], sizes[k],
     )
-}
-
-// A number of a cluster as a place.
-fn wide(x: u16) -> usize
-    ensures { result ≡ x }
-{
-    x as usize
 }
 
 // Step t of a list of merges, from its parts and joints.
@@ -193,9 +158,9 @@ pub fn step_at(
     requires { (e ≤ 125) × (t < 62) }
     ensures { result ≡ step_at lines e sizes.now start.now parts.now joints.now t }
 {
-    let i = wide(parts[3 * t]);
-    let j = wide(parts[3 * t + 1]);
-    let k = wide(parts[3 * t + 2]);
+    let i = usize::from(parts[3 * t]);
+    let j = usize::from(parts[3 * t + 1]);
+    let k = usize::from(parts[3 * t + 2]);
     let joint = joints[t];
     let kind = joint_kind(joint, lines);
     let ways = ways_of(lines, kind, e, start, sizes, i, j, k);
@@ -240,10 +205,8 @@ pub fn steps_of(
     ensures { Stepped lines e sizes.now start.now parts.now joints.now count result }
 {
     let mut steps = no_steps();
-    let mut t: usize = 0;
-    while t < count {
+    for t in 0..count {
         steps[t] = step_at(parts, joints, start, sizes, lines, e, t);
-        t += 1;
     }
     steps
 }
@@ -253,10 +216,7 @@ fn put_living(out: &mut [u64], at: usize, x: u64) -> usize
     requires { at + 1 < 2 ^ 64 }
     ensures { Put out.old at (living_of (x ∷ [])) result out.new × (result ≤ at + 1) }
 {
-    if x == 0 {
-        return at;
-    }
-    put_number64(out, at, x)
+    if x == 0 { at } else { put_item(out, at, x) }
 }
 
 // The clusters that live among the first `used` slots, by number.
@@ -265,25 +225,21 @@ fn put_all_living(out: &mut [u64], slots: &[u64; CLUSTERS], used: usize) -> usiz
     ensures { Put out.old 0 (living_of (take used slots.now)) result out.new }
 {
     let mut next: usize = 0;
-    let mut c: usize = 0;
-    while c < used {
-        next = put_living(out, next, slots[c]);
-        c += 1;
+    for x in &slots[..used] {
+        next = put_living(out, next, *x);
     }
     next
 }
 
 // The clusters that live, by number, into lent space, or 17.
-pub fn put_clusters(slots: &[u64; CLUSTERS], used: usize, out: &mut [u64]) -> Written
+pub fn put_clusters(slots: &[u64; CLUSTERS], used: usize, out: &mut [u64]) -> Result<usize, Rule>
     requires { (used ≤ places) × (length slots.now ≡ places) }
-    ensures { (result ≡ answer (living_of (take used slots.now)) out.old)
+    ensures { (by_number result ≡ answer (living_of (take used slots.now)) out.old)
         × (out.new ≡ after (living_of (take used slots.now)) out.old) }
 {
     let count = put_all_living(&mut out[..0], slots, used);
     if out.len() < count {
-        Written::Refused(17)
-    } else {
-        let written = put_all_living(out, slots, used);
-        Written::Done(written)
+        return Err(Rule::NoRoom);
     }
+    Ok(put_all_living(out, slots, used))
 }

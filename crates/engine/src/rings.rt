@@ -8,8 +8,7 @@ fn linked(cluster: u64, l: u64) -> u64
     ensures { result ≡ linkedOf l cluster }
 {
     let m = cluster & l;
-    let more = if m == 0 { 0 } else { m & (m - 1) };
-    if more == 0 { 0 } else { m }
+    if m & m.wrapping_sub(1) == 0 { 0 } else { m }
 }
 
 // Of the lines l, those that lie in two or more of the clusters that hold two or more of them.
@@ -18,12 +17,10 @@ fn strip_lines(clusters: &[u64], l: u64) -> u64
 {
     let mut once: u64 = 0;
     let mut twice: u64 = 0;
-    let mut i: usize = clusters.len();
-    while i > 0 {
-        i -= 1;
-        let m = linked(clusters[i], l);
-        twice = (m & once) | twice;
-        once = m | once;
+    for cluster in clusters.iter().rev() {
+        let m = linked(*cluster, l);
+        twice |= m & once;
+        once |= m;
     }
     twice
 }

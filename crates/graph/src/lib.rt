@@ -4,9 +4,9 @@
 
 #![tactic(auto)]
 
-ghost use Rattle.std.specs.Prelude.{◌≡◌, ◌&&◌, List, ◌∷◌, [], ◌++◌, ℕ, ◌+◌, ◌-◌, ◌<◌, ◌≤◌, pos, length, replicate};
+ghost use Rattle.std.specs.Prelude.{◌≡◌, List, ◌∷◌, [], ◌++◌, ℕ, ◌<◌, ◌≤◌, pos, length, replicate};
 ghost use Rattle.theory.specs.Constraints.{pair};
-ghost use Rattle.sheet.specs.Facts.{Facts, is_circle, radius_of, facts_of, sheet_of};
+ghost use Rattle.sheet.specs.Facts.{Facts, radius_of, facts_of, sheet_of};
 ghost use Rattle.sheet.specs.Rules.{sheet_fault};
 ghost use Rattle.sheet.specs.Graph.{size_of};
 ghost use Rattle.graph.specs.Lent.{head_in, code_of, Fits, InArrays, EndsIn, CodesIn, SheetIn, sizes_of, Packed, Unpacks};
@@ -39,11 +39,10 @@ const OTHER_TANGENT: i32 = -100000;
 pub fn head_of(h: Front) -> Head
     ensures { result ≡ head_in h }
 {
-    let kinds = h.kinds;
     Head {
         n: h.n,
         e: h.e,
-        lines: kinds.lines,
+        lines: h.kinds.lines,
     }
 }
 
@@ -53,10 +52,9 @@ pub fn code_of(size: Size) -> i32
 {
     match size {
         Size::Given(z) => z,
-        Size::Missing => 0,
+        Size::Missing | Size::Unfit => 0,
         Size::Tangent => TANGENT,
         Size::OtherTangent => OTHER_TANGENT,
-        Size::Unfit => 0,
     }
 }
 
@@ -64,16 +62,12 @@ pub fn code_of(size: Size) -> i32
 fn size_from(code: i32) -> Size
     ensures { (s : Size) → Fits s → code_of s ≡ code → result ≡ s }
 {
-    if code == 0 {
-        return Size::Missing;
+    match code {
+        0 => Size::Missing,
+        TANGENT => Size::Tangent,
+        OTHER_TANGENT => Size::OtherTangent,
+        _ => Size::Given(code),
     }
-    if code == TANGENT {
-        return Size::Tangent;
-    }
-    if code == OTHER_TANGENT {
-        return Size::OtherTangent;
-    }
-    Size::Given(code)
 }
 
 // Notes the ends a and b of constraint i.
@@ -126,45 +120,27 @@ pub fn fill(
         × (length radii.old ≡ 64) }
     ensures { SheetIn (facts_of s) result near.new start.new codes.new radii.new }
 {
-    let n = s.n;
-    let e = s.e;
-    let mut i: usize = 0;
-    while i < e {
+    for i in 0..s.e {
         let c = s.constraints[i];
-        let z = c.size;
-        note(near, start, codes, i, c.first, c.second, code_of(z));
-        i += 1;
+        note(near, start, codes, i, c.first, c.second, code_of(c.size));
     }
-    let opening = s.opening;
-    let elements = s.elements;
-    let kinds = sheet::kinds_of(elements, n, radii);
+    let elements = &s.elements[..s.n];
     Front {
-        opening,
-        n,
-        e,
-        kinds,
+        opening: s.opening,
+        n: s.n,
+        e: s.e,
+        kinds: sheet::kinds_of(elements, radii),
     }
-}
-
-// The highest element of a set, 0 of none.
-fn highest(m: u64) -> u8
-    ensures { (a b : ℕ) → a < b → b < 64 → m ≡ pair a b → result ≡ b }
-{
-    if m == 0 {
-        return 0;
-    }
-    (63 - u64::leading_zeros(m)) as u8
 }
 
 // The constraint between the two elements of a set, its size by its number.
 fn constraint_in(m: u64, code: i32) -> Constraint
     ensures { (c : Constraint) → Unpacks c → m ≡ pair c.first c.second → code_of c.size ≡ code → result ≡ c }
 {
-    let size = size_from(code);
     Constraint {
-        first: u64::trailing_zeros(m) as u8,
-        second: highest(m),
-        size,
+        first: m.trailing_zeros() as u8,
+        second: m.checked_ilog2().unwrap_or(0) as u8,
+        size: size_from(code),
     }
 }
 
@@ -179,69 +155,45 @@ pub fn sheet_of(
     ensures { (f : Facts) (near : List ℕ) → SheetIn f h near start.now codes.now radii.now
         → result ≡ sheet_of f }
 {
-    let n = h.n;
-    let e = h.e;
     let none = Constraint {
         first: 0,
         second: 0,
         size: Size::Missing,
     };
-    let mut cs = [none; CONSTRAINTS];
-    let mut i: usize = 0;
-    while i < e {
-        let c = constraint_in(start[i], codes[i]);
-        cs[i] = c;
-        i += 1;
+    let mut constraints = [none; CONSTRAINTS];
+    let Front {
+        opening,
+        n,
+        e,
+        kinds,
+    } = h;
+    for i in 0..e {
+        constraints[i] = constraint_in(start[i], codes[i]);
     }
-    let opening = h.opening;
-    let kinds = h.kinds;
-    let elements = sheet::elements_of(n, kinds, radii);
     Sheet {
         opening,
         n,
         e,
-        elements,
-        constraints: cs,
+        elements: sheet::elements_of(n, kinds, radii),
+        constraints,
     }
 }
 
 // ---- the sketch of the centres
-
-// The difference of two radii, the larger less the smaller.
-fn apart(r: u32, q: u32) -> u32
-    ensures { result ≡ (r - q) + (q - r) }
-{
-    if r < q { q - r } else { r - q }
-}
-
-// Whether both are circles.
-fn both_circles(j: Kind, k: Kind) -> bool
-    ensures { result ≡ is_circle j && is_circle k }
-{
-    if sheet::is_circle(j) {
-        sheet::is_circle(k)
-    } else {
-        false
-    }
-}
 
 // The size of a constraint between elements of two kinds.
 fn size_of(j: Kind, k: Kind, size: Size) -> i32
     requires { (radius_of j ≤ 40000) × (radius_of k ≤ 40000) }
     ensures { result ≡ size_of j k size }
 {
+    let r = sheet::radius_of(j);
+    let q = sheet::radius_of(k);
     match size {
         Size::Given(z) => z,
-        Size::Missing => 0,
-        Size::Tangent => (sheet::radius_of(j) + sheet::radius_of(k)) as i32,
-        Size::OtherTangent => {
-            if both_circles(j, k) {
-                apart(sheet::radius_of(j), sheet::radius_of(k)) as i32
-            } else {
-                0 - ((sheet::radius_of(j) + sheet::radius_of(k)) as i32)
-            }
-        }
-        Size::Unfit => 0,
+        Size::Missing | Size::Unfit => 0,
+        Size::Tangent => (r + q) as i32,
+        Size::OtherTangent if sheet::is_circle(j) && sheet::is_circle(k) => r.abs_diff(q) as i32,
+        Size::OtherTangent => -((r + q) as i32),
     }
 }
 
@@ -256,15 +208,10 @@ pub fn measure(
     ensures { (f : Facts) (near : List ℕ) → SheetIn f h near start.now sizes.old radii.now
         → sizes.new ≡ sizes_of f }
 {
-    let e = h.e;
-    let kinds = h.kinds;
-    let mut i: usize = 0;
-    while i < e {
+    for i in 0..h.e {
         let c = constraint_in(start[i], sizes[i]);
-        let size = c.size;
-        let j = sheet::kind_at(kinds, radii, c.first);
-        let k = sheet::kind_at(kinds, radii, c.second);
-        sizes[i] = size_of(j, k, size);
-        i += 1;
+        let j = sheet::kind_at(h.kinds, radii, c.first);
+        let k = sheet::kind_at(h.kinds, radii, c.second);
+        sizes[i] = size_of(j, k, c.size);
     }
 }

@@ -3,8 +3,8 @@
 -- refused by 27 (2026-05).
 use Rattle.std.specs.Prelude.{List, [], ℕ, length}
 use Rattle.theory.specs.Graph.{Graph}
-use Rattle.space.specs.declared.Written.{Written}
-use Rattle.space.specs.declared.Written.TheVariants.{Done, Refused}
+use Rattle.space.specs.Written.{Written}
+use Rattle.space.specs.Written.{Done, Refused}
 use Rattle.sheet.specs.declared.Sheet.{Sheet}
 use Rattle.sheet.specs.Facts.{Facts, facts_of}
 use Rattle.sheet.specs.Field.{Field, value, refused, next}

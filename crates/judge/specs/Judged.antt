@@ -4,8 +4,8 @@ use Rattle.std.specs.Prelude.{ℕ, List, [], map}
 use Rattle.theory.specs.Merge.{Merge, final}
 use Rattle.theory.specs.Plan.{plan_of, ascending}
 use Rattle.theory.specs.Graph.{Graph, finding_of, list_verdict}
-use Rattle.theory.specs.declared.Finding.{Finding}
-use Rattle.theory.specs.declared.Finding.TheVariants.{Fine, First}
+use Rattle.theory.specs.Finding.{Finding}
+use Rattle.theory.specs.Finding.{Fine, First}
 use Rattle.theory.specs.declared.Verdict.{Verdict}
 use Rattle.theory.specs.declared.Verdict.TheVariants.{Over}
 use Rattle.merges.specs.Run.{Run, flat, run_of}

@@ -3,15 +3,15 @@
 
 #![tactic(auto)]
 
-ghost use Rattle.std.specs.Prelude.{◌≡◌, List, ℕ, ◌≤◌, ◌<◌, length, take, replicate};
+ghost use Rattle.std.specs.Prelude.{◌≡◌, List, ℕ, ◌≤◌, ◌<◌, length, take, replicate, IfSome};
 ghost use Rattle.theory.specs.Block.{block};
 ghost use Rattle.theory.specs.Constraints.{NotOver};
 ghost use Rattle.theory.specs.Set.{◌∩◌};
 ghost use Rattle.theory.specs.Merge.{Merge, merge as numbers, Three, joint, final};
 ghost use Rattle.theory.specs.Plan.{open_test, first_of, is_some};
-ghost use Rattle.merges.specs.Run.{most_constraints, most_steps, places, run_in, Blank, Start, Planned, one_is_left};
+ghost use Rattle.merges.specs.Run.{most_steps, places, run_in, Blank, Start, Planned, one_is_left};
 ghost use Rattle.merges.specs.Going.{Slots, Made};
-ghost use Rattle.merges.specs.Search.{hit_of, Tested, Running, Stopped, Begins, Ran, RanTo};
+ghost use Rattle.merges.specs.Search.{hit_of, Tested, Stopped, Begins, Ran, RanTo};
 ghost use Rattle.search.specs.State.{Ready, Kept};
 
 use sets::FULL;
@@ -23,25 +23,11 @@ const NO_LIMIT: usize = 64;
 // ---- what each two of three clusters share
 
 // Of the sets that each two share: does each have one element, three different ones in all?
+#[tactic(auto, unfolding(theory::specs::Plan::open_test))]
 fn one_each(x: u64, y: u64, z: u64) -> bool
     ensures { (a b c : ℕ) → x ≡ a ∩ b → y ≡ b ∩ c → z ≡ a ∩ c → result ≡ open_test a b c }
 {
-    if u64::count_ones(x) != 1 {
-        return false;
-    }
-    if u64::count_ones(y) != 1 {
-        return false;
-    }
-    if u64::count_ones(z) != 1 {
-        return false;
-    }
-    if x == y {
-        return false;
-    }
-    if y == z {
-        return false;
-    }
-    x != z
+    x.count_ones() == 1 && y.count_ones() == 1 && z.count_ones() == 1 && x != y && y != z && x != z
 }
 
 // Is the merge of the three open?
@@ -65,11 +51,7 @@ pub fn lay(slots: &mut [u64; CLUSTERS], start: &[u64; CONSTRAINTS], e: usize)
     requires { Start start.now e × (slots.old ≡ replicate places 0) }
     ensures { slots.new ≡ block places 0 (take e start.now) }
 {
-    let mut i: usize = 0;
-    while i < e {
-        slots[i] = start[i];
-        i += 1;
-    }
+    slots[..e].copy_from_slice(&start[..e]);
 }
 
 // Merges clusters i, j and k, which ascend, as step `steps`: its parts and its joint are noted, the three die, and their union, which is answered, is
@@ -105,14 +87,15 @@ pub fn step(
 
 // ---- the first open merge
 
-// What the search finds: the numbers of an open merge, ascending.
+// The numbers of an open merge, ascending.
 #[derive(Clone, Copy)]
-enum Hit {
-    At(usize, usize, usize),
-    Nothing,
+struct Hit {
+    i: usize,
+    j: usize,
+    k: usize,
 }
 
-// The first open merge. Where two living clusters may share two elements, an open merge or nothing.
+// The first open merge. Where two living clusters may share two elements, an open merge or none.
 fn first_open(
     slots: &[u64; CLUSTERS],
     links: &[u64; ELEMENTS],
@@ -120,37 +103,22 @@ fn first_open(
     todo: &mut [u64; 3],
     rim: u64,
     used: usize,
-) -> Hit
+) -> Option<Hit>
     requires { (used ≤ places) × (length todo.old ≡ 3) }
-    ensures tested { Tested slots.now used result }
+    ensures tested { IfSome result (Tested slots.now used) }
     ensures first { Ready slots.now used rim links.now hold.now todo.old
         → hit_of result ≡ first_of 0 slots.now }
     ensures kept { Kept slots.now links.now rim todo.old todo.new
         × (length todo.new ≡ 3) }
 {
-    let r = search::lowest_reaching(slots, links, todo, rim);
-    let i = r.cluster;
-    let o = r.outs;
-    if CLUSTERS <= i {
-        return Hit::Nothing;
-    }
+    let search::Reaching { cluster: i, outs } = search::lowest_reaching(slots, links, todo, rim)?;
     let x = slots[i];
-    let v = search::best(links, hold, x, o);
-    let j = v / 256;
-    let k = v % 256;
-    if used <= k {
-        return Hit::Nothing;
-    }
-    if j <= i {
-        return Hit::Nothing;
-    }
-    if k <= j {
-        return Hit::Nothing;
-    }
-    if open3(x, slots[j], slots[k]) {
-        Hit::At(i, j, k)
+    let v = search::best(links, hold, x, outs);
+    let (j, k) = (v / 256, v % 256);
+    if i < j && j < k && k < used && open3(x, slots[j], slots[k]) {
+        Some(Hit { i, j, k })
     } else {
-        Hit::Nothing
+        None
     }
 }
 
@@ -164,10 +132,7 @@ pub fn some_open(slots: &[u64; CLUSTERS], used: usize) -> bool
     let mut hold = [0u64; CLUSTERS];
     search::join_all(slots, used, &mut links, &mut hold);
     let mut todo = search::todo_all(used);
-    match first_open(slots, &links, &hold, &mut todo, FULL, used) {
-        Hit::At(..) => true,
-        Hit::Nothing => false,
-    }
+    first_open(slots, &links, &hold, &mut todo, FULL, used).is_some()
 }
 
 // ---- merge after merge
@@ -187,37 +152,34 @@ pub struct Halt {
     pub rim: u64,
 }
 
-// Makes the first open merge over and over: until none is open, or until `limit` are made.
+// Makes the first open merge over and over: until none is open, or until `limit` are made. The first e slots are the clusters before any.
 fn advance(
     slots: &mut [u64; CLUSTERS],
     parts: &mut [u16; PARTS],
     joints: &mut [u64; JOINTS],
     links: &mut [u64; ELEMENTS],
     hold: &mut [u64; CLUSTERS],
-    todo: &mut [u64; 3],
     e: usize,
     limit: usize,
 ) -> Halt
-    requires { (e ≤ most_constraints) × Running (take e slots.old) e slots.old links.old hold.old todo.old parts.old joints.old 0
-        18446744073709551615 }
-    ensures { Stopped (take e slots.old) e limit slots.new links.new hold.new todo.new
+    requires { Begins slots.old parts.old joints.old links.old hold.old e }
+    ensures { (todo : List ℕ) × Stopped (take e slots.old) e limit slots.new links.new hold.new todo
         parts.new joints.new result.steps result.rim }
 {
-    let mut steps: usize = 0;
+    search::join_all(slots, e, links, hold);
+    let mut todo = search::todo_all(e);
     let mut rim: u64 = FULL;
-    while steps < limit {
+    for steps in 0..limit {
         let used = e + steps;
-        let hit = first_open(slots, links, hold, todo, rim, used);
-        let Hit::At(i, j, k) = hit else {
+        let Some(Hit { i, j, k }) = first_open(slots, links, hold, &mut todo, rim, used) else {
             return Halt { steps, rim };
         };
         rim = search::renew(
-            links, hold, todo, used, rim, i, j, k, slots[i], slots[j], slots[k],
+            links, hold, &mut todo, used, rim, i, j, k, slots[i], slots[j], slots[k],
         );
         step(slots, parts, joints, used, steps, i, j, k);
-        steps += 1;
     }
-    Halt { steps, rim }
+    Halt { steps: limit, rim }
 }
 
 // The engine's plan on arrays that the caller lends: the first e slots are merged until none is open, and the links,
@@ -235,9 +197,7 @@ pub fn merge_on(
     ensures { Ran (take e slots.old) e slots.new links.new hold.new parts.new
         joints.new result.steps result.rim }
 {
-    search::join_all(slots, e, links, hold);
-    let mut todo = search::todo_all(e);
-    advance(slots, parts, joints, links, hold, &mut todo, e, NO_LIMIT)
+    advance(slots, parts, joints, links, hold, e, NO_LIMIT)
 }
 
 // The first `limit` steps of the engine's plan on arrays that the caller lends, or all where it has fewer; the links,
@@ -255,9 +215,7 @@ pub fn merge_some(
     requires { Begins slots.old parts.old joints.old links.old hold.old e }
     ensures { RanTo (take e slots.old) e limit slots.new links.new hold.new result.steps result.rim }
 {
-    search::join_all(slots, e, links, hold);
-    let mut todo = search::todo_all(e);
-    advance(slots, parts, joints, links, hold, &mut todo, e, limit)
+    advance(slots, parts, joints, links, hold, e, limit)
 }
 
 // The engine's plan for the constraints that are the first e of `start`, into blank arrays that the caller lends; answers how many steps it has. Of
@@ -275,6 +233,5 @@ pub fn merge_into(
     lay(slots, start, e);
     let mut links = [0u64; ELEMENTS];
     let mut hold = [0u64; CLUSTERS];
-    let halt = merge_on(slots, parts, joints, &mut links, &mut hold, e);
-    halt.steps
+    merge_on(slots, parts, joints, &mut links, &mut hold, e).steps
 }

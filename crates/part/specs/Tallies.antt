@@ -5,8 +5,8 @@ use Rattle.sheet.specs.Field.{Field, value, refused}
 use Rattle.report.specs.Report.{step_lines}
 use Rattle.report.specs.Block.{block, Stands}
 use Rattle.part.specs.declared.Tally.{Tally}
-use Rattle.part.specs.declared.Measured.{Measured}
-use Rattle.part.specs.declared.Measured.TheVariants.{Is, Refused}
+use Rattle.part.specs.Measured.{Measured}
+use Rattle.part.specs.Measured.{Is, Refused}
 pub mod Laws
 pub mod Plan
 pub mod Judged

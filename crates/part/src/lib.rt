@@ -4,6 +4,7 @@
 #![tactic(auto)]
 
 ghost use Rattle.std.specs.Prelude.{◌≡◌, ◌+◌, ◌≤◌, ◌<◌};
+ghost use Rattle.theory.specs.Rule.{by_number};
 ghost use Rattle.sheet.specs.Answer.{Answers};
 ghost use Rattle.graph.specs.Lent.{sized_in, Drawn};
 ghost use Rattle.engine.specs.Steps.{step_at};
@@ -13,21 +14,13 @@ ghost use Rattle.part.specs.Tallies.{Lower, Listed, Room, measure_of, Tallied};
 
 use graph::Head;
 use report::{BLOCK, TEXT};
-use space::Written;
-use theory::{CLUSTERS, CONSTRAINTS, ELEMENTS, JOINTS, PARTS};
+use theory::{CLUSTERS, CONSTRAINTS, ELEMENTS, JOINTS, PARTS, Rule};
 
 // How many steps, and how many bytes their lines have.
 #[derive(Clone, Copy)]
 pub struct Tally {
     pub steps: usize,
     pub bytes: usize,
-}
-
-// The answer to a call that measures.
-#[derive(Clone, Copy)]
-pub enum Measured {
-    Is(Tally),
-    Refused(u8),
 }
 
 // The lines of the steps of cluster c, from the place `t.bytes` on, counted: none where it is initial, else those of its parts, lowest first, then
@@ -85,27 +78,25 @@ fn put_cluster(
     sizes: &[i32; CONSTRAINTS],
     c: usize,
     out: &mut [u8; BLOCK],
-) -> Measured
+) -> Result<Tally, Rule>
     requires { Drawn h near.now start.now }
-    ensures { Tallied (held_field (sized_in h start.now sizes.now) c) out.old result out.new }
+    ensures { Tallied (held_field (sized_in h start.now sizes.now) c) out.old (by_number result) out.new }
 {
     let mut slots = [0u64; CLUSTERS];
     let mut parts = [0u16; PARTS];
     let mut joints = [0u64; JOINTS];
-    let found = judge::judge_on(h, near, start, &mut slots, &mut parts, &mut joints);
-    let verdict = found.verdict;
-    if verdict.number() == 0 {
-        return Measured::Refused(11);
-    }
+    let Ok(found) = judge::judge_on(h, near, start, &mut slots, &mut parts, &mut joints) else {
+        return Err(Rule::OverSheet);
+    };
     if h.e + found.steps <= c {
-        return Measured::Refused(26);
+        return Err(Rule::NoPart);
     }
     let text = report::numerals();
     let none = Tally { steps: 0, bytes: 0 };
     let all = put_part(
         out, none, &text, &parts, &joints, start, sizes, h.lines, h.e, c,
     );
-    Measured::Is(all)
+    Ok(all)
 }
 
 // How many steps cluster c has and how many bytes their lines, into no lent space: 11, then 26.
@@ -115,9 +106,9 @@ pub fn measure(
     start: &[u64; CONSTRAINTS],
     sizes: &[i32; CONSTRAINTS],
     c: usize,
-) -> Measured
+) -> Result<Tally, Rule>
     requires { Drawn h near.now start.now }
-    ensures { result ≡ measure_of (held_field (sized_in h start.now sizes.now) c) }
+    ensures { by_number result ≡ measure_of (held_field (sized_in h start.now sizes.now) c) }
 {
     let mut lines: [u8; BLOCK] = [0; BLOCK];
     put_cluster(h, near, start, sizes, c, &mut lines)
@@ -131,18 +122,12 @@ pub fn list(
     sizes: &[i32; CONSTRAINTS],
     c: usize,
     out: &mut [u8],
-) -> Written
+) -> Result<usize, Rule>
     requires { Drawn h near.now start.now }
-    ensures { Answers (lines_field (held_field (sized_in h start.now sizes.now) c)) out.old result
+    ensures { Answers (lines_field (held_field (sized_in h start.now sizes.now) c)) out.old (by_number result)
         out.new }
 {
     let mut whole: [u8; BLOCK] = [0; BLOCK];
-    let got = put_cluster(h, near, start, sizes, c, &mut whole);
-    match got {
-        Measured::Is(t) => {
-            let m = t.bytes;
-            space::put_all8(out, &whole[0..m])
-        }
-        Measured::Refused(k) => Written::Refused(k),
-    }
+    let tally = put_cluster(h, near, start, sizes, c, &mut whole)?;
+    space::put_all(out, &whole[..tally.bytes])
 }

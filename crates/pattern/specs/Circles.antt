@@ -23,7 +23,7 @@ use Rattle.steps.specs.Records.{plan_steps, saved_records}
 use Rattle.chain.specs.Answer.{asked}
 use Rattle.missing.specs.Missing.{cheapest_field}
 use Rattle.opens.specs.Opens.{open_field}
-use Rattle.sketch.specs.declared.Judgement.{Judgement}
+use Rattle.sketch.specs.Judgement.{Judgement}
 use Rattle.sketch.specs.Sketch.{extended, as_judged, ask_answer, place_answer}
 use Rattle.sketch.specs.Runs.{Held}
 use Rattle.records.specs.Record.{as_judgement, ask_field}

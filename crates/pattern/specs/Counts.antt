@@ -10,7 +10,7 @@ use Rattle.writer.specs.Write.{write_field}
 use Rattle.account.specs.Resting.{rest_numbers}
 use Rattle.longest.specs.Longest.{longest_field}
 use Rattle.steps.specs.Records.{numbers_field}
-use Rattle.space.specs.declared.Written.TheVariants.{Done}
+use Rattle.space.specs.Written.{Done}
 use Rattle.records.specs.Record.{place_field, written_field, held_record, sheet_field}
 use Rattle.held.specs.Held.{held_count_of, held_items_of}
 use Rattle.pattern.specs.Entries.{items_field, report_field, rewrite_field, over_numbers, initial_clusters, check_field, steps_field, saved_steps_field, hold_field}

@@ -6,7 +6,7 @@ use Rattle.theory.specs.Prelude.{ℕ, List, [], length}
 use Rattle.theory.specs.Constraints.{Among}
 use Rattle.theory.specs.Merge.{Merge, Valid, Maximal, final, live, left}
 use Rattle.theory.specs.Plan.{plan_of}
-use Rattle.space.specs.declared.Written.TheVariants.{Done}
+use Rattle.space.specs.Written.{Done}
 use Rattle.sheet.specs.declared.Constraint.{Constraint}
 use Rattle.sheet.specs.Facts.{Facts, sheet_of, facts_of}
 use Rattle.sheet.specs.Field.{Field, value}

@@ -6,7 +6,7 @@ use Rattle.theory.specs.Prelude.{ℕ, List, [], length}
 use Rattle.theory.specs.Over.{IsOver, FirstOver}
 use Rattle.theory.specs.Graph.{Graph}
 use Rattle.theory.specs.declared.Verdict.TheVariants.{Over}
-use Rattle.space.specs.declared.Written.TheVariants.{Refused}
+use Rattle.space.specs.Written.{Refused}
 use Rattle.sheet.specs.declared.Constraint.{Constraint}
 use Rattle.sheet.specs.declared.Sheet.{Sheet}
 use Rattle.sheet.specs.Facts.{Facts, facts_of}
@@ -15,7 +15,7 @@ use Rattle.sheet.specs.Rules.{constraint_fault}
 use Rattle.sheet.specs.Graph.{graph_of}
 use Rattle.judge.specs.Judged.{plan_numbers, final_clusters}
 use Rattle.report.specs.Report.{over_report}
-use Rattle.sketch.specs.declared.Judgement.TheVariants.{Refused as Not}
+use Rattle.sketch.specs.Judgement.{Refused as Not}
 use Rattle.sketch.specs.Sketch.{extended, ask_answer, place_answer}
 use Rattle.records.specs.Record.{ask_field, place_field, placed_in}
 use Rattle.records.specs.Runs.{SameFacts}

@@ -4,7 +4,7 @@ use Rattle.std.specs.Prelude.{◌+◌, ◌≤◌, ◌<◌, ◌≡◌}
 use Rattle.theory.specs.Prelude.{ℕ, List, [], length}
 use Rattle.theory.specs.Plan.{plan_of}
 use Rattle.theory.specs.declared.Step.{Step}
-use Rattle.space.specs.declared.Written.TheVariants.{Done, Refused}
+use Rattle.space.specs.Written.{Done, Refused}
 use Rattle.space.specs.Space.{after}
 use Rattle.sheet.specs.Facts.{Facts}
 use Rattle.sheet.specs.Field.{value, refused, Bytes}

@@ -1,7 +1,7 @@
 -- Reading and writing, of what is called (demand 2). Document 01: "reading a written sheet gives its facts, writing an
 -- accepted sheet's facts gives its bytes"; document 02, 2026-11: a sheet with tags, once read and written, is the same
 -- sheet with bit 1 clear and the tag bytes gone.
-use Rattle.std.specs.Prelude.{◌≡◌}
+use Rattle.std.specs.Prelude.{◌≡◌, Ok}
 use Rattle.theory.specs.Prelude.{ℕ, true, List, [], length}
 use Rattle.sheet.specs.declared.Sheet.{Sheet}
 use Rattle.sheet.specs.Facts.{Facts, facts_of}
@@ -22,11 +22,13 @@ pub record Written (s : Sheet) (bytes : List ℕ) : Type 0 where
 
 -- what `read` gives of accepted bytes, written again
 pub record Returned (bytes : List ℕ) : Type 0 where
-  pub written : write_field (as_reading (read_sheet bytes)).sheet ≡ value (without_tags bytes) []
+  pub sheet : Sheet
+  pub is_read : as_reading (read_sheet bytes) ≡ Ok sheet
+  pub written : write_field sheet ≡ value (without_tags bytes) []
   -- as `rewrite` gives it
   pub rewritten : rewrite_field bytes ≡ value (without_tags bytes) []
   -- without tags, every byte as before
-  pub same : untagged bytes ≡ true → write_field (as_reading (read_sheet bytes)).sheet ≡ value bytes []
+  pub same : untagged bytes ≡ true → write_field sheet ≡ value bytes []
 
 pub record ReadWrite : Type 0 where
   pub written : (s : Sheet) (bytes rest : List ℕ) → length s.elements ≡ 64 → length s.constraints ≡ 200

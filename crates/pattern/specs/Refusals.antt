@@ -3,7 +3,7 @@ use Rattle.std.specs.Prelude.{◌≤◌, ◌<◌, ◌≡◌, ◌↔◌, ◌⊎�
 use Rattle.theory.specs.Prelude.{ℕ, List, [], Option, some, length}
 use Rattle.theory.specs.Constraints.{Among}
 use Rattle.theory.specs.Graph.{Graph}
-use Rattle.space.specs.declared.Written.TheVariants.{Refused}
+use Rattle.space.specs.Written.{Refused}
 use Rattle.sheet.specs.declared.Constraint.{Constraint}
 use Rattle.sheet.specs.declared.Sheet.{Sheet}
 use Rattle.sheet.specs.Field.{Field, value, refused, Bytes}
@@ -12,12 +12,12 @@ use Rattle.sheet.specs.Answer.{answer_to}
 use Rattle.sheet.specs.Refusals.{Rule, OfSheet, But, By}
 use Rattle.sheet.specs.Refusals.Laws.{OfFacts}
 use Rattle.writer.specs.Write.{write_field}
-use Rattle.sketch.specs.declared.Judgement.TheVariants.{Refused as Not}
+use Rattle.sketch.specs.Judgement.{Refused as Not}
 use Rattle.sketch.specs.Sketch.{ask_answer, place_answer}
 use Rattle.records.specs.Record.{ask_field, place_field, written_field, placed_in, held_record, sheet_field}
 use Rattle.held.specs.Held.{held_value, held_count_of, held_items_of}
 use Rattle.longest.specs.Longest.{longest_field}
-use Rattle.chain.specs.declared.Answer.TheVariants.{Refused as No}
+use Rattle.chain.specs.Says.{Refused as No}
 use Rattle.chain.specs.Answer.{chain_to}
 use Rattle.theory.specs.declared.Step.{Step}
 use Rattle.steps.specs.Records.{filled_to}

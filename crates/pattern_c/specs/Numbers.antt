@@ -5,14 +5,14 @@ use Rattle.sheet.specs.Facts.{Facts}
 use Rattle.sheet.specs.Field.{Field}
 use Rattle.sheet.specs.Answer.{answer_to, after_to}
 use Rattle.theory.specs.Verdict.{verdict_number}
-use Rattle.chain.specs.declared.Answer.{Answer}
-use Rattle.chain.specs.declared.Answer.TheVariants.{Run, None, Refused as Not}
+use Rattle.chain.specs.Says.{Answer}
+use Rattle.chain.specs.Says.{Run, None, Refused as Not}
 use Rattle.chain.specs.Answer.{chain_to, chain_left}
-use Rattle.sketch.specs.declared.Judgement.{Judgement}
-use Rattle.sketch.specs.declared.Judgement.TheVariants.{Is, Refused as No}
+use Rattle.sketch.specs.Judgement.{Judgement}
+use Rattle.sketch.specs.Judgement.{Is, Refused as No}
 use Rattle.records.specs.Record.{written_field, placed_in}
-use Rattle.space.specs.declared.Written.{Written}
-use Rattle.space.specs.declared.Written.TheVariants.{Done, Refused}
+use Rattle.space.specs.Written.{Written}
+use Rattle.space.specs.Written.{Done, Refused}
 pub mod Laws
 pub mod Counts
 

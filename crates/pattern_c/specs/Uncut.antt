@@ -3,8 +3,8 @@
 -- are those of `pattern` Counts.
 use Rattle.std.specs.Prelude.{◌%◌, ◌≡◌}
 use Rattle.theory.specs.Prelude.{ℕ, List, ℤ, pos}
-use Rattle.space.specs.declared.Written.{Written}
-use Rattle.space.specs.declared.Written.TheVariants.{Done}
+use Rattle.space.specs.Written.{Written}
+use Rattle.space.specs.Written.{Done}
 use Rattle.sheet.specs.declared.Constraint.{Constraint}
 use Rattle.sheet.specs.Field.{Field, Bytes}
 use Rattle.sheet.specs.Answer.{answer_to}
@@ -14,7 +14,7 @@ use Rattle.card.specs.Card.{set_verdict}
 use Rattle.chain.specs.Answer.{chain_to}
 use Rattle.longest.specs.Longest.{longest_field}
 use Rattle.steps.specs.Records.{numbers_field}
-use Rattle.sketch.specs.declared.Judgement.TheVariants.{Is}
+use Rattle.sketch.specs.Judgement.{Is}
 use Rattle.records.specs.Record.{as_judgement, ask_field, place_field, placed_in, held_record, sheet_field}
 use Rattle.held.specs.Held.{held_count_of, held_items_of}
 use Rattle.pattern.specs.Entries.{items_field, report_field, rewrite_field, verdict_field, over_numbers, initial_clusters, check_field}

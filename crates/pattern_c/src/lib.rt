@@ -5,6 +5,8 @@
 
 ghost use Rattle.std.specs.Prelude.{◌≡◌, pos, get_or, ◌%◌};
 ghost use Rattle.theory.specs.Set.{◌∩◌};
+ghost use Rattle.theory.specs.Rule.{by_number, refusal};
+ghost use Rattle.chain.specs.Says.{says};
 ghost use Rattle.judge.specs.Judged.{plan_numbers, final_clusters};
 ghost use Rattle.account.specs.Resting.{rest_numbers};
 ghost use Rattle.pattern.specs.Entries.{items_field, report_field, rewrite_field, verdict_field, over_numbers, initial_clusters, check_field, hold_field};
@@ -16,26 +18,23 @@ ghost use Rattle.pattern.specs.Entries.{chain_field};
 ghost use Rattle.sheet.specs.Facts.{blank_constraint};
 ghost use Rattle.card.specs.Card.{set_verdict};
 ghost use Rattle.longest.specs.Longest.{longest_field};
-ghost use Rattle.sketch.specs.declared.Judgement.TheVariants.{Is};
+ghost use Rattle.sketch.specs.Judgement.{Is};
 ghost use Rattle.pattern_c.specs.Numbers.{as_count, as_number, AnswersCount, PlacedCount, as_items, ChainCount};
 ghost use Rattle.pattern_c.specs.Columns.{places_of, opening_by, kind_from, kinds_listed, element_in, constraint_from, constraint_in};
 ghost use Rattle.pattern_c.specs.Columns.{columns_fault, columns_field};
 ghost use Rattle.pattern.specs.Entries.{part_of, part_field, count_of, missing_field};
 ghost use Rattle.pattern.specs.Entries.{open_merges_field};
 
-use chain::Answer;
 use sheet::{Constraint, Element, Kind, Opening, Sheet, Size};
-use sketch::Judgement;
-use space::Written;
-use theory::{CONSTRAINTS, ELEMENTS};
+use theory::{CONSTRAINTS, ELEMENTS, Rule, Verdict};
 
 // The count of items written, or minus the rule's number.
-fn count(w: Written) -> i32
-    ensures { result ≡ as_count w }
+fn count(answer: Result<usize, Rule>) -> i32
+    ensures { result ≡ as_count (by_number answer) }
 {
-    match w {
-        Written::Done(n) => { if n < 2147483648 { n as i32 } else { 2147483647 } }
-        Written::Refused(k) => 0 - (k as i32),
+    match answer {
+        Ok(n) => { if n < 2147483648 { n as i32 } else { 2147483647 } }
+        Err(rule) => -i32::from(rule.number()),
     }
 }
 
@@ -115,10 +114,8 @@ fn constraints_in(
 {
     let none = blank();
     let mut cs = [none; CONSTRAINTS];
-    let mut i: usize = 0;
-    while i < CONSTRAINTS {
+    for i in 0..CONSTRAINTS {
         cs[i] = constraint_at(firsts, seconds, maps, sizes, i);
-        i += 1;
     }
     cs
 }
@@ -141,12 +138,10 @@ fn radius_at(radii: &[u32], i: usize) -> u32
 fn kinds_listed(kinds: &[u8], n: usize) -> bool
     ensures { result ≡ kinds_listed kinds.now n }
 {
-    let mut i: usize = 0;
-    while i < n {
+    for i in 0..n {
         if 2 < kind_number(kinds, i) {
             return false;
         }
-        i += 1;
     }
     true
 }
@@ -168,11 +163,10 @@ fn elements_in(kinds: &[u8], radii: &[u32]) -> [Element; ELEMENTS]
 {
     let none = Element { kind: Kind::Point };
     let mut elements = [none; ELEMENTS];
-    let mut i: usize = 0;
-    while i < ELEMENTS {
-        let k = kind_from(kind_number(kinds, i), radius_at(radii, i));
-        elements[i] = Element { kind: k };
-        i += 1;
+    for i in 0..ELEMENTS {
+        elements[i] = Element {
+            kind: kind_from(kind_number(kinds, i), radius_at(radii, i)),
+        };
     }
     elements
 }
@@ -188,20 +182,20 @@ fn opening_by(opening: usize) -> Opening
     }
 }
 
-// The rule of 1, 3 and 18 that refuses the columns, 0 where none does.
-fn columns_fault(opening: usize, n: usize, kinds: &[u8]) -> u8
-    ensures { result ≡ columns_fault opening n kinds.now }
+// Rules 1, 3 and 18 of the columns.
+fn check_columns(opening: usize, n: usize, kinds: &[u8]) -> Result<(), Rule>
+    ensures { refusal result ≡ columns_fault opening n kinds.now }
 {
-    if opening < 1 {
-        return 1;
-    }
-    if 2 < opening {
-        return 1;
+    if opening < 1 || 2 < opening {
+        return Err(Rule::Opening);
     }
     if !sheet::elements_in_range(n) {
-        return 3;
+        return Err(Rule::ElementCount);
     }
-    if kinds_listed(kinds, n) { 0 } else { 18 }
+    if !kinds_listed(kinds, n) {
+        return Err(Rule::UnknownKind);
+    }
+    Ok(())
 }
 
 // A sheet's facts in columns as bytes in lent space, or the rule of 1, 3, 5 to 9 and 17 to 20 that refuses them.
@@ -221,9 +215,8 @@ pub fn pattern_write(
         (columns_field opening n e kinds.now radii.now firsts.now seconds.now maps.now
         sizes.now) out.old result out.new }
 {
-    let fault = columns_fault(opening, n, kinds);
-    if fault != 0 {
-        return count(Written::Refused(fault));
+    if let Err(rule) = check_columns(opening, n, kinds) {
+        return count(Err(rule));
     }
     let elements = elements_in(kinds, radii);
     let constraints = constraints_in(firsts, seconds, maps, sizes);
@@ -246,13 +239,10 @@ pub fn pattern_over(sheet: &[u8], out: &mut [u64]) -> i32
 }
 
 // A verdict as its number, counted like items.
-fn verdict_number(j: Judgement) -> Written
-    ensures { result ≡ as_number j }
+fn verdict_number(answer: Result<Verdict, Rule>) -> Result<usize, Rule>
+    ensures { by_number result ≡ as_number (by_number answer) }
 {
-    match j {
-        Judgement::Is(v) => Written::Done(v.number() as usize),
-        Judgement::Refused(k) => Written::Refused(k),
-    }
+    Ok(usize::from(answer?.number()))
 }
 
 // The verdict of a sheet, 0 over, 1 angle, 2 well, 3 stuck, 4 under; or minus the rule of 1 to 10 and 18 to 20 that refuses it.
@@ -405,13 +395,13 @@ pub fn pattern_part(sheet: &[u8], number: usize, out: &mut [u8]) -> i32
 }
 
 // The chain's answer, counted like items; "none" by a number that no rule has.
-fn chain_items(a: Answer) -> Written
-    ensures { result ≡ as_items a }
+fn count_chain(answer: Result<Option<usize>, Rule>) -> i32
+    ensures { result ≡ as_count (as_items (says answer)) }
 {
-    match a {
-        Answer::Run(n) => Written::Done(n),
-        Answer::None => Written::Refused(100),
-        Answer::Refused(k) => Written::Refused(k),
+    match answer {
+        Ok(Some(n)) => count(Ok(n)),
+        Ok(None) => -100,
+        Err(rule) => count(Err(rule)),
     }
 }
 
@@ -420,7 +410,7 @@ fn chain_items(a: Answer) -> Written
 pub fn pattern_chain(sheet: &[u8], from: usize, to: usize, out: &mut [u16]) -> i32
     ensures { ChainCount (chain_field sheet.now from to) out.old result out.new }
 {
-    count(chain_items(pattern::chain(sheet, from, to, out)))
+    count_chain(pattern::chain(sheet, from, to, out))
 }
 
 // The cheapest missing dimensions, for a price for each pair in dictionary order: one number a pair, its first end times 256 plus its second; or the
@@ -435,8 +425,7 @@ pub fn pattern_missing(sheet: &[u8], prices: &[u16], out: &mut [u16]) -> i32
 pub fn pattern_card(number: usize) -> i32
     ensures { result ≡ as_count (as_number (Is (set_verdict 5 (number % 1024)))) }
 {
-    let is = pattern::card(number);
-    count(verdict_number(Judgement::Is(is)))
+    count(verdict_number(Ok(pattern::card(number))))
 }
 
 // The sheet of n points with the longest plan, as bytes in lent space, or the rule of 3 and 17 that refuses.

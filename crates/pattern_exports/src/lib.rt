@@ -14,7 +14,7 @@ ghost use Rattle.steps.specs.Records.{numbers_field};
 ghost use Rattle.pattern.specs.Entries.{chain_field};
 ghost use Rattle.card.specs.Card.{set_verdict};
 ghost use Rattle.longest.specs.Longest.{longest_field};
-ghost use Rattle.sketch.specs.declared.Judgement.TheVariants.{Is};
+ghost use Rattle.sketch.specs.Judgement.{Is};
 ghost use Rattle.pattern_c.specs.Numbers.{as_count, as_number, AnswersCount, PlacedCount, ChainCount};
 ghost use Rattle.pattern_c.specs.Columns.{constraint_from};
 ghost use Rattle.pattern_c.specs.Columns.{columns_field};

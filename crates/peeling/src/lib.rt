@@ -8,9 +8,9 @@
 
 ghost use Rattle.std.specs.Prelude.{◌≡◌, ◌≢◌, List, ℕ, suc, ◌≤◌, ◌<◌, length, take, get_or};
 ghost use Rattle.std.specs.Int.Count.{ones};
-ghost use Rattle.theory.specs.Set.{◌∈◌, ◌⊑◌, at, full};
+ghost use Rattle.theory.specs.Set.{◌∈◌, ◌⊑◌};
 ghost use Rattle.theory.specs.Near.{Simple, Standing, Near};
-ghost use Rattle.peeling.specs.Core.{Core, Largest, Beyond, Light, Heavy, Peeled};
+ghost use Rattle.peeling.specs.Core.{Core, Dense, Largest, Beyond, Light, Heavy, Mutual, Peeled};
 ghost use Rattle.peeling.specs.Hard.{Shown, Linked, Left, Marks};
 
 use theory::{CONSTRAINTS, ELEMENTS};
@@ -23,36 +23,11 @@ pub fn other_end(pair: u64, a: u8) -> u8
     sets::lowest(pair - sets::single(a))
 }
 
-// How many elements come before those, from the highest down, that have no neighbour; one at least.
-fn used(near: &[u64; ELEMENTS]) -> u8
-    ensures { (1 ≤ result) × (result ≤ 64) × Beyond near.now result }
+// How many elements come before those, from the highest down, that have no neighbour.
+fn used(near: &[u64; ELEMENTS]) -> usize
+    ensures { (result ≤ 64) × Beyond near.now result }
 {
-    let mut n: u8 = 64;
-    while 1 < n {
-        let i = sets::wide(n - 1);
-        if near[i] != 0 {
-            return n;
-        }
-        n = n - 1;
-    }
-    n
-}
-
-// The elements below n with two neighbours at most.
-fn light_all(near: &[u64; ELEMENTS], n: u8) -> u64
-    requires { n ≤ 64 }
-    ensures { Light near.now (full n) result × ((x : ℕ) → x < n → at x result ≡ 0 → 3 ≤ ones (get_or near.now x 0)) }
-{
-    let mut todo: u64 = 0;
-    let mut x: u8 = 0;
-    while x < n {
-        let i = sets::wide(x);
-        if sets::without_lowest(sets::without_lowest(near[i])) == 0 {
-            todo = todo | sets::single(x);
-        }
-        x = x + 1;
-    }
-    todo
+    near.iter().rposition(|m| *m != 0).map_or(0, |x| x + 1)
 }
 
 // The elements of who with two neighbours at most among those left.
@@ -60,55 +35,41 @@ fn light_of(near: &[u64; ELEMENTS], left: u64, who: u64) -> u64
     requires { who ⊑ left }
     ensures { Light near.now left result × Heavy near.now left who result }
 {
-    let mut todo: u64 = 0;
-    let mut m = who;
-    while m != 0 {
-        let x = sets::lowest(m);
-        let i = sets::wide(x);
-        let bit = sets::single(x);
-        if sets::without_lowest(sets::without_lowest(near[i] & left)) == 0 {
-            todo = todo | bit;
+    let mut light: u64 = 0;
+    for x in sets::elements(who) {
+        if sets::without_lowest(sets::without_lowest(near[x] & left)) == 0 {
+            light |= 1 << x;
         }
-        m = m - bit;
     }
-    todo
+    light
 }
 
-// The elements that an over set can have, the 3-core: the largest set whose elements have three neighbours each in it.
-// Those with two at most are taken away all at once, as often as there are any.
-pub fn core_of(near: &[u64; ELEMENTS]) -> u64
-    ensures { Peeled near.now result
-        × ((cs : List ℕ) → Simple cs → Near cs near.now → Core cs result × Largest near.now result) }
+// What is left of a set when those of low, and then those with two neighbours at most among those left, are taken away, all at once, as often as
+// there are any.
+fn peel(near: &[u64; ELEMENTS], all: u64, low: u64) -> u64
+    requires { Light near.now all low }
+    ensures { ((real : List ℕ) → Shown real near.now all → Peeled real all → Peeled real result × Shown real near.now result)
+        × (Mutual near.now → Heavy near.now all all low → Dense near.now result) }
 {
-    let n = used(near);
-    let mut left = sets::below(sets::wide(n));
-    let mut todo = light_all(near, n);
+    let mut left = all;
+    let mut todo = low;
     while todo != 0 {
-        left = left - todo;
+        left -= todo;
         todo = light_of(near, left, sets::image(near, todo) & left);
     }
     left
 }
 
-// ---- the constraints that can close an over set
-
-// What is left of a set when those of low, and then those with two neighbours at most among those left, are taken away one after another.
-fn shrink(near: &[u64; ELEMENTS], all: u64, low: u64) -> u64
-    requires { Light near.now all low }
-    ensures { (real : List ℕ) → Shown real near.now all → Peeled real all
-        → Peeled real result × Shown real near.now result }
+// The elements that an over set can have, the 3-core: the largest set whose elements have three neighbours each in it.
+pub fn core_of(near: &[u64; ELEMENTS]) -> u64
+    ensures { Peeled near.now result
+        × ((cs : List ℕ) → Simple cs → Near cs near.now → Core cs result × Largest near.now result) }
 {
-    let mut left = all;
-    let mut todo = low;
-    while todo != 0 {
-        let x = sets::lowest(todo);
-        let i = sets::wide(x);
-        let bit = sets::single(x);
-        left = left - bit;
-        todo = (todo - bit) | light_of(near, left, near[i] & left);
-    }
-    left
+    let all = sets::below(used(near));
+    peel(near, all, light_of(near, all, all))
 }
+
+// ---- the constraints that can close an over set
 
 // The core that is left without the constraint of a pair within it, which is removed from the adjacency.
 fn drop_pair(near: &mut [u64; ELEMENTS], left: u64, pair: u64) -> u64
@@ -118,12 +79,10 @@ fn drop_pair(near: &mut [u64; ELEMENTS], left: u64, pair: u64) -> u64
 {
     let a = sets::lowest(pair);
     let b = other_end(pair, a);
-    let i = sets::wide(a);
-    let j = sets::wide(b);
-    near[i] = near[i] - sets::single(b);
-    near[j] = near[j] - sets::single(a);
+    near[usize::from(a)] -= sets::single(b);
+    near[usize::from(b)] -= sets::single(a);
     let low = light_of(near, left, pair);
-    shrink(near, left, low)
+    peel(near, left, low)
 }
 
 // Notes 4 for each constraint that can close an over set: those with both ends in the core of the constraints up to them, found from the last to the
@@ -140,12 +99,10 @@ pub fn mark_hard(
 {
     let mut rest = *near;
     let mut left = core;
-    let mut c = e;
-    while 0 < c {
+    for c in (0..e).rev() {
         if left == 0 {
             return;
         }
-        c = c - 1;
         let pair = start[c];
         if pair & left == pair {
             needs[c] = 4;

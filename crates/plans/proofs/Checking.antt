@@ -1,5 +1,5 @@
 -- A saved plan, step after step. Assumes nothing.
-use Rattle.std.specs.Prelude.{◌≡◌, ◌≢◌, ◌∷◌, ◌++◌, ◌+◌, ◌*◌, ◌%◌, ◌≤◌, ◌<◌}
+use Rattle.std.specs.Prelude.{◌≡◌, ◌≢◌, ◌∷◌, ◌++◌, ◌+◌, ◌*◌, ◌%◌, ◌≤◌, ◌<◌, Result}
 use Rattle.theory.specs.Prelude.{refl, sym, ap, ◌∙◌, List, [], append_assoc, append-nil, ℕ, zero, suc}
 use Rattle.theory.specs.Prelude.{arith, eqb, length, get_or, take, drop, drop_of_length-le, drop-cons, eq-eqb, ne_eqb}
 use Rattle.theory.specs.Block.{block}
@@ -7,6 +7,8 @@ use Rattle.theory.specs.Tests.{yes-branch, no-branch}
 use Rattle.theory.specs.Constraints.{NotOver}
 use Rattle.theory.specs.Merge.{Merge, merge, OpenAt, put, final}
 use Rattle.theory.specs.Plan.{ascending}
+use Rattle.theory.specs.Rule.{refusal}
+use Rattle.theory.specs.declared.Rule.{Rule}
 use Rattle.merges.specs.Run.{Blank, Start}
 use Rattle.merges.specs.Run.Laws.{final-snoc}
 use Rattle.merges.specs.Going.{Going, Made}
@@ -134,8 +136,8 @@ module _ {cs : List ℕ} {e : ℕ} {l slots parts joints : List ℕ} {steps at :
     saved = sym (w.rest ∙ ap (λ (r : List ℕ). w.p ++ saved_steps_of r) none_left ∙ append-nil w.p)
 
   -- what is answered, and what the arrays hold then
-  pub checks : {rule : ℕ} → (NotOver cs → rule ≡ plan_fault cs l) → (rule ≡ 0 → w.p ≡ saved_steps_of l)
-      → Checks cs l (record { rule = rule; steps = steps }) parts joints slots
+  pub checks : {outcome : Result (Unit {0}) Rule} → (NotOver cs → refusal outcome ≡ plan_fault cs l) → (refusal outcome ≡ 0 → w.p ≡ saved_steps_of l)
+      → Checks cs l (record { outcome = outcome; steps = steps }) parts joints slots
   checks is whole = record {
     rule_is = is;
     merged = record { p = w.p; valid = w.going.clusters.valid; is = going-run w.going };

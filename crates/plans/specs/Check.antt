@@ -5,6 +5,7 @@ use Rattle.std.specs.Prelude.{◌≡◌, Bool, true, false, ◌||◌, List, [], 
 use Rattle.theory.specs.Constraints.{NotOver}
 use Rattle.theory.specs.Merge.{slot, Merge, merge, put}
 use Rattle.theory.specs.Plan.{open_test, first_of, is_some}
+use Rattle.theory.specs.Rule.{refusal}
 use Rattle.merges.specs.Run.{run_in, Merged}
 use Rattle.plans.specs.declared.Parts.{Parts}
 use Rattle.plans.specs.declared.Checked.{Checked}
@@ -49,6 +50,6 @@ as_merge p = merge p.i p.j p.k
 -- what is checked: the rule, where the constraints are not over; the arrays hold merges that can be made in any case, and those of the plan where
 -- no rule refuses it
 pub record Checks (cs l : List ℕ) (r : Checked) (parts joints slots : List ℕ) : Type 0 where
-  pub rule_is : NotOver cs → r.rule ≡ plan_fault cs l
+  pub rule_is : NotOver cs → refusal r.outcome ≡ plan_fault cs l
   pub merged : Merged cs (run_in r.steps parts joints slots)
-  pub saved : r.rule ≡ 0 → merged.p ≡ saved_steps_of l
+  pub saved : refusal r.outcome ≡ 0 → merged.p ≡ saved_steps_of l

@@ -1,8 +1,9 @@
 -- What follows the map: rules 8 and 20, the size that it announces, and the tag. Assumes nothing.
 use Rattle.std.specs.Prelude.{◌/◌, ◌%◌, ◌≡◌, ◌∷◌}
-use Rattle.theory.specs.Prelude.{ℕ, refl, ap, ◌∙◌, Bool, true, false, List, [], eqb, ℤ}
+use Rattle.theory.specs.Prelude.{ℕ, refl, sym, ap, ◌∙◌, Bool, true, false, List, [], eqb, ℤ}
 use Rattle.theory.specs.Prelude.{pos}
 use Rattle.sheet.specs.declared.Kind.{Kind}
+use Rattle.sheet.specs.declared.PairKind.{PairKind}
 use Rattle.sheet.specs.declared.Size.{Size}
 use Rattle.sheet.specs.Field.{Field, value, refused, next, demand, byte}
 use Rattle.sheet.specs.Rules.{pair_of, size_by, size_allowed, map_allowed, radii_differ}
@@ -32,32 +33,25 @@ code-tagged z bit s = by (tag bit s)
 
 -- ---- after the map, where rules 8 and 20 take what it announces
 
-module _ (j k : Kind) (map : ℕ) (s : List ℕ) where
-  pub not-allowed : size_allowed j k (size_by map (pos 0)) ≡ false → dimension_by j k map s ≡ refused 8
+module _ (j k : Kind) (map : ℕ) (s : List ℕ) {z : Size} (z_is : z ≡ size_by map (pos 0)) where
+  pub not-allowed : false ≡ size_allowed j k z → dimension_by j k map s ≡ refused 8
   unfolding dimension_by
-  not-allowed a = rw a
+  not-allowed a = rw (← z_is, ← a)
 
-  module _ (a : size_allowed j k (size_by map (pos 0)) ≡ true) where
-    pub same-radii : radii_differ j k (size_by map (pos 0)) ≡ false → dimension_by j k map s ≡ refused 20
+  module _ (a : true ≡ size_allowed j k z) where
+    pub same-radii : false ≡ radii_differ j k z → dimension_by j k map s ≡ refused 20
     unfolding dimension_by
-    same-radii d = rw (a, d)
+    same-radii d = rw (← z_is, ← a, ← d)
 
-    module _ (d : radii_differ j k (size_by map (pos 0)) ≡ true) where
-      -- the size that follows the map, and the tag
-      abbrev given : Field Size
-      given = size (pair_of j k) (size_by map (pos 0)) s
-
-      abbrev bit : Bool
-      bit = eqb (map / 2 % 2) 1
-
-      taken : dimension_by j k map s ≡ next given (λ z s1. next (tag bit s1) (λ t s2. value z s2))
+    module _ (d : true ≡ radii_differ j k z) {p : PairKind} (p_is : p ≡ pair_of j k) where
+      taken : dimension_by j k map s ≡ next (size p z s) (λ y s1. next (tag (eqb (map / 2 % 2) 1) s1) (λ t s2. value y s2))
       unfolding dimension_by
-      taken = rw (a, d)
+      taken = rw (← z_is, ← a, ← d, ← p_is)
 
-      pub no-size-by : {r : ℕ} → code_in given ≡ refused r → code_in (dimension_by j k map s) ≡ refused r
-      no-size-by n = rw (taken, no_size given n)
+      pub no-size-by : {r : ℕ} → refused r ≡ code_in (size p z s) → code_in (dimension_by j k map s) ≡ refused r
+      no-size-by n = rw (taken, no_size (size p z s) (sym n))
 
-      pub size-by : {z : ℤ} {u : List ℕ} → code_in given ≡ value z u → code_in (dimension_by j k map s) ≡ tagged z bit u
-      size-by {z} {u} n =
-          let y = sized given n in
-          rw (taken, y.was) (code-tagged y.size bit u ∙ ap (λ (x : ℤ). tagged x bit u) y.is)
+      pub size-by : {y : ℤ} {u : List ℕ} → value y u ≡ code_in (size p z s) → code_in (dimension_by j k map s) ≡ tagged y (eqb (map / 2 % 2) 1) u
+      size-by {y} {u} n =
+          let x = sized (size p z s) (sym n) in
+          rw (taken, x.was) (code-tagged x.size (eqb (map / 2 % 2) 1) u ∙ ap (λ (w : ℤ). tagged w (eqb (map / 2 % 2) 1) u) x.is)

@@ -3,8 +3,8 @@
 use Rattle.std.specs.Prelude.{ℕ, List, [], ◌++◌, leb, length, take}
 use Rattle.theory.specs.declared.Verdict.{Verdict}
 use Rattle.theory.specs.Graph.{verdict_of}
-use Rattle.space.specs.declared.Written.{Written}
-use Rattle.space.specs.declared.Written.TheVariants as written
+use Rattle.space.specs.Written.{Written}
+use Rattle.space.specs.Written as written
 use Rattle.space.specs.Space.{answer}
 use Rattle.sheet.specs.declared.Constraint.{Constraint}
 use Rattle.sheet.specs.Facts.{Facts}
@@ -13,8 +13,8 @@ use Rattle.sheet.specs.Decode.{read_sheet}
 use Rattle.sheet.specs.Encode.{sheet_bytes}
 use Rattle.sheet.specs.Graph.{graph_of, over_fault}
 use Rattle.sheet.specs.Answer.{by_rule}
-use Rattle.sketch.specs.declared.Judgement.{Judgement}
-use Rattle.sketch.specs.declared.Judgement.TheVariants.{Is, Refused}
+use Rattle.sketch.specs.Judgement.{Judgement}
+use Rattle.sketch.specs.Judgement.{Is, Refused}
 use Rattle.sketch.specs.Sketch.{extended, by27, ask_fault, place_fault}
 pub mod Laws
 pub mod Room

@@ -8,8 +8,8 @@ use Rattle.sheet.specs.declared.Sheet.{Sheet}
 use Rattle.sheet.specs.Facts.{Facts, facts_of}
 use Rattle.sheet.specs.Field.{value, refused}
 use Rattle.sheet.specs.Answer.{after_to}
-use Rattle.sketch.specs.declared.Judgement.{Judgement}
-use Rattle.sketch.specs.declared.Judgement.TheVariants.{Is, Refused}
+use Rattle.sketch.specs.Judgement.{Judgement}
+use Rattle.sketch.specs.Judgement.{Is, Refused}
 use Rattle.sketch.specs.Runs.{Event, asks, places, answers_to, after_all, Held}
 use Rattle.records.specs.Record.{record_bytes, record_sheet, as_judgement, ask_field, place_field, written_field, placed_in, held_record}
 pub mod Proof

@@ -4,6 +4,7 @@
 #![tactic(auto)]
 
 ghost use Rattle.std.specs.Prelude.{◌≡◌, [], ◌∷◌, ◌++◌, ◌+◌, ◌*◌, ◌<◌, ◌≤◌, ◌^◌, length, take};
+ghost use Rattle.theory.specs.Rule.{by_number};
 ghost use Rattle.space.specs.Space.{answer, after};
 ghost use Rattle.space.specs.Text.{decimal};
 ghost use Rattle.report.specs.Elements.{elements};
@@ -13,8 +14,8 @@ ghost use Rattle.report.specs.Pieces.{numbers, above, wide, parts_words, kind_wo
 ghost use Rattle.report.specs.Pieces.{steps_between, front};
 ghost use Rattle.report.specs.Block.{block, Numerals, Stands};
 
-use space::{Written, put_all8, put_decimal};
-use theory::{CLUSTERS, CONSTRAINTS, JOINTS, JointKind, PARTS, Step, Verdict, Ways};
+use space::{put_all, put_decimal};
+use theory::{CLUSTERS, CONSTRAINTS, JOINTS, JointKind, PARTS, Rule, Step, Verdict, Ways};
 
 // Room for the longest report, and for the largest piece behind it.
 pub const BLOCK: usize = 5472;
@@ -78,12 +79,10 @@ fn put_word(out: &mut [u8; BLOCK], at: usize, word: &[u8]) -> usize
     requires { at + length word.now ≤ block }
     ensures { Stands out.old at word.now result out.new }
 {
-    let mut i: usize = 0;
-    while i < word.len() {
-        out[at + i] = word[i];
-        i += 1;
+    for (i, b) in word.iter().enumerate() {
+        out[at + i] = *b;
     }
-    at + i
+    at + word.len()
 }
 
 // A space and a count below 1,000.
@@ -107,11 +106,8 @@ fn put_set_from(
     ensures { Stands out.old at (numbers (above first (elements set))) result out.new × (result ≤ at + 256) }
 {
     let mut next = at;
-    let mut rest = set;
-    while rest != 0 {
-        let x = u64::trailing_zeros(rest) as usize;
+    for x in sets::elements(set) {
         next = put_number(out, next, text, first + x);
-        rest = rest & (rest - 1);
     }
     next
 }
@@ -210,7 +206,7 @@ fn put_ways(out: &mut [u8; BLOCK], at: usize, text: &[u8; TEXT], ways: Ways) -> 
 {
     match ways {
         Ways::Known(w) => {
-            let a1 = put_number(out, at, text, w as usize);
+            let a1 = put_number(out, at, text, usize::from(w));
             put_word(out, a1, b"\n")
         }
         Ways::Unknown => put_word(out, at, b" ?\n"),
@@ -222,13 +218,11 @@ fn put_step_line(out: &mut [u8; BLOCK], at: usize, text: &[u8; TEXT], s: Step) -
     requires { Numerals text.now × Small s × (at + 310 ≤ block) }
     ensures { Stands out.old at (step_line s) result out.new }
 {
-    let kind = s.kind;
-    let ways = s.ways;
     let a1 = put_parts(out, at, text, s.made, s.i, s.j, s.k);
     let a2 = put_word(out, a1, b" joint");
     let a3 = put_set(out, a2, text, s.joint);
-    let a4 = put_kind(out, a3, kind);
-    put_ways(out, a4, text, ways)
+    let a4 = put_kind(out, a3, s.kind);
+    put_ways(out, a4, text, s.ways)
 }
 
 // What a cluster rests on, at the end of its line: the numbers to 63 in one word, those from 64 on in another.
@@ -287,11 +281,9 @@ pub fn put_steps_from(
         out.new }
 {
     let mut next = at;
-    let mut t = first;
-    while t < last {
+    for t in first..last {
         let s = engine::step_at(parts, joints, start, sizes, lines, e, t);
         next = put_step_line(out, next, text, s);
-        t += 1;
     }
     next
 }
@@ -336,10 +328,8 @@ fn put_clusters(
         (cluster_lines 0 (take used slots.now) (take used (wide low.now high.now))) result out.new }
 {
     let mut next = at;
-    let mut c: usize = 0;
-    while c < used {
+    for c in 0..used {
         next = put_slot_line(out, next, text, c, slots[c], low[c], high[c]);
-        c += 1;
     }
     next
 }
@@ -436,12 +426,12 @@ pub fn write_report(
     slots: &[u64; CLUSTERS],
     low: &[u64; CLUSTERS],
     high: &[u64; CLUSTERS],
-) -> Written
+) -> Result<usize, Rule>
     requires n_bound { (n < 1000) × (e ≤ 125) × (count ≤ 62) × (length slots.now ≡ 192) × (length low.now ≡ 192) × (length high.now ≡ 192)
         × AllSmall (steps_in lines e sizes.now start.now parts.now joints.now count) }
     requires high_len_bound { length (report n e verdict (steps_in lines e sizes.now start.now parts.now joints.now count) (take (e + count) slots.now)
         (take (e + count) (wide low.now high.now))) ≤ longest }
-    ensures answers { result ≡ answer
+    ensures answers { by_number result ≡ answer
         (report n e verdict (steps_in lines e sizes.now start.now parts.now joints.now count)
         (take (e + count) slots.now) (take (e + count) (wide low.now high.now))) out.old }
     ensures leaves { out.new ≡ after
@@ -454,17 +444,23 @@ pub fn write_report(
         &mut whole, &text, n, e, lines, verdict, start, sizes, count, parts, joints, slots, low,
         high,
     );
-    put_all8(out, &whole[0..length])
+    put_all(out, &whole[..length])
 }
 
 // The report of an over sheet, into space that takes it whole or not at all.
-pub fn write_over_report(out: &mut [u8], n: usize, e: usize, first: usize, set: u64) -> Written
+pub fn write_over_report(
+    out: &mut [u8],
+    n: usize,
+    e: usize,
+    first: usize,
+    set: u64,
+) -> Result<usize, Rule>
     requires { (n < 1000) × (e < 1000) × (first < 1000) }
-    ensures answers { result ≡ answer (over_report n e first set) out.old }
+    ensures answers { by_number result ≡ answer (over_report n e first set) out.old }
     ensures leaves { out.new ≡ after (over_report n e first set) out.old }
 {
     let text = numerals();
     let mut lines: [u8; BLOCK] = [0; BLOCK];
     let end = put_over_report(&mut lines, &text, n, e, first, set);
-    put_all8(out, &lines[0..end])
+    put_all(out, &lines[..end])
 }

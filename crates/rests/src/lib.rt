@@ -15,10 +15,8 @@ fn note_alone(words: &mut [u64; CLUSTERS], first: usize, last: usize)
     requires { (last ≤ first + 64) × (last ≤ places) × (words.old ≡ replicate places 0) }
     ensures { Alone first last last words.new }
 {
-    let mut i = first;
-    while i < last {
+    for i in first..last {
         words[i] = sets::single((i - first) as u8);
-        i += 1;
     }
 }
 
@@ -31,8 +29,8 @@ fn join(words: &mut [u64; CLUSTERS], made: usize, i: usize, j: usize, k: usize)
     words[made] = words[i] | words[j] | words[k];
 }
 
-// What the clusters of e constraints rest on after a list of merges, from its parts: a merged one on what its three rest on. By number, in arrays that
-// were blank, constraints 0 to 63 as bits of `low`, 64 to 127 of `high`; only what stands at a living cluster's number counts.
+// What the clusters of e constraints rest on after a list of merges, from its parts: a merged one on what its three rest on. By number, in arrays
+// that were blank, constraints 0 to 63 as bits of `low`, 64 to 127 of `high`; only what stands at a living cluster's number counts.
 pub fn carry(
     parts: &[u16; PARTS],
     e: usize,
@@ -47,14 +45,11 @@ pub fn carry(
 {
     note_alone(low, 0, 64);
     note_alone(high, 64, e);
-    let mut t: usize = 0;
-    while t < steps {
-        let i = sets::place_of(parts[3 * t]);
-        let j = sets::place_of(parts[3 * t + 1]);
-        let k = sets::place_of(parts[3 * t + 2]);
-        let made = e + t;
-        join(low, made, i, j, k);
-        join(high, made, i, j, k);
-        t += 1;
+    for t in 0..steps {
+        let i = usize::from(parts[3 * t]);
+        let j = usize::from(parts[3 * t + 1]);
+        let k = usize::from(parts[3 * t + 2]);
+        join(low, e + t, i, j, k);
+        join(high, e + t, i, j, k);
     }
 }

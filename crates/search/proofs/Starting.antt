@@ -1,28 +1,25 @@
 -- The links, the holders and the waiting clusters before the first merge. Assumes nothing.
-use Rattle.std.specs.Prelude.{◌≡◌, ◌≢◌, ◌+◌, ◌*◌, ◌/◌, ◌%◌, ◌^◌, ◌≤◌, ◌<◌}
-use Rattle.theory.specs.Prelude.{refl, sym, ap, ◌∙◌, subst, ⊎_elim, List, ℕ, zero, suc}
-use Rattle.theory.specs.Prelude.{arith, ℕ_discrete, bit_or, length, get_or, set, replicate}
+use Rattle.std.specs.Prelude.{◌≡◌, ◌≢◌, ◌+◌, ◌-◌, ◌*◌, ◌/◌, ◌%◌, ◌^◌, ◌≤◌, ◌<◌}
+use Rattle.theory.specs.Prelude.{refl, sym, ap, ◌∙◌, subst, ⊎_elim, List, ℕ}
+use Rattle.theory.specs.Prelude.{arith, ℕ_discrete, bit_or, get_or, min, replicate}
 use Rattle.theory.specs.Block.Laws.{get_or-blank}
-use Rattle.theory.specs.Set.{◌∈◌, ◌∪◌, at}
+use Rattle.theory.specs.Set.{◌∈◌, ◌∪◌, at, full}
 use Rattle.theory.specs.Set.Laws.{at_zero, at_same, at_other, at-∪, ∈-∪⁻, ∈-∪ˡ, ∈-∪ʳ, out}
 use Rattle.theory.specs.Merge.{slot}
 use Rattle.search.specs.State.{linked, holder, waits, Begun}
-use Rattle.search.specs.Words.{word, Entered}
-use Rattle.search.proofs.Triple.{set-three}
+use Rattle.search.specs.Words.{Entered}
+use Rattle.search.specs.State.Sheet.{in-full}
+use Rattle.search.proofs.Storing.{Placed}
 
 -- ---- the three words
 
-pub todo-words : (t : List ℕ) (e a b c : ℕ) → length t ≡ 3 → e ≤ 192 → ((x : ℕ) → x < 64 → 64 * 0 + x < e → x ∈ a)
-    → ((x : ℕ) → x < 64 → 64 * 1 + x < e → x ∈ b)
-    → ((x : ℕ) → x < 64 → 64 * 2 + x < e → x ∈ c) → (n : ℕ) → n < e → waits (set (set (set t 0 a) 1 b) 2 c) n ≡ 1
-todo-words t e a b c l h fa fb fc n k =
-    ap (at (n % 64)) (set-three t a b c l (n / 64) (omega arith)) ∙ each (n / 64) (omega arith) (n % 64) (omega arith) (omega arith)
-  where
-    each : (w : ℕ) → w < 3 → (x : ℕ) → x < 64 → 64 * w + x < e → x ∈ word w a b c
-    each zero i = fa
-    each (suc zero) i = fb
-    each (suc (suc zero)) i = fc
-    each (suc (suc (suc w))) i = absurd (omega arith)
+-- word w of the first e clusters
+abbrev pub first_word : ℕ → ℕ → ℕ
+first_word e w = full (min (e - 64 * w) 64)
+
+pub todo-words : {todo todo' : List ℕ} {e n : ℕ} → e ≤ 192 → Placed (λ v. v) (first_word e) todo todo' n → 3 ≤ n → (c : ℕ) → c < e → waits todo' c ≡ 1
+todo-words {e = e} low p every c l =
+    ap (at (c % 64)) (p.done (c / 64) (omega arith)) ∙ in-full (min (e - 64 * (c / 64)) 64) (c % 64) (omega arith)
 
 -- ---- links and holders
 

@@ -1,13 +1,46 @@
--- Stores at the places base + p, for the elements p of a set one after another, and the elements linked within a set alone. Assumes nothing.
+-- Stores at places one after another: of a list, and at base + p for the elements p of a set; and the elements linked within a set alone.
+-- Assumes nothing.
 use Rattle.std.specs.Prelude.{◌≡◌, ◌≢◌, ◌⊎◌, ◌+◌, ◌-◌, ◌*◌, ◌/◌, ◌%◌, ◌^◌, ◌≤◌, ◌<◌}
-use Rattle.theory.specs.Prelude.{refl, sym, ap, ◌∙◌, subst, inl, inr, List, ℕ, zero, suc}
+use Rattle.theory.specs.Prelude.{refl, sym, ap, ◌∙◌, subst, inl, inr, one-mul, lt-suc_self, shl_exact, List, ℕ}
 use Rattle.theory.specs.Prelude.{arith, ℕ_discrete, dec_lt, bit_and, bit_or, bit_xor, and_le_l, count_trailing_zeros, length, get_or, set, length-set}
 use Rattle.theory.specs.Prelude.{List·getD-eq-default, get_or-set_same, get_or-set_other}
 use Rattle.theory.specs.Set.{◌∈◌, ◌∩◌, ◌∪◌, at}
 use Rattle.theory.specs.Set.Laws.{at_zero, at-∩, ∈-∩⁻, ∈-∪⁻, ∈-∪ˡ}
 use Rattle.theory.specs.Set.Lowest.{at-below, lowest-in, lowest-below, rest-lowest, rest-other, at-beyond}
 use Rattle.search.specs.State.{linked, Linking}
-use Rattle.search.specs.Words.{word, replaced, Stored, Rejoined, Entered, Inner}
+use Rattle.search.specs.Words.{replaced_at, Stored, Rejoined, Entered, Inner}
+
+-- a shifted one
+pub one-shifted : (k : ℕ) → k < 64 → 1 * 2 ^ k % 18446744073709551616 ≡ 2 ^ k
+one-shifted k l = shl_exact 1 k 64 (lt-suc_self 1) (omega arith) ∙ one-mul (2 ^ k)
+
+-- ---- a list of places
+
+-- the values of the numbers below w stand at their places, and what stands elsewhere is as it was
+pub record Placed (place value : ℕ → ℕ) (was now : List ℕ) (w : ℕ) : Type 0 where
+  pub long : length now ≡ length was
+  pub done : (v : ℕ) → v < w → get_or now (place v) 0 ≡ value v
+  pub same : (i : ℕ) → ((v : ℕ) → v < w → i ≢ place v) → get_or now i 0 ≡ get_or was i 0
+
+pub placed-none : {place value : ℕ → ℕ} {was : List ℕ} → Placed place value was was 0
+placed-none = record { long = refl; done = λ v l. absurd (omega arith); same = λ i far. refl }
+
+pub placed-next : {place value : ℕ → ℕ} {was now : List ℕ} {w : ℕ} → Placed place value was now w → ((v : ℕ) → v < w → place w ≢ place v)
+    → place w < length was → {x : ℕ} → (get_or now (place w) 0 ≡ get_or was (place w) 0 → x ≡ value w)
+    → Placed place value was (set now (place w) x) (w + 1)
+placed-next {place} {value} {was} {now} {w} p apart room {x} is = record {
+  long = length-set now (place w) x ∙ p.long;
+  done = λ v l. done v l (ℕ_discrete v w);
+  same = λ i far. get_or-set_other now (place w) i x 0 (far w (omega arith)) ∙ p.same i (λ v l. far v (omega arith));
+}
+  where
+    done : (v : ℕ) → v < w + 1 → Dec (v ≡ w) → get_or (set now (place w) x) (place v) 0 ≡ value v
+    done v l (yes e) =
+        subst (λ (u : ℕ). get_or (set now (place w) x) (place u) 0 ≡ value u) (sym e)
+        (get_or-set_same now (place w) x 0 (omega (arith, p.long)) ∙ is (p.same (place w) apart))
+    done v l (no n) = get_or-set_other now (place w) (place v) x 0 (λ e. apart v (omega arith) (sym e)) ∙ p.done v (omega arith)
+
+-- ---- the elements of a set
 
 -- f is stored for the elements of edge that lie not in rest
 pub record Storing (f : ℕ → ℕ) (base edge : ℕ) (list now : List ℕ) (rest : ℕ) : Type 0 where
@@ -37,52 +70,44 @@ module _ {f : ℕ → ℕ} {base edge : ℕ} {list : List ℕ} where
   storing-none = record { done = λ p i o. absurd (omega arith); waiting = λ p e. refl; other = λ p l o. refl }
 
   module _ {now : List ℕ} {rest : ℕ} (w : Storing f base edge list now rest) where
-    -- a store elsewhere
-    pub storing-away : Left edge rest → (i v : ℕ) → ((p : ℕ) → p < 64 → base + p ≢ i) → Storing f base edge list (set now i v) rest
-    storing-away l i v far = record {
-      done = λ p a o. get_or-set_other now i (base + p) v 0 (far p (l.small p a)) ∙ w.done p a o;
-      waiting = λ p e. get_or-set_other now i (base + p) v 0 (far p (l.small p (l.within p e))) ∙ w.waiting p e;
-      other = λ p l o. get_or-set_other now i (base + p) v 0 (far p l) ∙ w.other p l o;
-    }
-
-    pub storing-next : Left edge rest → rest ≢ 0 → base + 64 ≤ length now
-        → Storing f base edge list (set now (base + count_trailing_zeros 64 rest) (f (get_or now (base + count_trailing_zeros 64 rest) 0))) (bit_and rest (rest - 1))
+    -- what stands at the lowest element of rest becomes its f
+    pub storing-next : Left edge rest → rest ≢ 0 → {now' : List ℕ} (p₀ : ℕ) → p₀ ≡ count_trailing_zeros 64 rest
+        → get_or now' (base + p₀) 0 ≡ f (get_or now (base + p₀) 0)
+        → ((p : ℕ) → p < 64 → p ≢ p₀ → get_or now' (base + p) 0 ≡ get_or now (base + p) 0)
+        → Storing f base edge list now' (bit_and rest (rest - 1))
     unfolding ◌∩◌
-    storing-next l some room = record {
-      done = λ p i o. done_at p i o (ℕ_discrete p p₀);
-      waiting = λ p e. get_or-set_other now (base + p₀) (base + p) v 0 (λ z. gone p e (omega arith)) ∙ w.waiting p (∈-∩⁻ p rest (rest - 1) e).0;
-      other = λ p s o. get_or-set_other now (base + p₀) (base + p) v 0 (λ z. off p o (omega arith)) ∙ w.other p s o;
+    storing-next l some {now'} p₀ is here there = record {
+      done = λ p i o. done p i o (ℕ_discrete p p₀);
+      waiting = λ p e. there p (l.small p (l.within p (up p e))) (gone p e) ∙ w.waiting p (up p e);
+      other = λ p s o. there p s (off p o) ∙ w.other p s o;
     }
       where
-        p₀ : ℕ
-        p₀ = count_trailing_zeros 64 rest
+        in_rest : p₀ ∈ rest
+        in_rest = ap (λ (p : ℕ). at p rest) is ∙ lowest-in 64 rest l.fits some
 
-        v : ℕ
-        v = f (get_or now (base + p₀) 0)
+        up : (p : ℕ) → p ∈ bit_and rest (rest - 1) → p ∈ rest
+        up p e = (∈-∩⁻ p rest (rest - 1) e).0
 
-        p₀-in : p₀ ∈ rest
-        p₀-in = lowest-in 64 rest l.fits some
+        gone : (p : ℕ) → p ∈ bit_and rest (rest - 1) → p ≢ p₀
+        gone p e z = omega (arith, rest-lowest rest l.fits some, ap (λ (y : ℕ). at y (bit_and rest (rest - 1))) (z ∙ is))
 
-        gone : (p : ℕ) → p ∈ bit_and rest (rest - 1) → p ≡ p₀ → ⊥
-        gone p e z = omega (arith, rest-lowest rest l.fits some, ap (λ (y : ℕ). at y (bit_and rest (rest - 1))) z)
+        off : (p : ℕ) → at p edge ≡ 0 → p ≢ p₀
+        off p o z = omega (arith, l.within p₀ in_rest, ap (λ (y : ℕ). at y edge) z)
 
-        off : (p : ℕ) → at p edge ≡ 0 → p ≡ p₀ → ⊥
-        off p o z = omega (arith, l.within p₀ p₀-in, ap (λ (y : ℕ). at y edge) z)
+        done : (p : ℕ) → p ∈ edge → at p (bit_and rest (rest - 1)) ≡ 0 → Dec (p ≡ p₀) → get_or now' (base + p) 0 ≡ f (get_or list (base + p) 0)
+        done p i o (yes e) =
+            subst (λ (y : ℕ). get_or now' (base + y) 0 ≡ f (get_or list (base + y) 0)) (sym e) (here ∙ ap f (w.waiting p₀ in_rest))
+        done p i o (no n) =
+            there p (l.small p i) n ∙ w.done p i (sym (rest-other rest l.fits some p (λ e. n (e ∙ sym is))) ∙ o)
 
-        done_at : (p : ℕ) → p ∈ edge → at p (bit_and rest (rest - 1)) ≡ 0 → Dec (p ≡ p₀)
-            → get_or (set now (base + p₀) v) (base + p) 0 ≡ f (get_or list (base + p) 0)
-        done_at p i o (yes e) =
-            ap (λ (y : ℕ). get_or (set now (base + p₀) v) (base + y) 0) e
-            ∙ get_or-set_same now (base + p₀) v 0 (omega (arith, lowest-below 64 rest l.fits some))
-            ∙ ap f (w.waiting p₀ p₀-in ∙ ap (λ (y : ℕ). get_or list (base + y) 0) (sym e))
-        done_at p i o (no n) =
-            get_or-set_other now (base + p₀) (base + p) v 0 (λ z. n (omega arith)) ∙ w.done p i (sym (rest-other rest l.fits some p n) ∙ o)
-
-    -- the same at the place as it is written
-    pub storing-at : Left edge rest → rest ≢ 0 → base + 64 ≤ length now → (i : ℕ) → i ≡ base + count_trailing_zeros 64 rest
-        → Storing f base edge list (set now i (f (get_or now i 0))) (bit_and rest (rest - 1))
-    storing-at l some room i is =
-        subst (λ (i : ℕ). Storing f base edge list (set now i (f (get_or now i 0))) (bit_and rest (rest - 1))) (sym is) (storing-next l some room)
+    -- it is stored there alone
+    pub storing-set : Left edge rest → rest ≢ 0 → base + 64 ≤ length now → (p₀ i x : ℕ) → p₀ ≡ count_trailing_zeros 64 rest → i ≡ base + p₀
+        → x ≡ f (get_or now i 0) → Storing f base edge list (set now i x) (bit_and rest (rest - 1))
+    storing-set l some room p₀ i x is place value =
+        storing-next l some p₀ is
+        (ap (λ (j : ℕ). get_or (set now i x) j 0) (sym place)
+        ∙ get_or-set_same now i x 0 (omega (arith, lowest-below 64 rest l.fits some)) ∙ value ∙ ap (λ (j : ℕ). f (get_or now j 0)) place)
+        (λ p s n. get_or-set_other now i (base + p) x 0 (λ e. n (omega arith)))
 
     pub storing-all : rest ≡ 0 → Stored f base edge list now
     storing-all z = record { inside = λ p i. w.done p i (ap (at p) z ∙ at_zero p); outside = w.other }
@@ -105,83 +130,46 @@ linking-all {links} {now} {edge} {u} w z long long' = record {
 
 -- ---- links and holders at once
 
-pub record Joining (links hold : List ℕ) (edge u da db dc ma mb mc : ℕ) (now held : List ℕ) (rest : ℕ) : Type 0 where
+pub record Joining (links hold : List ℕ) (edge u : ℕ) (dead made now held : List ℕ) (rest : ℕ) : Type 0 where
   pub left : Left edge rest
   pub links_long : length now ≡ 64
   pub hold_long : length held ≡ 192
   pub linking : Storing (λ x. bit_or x u) 0 edge links now rest
-  pub first : Storing (replaced da ma) 0 edge hold held rest
-  pub second : Storing (replaced db mb) 64 edge hold held rest
-  pub third : Storing (replaced dc mc) 128 edge hold held rest
+  pub words : (w : ℕ) → w < 3 → Storing (replaced_at dead made w) (64 * w) edge hold held rest
 
-module _ {links hold : List ℕ} {edge u da db dc ma mb mc : ℕ} where
-  pub joining-none : edge < 2 ^ 64 → length links ≡ 64 → length hold ≡ 192 → Joining links hold edge u da db dc ma mb mc links hold edge
+module _ {links hold : List ℕ} {edge u : ℕ} {dead made : List ℕ} where
+  pub joining-none : edge < 2 ^ 64 → length links ≡ 64 → length hold ≡ 192 → Joining links hold edge u dead made links hold edge
   joining-none l a b = record {
     left = left-none l;
     links_long = a;
     hold_long = b;
     linking = storing-none;
-    first = storing-none;
-    second = storing-none;
-    third = storing-none;
+    words = λ w l. storing-none;
   }
 
-  module _ {now held : List ℕ} {rest : ℕ} (w : Joining links hold edge u da db dc ma mb mc now held rest) where
-    -- the lowest element of rest
-    pub joining-next : (p : ℕ) → p ≡ count_trailing_zeros 64 rest → rest ≢ 0
-        → let h1 = set held p (replaced da ma (get_or held p 0)) in
-        let h2 = set h1 (64 + p) (replaced db mb (get_or h1 (64 + p) 0)) in
-        Joining links hold edge u da db dc ma mb mc (set now p (bit_or (get_or now p 0) u)) (set h2 (128 + p) (replaced dc mc (get_or h2 (128 + p) 0)))
-        (bit_and rest (rest - 1))
-    joining-next p is some = record {
-      left = next;
+  module _ {now held : List ℕ} {rest : ℕ} (w : Joining links hold edge u dead made now held rest) where
+    -- the lowest element of rest, whose three words become those of held'
+    pub joining-next : (p : ℕ) → p ≡ count_trailing_zeros 64 rest → rest ≢ 0 → {held' : List ℕ} {n : ℕ}
+        → Placed (λ v. 64 * v + p) (λ v. replaced_at dead made v (get_or held (64 * v + p) 0)) held held' n → 3 ≤ n
+        → Joining links hold edge u dead made (set now p (bit_or (get_or now p 0) u)) held' (bit_and rest (rest - 1))
+    joining-next p is some h every = record {
+      left = left-next w.left;
       links_long = length-set now p _ ∙ w.links_long;
-      hold_long = length-set h2 (128 + p) _ ∙ long2;
-      linking = storing-at w.linking w.left some (omega (arith, w.links_long)) p (omega (arith, is));
-      first =
-          storing-away (storing-away (storing-at w.first w.left some (omega (arith, w.hold_long)) p (omega (arith, is))) next (64 + p) _
-          (λ q l e. omega arith)) next (128 + p) _ (λ q l e. omega arith);
-      second =
-          storing-away (storing-at (storing-away w.second w.left p _ (λ q l e. omega (arith, low))) w.left some (omega (arith, long1))
-          (64 + p) (omega (arith, is))) next (128 + p) _ (λ q l e. omega arith);
-      third =
-          storing-at (storing-away (storing-away w.third w.left p _ (λ q l e. omega (arith, low))) w.left (64 + p) _
-          (λ q l e. omega (arith, low))) w.left some (omega (arith, long2)) (128 + p) (omega (arith, is));
+      hold_long = h.long ∙ w.hold_long;
+      linking = storing-set w.linking w.left some (omega (arith, w.links_long)) p p _ is (omega arith) refl;
+      words = λ v l. storing-next (w.words v l) w.left some p is (h.done v (omega arith))
+          (λ q s n. h.same (64 * v + q) (λ x k e. n (omega (arith, is, lowest-below 64 rest w.left.fits some))));
     }
-      where
-        next : Left edge (bit_and rest (rest - 1))
-        next = left-next w.left
 
-        low : p < 64
-        low = omega (arith, lowest-below 64 rest w.left.fits some)
-
-        h1 : List ℕ
-        h1 = set held p (replaced da ma (get_or held p 0))
-
-        h2 : List ℕ
-        h2 = set h1 (64 + p) (replaced db mb (get_or h1 (64 + p) 0))
-
-        long1 : length h1 ≡ 192
-        long1 = length-set held p _ ∙ w.hold_long
-
-        long2 : length h2 ≡ 192
-        long2 = length-set h1 (64 + p) _ ∙ long1
-
-    pub joining-all : rest ≡ 0 → edge < 2 ^ 64 → length links ≡ 64 → Rejoined links hold edge u da db dc ma mb mc now held
+    pub joining-all : rest ≡ 0 → edge < 2 ^ 64 → length links ≡ 64 → Rejoined links hold edge u dead made now held
     unfolding ◌∪◌
     joining-all z fits long = record {
       fits = fits;
       links_long = w.links_long;
       hold_long = w.hold_long;
       linking = linking-all w.linking z long w.links_long;
-      words = words;
+      words = λ v l. storing-all (w.words v l) z;
     }
-      where
-        words : (v : ℕ) → v < 3 → Stored (replaced (word v da db dc) (word v ma mb mc)) (64 * v) edge hold held
-        words zero l = storing-all w.first z
-        words (suc zero) l = storing-all w.second z
-        words (suc (suc zero)) l = storing-all w.third z
-        words (suc (suc (suc v))) l = absurd (omega arith)
 
 -- ---- one cluster more
 
@@ -211,11 +199,8 @@ module _ {links hold : List ℕ} {x c : ℕ} (low : c < 192) where
       left = left-next w.left;
       links_long = length-set now p _ ∙ w.links_long;
       hold_long = length-set held i _ ∙ w.hold_long;
-      linking = storing-at w.linking w.left some (omega (arith, w.links_long)) p (omega (arith, is));
-      noting =
-          subst (λ (b : ℕ). Storing (λ y. bit_or y (2 ^ (c % 64))) (64 * (c / 64)) x hold (set held i (bit_or (get_or held i 0) b))
-          (bit_and rest (rest - 1))) (sym bit_is)
-          (storing-at w.noting w.left some (omega (arith, w.hold_long, low)) i (omega (arith, is, place)));
+      linking = storing-set w.linking w.left some (omega (arith, w.links_long)) p p _ is (omega arith) refl;
+      noting = storing-set w.noting w.left some (omega (arith, w.hold_long, low)) p i _ is place (ap (bit_or (get_or held i 0)) bit_is);
       others = λ j far.
           get_or-set_other held i j _ 0
           (λ e. far p (omega (arith, is, lowest-below 64 rest w.left.fits some)) (omega (arith, place, e))) ∙ w.others j far;
@@ -254,20 +239,11 @@ module _ (links : List ℕ) (edge u : ℕ) where
       inner = w.inner;
     }
 
-    -- what the rest loses is its lowest element alone
-    lost : (y : ℕ) → y ∈ bit_xor rest (bit_and rest (rest - 1)) → y ≡ count_trailing_zeros 64 rest
-    unfolding ◌∩◌
-    lost y e = lost-case (ℕ_discrete y (count_trailing_zeros 64 rest))
-      where
-        lost-case : Dec (y ≡ count_trailing_zeros 64 rest) → y ≡ count_trailing_zeros 64 rest
-        lost-case (yes h) = h
-        lost-case (no n) =
-            absurd (omega (arith, at-beyond y rest (rest - 1), at-∩ y rest (rest - 1), rest-other rest w.fits some y n))
-
-    pub innerly-more : bit_or (linked links (count_trailing_zeros 64 rest)) u ≡ u
+    -- the lowest element more, which is linked within u alone
+    pub innerly-more : (p₀ : ℕ) → p₀ ≡ count_trailing_zeros 64 rest → bit_or (linked links p₀) u ≡ u
         → Innerly links edge u (bit_and rest (rest - 1)) (bit_or all (bit_xor rest (bit_and rest (rest - 1))))
-    unfolding ◌∪◌
-    innerly-more h = record {
+    unfolding ◌∩◌ ◌∪◌
+    innerly-more p₀ is h = record {
       fits = innerly-left.fits;
       within = innerly-left.within;
       inner = record { inside = λ p e. inside p (∈-∪⁻ p all own e); alone = λ p q e f. alone p q f (∈-∪⁻ p all own e) };
@@ -276,12 +252,20 @@ module _ (links : List ℕ) (edge u : ℕ) where
         own : ℕ
         own = bit_xor rest (bit_and rest (rest - 1))
 
+        one : (p : ℕ) → p ∈ own → p ≡ p₀
+        one p e = by (ℕ_discrete p p₀)
+          where
+            by : Dec (p ≡ p₀) → p ≡ p₀
+            by (yes h) = h
+            by (no n) =
+                let other = rest-other rest w.fits some p (λ f. n (f ∙ sym is)) in
+                absurd (omega (arith, at-beyond p rest (rest - 1), at-∩ p rest (rest - 1), other))
+
         inside : (p : ℕ) → (p ∈ all) ⊎ (p ∈ own) → p ∈ edge
         inside p (inl e) = w.inner.inside p e
-        inside p (inr e) = w.within p (ap (λ (y : ℕ). at y rest) (lost p e) ∙ lowest-in 64 rest w.fits some)
+        inside p (inr e) = w.within p (ap (λ (y : ℕ). at y rest) (one p e ∙ is) ∙ lowest-in 64 rest w.fits some)
 
         alone : (p q : ℕ) → q ∈ linked links p → (p ∈ all) ⊎ (p ∈ own) → q ∈ u
         alone p q f (inl e) = w.inner.alone p q e f
         alone p q f (inr e) =
-            let l = linked links (count_trailing_zeros 64 rest) in
-            sym (ap (at q) h) ∙ ∈-∪ˡ q l u (sym (ap (λ (y : ℕ). at q (linked links y)) (lost p e)) ∙ f)
+            sym (ap (at q) h) ∙ ∈-∪ˡ q (linked links p₀) u (sym (ap (λ (y : ℕ). at q (linked links y)) (one p e)) ∙ f)

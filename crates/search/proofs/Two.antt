@@ -1,9 +1,9 @@
 -- The two elements of a set of two, and the clusters that join them to a third. Assumes nothing.
 use Rattle.std.specs.Prelude.{◌≡◌, ◌≢◌, ◌⊎◌, ◌-◌, ◌^◌, ◌≤◌, ◌<◌}
-use Rattle.theory.specs.Prelude.{sym, ap, ◌∙◌, subst, inl, inr, List, ℕ, arith, ℕ_discrete, bit_and, and_le_l}
+use Rattle.theory.specs.Prelude.{refl, sym, ap, ◌∙◌, subst, inl, inr, List, ℕ, min, arith, ℕ_discrete, dec_lt, bit_and, and_le_l}
 use Rattle.theory.specs.Prelude.{count_trailing_zeros}
 use Rattle.theory.specs.Set.{◌∈◌, ◌∩◌, at}
-use Rattle.theory.specs.Set.Laws.{at_zero, ∈-∩⁻}
+use Rattle.theory.specs.Set.Laws.{at_zero, ∈-∩⁻, element}
 use Rattle.theory.specs.Set.Lowest.{lowest-in, rest-lowest, rest-other}
 use Rattle.search.specs.State.{Met, Joined, Best}
 
@@ -37,94 +37,82 @@ module _ (hold : List ℕ) (near z v : ℕ) (l : near < 2 ^ 64) where
   unfolding Joined
   joined-one s e p q n pi qi all = absurd (n (single near p l s e pi ∙ sym (single near q l s e qi)))
 
-  pub joined-two : near ≢ 0 → bit_and near (near - 1) ≢ 0 → Met hold (count_trailing_zeros 64 near) (count_trailing_zeros 64 (bit_and near (near - 1))) z v
-      → Joined hold near z v
+  pub joined-two : near ≢ 0 → bit_and near (near - 1) ≢ 0 → (a b : ℕ) → a ≡ count_trailing_zeros 64 near
+      → b ≡ count_trailing_zeros 64 (bit_and near (near - 1)) → Met hold a b z v → Joined hold near z v
   unfolding Joined ◌∩◌
-  joined-two s t m p q n pi qi all = joined-two-case (all a ain) (all b (∈-∩⁻ b near (near - 1) bin).0)
+  joined-two s t a b is-a is-b m p q n pi qi all = by (all a ain) (all b (∈-∩⁻ b near (near - 1) bin).0)
     where
-      a : ℕ
-      a = count_trailing_zeros 64 near
-
-      b : ℕ
-      b = count_trailing_zeros 64 (bit_and near (near - 1))
-
       ain : a ∈ near
-      ain = lowest-in 64 near l s
+      ain = ap (λ (y : ℕ). at y near) is-a ∙ lowest-in 64 near l s
 
       bin : b ∈ bit_and near (near - 1)
-      bin = lowest-in 64 (bit_and near (near - 1)) (omega (arith, and_le_l near (near - 1))) t
+      bin =
+          ap (λ (y : ℕ). at y (bit_and near (near - 1))) is-b
+          ∙ lowest-in 64 (bit_and near (near - 1)) (omega (arith, and_le_l near (near - 1))) t
 
       a≢b : a ≢ b
-      a≢b e = omega (arith, bin, rest-lowest near l s, ap (λ (y : ℕ). at y (bit_and near (near - 1))) e)
+      a≢b e = omega (arith, bin, rest-lowest near l s, ap (λ (y : ℕ). at y (bit_and near (near - 1))) (sym is-a ∙ e))
 
-      joined-two-case : (a ≡ p) ⊎ (a ≡ q) → (b ≡ p) ⊎ (b ≡ q) → Met hold p q z v
-      joined-two-case (inl x) (inl y) = absurd (a≢b (x ∙ sym y))
-      joined-two-case (inr x) (inr y) = absurd (a≢b (x ∙ sym y))
-      joined-two-case (inl x) (inr y) = subst (λ (w : ℕ). Met hold p w z v) y (subst (λ (w : ℕ). Met hold w b z v) x m)
-      joined-two-case (inr x) (inl y) = met-swap hold q p z v (subst (λ (w : ℕ). Met hold q w z v) y (subst (λ (w : ℕ). Met hold w b z v) x m))
+      by : (a ≡ p) ⊎ (a ≡ q) → (b ≡ p) ⊎ (b ≡ q) → Met hold p q z v
+      by (inl x) (inl y) = absurd (a≢b (x ∙ sym y))
+      by (inr x) (inr y) = absurd (a≢b (x ∙ sym y))
+      by (inl x) (inr y) = subst (λ (w : ℕ). Met hold p w z v) y (subst (λ (w : ℕ). Met hold w b z v) x m)
+      by (inr x) (inl y) = met-swap hold q p z v (subst (λ (w : ℕ). Met hold q w z v) y (subst (λ (w : ℕ). Met hold w b z v) x m))
 
 -- ---- the least key, one element after another
 
--- v is the least key of the elements of o that lie not in rest
+-- v is the least key of the elements of o that lie not in rest, or a number that no key is above
 pub record Leading (P : ℕ → ℕ → Type 0) (o rest v : ℕ) : Type 0 where
   pub fits : rest < 2 ^ 64
   pub within : (y : ℕ) → y ∈ rest → y ∈ o
   pub small : v < 65536
-  pub z : ℕ
-  pub z_in : z ∈ o
-  pub here : P z v
-  pub least : (y : ℕ) → y ∈ o → at y rest ≡ 0 → (w : ℕ) × P y w × (v ≤ w)
+  pub here : (v ≡ 65535) ⊎ ((z : ℕ) × (z ∈ o) × P z v)
+  pub least : (y : ℕ) → y ∈ o → at y rest ≡ 0 → (w : ℕ) × P y w × (v ≤ w) × (w < 65536)
 
-pub leading-one : {P : ℕ → ℕ → Type 0} {o v : ℕ} → o < 2 ^ 64 → o ≢ 0 → v < 65536 → P (count_trailing_zeros 64 o) v → Leading P o (bit_and o (o - 1)) v
-unfolding ◌∩◌
-leading-one {P} {o} {v} l n s p = record {
-  fits = omega (arith, and_le_l o (o - 1));
-  within = λ y e. (∈-∩⁻ y o (o - 1) e).0;
-  small = s;
-  z = count_trailing_zeros 64 o;
-  z_in = lowest-in 64 o l n;
-  here = p;
-  least = λ y e f. leading-one-case y f (first-or o y l n e);
+pub leading-none : {P : ℕ → ℕ → Type 0} {o : ℕ} → o < 2 ^ 64 → Leading P o o 65535
+leading-none l = record {
+  fits = l;
+  within = λ y e. e;
+  small = omega arith;
+  here = inl refl;
+  least = λ y e f. absurd (omega arith);
 }
-  where
-    leading-one-case : (y : ℕ) → at y (bit_and o (o - 1)) ≡ 0 → (y ≡ count_trailing_zeros 64 o) ⊎ (y ∈ bit_and o (o - 1)) → (w : ℕ) × P y w × (v ≤ w)
-    leading-one-case y f (inl e) = (v, subst (λ (x : ℕ). P x v) (sym e) p, omega arith)
-    leading-one-case y f (inr e) = absurd (omega arith)
 
 module _ {P : ℕ → ℕ → Type 0} {o rest v : ℕ} (h : Leading P o rest v) where
   -- one element more, whose key is w
-  module _ (some : rest ≢ 0) {w : ℕ} (p : P (count_trailing_zeros 64 rest) w) where
-    -- an element passed
-    passed : (u y : ℕ) → u ≤ v → u ≤ w → y ∈ o → at y (bit_and rest (rest - 1)) ≡ 0 → (t : ℕ) × P y t × (u ≤ t)
-    passed u y a b e f = passed-case (ℕ_discrete y (count_trailing_zeros 64 rest))
-      where
-        passed-case : Dec (y ≡ count_trailing_zeros 64 rest) → (t : ℕ) × P y t × (u ≤ t)
-        passed-case (yes g) = (w, subst (λ (x : ℕ). P x w) (sym g) p, b)
-        passed-case (no g) = let k = h.least y e (sym (rest-other rest h.fits some y g) ∙ f) in (k.0, k.1, omega (arith, k.2))
+  pub leading-next : rest ≢ 0 → {u w : ℕ} → u ≡ count_trailing_zeros 64 rest → P u w → w < 65536 → Leading P o (bit_and rest (rest - 1)) (min v w)
+  unfolding ◌∩◌
+  leading-next some {u} {w} is p s = record {
+    fits = omega (arith, h.fits, and_le_l rest (rest - 1));
+    within = λ y e. h.within y (∈-∩⁻ y rest (rest - 1) e).0;
+    small = omega (arith, s);
+    here = here (dec_lt w v) h.here;
+    least = λ y e f. least y e f (ℕ_discrete y (count_trailing_zeros 64 rest));
+  }
+    where
+      here : Dec (w < v) → (v ≡ 65535) ⊎ ((z : ℕ) × (z ∈ o) × P z v) → (min v w ≡ 65535) ⊎ ((z : ℕ) × (z ∈ o) × P z (min v w))
+      here (yes l) d =
+          inr (u, h.within u (ap (λ (y : ℕ). at y rest) is ∙ lowest-in 64 rest h.fits some), subst (P u) (omega arith) p)
+      here (no n) (inl e) = inl (omega arith)
+      here (no n) (inr (z, i, q)) = inr (z, i, subst (P z) (omega arith) q)
 
-    pub leading-new : w < 65536 → w < v → Leading P o (bit_and rest (rest - 1)) w
-    unfolding ◌∩◌
-    leading-new s l = record {
-      fits = omega (arith, h.fits, and_le_l rest (rest - 1));
-      within = λ y e. h.within y (∈-∩⁻ y rest (rest - 1) e).0;
-      small = s;
-      z = count_trailing_zeros 64 rest;
-      z_in = h.within (count_trailing_zeros 64 rest) (lowest-in 64 rest h.fits some);
-      here = p;
-      least = λ y e f. passed w y (omega arith) (omega arith) e f;
-    }
+      least : (y : ℕ) → y ∈ o → at y (bit_and rest (rest - 1)) ≡ 0 → Dec (y ≡ count_trailing_zeros 64 rest)
+          → (t : ℕ) × P y t × (min v w ≤ t) × (t < 65536)
+      least y e f (yes g) = (w, subst (λ (x : ℕ). P x w) (is ∙ sym g) p, omega arith, s)
+      least y e f (no g) = let k = h.least y e (sym (rest-other rest h.fits some y g) ∙ f) in (k.0, k.1, omega (arith, k.2), k.3)
 
-    pub leading-same : v ≤ w → Leading P o (bit_and rest (rest - 1)) v
-    unfolding ◌∩◌
-    leading-same l = record {
-      fits = omega (arith, h.fits, and_le_l rest (rest - 1));
-      within = λ y e. h.within y (∈-∩⁻ y rest (rest - 1) e).0;
-      small = h.small;
-      z = h.z;
-      z_in = h.z_in;
-      here = h.here;
-      least = λ y e f. passed v y (omega arith) l e f;
-    }
+  pub leading-best : rest ≡ 0 → o ≢ 0 → Best P o v
+  leading-best e some = best h.here
+    where
+      least : (y : ℕ) → y ∈ o → (w : ℕ) × P y w × (v ≤ w) × (w < 65536)
+      least y i = h.least y i (ap (at y) e ∙ at_zero y)
 
-  pub leading-best : rest ≡ 0 → Best P o v
-  leading-best e = record { z = h.z; z_in = h.z_in; here = h.here; least = λ y i. h.least y i (ap (at y) e ∙ at_zero y) }
+      below : (y : ℕ) → y ∈ o → (w : ℕ) × P y w × (v ≤ w)
+      below y i = let k = least y i in (k.0, k.1, k.2)
+
+      best : (v ≡ 65535) ⊎ ((z : ℕ) × (z ∈ o) × P z v) → Best P o v
+      best (inr (z, i, p)) = record { z = z; z_in = i; here = p; least = below }
+      best (inl top) =
+          let (z, i) = element o some in
+          let k = least z i in
+          record { z = z; z_in = i; here = subst (P z) (omega (arith, top, k.2, k.3)) k.1; least = below }

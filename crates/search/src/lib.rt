@@ -4,65 +4,41 @@
 
 #![tactic(auto)]
 
-ghost use Rattle.std.specs.Prelude.{◌≡◌, ◌≢◌, ℕ, ◌+◌, ◌*◌, ◌≤◌, ◌<◌, length, replicate};
-ghost use Rattle.theory.specs.Set.{◌∈◌, ◌∩◌};
-ghost use Rattle.theory.specs.Merge.{slot, Part, merge as numbers};
-ghost use Rattle.search.specs.State.{linked, waits, Outs, Lowest, Joining, Met, Joined, Best, Wanted, Kept, Begun, Renewed, three_of};
-ghost use Rattle.search.specs.Words.{Member, Alone, Gathered, Inner, Passing, SetOf, Calls, Rejoined, Entered};
+ghost use Rattle.std.specs.Prelude.{◌≡◌, ◌≢◌, ℕ, ◌≤◌, ◌<◌, length, replicate, slice_index, IfSome};
+ghost use Rattle.theory.specs.Set.{◌∩◌};
+ghost use Rattle.theory.specs.Merge.{slot, merge as numbers};
+ghost use Rattle.search.specs.State.{linked, beyond, waits, Outs, Lowest, Joining, Met, Joined, Best, Wanted, Kept, Begun, Renewed, three_of};
+ghost use Rattle.search.specs.Words.{cluster_of, Inner, Listed, SetOf, Calls, Rejoined, Entered};
 
 use theory::{CLUSTERS, ELEMENTS};
 
+// More than the key of any two clusters.
+const NO_KEY: usize = 65535;
+
 // ---- what a cluster reaches
+
+// The elements of a that b lacks.
+fn without(a: u64, b: u64) -> u64
+    ensures { result ≡ beyond a b }
+{
+    a & !b
+}
 
 // The elements outside x that are linked to two elements of edge.
 pub fn outs(links: &[u64; ELEMENTS], x: u64, edge: u64) -> u64
     ensures { Outs links.now x edge result }
 {
-    let mut rest = edge;
     let mut once: u64 = 0;
     let mut twice: u64 = 0;
-    while rest != 0 {
-        let p = u64::trailing_zeros(rest) as usize;
+    for p in sets::elements(edge) {
         let l = links[p];
-        twice = twice | (once & l);
-        once = once | l;
-        rest = rest & (rest - 1);
+        twice |= once & l;
+        once |= l;
     }
-    twice ^ (twice & x)
+    without(twice, x)
 }
 
-// What is left of a word of waiting clusters, and what its first reaches.
-#[derive(Clone, Copy)]
-struct Waiting {
-    rest: u64,
-    outs: u64,
-}
-
-// The first cluster in word w of the waiting ones that reaches an element, with those after it; none if none does.
-fn first_reaching(
-    slots: &[u64; CLUSTERS],
-    links: &[u64; ELEMENTS],
-    rim: u64,
-    w: usize,
-    word: u64,
-) -> Waiting
-    requires { w < 3 }
-    ensures { Passing slots.now links.now rim w word result.rest result.outs }
-{
-    let mut rest = word;
-    while rest != 0 {
-        let c = 64 * w + u64::trailing_zeros(rest) as usize;
-        let x = slots[c];
-        let o = outs(links, x, x & rim);
-        if o != 0 {
-            return Waiting { rest, outs: o };
-        }
-        rest = rest & (rest - 1);
-    }
-    Waiting { rest: 0, outs: 0 }
-}
-
-// A cluster and the elements that it reaches; no cluster is 192.
+// A cluster and the elements that it reaches.
 #[derive(Clone, Copy)]
 pub struct Reaching {
     pub cluster: usize,
@@ -75,71 +51,43 @@ pub fn lowest_reaching(
     links: &[u64; ELEMENTS],
     todo: &mut [u64; 3],
     rim: u64,
-) -> Reaching
+) -> Option<Reaching>
     requires { length todo.old ≡ 3 }
-    ensures lowest { Lowest (Wanted slots.now links.now rim todo.old) 0 192 result.cluster }
-    ensures outs { result.cluster < 192 → Outs links.now (slot slots.now result.cluster)
-        (slot slots.now result.cluster ∩ rim) result.outs × (result.outs ≢ 0) }
+    ensures lowest { Lowest (Wanted slots.now links.now rim todo.old) 0 192 (cluster_of result) }
+    ensures outs { IfSome result (λ r. (r.cluster < 192) × Outs links.now (slot slots.now r.cluster)
+        (slot slots.now r.cluster ∩ rim) r.outs × (r.outs ≢ 0)) }
     ensures kept { Kept slots.now links.now rim todo.old todo.new
         × (length todo.new ≡ 3) }
 {
-    let a = first_reaching(slots, links, rim, 0, todo[0]);
-    let x = a.rest;
-    todo[0] = x;
-    if x != 0 {
-        return Reaching {
-            cluster: u64::trailing_zeros(x) as usize,
-            outs: a.outs,
-        };
+    for w in 0..3 {
+        let mut waiting = sets::elements(todo[w]);
+        while let Some(x) = waiting.next() {
+            let cluster = 64 * w + x;
+            let set = slots[cluster];
+            let outs = outs(links, set, set & rim);
+            if outs != 0 {
+                return Some(Reaching { cluster, outs });
+            }
+            todo[w] = waiting.rest;
+        }
     }
-    let b = first_reaching(slots, links, rim, 1, todo[1]);
-    let y = b.rest;
-    todo[1] = y;
-    if y != 0 {
-        return Reaching {
-            cluster: 64 + u64::trailing_zeros(y) as usize,
-            outs: b.outs,
-        };
-    }
-    let c = first_reaching(slots, links, rim, 2, todo[2]);
-    let z = c.rest;
-    todo[2] = z;
-    if z != 0 {
-        return Reaching {
-            cluster: 128 + u64::trailing_zeros(z) as usize,
-            outs: c.outs,
-        };
-    }
-    Reaching {
-        cluster: CLUSTERS,
-        outs: 0,
-    }
+    None
 }
 
 // ---- the other two clusters of its first merge
-
-// The least number of a set of cluster numbers in three words; 192 if it is empty.
-fn least(a: u64, b: u64, c: u64) -> usize
-    ensures { Lowest (Member a b c) 0 192 result }
-{
-    if a != 0 {
-        return u64::trailing_zeros(a) as usize;
-    }
-    if b != 0 {
-        return 64 + u64::trailing_zeros(b) as usize;
-    }
-    128 + u64::trailing_zeros(c) as usize
-}
 
 // The lowest cluster that holds both x and z; 192 if there is none.
 fn joining(hold: &[u64; CLUSTERS], x: usize, z: usize) -> usize
     requires { (x < 64) × (z < 64) }
     ensures { Joining hold.now x z result }
 {
-    let a = hold[x] & hold[z];
-    let b = hold[64 + x] & hold[64 + z];
-    let c = hold[128 + x] & hold[128 + z];
-    least(a, b, c)
+    for w in 0..3 {
+        let both = hold[64 * w + x] & hold[64 * w + z];
+        if both != 0 {
+            return 64 * w + usize::from(sets::lowest(both));
+        }
+    }
+    CLUSTERS
 }
 
 // The key of the clusters that join z to p and to q: 256 times the lower number, and the higher.
@@ -149,7 +97,7 @@ fn met(hold: &[u64; CLUSTERS], p: usize, q: usize, z: usize) -> usize
 {
     let a = joining(hold, p, z);
     let b = joining(hold, q, z);
-    if a < b { 256 * a + b } else { 256 * b + a }
+    256 * a.min(b) + a.max(b)
 }
 
 // The key of the clusters that join z to the two elements of x that it is linked with; a high number if it is linked with fewer.
@@ -157,141 +105,58 @@ pub fn joined(links: &[u64; ELEMENTS], hold: &[u64; CLUSTERS], x: u64, z: usize)
     requires { z < 64 }
     ensures { Joined hold.now (linked links.now z ∩ x) z result × (result < 65536) }
 {
-    let near = links[z] & x;
-    if near == 0 {
-        return 65535;
-    }
-    let more = near & (near - 1);
-    if more == 0 {
-        return 65535;
-    }
-    let p = u64::trailing_zeros(near) as usize;
-    let q = u64::trailing_zeros(more) as usize;
+    let mut near = sets::elements(links[z] & x);
+    let Some(p) = near.next() else {
+        return NO_KEY;
+    };
+    let Some(q) = near.next() else {
+        return NO_KEY;
+    };
     met(hold, p, q, z)
 }
 
-// The least key of the clusters that make an open merge with x, one for each element of o, which x reaches: those that join it to the two elements of x
-// that it is linked with.
+// The least key of the clusters that make an open merge with x, one for each element of o, which x reaches: those that join it to the two elements of
+// x that it is linked with.
 pub fn best(links: &[u64; ELEMENTS], hold: &[u64; CLUSTERS], x: u64, o: u64) -> usize
     requires { o ≢ 0 }
     ensures { Best (λ z. Joined hold.now (linked links.now z ∩ x) z) o result × (result < 65536) }
 {
-    let z = u64::trailing_zeros(o) as usize;
-    let mut best = joined(links, hold, x, z);
-    let mut rest = o & (o - 1);
-    while rest != 0 {
-        let y = u64::trailing_zeros(rest) as usize;
-        let v = joined(links, hold, x, y);
-        if v < best {
-            best = v;
-        }
-        rest = rest & (rest - 1);
+    let mut best = joined(links, hold, x, usize::from(sets::lowest(o)));
+    for z in sets::elements(sets::without_lowest(o)) {
+        best = best.min(joined(links, hold, x, z));
     }
     best
 }
 
 // ---- sets of cluster numbers
 
-// Word w of the set of n alone.
-fn bit_in(w: usize, n: usize) -> u64
-    requires { (w < 3) × (n < 192) }
-    ensures { Alone w n result }
+// The set of some numbers below 192.
+fn set_of(numbers: &[usize]) -> [u64; 3]
+    requires { (k : ℕ) → k < length numbers.now → slice_index numbers.now k < 192 }
+    ensures { SetOf result (Listed numbers.now) }
 {
-    if n / 64 == w {
-        1u64 << ((n % 64) as u32)
-    } else {
-        0
+    let mut set = [0u64; 3];
+    for n in numbers {
+        set[n / 64] |= 1u64 << ((n % 64) as u32);
     }
-}
-
-// A set of cluster numbers below 192.
-#[derive(Clone, Copy)]
-struct Words {
-    a: u64,
-    b: u64,
-    c: u64,
-}
-
-// The set of n alone.
-fn alone(n: usize) -> Words
-    requires { n < 192 }
-    ensures { SetOf result.a result.b result.c (λ c. c ≡ n) }
-{
-    Words {
-        a: bit_in(0, n),
-        b: bit_in(1, n),
-        c: bit_in(2, n),
-    }
-}
-
-// The set of three numbers.
-fn three_of(i: usize, j: usize, k: usize) -> Words
-    requires { (i < 192) × (j < 192) × (k < 192) }
-    ensures { SetOf result.a result.b result.c (λ c. Part c (numbers i j k)) }
-{
-    let x = alone(i);
-    let y = alone(j);
-    let z = alone(k);
-    Words {
-        a: x.a | y.a | z.a,
-        b: x.b | y.b | z.b,
-        c: x.c | y.c | z.c,
-    }
-}
-
-// Word w of the set of the numbers below e.
-fn ahead(w: usize, e: usize) -> u64
-    requires { (w < 3) × (e ≤ 192) }
-    ensures { (x : ℕ) → x < 64 → 64 * w + x < e → x ∈ result }
-{
-    if e <= 64 * w {
-        0
-    } else {
-        sets::below(e - 64 * w)
-    }
+    set
 }
 
 // ---- what a merge changes
 
-// The clusters that hold an element of o.
-fn holders(hold: &[u64; CLUSTERS], o: u64) -> Words
-    ensures { Gathered hold.now 0 o result.a × Gathered hold.now 64 o result.b
-        × Gathered hold.now 128 o result.c }
-{
-    let mut a: u64 = 0;
-    let mut b: u64 = 0;
-    let mut c: u64 = 0;
-    let mut rest = o;
-    while rest != 0 {
-        let z = u64::trailing_zeros(rest) as usize;
-        a = a | hold[z];
-        b = b | hold[64 + z];
-        c = c | hold[128 + z];
-        rest = rest & (rest - 1);
-    }
-    Words { a, b, c }
-}
-
 // The clusters of dead wait no more; those of made wait, and each holder of an element of o.
-fn call_up(hold: &[u64; CLUSTERS], todo: &mut [u64; 3], dead: Words, made: Words, o: u64)
+fn call_up(hold: &[u64; CLUSTERS], todo: &mut [u64; 3], dead: [u64; 3], made: [u64; 3], o: u64)
     requires { length todo.old ≡ 3 }
-    ensures { Calls hold.now todo.old dead.a dead.b dead.c made.a made.b made.c o
-        todo.new }
+    ensures { Calls hold.now todo.old dead made o todo.new }
 {
-    let x = todo[0];
-    let y = todo[1];
-    let z = todo[2];
-    let h = holders(hold, o);
-    todo[0] = (x ^ (x & dead.a)) | made.a | h.a;
-    todo[1] = (y ^ (y & dead.b)) | made.b | h.b;
-    todo[2] = (z ^ (z & dead.c)) | made.c | h.c;
-}
-
-// A set, where two numbers are the same; else none.
-fn where_same(x: u64, y: u64, set: u64) -> u64
-    ensures { (x ≡ y → result ≡ set) × (x ≢ y → result ≡ 0) }
-{
-    if x == y { set } else { 0 }
+    for w in 0..3 {
+        todo[w] = without(todo[w], dead[w]) | made[w];
+    }
+    for z in sets::elements(o) {
+        for w in 0..3 {
+            todo[w] |= hold[64 * w + z];
+        }
+    }
 }
 
 // What a union finds at its edge: the elements that it reaches, and those of the edge that are linked with its own elements alone.
@@ -308,12 +173,11 @@ fn rejoin(
     hold: &mut [u64; CLUSTERS],
     edge: u64,
     u: u64,
-    dead: Words,
-    made: Words,
+    dead: [u64; 3],
+    made: [u64; 3],
 ) -> Edge
     requires { (length links.old ≡ 64) × (length hold.old ≡ 192) }
-    ensures joined { Rejoined links.old hold.old edge u dead.a dead.b dead.c made.a made.b made.c
-        links.new hold.new }
+    ensures joined { Rejoined links.old hold.old edge u dead made links.new hold.new }
     ensures outs { Outs links.old u edge result.outs }
     ensures inner { Inner links.old edge u result.inner }
 {
@@ -322,23 +186,22 @@ fn rejoin(
     let mut twice: u64 = 0;
     let mut inner: u64 = 0;
     while rest != 0 {
-        let p = u64::trailing_zeros(rest) as usize;
-        let next = rest & (rest - 1);
+        let p = usize::from(sets::lowest(rest));
+        let next = sets::without_lowest(rest);
         let l = links[p];
-        twice = twice | (once & l);
-        once = once | l;
-        inner = inner | where_same(l | u, u, rest ^ next);
+        twice |= once & l;
+        once |= l;
+        if l | u == u {
+            inner |= rest ^ next;
+        }
         links[p] = l | u;
-        let a = hold[p];
-        hold[p] = (a ^ (a & dead.a)) | made.a;
-        let b = hold[64 + p];
-        hold[64 + p] = (b ^ (b & dead.b)) | made.b;
-        let c = hold[128 + p];
-        hold[128 + p] = (c ^ (c & dead.c)) | made.c;
+        for w in 0..3 {
+            hold[64 * w + p] = without(hold[64 * w + p], dead[w]) | made[w];
+        }
         rest = next;
     }
     Edge {
-        outs: twice ^ (twice & u),
+        outs: without(twice, u),
         inner,
     }
 }
@@ -352,12 +215,9 @@ fn enter(links: &mut [u64; ELEMENTS], hold: &mut [u64; CLUSTERS], x: u64, c: usi
 {
     let base = 64 * (c / 64);
     let bit = 1u64 << ((c % 64) as u32);
-    let mut rest = x;
-    while rest != 0 {
-        let p = u64::trailing_zeros(rest) as usize;
-        links[p] = links[p] | x;
-        hold[base + p] = hold[base + p] | bit;
-        rest = rest & (rest - 1);
+    for p in sets::elements(x) {
+        links[p] |= x;
+        hold[base + p] |= bit;
     }
 }
 
@@ -371,10 +231,8 @@ pub fn join_all(
     requires { (e ≤ 192) × (links.old ≡ replicate 64 0) × (hold.old ≡ replicate 192 0) }
     ensures { Begun slots.now e links.new hold.new }
 {
-    let mut c: usize = 0;
-    while c < e {
+    for c in 0..e {
         enter(links, hold, slots[c], c);
-        c += 1;
     }
 }
 
@@ -384,12 +242,9 @@ pub fn todo_all(e: usize) -> [u64; 3]
     ensures { ((c : ℕ) → c < e → waits result c ≡ 1) × (length result ≡ 3) }
 {
     let mut todo = [0u64; 3];
-    let a = ahead(0, e);
-    let b = ahead(1, e);
-    let c = ahead(2, e);
-    todo[0] = a;
-    todo[1] = b;
-    todo[2] = c;
+    for w in 0..3 {
+        todo[w] = sets::below(e.saturating_sub(64 * w));
+    }
     todo
 }
 
@@ -414,11 +269,10 @@ pub fn renew(
 {
     let u = x | y | z;
     let edge = u & rim;
-    let n = sets::image(links, edge ^ (edge & z));
-    let dead = three_of(i, j, k);
-    let made = alone(used);
+    let near = sets::image(links, without(edge, z));
+    let dead = set_of(&[i, j, k]);
+    let made = set_of(&[used]);
     let found = rejoin(links, hold, edge, u, dead, made);
-    call_up(hold, todo, dead, made, found.outs & n);
-    let g = found.inner;
-    rim ^ (rim & g)
+    call_up(hold, todo, dead, made, found.outs & near);
+    without(rim, found.inner)
 }

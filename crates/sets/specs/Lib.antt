@@ -1,2 +1,3 @@
+pub mod Elements
 pub mod Each
 pub mod Image

@@ -6,6 +6,8 @@ ghost use Rattle.std.specs.Prelude.{◌≡◌, ◌-◌, ◌^◌, ◌<◌, min};
 ghost use Rattle.std.specs.Int.Count.{count_trailing_zeros};
 ghost use Rattle.theory.specs.Set.{◌∈◌, ◌∩◌, full};
 ghost use Rattle.theory.specs.Constraints.{pair as pair_of};
+ghost use Rattle.std.specs.Iterator.{at_most};
+ghost use Rattle.sets.specs.Elements.{Next};
 ghost use Rattle.sets.specs.Image.{Image};
 
 use theory::ELEMENTS;
@@ -75,16 +77,43 @@ pub fn shared(a: u64, b: u64) -> u64
     a & b
 }
 
+// The elements of a set that are still to come, lowest first.
+#[derive(Clone, Copy)]
+pub struct Ascending {
+    pub rest: u64,
+}
+
+// The elements of a set, lowest first.
+pub fn elements(set: u64) -> Ascending
+    ensures { result.rest ≡ set }
+{
+    Ascending { rest: set }
+}
+
+impl Iterator for Ascending {
+    type Item = usize;
+
+    ghost next_gives = { λ s r t. Next s.rest r t.rest };
+
+    ghost remaining = { λ s. at_most s.rest };
+
+    fn next(&mut self) -> Option<usize> {
+        if self.rest == 0 {
+            return None;
+        }
+        let x = u64::trailing_zeros(self.rest) as usize;
+        self.rest = self.rest & (self.rest - 1);
+        Some(x)
+    }
+}
+
 // The image of a set by a table: the union of its entries at the elements of the set.
 pub fn image(table: &[u64; ELEMENTS], set: u64) -> u64
     ensures { Image table.now set result }
 {
     let mut all: u64 = 0;
-    let mut rest = set;
-    while rest != 0 {
-        let p = u64::trailing_zeros(rest) as usize;
+    for p in elements(set) {
         all = all | table[p];
-        rest = rest & (rest - 1);
     }
     all
 }

@@ -1,8 +1,8 @@
 -- What a call answers over lent space, bytes or numbers alike (document 01, "Refused": a refusal gives its number alone and leaves the lent space,
 -- rule 17 comes last; "After an accepted call the lent space beyond the answer is unchanged").
 use Rattle.std.specs.Prelude.{ℕ, zero, suc, ◌≡◌, List}
-use Rattle.space.specs.declared.Written.{Written}
-use Rattle.space.specs.declared.Written.TheVariants.{Refused}
+use Rattle.space.specs.Written.{Written}
+use Rattle.space.specs.Written.{Refused}
 use Rattle.space.specs.Space.{answer, after}
 use Rattle.sheet.specs.Field.{Field, value, refused}
 pub mod Laws

@@ -5,8 +5,8 @@ use Rattle.theory.specs.Constraints.{pair, Perm}
 use Rattle.theory.specs.Merge.{Merge, Maximal}
 use Rattle.theory.specs.Graph.{Graph, SizedGraph, finding_of, verdict_of}
 use Rattle.theory.specs.Demand.{Agree, Demand3}
-use Rattle.theory.specs.declared.Finding.{Finding}
-use Rattle.theory.specs.declared.Finding.TheVariants.{Fine, First}
+use Rattle.theory.specs.Finding.{Finding}
+use Rattle.theory.specs.Finding.{Fine, First}
 use Rattle.theory.specs.declared.Verdict.TheVariants.{Over}
 use Rattle.sheet.specs.declared.Size.{Size}
 use Rattle.sheet.specs.declared.Size.TheVariants.{Given, Missing, Tangent, OtherTangent, Unfit}

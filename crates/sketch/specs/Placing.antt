@@ -2,15 +2,15 @@
 use Rattle.std.specs.Prelude.{◌+◌, ◌≡◌}
 use Rattle.theory.specs.Prelude.{ℕ, cond, List, eqb, ℤ, length}
 use Rattle.theory.specs.Graph.{Graph, finding_of, verdict_of}
-use Rattle.theory.specs.declared.Finding.{Finding}
-use Rattle.theory.specs.declared.Finding.TheVariants.{Fine, First}
+use Rattle.theory.specs.Finding.{Finding}
+use Rattle.theory.specs.Finding.{Fine, First}
 use Rattle.sheet.specs.declared.Constraint.{Constraint}
 use Rattle.sheet.specs.Facts.{Facts}
 use Rattle.sheet.specs.Graph.{graph_of}
 use Rattle.graph.specs.declared.Front.{Front}
 use Rattle.graph.specs.Lent.{SheetIn}
-use Rattle.sketch.specs.declared.Judgement.{Judgement}
-use Rattle.sketch.specs.declared.Judgement.TheVariants.{Is, Refused}
+use Rattle.sketch.specs.Judgement.{Judgement}
+use Rattle.sketch.specs.Judgement.{Is, Refused}
 use Rattle.sketch.specs.Sketch.{extended, place_fault, as_judged}
 pub mod Laws
 

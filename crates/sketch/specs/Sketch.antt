@@ -11,9 +11,8 @@ use Rattle.sheet.specs.declared.Sheet.{Sheet}
 use Rattle.sheet.specs.Facts.{Facts, facts_of}
 use Rattle.sheet.specs.Rules.{fault_unless, or_else, constraint_fault, sheet_fault}
 use Rattle.sheet.specs.Graph.{graph_of, over_fault}
-use Rattle.sketch.specs.declared.Judgement.{Judgement}
-use Rattle.sketch.specs.declared.Judgement.TheVariants.{Is, Refused}
-use Rattle.sketch.specs.declared.Placed.{Placed}
+use Rattle.sketch.specs.Judgement.{Judgement}
+use Rattle.sketch.specs.Judgement.{Is, Refused}
 pub mod Laws
 
 -- ---- which rule refuses: its number, 0 where none does
@@ -70,6 +69,3 @@ unless_refused (suc k) next s = s
 
 unfoldable pub place_after : Sheet → Constraint → ℕ → Sheet
 place_after s c held = unless_refused (place_rule s c held) (stored s c) s
-
-abbrev pub placed_of : Sheet → Constraint → ℕ → Placed
-placed_of s c held = record { answer = place_answer s c held; sketch = place_after s c held }

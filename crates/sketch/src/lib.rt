@@ -4,28 +4,22 @@
 #![tactic(auto)]
 
 ghost use Rattle.std.specs.Prelude.{◌≡◌, ◌<◌};
+ghost use Rattle.theory.specs.Rule.{rule_number, by_number};
 ghost use Rattle.sheet.specs.Facts.{Facts};
 ghost use Rattle.sheet.specs.Rules.{or_else};
 ghost use Rattle.sheet.specs.Graph.{over_fault};
 ghost use Rattle.graph.specs.Lent.{graph_in, SheetIn, Drawn};
-ghost use Rattle.sketch.specs.Sketch.{by27, stored, ask_answer, placed_of};
+ghost use Rattle.sketch.specs.Sketch.{by27, stored, ask_answer, place_answer, place_after};
 ghost use Rattle.sketch.specs.Placing.{last_rule, last_answer, PlacedIn};
 
 use graph::{Front, Head};
 use sheet::{Constraint, Sheet};
-use theory::{CONSTRAINTS, ELEMENTS, Verdict};
-
-// The answer to a call for a verdict: the verdict, or the rule that refuses.
-#[derive(Clone, Copy)]
-pub enum Judgement {
-    Is(Verdict),
-    Refused(u8),
-}
+use theory::{CONSTRAINTS, ELEMENTS, Rule, Verdict};
 
 // What placing answers, and the sketch after it: a refusal leaves it as it was.
 #[derive(Clone, Copy)]
 pub struct Placed {
-    pub answer: Judgement,
+    pub answer: Result<Verdict, Rule>,
     pub sketch: Sheet,
 }
 
@@ -44,33 +38,38 @@ fn store(s: Sheet, c: Constraint) -> Sheet
 // ---- in arrays
 
 // 27 of a graph that is over, else the rule.
-fn unless_over(h: Head, near: &[u64; ELEMENTS], start: &[u64; CONSTRAINTS], rule: u8) -> u8
+fn unless_over(h: Head, near: &[u64; ELEMENTS], start: &[u64; CONSTRAINTS], rule: Rule) -> Rule
     requires { Drawn h near.now start.now }
-    ensures { result ≡ or_else (by27 (over_fault (graph_in h start.now))) rule }
+    ensures { rule_number result ≡ or_else (by27 (over_fault (graph_in h start.now))) (rule_number rule) }
 {
-    let verdict = judge::verdict_of(h, near, start);
-    if verdict.number() == 0 { 27 } else { rule }
+    if judge::verdict_of(h, near, start) == Verdict::Over {
+        Rule::NoSketch
+    } else {
+        rule
+    }
 }
 
 // The rule that refuses the last of e constraints, by the first that makes them over.
-fn last_rule(first: usize, e: usize) -> u8
+fn last_rule(first: usize, e: usize) -> Rule
     requires { first < e }
-    ensures { result ≡ last_rule first e }
+    ensures { rule_number result ≡ last_rule first e }
 {
-    if first + 1 == e { 11 } else { 27 }
+    if first + 1 == e {
+        Rule::OverSheet
+    } else {
+        Rule::NoSketch
+    }
 }
 
 // What the last constraint of a graph is answered: what is told of it has the first that makes it over.
-fn judge_last(h: Head, near: &[u64; ELEMENTS], start: &[u64; CONSTRAINTS]) -> Judgement
+fn judge_last(h: Head, near: &[u64; ELEMENTS], start: &[u64; CONSTRAINTS]) -> Result<Verdict, Rule>
     requires { Drawn h near.now start.now }
-    ensures { result ≡ last_answer (graph_in h start.now) }
+    ensures { by_number result ≡ last_answer (graph_in h start.now) }
 {
-    let told = judge::tell(h, near, start);
-    let verdict = told.verdict;
-    if verdict.number() != 0 {
-        return Judgement::Is(verdict);
+    match judge::tell(h, near, start) {
+        Ok(verdict) => Ok(verdict),
+        Err(first) => Err(last_rule(first, h.e)),
     }
-    Judgement::Refused(last_rule(told.first, h.e))
 }
 
 // A constraint offered by the number held to the sheet in the arrays, and noted there last: its verdict, or the rule that refuses it. Whatever is
@@ -83,44 +82,49 @@ pub fn place_next(
     radii: &[u32; ELEMENTS],
     c: Constraint,
     held: usize,
-) -> Judgement
+) -> Result<Verdict, Rule>
     requires { (f : Facts) × SheetIn f h near.old start.old codes.old radii.now }
     ensures { (f : Facts) → SheetIn f h near.old start.old codes.old radii.now
-        → PlacedIn f c held h result near.new start.new codes.new radii.now }
+        → PlacedIn f c held h (by_number result) near.new start.new codes.new radii.now }
 {
-    let n = h.n;
-    let e = h.e;
-    let kinds = h.kinds;
-    let lines = kinds.lines;
-    let head = Head { n, e, lines };
+    let Front { n, e, kinds, .. } = h;
+    let head = Head {
+        n,
+        e,
+        lines: kinds.lines,
+    };
     if 2 * n < e + 3 {
-        return Judgement::Refused(27);
+        return Err(Rule::NoSketch);
     }
     if held != e {
-        return Judgement::Refused(unless_over(head, near, start, 24));
+        return Err(unless_over(head, near, start, Rule::HeldCount));
     }
-    let rule = sheet::constraint_fault(near, n, kinds, radii, c);
-    if rule != 0 {
-        return Judgement::Refused(unless_over(head, near, start, rule));
+    if let Err(rule) = sheet::check_constraint(near, n, kinds, radii, c) {
+        return Err(unless_over(head, near, start, rule));
     }
     if e + 3 == 2 * n {
-        return Judgement::Refused(unless_over(head, near, start, 11));
+        return Err(unless_over(head, near, start, Rule::OverSheet));
     }
-    let size = c.size;
-    let z = graph::code_of(size);
-    graph::note(near, start, codes, e, c.first, c.second, z);
-    let next = Head { n, e: e + 1, lines };
-    judge_last(next, near, start)
+    graph::note(
+        near,
+        start,
+        codes,
+        e,
+        c.first,
+        c.second,
+        graph::code_of(c.size),
+    );
+    judge_last(Head { e: e + 1, ..head }, near, start)
 }
 
 // ---- by value
 
 // What asking answers: the verdict, or the refusal, that the sketch with that constraint would get.
-pub fn asking(s: Sheet, c: Constraint) -> Judgement
-    ensures { result ≡ ask_answer s c }
+pub fn asking(s: Sheet, c: Constraint) -> Result<Verdict, Rule>
+    ensures { by_number result ≡ ask_answer s c }
 {
-    if sheet::sheet_fault(s) != 0 {
-        return Judgement::Refused(27);
+    if sheet::check_sheet(s).is_err() {
+        return Err(Rule::NoSketch);
     }
     let mut near = [0u64; ELEMENTS];
     let mut start = [0u64; CONSTRAINTS];
@@ -132,11 +136,12 @@ pub fn asking(s: Sheet, c: Constraint) -> Judgement
 
 // What placing answers, and the sketch after it.
 pub fn placing(s: Sheet, c: Constraint, held: usize) -> Placed
-    ensures { result ≡ placed_of s c held }
+    ensures answers { by_number result.answer ≡ place_answer s c held }
+    ensures leaves { result.sketch ≡ place_after s c held }
 {
-    if sheet::sheet_fault(s) != 0 {
+    if sheet::check_sheet(s).is_err() {
         return Placed {
-            answer: Judgement::Refused(27),
+            answer: Err(Rule::NoSketch),
             sketch: s,
         };
     }
@@ -146,9 +151,6 @@ pub fn placing(s: Sheet, c: Constraint, held: usize) -> Placed
     let mut radii = [0u32; ELEMENTS];
     let front = graph::fill(s, &mut near, &mut start, &mut codes, &mut radii);
     let answer = place_next(front, &mut near, &mut start, &mut codes, &radii, c, held);
-    let Judgement::Is(_) = answer else {
-        return Placed { answer, sketch: s };
-    };
-    let sketch = store(s, c);
+    let sketch = if answer.is_ok() { store(s, c) } else { s };
     Placed { answer, sketch }
 }

@@ -1,5 +1,5 @@
 -- What the search keeps between two constraints, and what one more gives. Assumes nothing.
-use Rattle.std.specs.Prelude.{◌≡◌, ◌≢◌, ◌+◌, ◌*◌, ◌^◌, ◌≤◌, ◌<◌}
+use Rattle.std.specs.Prelude.{◌≡◌, ◌≢◌, ◌+◌, ◌*◌, ◌^◌, ◌≤◌, ◌<◌, Result, MatchResult}
 use Rattle.theory.specs.Prelude.{List, ℕ, ones, get_or}
 use Rattle.theory.specs.Set.{◌∩◌, ◌⊑◌}
 use Rattle.theory.specs.Constraints.{pair, has, carried, NotOver}
@@ -34,8 +34,6 @@ pub record More (old new : List ℕ) (m u : ℕ) : Type 0 where
   pub fine : ((x : ℕ) → x ⊑ u → 2 ≤ ones x → carried new x + 3 ≤ 2 * ones x) → NotOver new
   pub cut : (x : ℕ) → carried old x + 2 * ones (x ∩ u) ≤ carried old (x ∩ u) + 2 * ones x
 
--- what taking m gives: the table with m among the constraints, where no set is over; or the constraints without m, and the smallest set that m makes
--- over
-pub record Took (old new : List ℕ) (m u : ℕ) (own : List (List ℕ)) (over : ℕ) : Type 0 where
-  pub taken : over ≡ 0 → Using new u own
-  pub refused : over ≢ 0 → Using old u own × IsOver new × Smallest old m over
+-- what taking m gives: the table with m among the constraints, where no set is over; or the smallest set that m makes over
+abbrev pub Took : List ℕ → List ℕ → ℕ → ℕ → Result (List (List ℕ)) ℕ → Type 0
+Took old new m u taken = MatchResult taken (λ own. Using new u own) (λ over. IsOver new × Smallest old m over)

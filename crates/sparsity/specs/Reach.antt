@@ -1,7 +1,7 @@
 -- What the search reaches from two elements a and b along the freedoms in use, and what it does with it. Assumes nothing.
-use Rattle.std.specs.Prelude.{◌≡◌, ◌≢◌, ◌⊎◌, ◌+◌, ◌^◌, ◌≤◌, ◌<◌}
-use Rattle.theory.specs.Prelude.{List, ℕ, ones, length, get_or, set}
-use Rattle.theory.specs.Set.{◌∈◌, ◌∪◌, ◌⊑◌, at}
+use Rattle.std.specs.Prelude.{◌≡◌, ◌≢◌, ◌⊎◌, ◌+◌, ◌^◌, ◌≤◌, ◌<◌, Result, MatchResult}
+use Rattle.theory.specs.Prelude.{List, ℕ, ones, length, get_or}
+use Rattle.theory.specs.Set.{◌∈◌, ◌⊑◌}
 use Rattle.sparsity.specs.Freedoms.{entry, stored, free, Table, Balanced, Closed}
 pub mod Visits
 pub mod Laws
@@ -10,11 +10,6 @@ pub mod Back
 -- what stands at place i of a list
 abbrev pub item : List ℕ → ℕ → ℕ
 item l i = get_or l i 0
-
--- element y, met from the element at place p: known already, or put at the end of the queue
-pub data Visit (queue from : List ℕ) (seen count y p : ℕ) : List ℕ → List ℕ → ℕ → ℕ → Type 0 where
-  known : y ∈ seen → Visit queue from seen count y p queue from seen count
-  fresh : at y seen ≡ 0 → Visit queue from seen count y p (set queue count y) (set from count p) (seen ∪ 2 ^ y) (count + 1)
 
 -- the two lists that the search is lent have 64 places
 pub record Lent (queue from : List ℕ) : Type 0 where
@@ -37,12 +32,6 @@ pub record Reached (own : List (List ℕ)) (a b : ℕ) (queue from : List ℕ) (
   pub size : ones seen ≡ count
   pub small : seen < 2 ^ 64
 
--- nothing that was reached is lost
-pub record Longer (queue : List ℕ) (seen count : ℕ) (queue' : List ℕ) (seen' count' : ℕ) : Type 0 where
-  pub more : count ≤ count'
-  pub places : (i : ℕ) → i < count → item queue' i ≡ item queue i
-  pub marks : (x : ℕ) → x ∈ seen → x ∈ seen'
-
 -- the elements at the first p places use freedoms towards reached elements only
 pub record Scanned (own : List (List ℕ)) (queue : List ℕ) (seen p : ℕ) : Type 0 where
   pub stays : (i s : ℕ) → i < p → s < 2 → entry own (item queue i) s ∈ seen
@@ -50,12 +39,6 @@ pub record Scanned (own : List (List ℕ)) (queue : List ℕ) (seen p : ℕ) : T
 -- none of the reached elements but the first two has a free entry
 pub record Shut (own : List (List ℕ)) (queue : List ℕ) (count : ℕ) : Type 0 where
   pub none : (i : ℕ) → 2 ≤ i → i < count → free own (item queue i) ≡ 0
-
--- the whole search: an element with a free entry at a place below the count, or all is reached
-pub record Found (own : List (List ℕ)) (a b : ℕ) (queue from : List ℕ) (seen count place : ℕ) : Type 0 where
-  pub reached : Reached own a b queue from seen count
-  pub open_at : place < count → (2 ≤ place) × (0 < free own (item queue place))
-  pub all : count ≤ place → Scanned own queue seen count × Shut own queue count
 
 -- another use of the same freedoms for the same constraints, within every closed set that holds a and b
 pub record Rebalanced (own : List (List ℕ)) (a b : ℕ) (new : List (List ℕ)) : Type 0 where
@@ -95,11 +78,19 @@ pub record Stuck (own : List (List ℕ)) (a b set : ℕ) : Type 0 where
   pub none : (x : ℕ) → x ∈ set → x ≢ a → x ≢ b → free own x ≡ 0
   pub least : (w : ℕ) → a ∈ w → b ∈ w → Closed own w → set ⊑ w
 
--- need free entries on a and b, and over is 0; or fewer, and over is the set where no more can be had
-pub record Gathered (own : List (List ℕ)) (need a b : ℕ) (new : List (List ℕ)) (over : ℕ) : Type 0 where
-  pub again : Rebalanced own a b new
-  pub enough : over ≡ 0 → need ≤ free new a + free new b
-  pub stuck : over ≢ 0 → (free new a + free new b < need) × Stuck new a b over
+-- the whole search: the place of an element with a free entry, from which there is a way back to a and b; or the set of all that is reached, where
+-- no more can be had
+pub record Found (own : List (List ℕ)) (a b : ℕ) (queue from : List ℕ) (found : Result ℕ ℕ) : Type 0 where
+  pub start : item queue 0 ≡ a
+  pub start' : item queue 1 ≡ b
+  pub outcome : MatchResult found (λ place. Way own queue from place) (λ seen. Stuck own a b seen)
+
+-- a table with need free entries on a and b; or fewer can be had, and the set where no more can be had
+abbrev pub Gathered : List (List ℕ) → ℕ → ℕ → ℕ → Result (List (List ℕ)) ℕ → Type 0
+Gathered own need a b result =
+    MatchResult result
+    (λ new. Rebalanced own a b new × (need ≤ free new a + free new b))
+    (λ over. (new : List (List ℕ)) × Rebalanced own a b new × (free new a + free new b < need) × Stuck new a b over)
 
 -- a free entry of one of a and b is used towards the other
 pub record Placed (own : List (List ℕ)) (a b : ℕ) (new : List (List ℕ)) : Type 0 where

@@ -6,307 +6,185 @@
 
 #![tactic(auto)]
 
-ghost use Rattle.std.specs.Prelude.{◌≡◌, ◌≢◌, List, ℕ, ◌+◌, ◌≤◌, ◌<◌, take, get_or};
-ghost use Rattle.std.specs.Int.Count.{ones};
+ghost use Rattle.std.specs.Prelude.{◌≡◌, ◌≢◌, List, [], ℕ, ◌+◌, ◌<◌, take, get_or};
 ghost use Rattle.theory.specs.Constraints.{pair, Below};
 ghost use Rattle.theory.specs.Near.{Standing, Near};
+ghost use Rattle.theory.specs.Finding.{found};
 ghost use Rattle.theory.specs.Over.{over_of};
-ghost use Rattle.sparsity.specs.Freedoms.{entry, stored, same, free, Table, FreeBelow};
-ghost use Rattle.sparsity.specs.Reach.{Visit, Lent, Found, Gathered, Placed};
+ghost use Rattle.sparsity.specs.Freedoms.{stored, same, free, Table, FreeBelow};
+ghost use Rattle.sparsity.specs.Reach.{item, Found, Gathered, Placed};
 ghost use Rattle.sparsity.specs.Answer.{Using, More, Took};
 ghost use Rattle.peeling.specs.Core.{Core};
 ghost use Rattle.peeling.specs.Hard.{Noted};
 
-use theory::{CONSTRAINTS, ELEMENTS, Finding};
+use theory::{CONSTRAINTS, ELEMENTS, Excess};
 
-// 1 where y is x, else 0.
-fn one_if_same(y: u8, x: u8) -> usize
-    ensures { result ≡ same y x }
-{
-    if y == x { 1 } else { 0 }
-}
+// The table of freedoms: two entries for each element.
+pub type Freedoms = [[u8; 2]; ELEMENTS];
 
 // The table with every freedom free.
-pub fn all_free() -> [[u8; 2]; ELEMENTS]
+pub fn all_free() -> Freedoms
     ensures { FreeBelow 64 result }
 {
     let mut own = [[0u8; 2]; ELEMENTS];
-    let mut x: u8 = 0;
-    while x < 64 {
-        let i = sets::wide(x);
-        own[i] = [x; 2];
-        x = x + 1;
+    for x in 0..ELEMENTS {
+        own[x] = [x as u8; 2];
     }
     own
 }
 
-// How many entries of x, y and z, are free.
-fn free_of(y: u8, z: u8, x: u8) -> usize
-    ensures { (result ≡ same y x + same z x) × (result ≤ 2) }
+// How many of the two entries of x are free.
+fn free_of(entries: [u8; 2], x: u8) -> usize
+    ensures { result ≡ same (item entries 0) x + same (item entries 1) x }
 {
-    one_if_same(y, x) + one_if_same(z, x)
+    usize::from(entries[0] == x) + usize::from(entries[1] == x)
 }
 
-// The set of the elements reached, and how many there are.
-#[derive(Clone, Copy)]
-pub struct Front {
-    pub seen: u64,
-    pub count: usize,
-}
-
-// Element y, met from the element at place p, goes to the end of the queue unless it is known.
-fn visit(queue: &mut [u8; ELEMENTS], from: &mut [u8; ELEMENTS], f: Front, y: u8, p: u8) -> Front
-    requires { (y < 64) × (ones f.seen ≡ f.count) }
-    ensures { Visit queue.old from.old f.seen f.count y p queue.new
-        from.new result.seen result.count }
-{
-    let bit = sets::single(y);
-    if f.seen & bit != 0 {
-        return f;
-    }
-    let k = f.count;
-    queue[k] = y;
-    from[k] = p;
-    Front {
-        seen: f.seen | bit,
-        count: k + 1,
-    }
-}
-
-// How many entries of x, y and z, are free, for an x that made the count of elements reached grow.
-fn opens(y: u8, z: u8, x: u8, before: usize, after: usize) -> usize
-    ensures { ((before < after) → result ≡ same y x + same z x) × ((after ≤ before) → result ≡ 0) }
-{
-    if after <= before {
-        return 0;
-    }
-    free_of(y, z, x)
-}
-
-// What a search has found: the set of the elements reached, how many there are, and the place of one that has a free entry, or the count.
-#[derive(Clone, Copy)]
-pub struct Sought {
-    pub seen: u64,
-    pub count: usize,
-    pub place: usize,
-}
-
-// The breadth-first search from a and b along the freedoms in use, for another element with a free entry: it ends where
-// it meets one. `queue` has the elements in the order in which they are reached, `from` the place each was reached
-// from.
+// The breadth-first search from a and b along the freedoms in use, for another element with a free entry: its place, where it meets one, and else
+// the set of all elements reached. `queue` has the elements in the order in which they are reached, `from` the place each was reached from.
 fn seek(
-    own: [[u8; 2]; ELEMENTS],
+    own: Freedoms,
     queue: &mut [u8; ELEMENTS],
     from: &mut [u8; ELEMENTS],
     a: u8,
     b: u8,
-) -> Sought
-    requires { Table own × (a < 64) × (b < 64) × (a ≢ b) × Lent queue.old from.old }
-    ensures { Found own a b queue.new from.new result.seen result.count result.place }
+) -> Result<usize, u64>
+    requires { Table own × (a < 64) × (b < 64) × (a ≢ b) }
+    ensures { Found own a b queue.new from.new result }
 {
     queue[0] = a;
     queue[1] = b;
-    let mut f = Front {
-        seen: sets::single(a) | sets::single(b),
-        count: 2,
-    };
+    let mut seen = sets::pair(a, b);
+    let mut count: usize = 2;
     let mut p: usize = 0;
-    while p < f.count {
-        let x = queue[p];
-        let i = sets::wide(x);
-        let y = own[i][0];
-        let z = own[i][1];
-        let g = visit(queue, from, f, y, p as u8);
-        let j = sets::wide(y);
-        if opens(own[j][0], own[j][1], y, f.count, g.count) != 0 {
-            return Sought {
-                seen: g.seen,
-                count: g.count,
-                place: f.count,
-            };
+    while p < count {
+        let x = usize::from(queue[p]);
+        for s in 0..2 {
+            let y = own[x][s];
+            let bit = sets::single(y);
+            if seen & bit == 0 {
+                queue[count] = y;
+                from[count] = p as u8;
+                if free_of(own[usize::from(y)], y) != 0 {
+                    return Ok(count);
+                }
+                seen |= bit;
+                count += 1;
+            }
         }
-        let h = visit(queue, from, g, z, p as u8);
-        let k = sets::wide(z);
-        if opens(own[k][0], own[k][1], z, g.count, h.count) != 0 {
-            return Sought {
-                seen: h.seen,
-                count: h.count,
-                place: g.count,
-            };
-        }
-        f = h;
-        p = p + 1;
+        p += 1;
     }
-    Sought {
-        seen: f.seen,
-        count: f.count,
-        place: p,
-    }
+    Err(seen)
 }
 
-// Need free entries on a and b, and over is 0; or as many as can be had, and over is the set that was reached. The path
-// back from an element with a free entry is an augmenting path: its freedoms are turned, so that a or b gets one.
-fn gather(
-    own: [[u8; 2]; ELEMENTS],
-    need: usize,
-    queue: &mut [u8; ELEMENTS],
-    from: &mut [u8; ELEMENTS],
-    a: u8,
-    b: u8,
-    over: &mut u64,
-) -> [[u8; 2]; ELEMENTS]
-    requires { Table own × (a < 64) × (b < 64) × (a ≢ b) × Lent queue.old from.old }
-    ensures { Gathered own need a b result over.new × Lent queue.new from.new }
+// A table with need free entries on a and b; or the set that was reached, where no more can be had. The path back from an element with a free entry
+// is an augmenting path: its freedoms are turned, so that a or b gets one.
+fn gather(own: Freedoms, need: usize, a: u8, b: u8) -> Result<Freedoms, u64>
+    requires { Table own × (a < 64) × (b < 64) × (a ≢ b) }
+    ensures { Gathered own need a b result }
 {
     let mut t = own;
-    let i = sets::wide(a);
-    let j = sets::wide(b);
-    while free_of(t[i][0], t[i][1], a) + free_of(t[j][0], t[j][1], b) < need {
-        let found = seek(t, queue, from, a, b);
-        let p = found.place;
-        if found.count <= p {
-            *over = found.seen;
-            return t;
-        }
-        let mut to = p;
+    while free_of(t[usize::from(a)], a) + free_of(t[usize::from(b)], b) < need {
+        let mut queue = [0u8; ELEMENTS];
+        let mut from = [0u8; ELEMENTS];
+        let mut to = seek(t, &mut queue, &mut from, a, b)?;
         while 2 <= to {
-            let back = sets::wide(from[to]);
-            let bx = queue[back];
-            let by = queue[to];
-            let x = sets::wide(bx);
-            let y = sets::wide(by);
-            let s = one_if_same(t[x][1], by);
-            let r = one_if_same(t[y][1], by);
-            t[x][s] = bx;
-            t[y][r] = bx;
+            let back = usize::from(from[to]);
+            let first = queue[back];
+            let second = queue[to];
+            let x = usize::from(first);
+            let y = usize::from(second);
+            let s = usize::from(t[x][1] == second);
+            let r = usize::from(t[y][1] == second);
+            t[x][s] = first;
+            t[y][r] = first;
             to = back;
         }
     }
-    *over = 0;
-    t
+    Ok(t)
 }
 
 // Where a constraint uses a freedom: an entry of an element, and the other end that it is to hold.
 #[derive(Clone, Copy)]
-pub struct Spot {
-    pub element: usize,
-    pub entry: usize,
-    pub other: u8,
+struct Spot {
+    element: usize,
+    entry: usize,
+    other: u8,
 }
 
-// A free entry for the constraint between a and b: of a, whose entries are p and q, or of b, whose first is r.
-fn place(p: u8, q: u8, r: u8, a: u8, b: u8) -> Spot
+// A free entry for the constraint between a and b, whose entries are given: one of a, where a has one, or of b.
+fn place(of_a: [u8; 2], of_b: [u8; 2], a: u8, b: u8) -> Spot
     requires { (a < 64) × (b < 64) }
-    ensures { ((own : List (List ℕ)) → entry own a 0 ≡ p → entry own a 1 ≡ q → entry own b 0 ≡ r → 0 < free own a + free own b
+    ensures { ((own : List (List ℕ)) → get_or own a [] ≡ of_a → get_or own b [] ≡ of_b → 0 < free own a + free own b
         → Placed own a b (stored own result.element result.entry result.other)) × (result.element < 64) × (result.entry < 2) }
 {
-    let i = sets::wide(a);
-    if p == a {
-        return Spot {
-            element: i,
-            entry: 0,
+    match of_a.iter().position(|y| *y == a) {
+        Some(entry) => Spot {
+            element: usize::from(a),
+            entry,
             other: b,
-        };
-    }
-    if q == a {
-        return Spot {
-            element: i,
-            entry: 1,
-            other: b,
-        };
-    }
-    let j = sets::wide(b);
-    if r == b {
-        return Spot {
-            element: j,
-            entry: 0,
+        },
+        None => Spot {
+            element: usize::from(b),
+            entry: usize::from(of_b[0] != b),
             other: a,
-        };
-    }
-    Spot {
-        element: j,
-        entry: 1,
-        other: a,
+        },
     }
 }
 
-// One more constraint, between a and b: the table with it, and over is 0; or the table without it, and over is the smallest set that it makes over.
-pub fn take_pair(
-    own: [[u8; 2]; ELEMENTS],
-    queue: &mut [u8; ELEMENTS],
-    from: &mut [u8; ELEMENTS],
-    a: u8,
-    b: u8,
-    over: &mut u64,
-) -> [[u8; 2]; ELEMENTS]
-    requires { Table own × (a < 64) × (b < 64) × (a ≢ b) × Lent queue.old from.old }
-    ensures { ((old new : List ℕ) (u : ℕ) → Using old u own → More old new (pair a b) u → Took old new (pair a b) u result over.new)
-        × Lent queue.new from.new }
+// One more constraint, between a and b: the table with it, or the smallest set that it makes over.
+pub fn take_pair(own: Freedoms, a: u8, b: u8) -> Result<Freedoms, u64>
+    requires { Table own × (a < 64) × (b < 64) × (a ≢ b) }
+    ensures { (old new : List ℕ) (u : ℕ) → Using old u own → More old new (pair a b) u → Took old new (pair a b) u result }
 {
-    let mut t = gather(own, 4, queue, from, a, b, over);
-    if *over != 0 {
-        return t;
-    }
-    let i = sets::wide(a);
-    let j = sets::wide(b);
-    let k = place(t[i][0], t[i][1], t[j][0], a, b);
-    let x = k.element;
-    let s = k.entry;
-    t[x][s] = k.other;
-    t
+    let mut t = gather(own, 4, a, b)?;
+    let spot = place(t[usize::from(a)], t[usize::from(b)], a, b);
+    t[spot.element][spot.entry] = spot.other;
+    Ok(t)
 }
 
 // The first of e constraints that makes those up to it over, with the smallest set, where the sets within core tell. Each needs as many free entries
 // on its ends as are noted: four, or one where it closes no over set.
-fn search(start: &[u64; CONSTRAINTS], e: usize, core: u64, needs: &[u8; CONSTRAINTS]) -> Finding
+fn search(
+    start: &[u64; CONSTRAINTS],
+    e: usize,
+    core: u64,
+    needs: &[u8; CONSTRAINTS],
+) -> Option<Excess>
     requires { Standing start.now e × Core (take e start.now) core
         × ((c : ℕ) → c < e → Noted (take e start.now) c 1 (get_or needs.now c 0)) }
-    ensures { (n : ℕ) → Below n (take e start.now) → result ≡ over_of n (take e start.now) }
+    ensures { (n : ℕ) → Below n (take e start.now) → found result ≡ over_of n (take e start.now) }
 {
     let mut own = all_free();
-    let mut queue = [0u8; ELEMENTS];
-    let mut from = [0u8; ELEMENTS];
-    let mut over: u64 = 0;
-    let mut c: usize = 0;
-    while c < e {
+    for c in 0..e {
         let pair = start[c];
         if pair & core != pair {
-            c = c + 1;
             continue;
         }
         let a = sets::lowest(pair);
         let b = peeling::other_end(pair, a);
-        let i = sets::wide(a);
-        let j = sets::wide(b);
-        let need = sets::wide(needs[c]);
-        if free_of(own[i][0], own[i][1], a) + free_of(own[j][0], own[j][1], b) < need {
-            let t = gather(own, need, &mut queue, &mut from, a, b, &mut over);
-            if over != 0 {
-                return Finding::First {
-                    constraint: c,
-                    set: over,
-                };
+        let need = usize::from(needs[c]);
+        if free_of(own[usize::from(a)], a) + free_of(own[usize::from(b)], b) < need {
+            match gather(own, need, a, b) {
+                Ok(t) => own = t,
+                Err(set) => return Some(Excess { constraint: c, set }),
             }
-            own = t;
         }
-        let k = place(own[i][0], own[i][1], own[j][0], a, b);
-        let x = k.element;
-        let s = k.entry;
-        own[x][s] = k.other;
-        c = c + 1;
+        let spot = place(own[usize::from(a)], own[usize::from(b)], a, b);
+        own[spot.element][spot.entry] = spot.other;
     }
-    Finding::Fine
+    None
 }
 
-// The first of e constraints that makes those up to it over, with the smallest set; Fine where they are not over. The
+// The first of e constraints that makes those up to it over, with the smallest set; none where they are not over. The
 // constraints are the first e places of start, given with their adjacency.
-pub fn find_over(near: &[u64; ELEMENTS], start: &[u64; CONSTRAINTS], e: usize) -> Finding
+pub fn find_over(near: &[u64; ELEMENTS], start: &[u64; CONSTRAINTS], e: usize) -> Option<Excess>
     requires { Standing start.now e × Near (take e start.now) near.now }
-    ensures { (n : ℕ) → Below n (take e start.now) → result ≡ over_of n (take e start.now) }
+    ensures { (n : ℕ) → Below n (take e start.now) → found result ≡ over_of n (take e start.now) }
 {
     let core = peeling::core_of(near);
     if core == 0 {
-        return Finding::Fine;
+        return None;
     }
     let mut needs = [1u8; CONSTRAINTS];
     peeling::mark_hard(near, start, e, core, &mut needs);

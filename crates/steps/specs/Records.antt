@@ -9,8 +9,8 @@ use Rattle.theory.specs.declared.JointKind.TheVariants.{Ppp, Ppl, Pll, Lll}
 use Rattle.theory.specs.declared.Ways.{Ways}
 use Rattle.theory.specs.declared.Ways.TheVariants.{Known, Unknown}
 use Rattle.theory.specs.declared.Step.{Step}
-use Rattle.space.specs.declared.Written.{Written}
-use Rattle.space.specs.declared.Written.TheVariants.{Done, Refused}
+use Rattle.space.specs.Written.{Written}
+use Rattle.space.specs.Written.{Done, Refused}
 use Rattle.sheet.specs.Field.{Field, value, refused, next}
 use Rattle.sheet.specs.Answer.{by_rule}
 use Rattle.plans.specs.Check.{saved_steps_of, plan_fault}

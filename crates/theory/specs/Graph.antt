@@ -5,8 +5,8 @@ use Rattle.theory.specs.Merge.{Merge, three, joint, put, final, joints}
 use Rattle.theory.specs.Plan.{plan_of, ascending}
 use Rattle.theory.specs.Verdict.{judged}
 use Rattle.theory.specs.Placement.{joint_kind, ways}
-use Rattle.theory.specs.declared.Finding.{Finding}
-use Rattle.theory.specs.declared.Finding.TheVariants.{Fine, First}
+use Rattle.theory.specs.Finding.{Finding}
+use Rattle.theory.specs.Finding.{Fine, First}
 use Rattle.theory.specs.declared.Verdict.{Verdict}
 use Rattle.theory.specs.declared.Verdict.TheVariants.{Over}
 use Rattle.theory.specs.declared.Step.{Step}

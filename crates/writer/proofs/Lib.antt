@@ -1,4 +1,5 @@
 -- Laws that the proofs share.
-pub mod Pieces
+pub mod Bytes
+pub mod Measured
 pub mod Spread
 pub mod Untagged

@@ -2,16 +2,16 @@
 use Rattle.std.specs.Prelude.{◌+◌, ◌*◌, ◌-◌, ◌/◌, ◌%◌, ◌^◌, ◌≤◌, ◌<◌, ◌≡◌, ◌∷◌, ◌++◌}
 use Rattle.theory.specs.Prelude.{ℕ, zero, suc, min, pow-zero, pow-succ', pow-le-pow_right, mul-add, zero-add}
 use Rattle.theory.specs.Prelude.{one-mul, add-one, dec_le, arith, refl, sym, ap, ◌∙◌, subst, true, List, [], append-nil, append_assoc}
-use Rattle.theory.specs.Prelude.{T, length, take, drop, get_or, take-append-drop, drop_of_length-le, length-drop, take_all, take-suc, take-take}
-use Rattle.theory.specs.Prelude.{length-take-le}
+use Rattle.theory.specs.Prelude.{T, length, take, drop, get_or, take-append-drop, drop_of_length-le, length-drop, take_all, take-suc}
+use Rattle.theory.specs.Prelude.{length-take-le, drop_at}
 use native.Mathlib.Nat.{mul_assoc, add_assoc}
 use Rattle.sheet.specs.declared.Opening.{Opening}
 use Rattle.sheet.specs.declared.Opening.TheVariants.{Pf01, Pf02}
 use Rattle.sheet.specs.declared.Kind.{Kind}
 use Rattle.sheet.specs.declared.Kind.TheVariants.{Point, Line, Circle}
 use Rattle.sheet.specs.declared.Element.{Element}
-use Rattle.sheet.specs.Facts.{kind_base, kind_digit, kinds_number, blank_element}
-use Rattle.sheet.specs.Facts.Laws.{and-true, turn, kinds_number-below}
+use Rattle.sheet.specs.Facts.{kind_base, kind_digit, kinds_number}
+use Rattle.sheet.specs.Facts.Laws.{and-true, kinds_number-below}
 use Rattle.sheet.specs.Field.{digits, kind_bytes}
 use Rattle.sheet.specs.Rules.{kind_allowed, kinds_allowed}
 use Rattle.sheet.specs.Encode.{radius_bytes, radii_bytes}
@@ -29,7 +29,7 @@ module _ {A : Type 0} (s : List A) (k : ℕ) where
           let e : min (length s) k ≡ length s = omega arith in
           rw (e, drop_of_length-le s {i = k} l) (drop_of_length-le s {i = length s} (omega arith))
 
-  take-least : take (min (length s) k) s ≡ take k s
+  pub take-least : take (min (length s) k) s ≡ take k s
   take-least = by (dec_le (length s) k)
     where
       by : Dec (length s ≤ k) → take (min (length s) k) s ≡ take k s
@@ -37,14 +37,6 @@ module _ {A : Type 0} (s : List A) (k : ℕ) where
       by (yes l) =
           let e : min (length s) k ≡ length s = omega arith in
           rw (e, take_all k s l) (take_all (length s) s (omega arith))
-
--- the front and the rest of the first n
-module _ {A : Type 0} (l : List A) (n k : ℕ) (room : n ≤ length l) where
-  pub front-least : take (min n k) l ≡ take k (take n l)
-  front-least = sym (take-take (min n k) n l (omega arith)) ∙ (rw (length-take-le n l room) at (take-least (take n l) k))
-
-  pub rest-least : drop (min n k) (take n l) ≡ drop k (take n l)
-  rest-least = rw (length-take-le n l room) at (drop-least (take n l) k)
 
 -- ---- some of the elements are allowed where all are
 
@@ -100,19 +92,32 @@ pub below-eight : (o : Opening) (es : List Element) → kinds_allowed o es ≡ t
 below-eight o es e h =
     omega (arith, kinds_number-below o es e, pow-le-pow_right {n = kind_base o} (base-pos o) h, eight o)
 
-module _ (o : Opening) (l : List Element) (from to i : ℕ) (some : from < i) (within : i ≤ to) (room : to ≤ length l) where
-  pub one_more : kinds_number o (drop (i - 1) (take to l)) ≡ kind_base o * kinds_number o (drop i (take to l)) + kind_digit (get_or l (i - 1) blank_element).kind
-  unfolding kinds_number
-  one_more =
-      let h : i - 1 < to = omega arith in
-      let j : i - 1 + 1 ≡ i = omega arith in
-      rw (turn l to (i - 1) blank_element h room, j) (omega arith)
+-- the kinds are passed from the last one on: what is left, and the number of those passed
+pub record Passed (o : Opening) (es rest : List Element) (u : ℕ) : Type 0 where
+  pub done : List Element
+  pub whole : es ≡ rest ++ done
+  pub number_is : u ≡ kinds_number o done
 
-  pub more-fits : to ≤ from + kinds_in_eight o → kinds_allowed o (take to l) ≡ true
-      → kind_base o * kinds_number o (drop i (take to l)) + kind_digit (get_or l (i - 1) blank_element).kind < 2 ^ 64
-  more-fits few e =
-      let k : length (drop (i - 1) (take to l)) ≤ kinds_in_eight o = omega (arith, length-drop (i - 1) (take to l), length-take-le to l room) in
-      omega (arith, below-eight o (drop (i - 1) (take to l)) (allowed-drop o (i - 1) (take to l) e) k, one_more)
+pub passed-none : (o : Opening) {es rest : List Element} → rest ≡ es → Passed o es rest 0
+unfolding kinds_number
+passed-none o e = record { done = []; whole = sym (rw (e, append-nil)); number_is = refl }
+
+pub passed_all : {o : Opening} {es : List Element} {u : ℕ} (rest : List Element) → length rest ≡ 0 → Passed o es rest u → u ≡ kinds_number o es
+passed_all {o} [] e p = p.number_is ∙ ap (kinds_number o) (sym p.whole)
+passed_all (x ∷ rest) e p = absurd (omega arith)
+
+module _ {o : Opening} {es rest : List Element} {u : ℕ} (left : List Element) (x : Element) (last : rest ≡ left ++ x ∷ [])
+    (p : Passed o es rest u) where
+  pub one_more : {v : ℕ} → v ≡ kind_base o * u + kind_digit x.kind → Passed o es left v
+  unfolding kinds_number
+  one_more e =
+      record { done = x ∷ p.done; whole = p.whole ∙ rw (last, append_assoc); number_is = e ∙ rw p.number_is (omega arith) }
+
+  pub more-fits : length es ≤ kinds_in_eight o → kinds_allowed o es ≡ true → kind_base o * u + kind_digit x.kind < 2 ^ 64
+  more-fits few allowed =
+      let more = one_more refl in
+      let some : drop (length left) es ≡ more.done = ap (drop (length left)) more.whole ∙ drop_at left more.done (length left) refl in
+      rw (more.number_is, ← some) (below-eight o _ (allowed-drop o (length left) es allowed) (omega (arith, length-drop (length left) es)))
 
 -- ---- the bytes of a number, in two parts
 
@@ -130,7 +135,8 @@ digits-split (suc a) b u v h =
     let more : suc a + b ≡ suc (a + b) = omega arith in
     rw (more, grown, low, high, digits-split a b (u / 256) v less)
 
-kinds_number-append : (o : Opening) (xs ys : List Element) → kinds_number o (xs ++ ys) ≡ kinds_number o xs + kind_base o ^ length xs * kinds_number o ys
+kinds_number-append : (o : Opening) (xs ys : List Element)
+    → kinds_number o (xs ++ ys) ≡ kinds_number o xs + kind_base o ^ length xs * kinds_number o ys
 unfolding kinds_number
 kinds_number-append o [] ys = rw (pow-zero (kind_base o)) (sym (zero-add _ ∙ one-mul (kinds_number o ys)))
 kinds_number-append o (x ∷ xs) ys =
@@ -158,6 +164,12 @@ eight-bytes Pf02 = refl
 more_bytes : (o : Opening) (n : ℕ) → kinds_in_eight o ≤ n → kind_bytes o n ≡ 8 + kind_bytes o (n - kinds_in_eight o)
 more_bytes Pf01 n h = omega arith
 more_bytes Pf02 n h = omega arith
+
+-- neither has more than eight
+pub few_bytes : (o : Opening) (n : ℕ) → n ≤ 64
+    → (kind_bytes o (min n (kinds_in_eight o)) ≤ 8) × (kind_bytes o (n - min n (kinds_in_eight o)) ≤ 8)
+few_bytes Pf01 n h = (omega arith, omega arith)
+few_bytes Pf02 n h = (omega arith, omega arith)
 
 pub spread-digits : (o : Opening) (es : List Element) → kinds_allowed o es ≡ true
     → digits (kind_bytes o (min (length es) (kinds_in_eight o))) (kinds_number o (take (kinds_in_eight o) es))

@@ -12,7 +12,8 @@ use Rattle.sheet.specs.declared.Opening.TheVariants.{Pf01, Pf02}
 use Rattle.sheet.specs.Facts.{bit_of}
 use Rattle.sheet.specs.Facts.Laws.{kinds_of-length}
 use Rattle.sheet.specs.Field.{number, kind_bytes}
-use Rattle.sheet.specs.WithoutTags.{size_length, tag_length, drop_tags, opening_in, kinds_in_bytes, circles_among, before_by, before, listed, without_tags}
+use Rattle.sheet.specs.WithoutTags.{size_length, tag_length, drop_tags, opening_in, kinds_in_bytes, circles_among}
+use Rattle.sheet.specs.WithoutTags.{before_by, before, listed, without_tags}
 use Rattle.space.specs.Space.{Put}
 use Rattle.space.specs.Space.Laws.{put-none, put_as, ◌then◌}
 use Rattle.writer.proofs.Spread.{drop-least}
@@ -127,8 +128,8 @@ before-some s = omega arith
 
 -- ---- the walk
 
--- the constraints are walked one after another: i of e are gone through, up to the place `at`; what is put so far, the piece from `from` that is passed
--- and not put yet, and what is left make the whole
+-- the constraints are walked one after another: i of e are gone through, up to the place `at`; what is put so far, the piece from
+-- `from` that is passed and not put yet, and what is left make the whole
 pub record Walk (space s : List ℕ) (e at from to i : ℕ) (out : List ℕ) : Type 0 where
   pub turns : i ≤ e
   pub done : List ℕ
@@ -175,10 +176,9 @@ module _ {space s : List ℕ} {e at from to i : ℕ} {out : List ℕ} (w : Walk 
     one_less : e - i ≡ suc (e - (i + 1))
     one_less = omega arith
 
-    pub walk-plain : bits / 2 % 2 ≡ 0 → Walk space s e (at + 3 + 4 * (bits % 2)) from to (i + 1) out
+    pub walk-plain : bits / 2 % 2 ≡ 0 → Walk space s e (at + (3 + 4 * (bits % 2))) from to (i + 1) out
     walk-plain none =
-        let on : at + 3 + size_length bits - from ≡ (at - from) + (3 + size_length bits) = omega (arith, w.passed) in
-        let there : at + 3 + size_length bits ≡ at + (3 + size_length bits) = omega arith in
+        let on : at + (3 + size_length bits) - from ≡ (at - from) + (3 + size_length bits) = omega (arith, w.passed) in
         record {
           turns = omega arith;
           done = w.done;
@@ -195,7 +195,6 @@ module _ {space s : List ℕ} {e at from to i : ℕ} {out : List ℕ} (w : Walk 
                 on,
                 take-add (at - from) (3 + size_length bits) (drop from s),
                 behind,
-                there,
               )
               (simp append_assoc);
         }

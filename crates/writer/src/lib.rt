@@ -3,9 +3,10 @@
 
 #![tactic(auto)]
 
-ghost use Rattle.std.specs.Prelude.{◌≡◌, [], ◌∷◌, ◌++◌, true, ◌+◌, ◌-◌, ◌≤◌, ◌<◌, ◌^◌, min, length, take, drop, get_or};
+ghost use Rattle.std.specs.Prelude.{◌≡◌, ℕ, List, ◌∷◌, ◌++◌, true, ◌+◌, ◌-◌, ◌≤◌, ◌<◌, ◌^◌, min, length, take, drop, get_or};
+ghost use Rattle.theory.specs.Rule.{by_number};
 ghost use Rattle.sheet.specs.Facts.{kind_base, kind_digit, kinds_number, facts_of};
-ghost use Rattle.sheet.specs.Field.{digits, unsigned32, kind_bytes as kindBytesOf, opening_bytes as openingBytesOf};
+ghost use Rattle.sheet.specs.Field.{digits, kind_bytes as kindBytesOf, opening_bytes as openingBytesOf};
 ghost use Rattle.sheet.specs.Encode.{radius_bytes, radii_bytes, map_of as mapOfSize, size_bytes, constraint_bytes, sheet_bytes};
 ghost use Rattle.sheet.specs.Rules.{kinds_allowed, sheet_fault};
 ghost use Rattle.sheet.specs.WithoutTags.{before as bytesBefore, without_tags};
@@ -15,8 +16,7 @@ ghost use Rattle.writer.specs.Spread.{kinds_in_eight as kindsInEightOf, Spread};
 ghost use Rattle.writer.specs.Write.{write_field};
 
 use sheet::{Constraint, Element, Kind, Opening, Sheet, Size};
-use space::Written;
-use theory::ELEMENTS;
+use theory::Rule;
 
 // No written sheet has more bytes.
 pub const MOST_BYTES: usize = 1678;
@@ -28,68 +28,16 @@ struct KindNumbers {
     high: u64,
 }
 
-fn least(a: usize, b: usize) -> usize
-    ensures { result ≡ min a b }
-{
-    if a < b { a } else { b }
-}
-
-// A number of k bytes, lowest first.
-fn put_number(out: &mut [u8], at: usize, k: usize, u: u64) -> usize
-    requires { at + k < 2 ^ 64 }
-    ensures { Put out.old at (digits k u) result out.new }
-{
-    let next = at + k;
-    if out.len() < next {
-        return next;
-    }
-    let mut left = u;
-    let mut i = at;
-    while i < next {
-        out[i] = (left % 256) as u8;
-        left = left / 256;
-        i += 1;
-    }
-    next
-}
-
-// Two's complement of 32 bits.
-fn unsigned(z: i32) -> u32
-    ensures { result ≡ unsigned32 z }
-{
-    if z < 0 {
-        4294967295 - ((-1 - z) as u32)
-    } else {
-        z as u32
-    }
-}
-
 // The bit map of a constraint.
 fn map_of(size: Size) -> u8
     ensures { result ≡ mapOfSize size }
 {
     match size {
         Size::Given(_) => 1,
-        Size::Missing => 0,
+        Size::Missing | Size::Unfit => 0,
         Size::Tangent => 4,
         Size::OtherTangent => 12,
-        Size::Unfit => 0,
     }
-}
-
-// First end, second end, bit map.
-fn put_head(out: &mut [u8], at: usize, a: u8, b: u8, map: u8) -> usize
-    requires { at + 3 < 2 ^ 64 }
-    ensures { Put out.old at (a ∷ b ∷ map ∷ []) result out.new }
-{
-    let next = at + 3;
-    if out.len() < next {
-        return next;
-    }
-    out[at] = a;
-    out[at + 1] = b;
-    out[at + 2] = map;
-    next
 }
 
 fn put_size(out: &mut [u8], at: usize, size: Size) -> usize
@@ -97,21 +45,18 @@ fn put_size(out: &mut [u8], at: usize, size: Size) -> usize
     ensures { Put out.old at (size_bytes size) result out.new }
 {
     match size {
-        Size::Given(z) => put_number(out, at, 4, unsigned(z) as u64),
-        Size::Missing => at,
-        Size::Tangent => at,
-        Size::OtherTangent => at,
-        Size::Unfit => at,
+        Size::Given(z) => space::put_text(out, at, &z.to_le_bytes()),
+        Size::Missing | Size::Tangent | Size::OtherTangent | Size::Unfit => at,
     }
 }
 
+// First end, second end, bit map, then the size where its bit stands.
 fn put_constraint(out: &mut [u8], at: usize, c: Constraint) -> usize
     requires { at + 7 < 2 ^ 64 }
     ensures { Put out.old at (constraint_bytes c) result out.new }
 {
-    let size = c.size;
-    let next = put_head(out, at, c.first, c.second, map_of(size));
-    put_size(out, next, size)
+    let next = space::put_text(out, at, &[c.first, c.second, map_of(c.size)]);
+    put_size(out, next, c.size)
 }
 
 // ---- the elements
@@ -165,32 +110,39 @@ fn kind_bytes(o: Opening, n: usize) -> usize
     }
 }
 
-// The kinds of the elements from one place up to another as one number.
-fn kinds_number(o: Opening, elements: [Element; ELEMENTS], from: usize, to: usize) -> u64
-    requires { (from ≤ to) × (to ≤ 64) × (to ≤ from + kindsInEightOf o) × (kinds_allowed o (take to elements) ≡ true) }
-    ensures { result ≡ kinds_number o (drop from (take to elements)) }
+// The kinds of elements as one number, the first its lowest digit.
+fn kinds_number(o: Opening, elements: &[Element]) -> u64
+    requires { (length elements.now ≤ kindsInEightOf o) × (kinds_allowed o elements.now ≡ true) }
+    ensures { result ≡ kinds_number o elements.now }
 {
     let base = kind_base(o);
-    let mut u: u64 = 0;
-    let mut i = to;
-    while from < i {
-        i -= 1;
-        let x = elements[i];
-        let k = x.kind;
-        u = base * u + kind_digit(k);
+    let mut u = 0;
+    for x in elements.iter().rev() {
+        u = base * u + kind_digit(x.kind);
     }
     u
 }
 
-// The kinds of the first n elements.
-fn kind_numbers(o: Opening, elements: [Element; ELEMENTS], n: usize) -> KindNumbers
-    requires { (n ≤ 64) × (kinds_allowed o (take n elements) ≡ true) }
-    ensures { Spread o (take n elements) result }
+// The kinds of a sheet's elements in two numbers.
+fn kind_numbers(s: &Sheet) -> KindNumbers
+    requires { (s.now.n ≤ 64) × (kinds_allowed s.now.opening (facts_of s.now).elements ≡ true) }
+    ensures { Spread s.now.opening (facts_of s.now).elements result }
 {
-    let split = least(n, kinds_in_eight(o));
-    let low = kinds_number(o, elements, 0, split);
-    let high = kinds_number(o, elements, split, n);
-    KindNumbers { low, high }
+    let o = s.opening;
+    let elements = &s.elements[..s.n];
+    let (low, high) = elements.split_at(elements.len().min(kinds_in_eight(o)));
+    KindNumbers {
+        low: kinds_number(o, low),
+        high: kinds_number(o, high),
+    }
+}
+
+// The first k bytes of a number, lowest first.
+fn put_number(out: &mut [u8], at: usize, k: usize, u: u64) -> usize
+    requires { (at + k < 2 ^ 64) × (k ≤ 8) }
+    ensures { Put out.old at (digits k u) result out.new }
+{
+    space::put_text(out, at, &u.to_le_bytes()[..k])
 }
 
 // The kinds of n elements.
@@ -200,7 +152,7 @@ fn put_kinds(out: &mut [u8], at: usize, o: Opening, n: usize, kinds: KindNumbers
         (digits (kindBytesOf o (min n (kindsInEightOf o))) kinds.low ++ digits (kindBytesOf o (n - min n (kindsInEightOf o))) kinds.high) result
         out.new }
 {
-    let split = least(n, kinds_in_eight(o));
+    let split = n.min(kinds_in_eight(o));
     let next = put_number(out, at, kind_bytes(o, split), kinds.low);
     put_number(out, next, kind_bytes(o, n - split), kinds.high)
 }
@@ -211,127 +163,91 @@ fn put_radius(out: &mut [u8], at: usize, k: Kind) -> usize
     ensures { Put out.old at (radius_bytes k) result out.new }
 {
     match k {
-        Kind::Point => at,
-        Kind::Line => at,
-        Kind::Circle(r) => put_number(out, at, 4, r as u64),
+        Kind::Point | Kind::Line => at,
+        Kind::Circle(r) => space::put_text(out, at, &r.to_le_bytes()),
     }
 }
 
-// The radii of the circles among the first n elements.
-fn put_radii(out: &mut [u8], at: usize, elements: [Element; ELEMENTS], n: usize) -> usize
-    requires { (at + 260 < 2 ^ 64) × (n ≤ 64) }
-    ensures { Put out.old at (radii_bytes (take n elements)) result out.new }
+// The radii of the circles among the elements: PF01 has no circles.
+fn put_radii(out: &mut [u8], at: usize, o: Opening, elements: &[Element]) -> usize
+    requires { (at + 260 < 2 ^ 64) × (length elements.now ≤ 64) × (kinds_allowed o elements.now ≡ true) }
+    ensures { Put out.old at (radii_bytes elements.now) result out.new }
 {
+    if let Opening::Pf01 = o {
+        return at;
+    }
     let mut next = at;
-    let mut i: usize = 0;
-    while i < n {
-        let x = elements[i];
-        let k = x.kind;
-        next = put_radius(out, next, k);
-        i += 1;
+    for x in elements {
+        next = put_radius(out, next, x.kind);
     }
     next
-}
-
-// The same under either opening: PF01 has no circles.
-fn put_radii_by(
-    out: &mut [u8],
-    at: usize,
-    o: Opening,
-    elements: [Element; ELEMENTS],
-    n: usize,
-) -> usize
-    requires { (at + 260 < 2 ^ 64) × (n ≤ 64) × (kinds_allowed o (take n elements) ≡ true) }
-    ensures { Put out.old at (radii_bytes (take n elements)) result out.new }
-{
-    match o {
-        Opening::Pf01 => at,
-        Opening::Pf02 => put_radii(out, at, elements, n),
-    }
 }
 
 // ---- the sheet
 
 // The opening, the count of elements, their kinds and their radii.
-fn put_front(
-    out: &mut [u8],
-    o: Opening,
-    elements: [Element; ELEMENTS],
-    n: usize,
-    kinds: KindNumbers,
-) -> usize
-    requires { (n ≤ 64) × (kinds_allowed o (take n elements) ≡ true) × Spread o (take n elements) kinds }
+fn put_front(out: &mut [u8], o: Opening, elements: &[Element], kinds: KindNumbers) -> usize
+    requires { (length elements.now ≤ 64) × (kinds_allowed o elements.now ≡ true) × Spread o elements.now kinds }
     ensures { Put out.old 0
-        (openingBytesOf o ++ (n ∷ digits (kindBytesOf o n) (kinds_number o (take n elements)) ++ radii_bytes (take n elements))) result
-        out.new }
+        (openingBytesOf o ++ (length elements.now ∷ digits (kindBytesOf o (length elements.now)) (kinds_number o elements.now)
+        ++ radii_bytes elements.now)) result out.new }
 {
-    let opening = opening_bytes(o);
-    let a1 = space::put_text(out, 0, &opening);
-    let a2 = space::put_byte(out, a1, n as u8);
-    let a3 = put_kinds(out, a2, o, n, kinds);
-    put_radii_by(out, a3, o, elements, n)
+    let n = elements.len();
+    let at = space::put_text(out, 0, &opening_bytes(o));
+    let at = space::put_item(out, at, n as u8);
+    let at = put_kinds(out, at, o, n, kinds);
+    put_radii(out, at, o, elements)
 }
 
 // The sheet's bytes from the front, by the numbers of its kinds.
-fn put_sheet(out: &mut [u8], s: Sheet, kinds: KindNumbers) -> usize
-    requires { (s.n ≤ 64) × (s.e ≤ 200) × (kinds_allowed s.opening (facts_of s).elements ≡ true)
-        × Spread s.opening (facts_of s).elements kinds }
-    ensures { Put out.old 0 (sheet_bytes (facts_of s)) result out.new }
+fn put_sheet(out: &mut [u8], s: &Sheet, kinds: KindNumbers) -> usize
+    requires { (s.now.n ≤ 64) × (s.now.e ≤ 200) × (kinds_allowed s.now.opening (facts_of s.now).elements ≡ true)
+        × Spread s.now.opening (facts_of s.now).elements kinds }
+    ensures { Put out.old 0 (sheet_bytes (facts_of s.now)) result out.new }
 {
     let e = s.e;
-    let o = s.opening;
-    let elements = s.elements;
-    let a1 = put_front(out, o, elements, s.n, kinds);
-    let mut at = space::put_byte(out, a1, e as u8);
-    let mut i: usize = 0;
-    while i < e {
-        let c = s.constraints[i];
-        at = put_constraint(out, at, c);
-        i += 1;
+    let front = put_front(out, s.opening, &s.elements[..s.n], kinds);
+    let mut at = space::put_item(out, front, e as u8);
+    for c in &s.constraints[..e] {
+        at = put_constraint(out, at, *c);
     }
     at
 }
 
+// All that a function puts from the front, or 17: a run over no space measures first, unless there is space for the most that it puts.
+fn put_whole<F: Fn(&mut [u8]) -> usize>(out: &mut [u8], most: usize, put: F) -> Result<usize, Rule>
+    requires { F.IsAlwaysCallable put }
+    ensures { (items : List ℕ) → length items ≤ most → ((p : _) (r : _) (q : _) → F.post put p r q → Put p.now 0 items r q.now)
+        → (by_number result ≡ answer items out.old) × (out.new ≡ after items out.old) }
+{
+    if out.len() < most {
+        let needed = put(&mut out[..0]);
+        if out.len() < needed {
+            return Err(Rule::NoRoom);
+        }
+    }
+    Ok(put(out))
+}
+
 // The facts in their blocks as bytes, where no rule refuses them: space for the largest sheet needs no measuring.
-pub fn write_accepted(s: Sheet, out: &mut [u8]) -> Written
+pub fn write_accepted(s: Sheet, out: &mut [u8]) -> Result<usize, Rule>
     requires { sheet_fault s ≡ 0 }
-    ensures { (result ≡ answer (sheet_bytes (facts_of s)) out.old)
+    ensures { (by_number result ≡ answer (sheet_bytes (facts_of s)) out.old)
         × (out.new ≡ after (sheet_bytes (facts_of s)) out.old) }
 {
-    let o = s.opening;
-    let elements = s.elements;
-    let kinds = kind_numbers(o, elements, s.n);
-    if MOST_BYTES <= out.len() {
-        let written = put_sheet(out, s, kinds);
-        return Written::Done(written);
-    }
-    let needed = put_sheet(&mut out[..0], s, kinds);
-    if out.len() < needed {
-        return Written::Refused(17);
-    }
-    let written = put_sheet(out, s, kinds);
-    Written::Done(written)
+    let kinds = kind_numbers(&s);
+    put_whole(out, MOST_BYTES, |space| put_sheet(space, &s, kinds))
 }
 
 // The facts in their blocks as bytes, or the first rule that refuses them.
-pub fn write_sheet(s: Sheet, out: &mut [u8]) -> Written
-    ensures { Answers (write_field s) out.old result out.new }
+pub fn write_sheet(s: Sheet, out: &mut [u8]) -> Result<usize, Rule>
+    ensures { Answers (write_field s) out.old (by_number result) out.new }
 {
-    let fault = sheet::sheet_fault(s);
-    if fault != 0 {
-        return Written::Refused(fault);
-    }
+    sheet::check_sheet(s)?;
     write_accepted(s, out)
 }
 
 // ---- a sheet's bytes without their tags
-
-// A byte, 0 past the end.
-fn byte_at(s: &[u8], i: usize) -> u8
-    ensures { result ≡ get_or s.now i 0 }
-{
-    if i < s.len() { s[i] } else { 0 }
-}
 
 // What stands from a place on up to the bit map of a constraint with a tag, the map without bit 1, and the size.
 fn put_tagged(out: &mut [u8], to: usize, s: &[u8], from: usize, at: usize, size: usize) -> usize
@@ -342,10 +258,10 @@ fn put_tagged(out: &mut [u8], to: usize, s: &[u8], from: usize, at: usize, size:
 {
     let map = at + 2;
     let first = at + 3;
-    let last = least(s.len(), first + size);
-    let a1 = space::put_text(out, to, &s[from..map]);
-    let a2 = space::put_byte(out, a1, s[map] - 2);
-    space::put_text(out, a2, &s[first..last])
+    let last = s.len().min(first + size);
+    let to = space::put_text(out, to, &s[from..map]);
+    let to = space::put_item(out, to, s[map] - 2);
+    space::put_text(out, to, &s[first..last])
 }
 
 // The bytes with bit 1 of each map clear and the tags gone: what stands between two tags in one piece. head bytes precede the constraints.
@@ -353,44 +269,32 @@ fn put_untagged(out: &mut [u8], s: &[u8], head: usize) -> usize
     requires { head ≡ bytesBefore s.now }
     ensures { Put out.old 0 (without_tags s.now) result out.new }
 {
-    let e = byte_at(s, head - 1) as usize;
+    let e = usize::from(s.get(head - 1).copied().unwrap_or(0));
     let mut at = head;
-    let mut from: usize = 0;
-    let mut to: usize = 0;
-    let mut i: usize = 0;
-    while i < e {
+    let mut from = 0;
+    let mut to = 0;
+    for _ in 0..e {
         if s.len() < at + 3 {
-            return space::put_text(out, to, &s[from..]);
+            break;
         }
         let map = s[at + 2];
-        let size = 4 * ((map % 2) as usize);
+        let size = 4 * usize::from(map % 2);
         if (map / 2) % 2 == 1 {
             to = put_tagged(out, to, s, from, at, size);
-            from = least(s.len(), at + 5 + size);
+            from = s.len().min(at + 5 + size);
             at = from;
         } else {
-            at = at + 3 + size;
+            at += 3 + size;
         }
-        i += 1;
     }
     space::put_text(out, to, &s[from..])
 }
 
 // A sheet's bytes without their tags, by how many precede its constraints: space for all of them needs no measuring.
-pub fn write_untagged(s: &[u8], head: usize, out: &mut [u8]) -> Written
+pub fn write_untagged(s: &[u8], head: usize, out: &mut [u8]) -> Result<usize, Rule>
     requires { head ≡ bytesBefore s.now }
-    ensures { (result ≡ answer (without_tags s.now) out.old)
+    ensures { (by_number result ≡ answer (without_tags s.now) out.old)
         × (out.new ≡ after (without_tags s.now) out.old) }
 {
-    if s.len() <= out.len() {
-        let written = put_untagged(out, s, head);
-        return Written::Done(written);
-    }
-    let length = put_untagged(&mut out[..0], s, head);
-    if out.len() < length {
-        Written::Refused(17)
-    } else {
-        let written = put_untagged(out, s, head);
-        Written::Done(written)
-    }
+    put_whole(out, s.len(), |space| put_untagged(space, s, head))
 }

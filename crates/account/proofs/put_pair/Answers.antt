@@ -20,5 +20,5 @@ returns-then-x-eq0 c = (put_as (sym (dead _ _ _ c.if-x-eq0.true)) (put-none _ _)
 pub returns : goal.returns
 returns c = let high = c in
     let low = high in
-    let put = low.put_number64-a1.ensures then high.put_number64.ensures in
+    let put = low.put_item-a1.ensures then high.put_item.ensures in
     (put_as (sym (living _ _ _ low.if-x-eq0.false)) put, search rules)

@@ -8,24 +8,22 @@ use Rattle.account.proofs.put_pairs.Goals as goal
 
 pub loop-c-init : goal.loop-c-init
 unfolding pairs_in
-loop-c-init c = (search rules, search rules, put-none _ 0)
+loop-c-init c = (search rules, put-none _ 0)
 
 pub loop-c-preserved : goal.loop-c-preserved
 loop-c-preserved c = let l = c.loop-c in
-    let s = c in
+    let r = c.requires in
     let put = c.put_pair-next.ensures in
-    let h : l.c < length s.args.slots.now =
-    omega (arith, s.requires, c.loop-c-test.true) in (
-      omega arith,
-      omega (arith, l.invariant.1, put.1),
-      put_as (sym (pairs_next _ _ _ l.c h (s.requires.1 ∙ sym s.requires.2) (s.requires.1 ∙ sym s.requires.3))) (l.invariant.2 then put.0),
+    let h : l.c < length c.args.slots.now = omega arith in (
+      omega (arith, l.invariant.0, put.1),
+      put_as (sym (pairs_next _ _ _ l.c h (r.1 ∙ sym r.2) (r.1 ∙ sym r.3))) (l.invariant.1 then put.0),
     )
 
 pub shape_of-out : goal.shape_of-out
-shape_of-out c = c.loop-c.invariant.2.length_is
+shape_of-out c = c.loop-c.invariant.1.length_is
 
 pub returns : goal.returns
 returns c = let l = c.loop-c in
-    let s = c.args in
-    let h : l.c ≡ s.used = omega (arith, l.invariant.0, c.loop-c-test.false) in
-    put_as (ap (λ (n : ℕ). pairs_in (take n s.slots.now) (take n s.low.now) (take n s.high.now)) h) l.invariant.2
+    let a = c.args in
+    let all : l.c ≡ a.used = omega arith in
+    put_as (ap (λ (n : ℕ). pairs_in (take n a.slots.now) (take n a.low.now) (take n a.high.now)) all) l.invariant.1

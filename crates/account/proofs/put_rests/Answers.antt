@@ -13,10 +13,10 @@ returns-then-out-count c =
     let h : length a.out.now < length items = rw (none, c.put_pairs-count.ensures.next_is, zero-add (length items)) at c.if-out-count.true in
     rw none (put_refused items a.out.now h)
 
-pub returns-else-out-count : goal.returns-else-out-count
-returns-else-out-count c =
+pub returns : goal.returns
+returns c =
     let a = c.args in
     let items : List ℕ = pairs_in (take a.used a.slots.now) (take a.used a.low.now) (take a.used a.high.now) in
     let none = none_left c.put_pairs-count.ensures in
     let h : length items ≤ length a.out.now = rw (none, c.put_pairs-count.ensures.next_is, zero-add (length items)) at c.if-out-count.false in
-    put-done h (rw none at c.put_pairs-written.ensures)
+    put-done h (rw none at c.put_pairs.ensures)

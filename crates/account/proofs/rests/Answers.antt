@@ -1,13 +1,12 @@
 -- `account::rests` meets its contract: the words in the arrays are those of the definition. Assumes nothing.
-use Rattle.std.specs.Prelude.{◌+◌, ◌*◌, ◌≤◌, ◌≡◌, ◌≢◌}
-use Rattle.theory.specs.Prelude.{arith, refl, sym, ◌∙◌, List, ℕ, length, take}
-use Rattle.theory.specs.Verdict.{verdict_number}
+use Rattle.std.specs.Prelude.{◌+◌, ◌*◌, ◌≤◌, ◌≡◌}
+use Rattle.theory.specs.Prelude.{arith, refl, ◌∙◌, List, ℕ, length, take}
 use Rattle.graph.specs.declared.Head.{Head}
 use Rattle.graph.specs.Lent.{graph_in, Drawn}
 use Rattle.graph.specs.Lent.Sheets.{counted}
 use Rattle.merges.specs.Run.{Run, run_in}
 use Rattle.judge.specs.declared.Found.{Found}
-use Rattle.judge.specs.Found.{JudgedIn}
+use Rattle.judge.specs.Found.{FoundIn}
 use Rattle.rests.specs.Words.{Told}
 use Rattle.account.specs.Resting.{rest_numbers}
 use Rattle.account.specs.Resting.Pairs.{pairs_in}
@@ -19,12 +18,12 @@ use Rattle.account.proofs.rests.Goals as goal
 
 -- a sheet that is not over
 module _ {h : Head} {near start : List ℕ} (d : Drawn h near start) {f : Found} {triples joints slots : List ℕ}
-    (j : JudgedIn (graph_in h start) f triples joints slots) (some : verdict_number f.verdict ≢ 0) where
+    (j : FoundIn (graph_in h start) f triples joints slots) where
   abbrev run : Run
   run = run_in f.steps triples joints slots
 
   plan : PlanFound (graph_in h start) d.sound j
-  plan = plan-found _ _ _ some
+  plan = plan-found _ _ j
 
   few : (h.n ≤ 64) × (h.e ≤ 125) × (2 * f.steps ≤ h.e) × (f.steps ≤ 62)
   few = room h start d.sound (counted d) plan.not_over {run = run} plan.merged
@@ -39,39 +38,33 @@ module _ {h : Head} {near start : List ℕ} (d : Drawn h near start) {f : Found}
       → pairs_in (take (h.e + f.steps) slots) (take (h.e + f.steps) low) (take (h.e + f.steps) high) ≡ rest_numbers (graph_in h start)
   words_are low high = pairs-are (counted d) {run = run} plan.merged d.sound.simple.pairs few.1 low high ∙ plan.rests_are
 
-pub judge_on-found-requires : goal.judge_on-found-requires
-judge_on-found-requires c = (c.requires, record { slots_blank = refl; parts_blank = refl; joints_blank = refl })
+pub judge_on-requires : goal.judge_on-requires
+judge_on-requires c = (c.requires, record { slots_blank = refl; parts_blank = refl; joints_blank = refl })
 
 -- over
-pub returns-then-number-eq0 : goal.returns-then-number-eq0
-returns-then-number-eq0 c =
-    let o = over-found (graph_in c.args.h c.args.start.now) c.requires.sound c.judge_on-found.ensures (sym c.number.ensures ∙ c.if-number-eq0.true) in
-    none-stored o.rests_none c.args.out.now
+pub returns-in_default : goal.returns-in_default
+returns-in_default c =
+    none-stored (over-found (graph_in c.args.h c.args.start.now) c.requires.sound c.in_default.ensures).rests_none c.args.out.now
 
 pub carry-requires : goal.carry-requires
 carry-requires c =
-    let j = c.judge_on-found.ensures in
-    let some : verdict_number c.judge_on-found.result.verdict ≢ 0 = λ v. c.if-number-eq0.false (c.number.ensures ∙ v) in
-    let f = few c.requires j some in
-    (f.1, f.3, (made c.requires j some).listed, refl, refl)
+    let j = c.in-Ok.ensures in
+    let f = few c.requires j in
+    (f.1, f.3, (made c.requires j).listed, refl, refl)
 
 pub overflow_add-h : goal.overflow_add-h
-overflow_add-h c =
-    let some : verdict_number c.judge_on-found.result.verdict ≢ 0 = λ v. c.if-number-eq0.false (c.number.ensures ∙ v) in
-    record { fits = omega (arith, few c.requires c.judge_on-found.ensures some) }
+overflow_add-h c = record { fits = omega (arith, few c.requires c.in-Ok.ensures) }
 
 pub put_rests-requires : goal.put_rests-requires
 put_rests-requires c =
-    let j = c.judge_on-found.ensures in
-    let some : verdict_number c.judge_on-found.result.verdict ≢ 0 = λ v. c.if-number-eq0.false (c.number.ensures ∙ v) in
-    let m = made c.requires j some in
+    let j = c.in-Ok.ensures in
+    let m = made c.requires j in
     let t = c.carry.ensures m.listed in
-    (omega (arith, few c.requires j some), long c.requires j some, (m.told t.0).long, (m.told t.1).long)
+    (omega (arith, few c.requires j), long c.requires j, (m.told t.0).long, (m.told t.1).long)
 
 pub returns : goal.returns
 returns c =
-    let j = c.judge_on-found.ensures in
-    let some : verdict_number c.judge_on-found.result.verdict ≢ 0 = λ v. c.if-number-eq0.false (c.number.ensures ∙ v) in
-    let m = made c.requires j some in
+    let j = c.in-Ok.ensures in
+    let m = made c.requires j in
     let t = c.carry.ensures m.listed in
-    rw (words_are c.requires j some (m.told t.0) (m.told t.1)) at c.put_rests.ensures
+    rw (words_are c.requires j (m.told t.0) (m.told t.1)) at c.put_rests.ensures

@@ -6,8 +6,8 @@ use Rattle.theory.specs.Over.Laws.{over_of-fine}
 use Rattle.theory.specs.Merge.{Merge, Valid}
 use Rattle.theory.specs.Plan.{plan_of}
 use Rattle.theory.specs.Plan.Laws.{plan-of-maximal}
-use Rattle.theory.specs.declared.Finding.{Finding}
-use Rattle.theory.specs.declared.Finding.TheVariants.{Fine, First}
+use Rattle.theory.specs.Finding.{Finding}
+use Rattle.theory.specs.Finding.{Fine, First}
 use Rattle.theory.specs.Graph.{finding_of}
 use Rattle.sheet.specs.Facts.{Facts}
 use Rattle.sheet.specs.Accepted.{Accepted}

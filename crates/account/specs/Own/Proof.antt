@@ -11,8 +11,8 @@ use Rattle.sheet.specs.Accepted.{Accepted}
 use Rattle.sheet.specs.Rules.Laws.{none-else}
 use Rattle.sheet.specs.Graph.Laws.{sheet-demand3, clusters-pairs, clusters-below, fault-none, fine-fault}
 use Rattle.sheet.specs.Graph.{graph_of, sized_of, over_fault}
-use Rattle.theory.specs.declared.Finding.{Finding}
-use Rattle.theory.specs.declared.Finding.TheVariants.{Fine}
+use Rattle.theory.specs.Finding.{Finding}
+use Rattle.theory.specs.Finding.{Fine}
 use Rattle.theory.specs.declared.Verdict.TheVariants.{Over}
 use Rattle.theory.specs.Graph.{SizedGraph, finding_of, verdict_of}
 use Rattle.theory.specs.Graph.Laws.{fine-verdict, fine-not-over, not-over-fine, length-steps, joints-steps}

@@ -11,7 +11,7 @@ use Rattle.merges.specs.Run.{Run, places, flat, run_of, Merged}
 use Rattle.merges.specs.Run.Laws.{length-final}
 use Rattle.space.specs.Space.{answer, after}
 use Rattle.space.specs.Space.Laws.{put-none, put-done}
-use Rattle.space.specs.declared.Written.TheVariants.{Done}
+use Rattle.space.specs.Written.{Done}
 use Rattle.judge.specs.Judged.Laws.{finals_are, steps-few}
 use Rattle.theory.specs.Rests.{alone_from, rests_on}
 use Rattle.theory.specs.Rests.Laws.{length-alone}

@@ -2,6 +2,7 @@
 use Rattle.std.specs.Prelude.{◌≡◌, ◌≢◌}
 use Rattle.theory.specs.Prelude.{ℕ, zero, suc, refl, sym, ap, ◌∙◌, List}
 use Rattle.theory.specs.Graph.{Graph}
+use Rattle.theory.specs.Rule.{refusal}
 use Rattle.sheet.specs.Field.{Field}
 use Rattle.sheet.specs.Rules.{or_else}
 use Rattle.sheet.specs.Rules.Laws.{or_else_some}
@@ -15,7 +16,7 @@ use Rattle.judge.specs.Telling.{Reached}
 use Rattle.plans.specs.declared.Checked.{Checked}
 use Rattle.plans.specs.Check.{plan_fault, Checks}
 use Rattle.account.specs.Account.{saved_fault}
-use Rattle.account.specs.Saved.{SavedIn}
+use Rattle.account.specs.Saved.{SavedPlan}
 
 -- 11, and then the rules of the plan check, are the rules that refuse a saved plan
 pub saved-rule : (g : Graph) (l : List ℕ) {A : Type 0} (x : Field A)
@@ -32,26 +33,24 @@ pub merged-reached : {cs : List ℕ} {run : Run} → Merged cs run → Reached c
 unfolding run_of
 merged-reached m = record { merges = m.p; valid = m.valid; count = sym (ap (λ (r : Run). r.steps) m.is) }
 
-module _ (g : Graph) (l : List ℕ) {parts joints slots : List ℕ} where
+module _ (g : Graph) (l : List ℕ) where
   -- of an over sheet
-  pub saved-over : {k n : ℕ} → k ≡ over_fault g → k ≢ 0 → SavedIn g l (record { rule = k; steps = n }) parts joints slots
+  pub saved-over : {k : ℕ} → k ≡ over_fault g → k ≢ 0 → saved_fault g l ≡ k
   unfolding saved_fault
-  saved-over {k} e n = record {
-    rule_is = sym (or_else_some k (plan_fault g.clusters l) n) ∙ ap (λ (j : ℕ). or_else j (plan_fault g.clusters l)) e;
-    not_over = λ z. absurd (n z);
-    merged = λ z. absurd (n z);
-    saved = λ z. absurd (n z);
-  }
+  saved-over {k} e n = ap (λ (j : ℕ). or_else j (plan_fault g.clusters l)) (sym e) ∙ or_else_some k (plan_fault g.clusters l) n
 
   -- of one that is not
-  pub saved-checked : Sound g.n g.clusters → {r : Checked} → 0 ≡ over_fault g → Checks g.clusters l r parts joints slots
-      → SavedIn g l r parts joints slots
-  unfolding saved_fault
-  saved-checked sound none k =
-      let fine = found-fine sound (fault-none g (sym none)) in
-      record {
-        rule_is = k.rule_is fine ∙ ap (λ (j : ℕ). or_else j (plan_fault g.clusters l)) none;
-        not_over = λ z. fine;
-        merged = λ z. k.merged;
-        saved = k.saved;
-      }
+  module _ (sound : Sound g.n g.clusters) (none : over_fault g ≡ 0) {r : Checked} {parts joints slots : List ℕ}
+      (k : Checks g.clusters l r parts joints slots) where
+    pub saved-refused : saved_fault g l ≡ refusal r.outcome
+    unfolding saved_fault
+    saved-refused =
+        ap (λ (j : ℕ). or_else j (plan_fault g.clusters l)) none ∙ sym (k.rule_is (found-fine sound (fault-none g none)))
+
+    pub saved-checked : refusal r.outcome ≡ 0 → SavedPlan g l r.steps parts joints slots
+    saved-checked e = record {
+      none = saved-refused ∙ e;
+      not_over = found-fine sound (fault-none g none);
+      merged = k.merged;
+      saved = k.saved e;
+    }

@@ -1,33 +1,30 @@
 -- `chain::find` meets its contract: none, or the way over as many layers as were found. Assumes nothing.
-use Rattle.theory.specs.Prelude.{arith}
+use Rattle.theory.specs.Prelude.{refl}
 use Rattle.chain.specs.Layers.Laws.{far-distance}
 use Rattle.chain.specs.Answer.Laws.{answered-none, answered-short, answered-run}
 use Rattle.chain.proofs.find.Goals as goal
 
-pub returns-then-t-ge-ELEMENTS : goal.returns-then-t-ge-ELEMENTS
-returns-then-t-ge-ELEMENTS c = let a = c.args in
-    answered-none a.s.now a.from a.to c.spread-t.ensures.0 a.out.now c.if-t-ge-ELEMENTS.true
+pub returns-in_default : goal.returns-in_default
+returns-in_default c = answered-none c.args.s.now c.args.from c.args.to refl c.args.out.now c.in_default.ensures
 
 pub returns-then-out-t : goal.returns-then-out-t
 returns-then-out-t c = let a = c.args in
-    answered-short a.s.now a.from a.to c.spread-t.ensures.0 a.out.now
-    (omega (arith, c.if-t-ge-ELEMENTS.false)) c.if-out-t.true
+    let (is, low, held) = c.in-Some.ensures in
+    answered-short a.s.now a.from a.to is a.out.now low c.if-out-t.true
 
 pub put_way-requires : goal.put_way-requires
-put_way-requires c = let s = c in
-    let found = c.spread-t.ensures in
-    let low = c.if-t-ge-ELEMENTS.false in
+put_way-requires c = let a = c.args in
+    let (is, low, held) = c.in-Some.ensures in
     record {
-      clusters = s.requires.0;
-      element = s.requires.1;
-      low = omega (arith, low);
-      held = found.1;
-      far = far-distance s.args.s.now s.args.to s.args.from found.0 (omega (arith, low));
-      room = omega (arith, c.if-out-t.false);
+      clusters = c.requires.0;
+      element = c.requires.1;
+      low = low;
+      held = held;
+      far = far-distance a.s.now a.to a.from is low;
+      room = c.if-out-t.false;
     }
 
 pub returns : goal.returns
 returns c = let a = c.args in
-    answered-run a.s.now a.from a.to c.spread-t.ensures.0 a.out.now
-    (omega (arith, c.if-t-ge-ELEMENTS.false))
-    (omega (arith, c.if-out-t.false)) c.put_way.ensures
+    let (is, low, held) = c.in-Some.ensures in
+    answered-run a.s.now a.from a.to is a.out.now low c.if-out-t.false c.put_way.ensures

@@ -1,8 +1,8 @@
 -- `chain::spread` meets its contract: the layers passed stand in the array, and the distance is that from here on.
 -- Assumes nothing.
 use Rattle.std.specs.Prelude.{◌≡◌, ◌-◌}
-use Rattle.theory.specs.Prelude.{refl, sym, ap, ◌∙◌, List, ℕ, suc, arith}
-use Rattle.theory.specs.Prelude.{ℕ_discrete, add-one, length-set, get_or-set_same, get_or-set_other}
+use Rattle.theory.specs.Prelude.{refl, sym, ap, ◌∙◌, List, ℕ, suc, arith, rules, length}
+use Rattle.theory.specs.Prelude.{ℕ_discrete, add-one, get_or-set_same, get_or-set_other}
 use Rattle.theory.specs.Set.{◌∩◌}
 use Rattle.chain.specs.Layers.{grown, reached}
 use Rattle.chain.specs.Layers.Laws.{word-shares, word-apart, distance-here, distance-later, distance_none}
@@ -21,8 +21,6 @@ next s v t e f = ap (λ (d : ℕ). grown s d d) (sym f) ∙ sym e
 pub loop-t-init : goal.loop-t-init
 unfolding reached
 loop-t-init c = record {
-  low = omega arith;
-  long = c.requires.2;
   is = c.single-d.ensures;
   held = λ m l. absurd (omega arith);
   on = refl;
@@ -33,29 +31,27 @@ returns-then-shared-ne0 c = let a = c.args in
     let l = c.loop-t in
     let here = distance-here a.s.now a.to a.from l.t c.loop-t-test.true
     (word-shares (shared-is c.shared.ensures c.single-start.ensures l.invariant.is) c.if-shared-ne0.true) in
-    (sym here ∙ l.invariant.on, record { is = λ low. l.invariant.held })
+    (sym here ∙ l.invariant.on, c.loop-t-test.true, record { is = λ low. l.invariant.held })
 
 pub returns-then-next-d : goal.returns-then-next-d
 returns-then-next-d c = let a = c.args in
     let l = c.loop-t in
-    let low = c.loop-t-test.true in
     let none = distance_none a.s.now a.to a.from (64 - l.t) l.t
     (next a.s.now a.to l.t c.around-next.ensures l.invariant.is ∙ c.if-next-d.true ∙ l.invariant.is)
     (word-apart (shared-is c.shared.ensures c.single-start.ensures l.invariant.is) c.if-shared-ne0.false) in
-    (omega (arith, none, l.invariant.on, low), record { is = λ low. absurd (omega arith) })
+    omega (arith, none, l.invariant.on, c.loop-t-test.true)
 
 pub loop-t-preserved : goal.loop-t-preserved
 loop-t-preserved c = let a = c.args in
     let l = c.loop-t in
     let low = c.loop-t-test.true in
+    let long : length l.layers ≡ 64 = search rules in
     let later = distance-later a.s.now a.to a.from l.t low
     (word-apart (shared-is c.shared.ensures c.single-start.ensures l.invariant.is) c.if-shared-ne0.false) in
     record {
-      low = omega arith;
-      long = length-set l.layers l.t l.d ∙ l.invariant.long;
       is = sym (next a.s.now a.to l.t c.around-next.ensures l.invariant.is) ∙ ap (reached a.s.now a.to) (sym (add-one l.t));
       held = λ m h. elim (ℕ_discrete m l.t) [
-        | yes e ↦ rw e (get_or-set_same l.layers l.t l.d 0 (omega (arith, l.invariant.long, low)) ∙ l.invariant.is)
+        | yes e ↦ rw e (get_or-set_same l.layers l.t l.d 0 (omega (arith, long, low)) ∙ l.invariant.is)
         | no n ↦ get_or-set_other l.layers l.t m l.d 0 n ∙ l.invariant.held m (omega (arith, n, h))
       ];
       on = sym later ∙ l.invariant.on;
@@ -65,4 +61,4 @@ pub returns : goal.returns
 returns c = let a = c.args in
     let l = c.loop-t in
     let last = distance-last a.s.now a.to a.from l.t (omega (arith, c.loop-t-test.false)) in
-    (omega (arith, last, l.invariant.on, l.invariant.low, c.loop-t-test.false), record { is = λ low. absurd (omega arith) })
+    omega (arith, last, l.invariant.on, c.loop-t-test.false)

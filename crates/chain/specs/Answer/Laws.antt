@@ -1,20 +1,15 @@
 -- What the search and the judgement give is what a call answers. Assumes nothing.
-use Rattle.std.specs.Prelude.{◌≡◌, ◌≢◌, ◌+◌, ◌^◌, ◌≤◌, ◌<◌}
+use Rattle.std.specs.Prelude.{◌≡◌, ◌+◌, ◌^◌, ◌≤◌, ◌<◌}
 use Rattle.theory.specs.Prelude.{refl, sym, ap, ◌∙◌, List, Option, ℕ, arith, lt-ltb}
 use Rattle.theory.specs.Prelude.{le-ltb}
 use Rattle.theory.specs.Prelude.{length, take, sets, length-take-le}
 use Rattle.theory.specs.Plan.{plan_of}
 use Rattle.theory.specs.Plan.Laws.{plan-of-maximal}
-use Rattle.theory.specs.Verdict.{verdict_number}
-use Rattle.theory.specs.Verdict.Laws.{number-over}
-use Rattle.theory.specs.declared.Finding.{Finding}
-use Rattle.theory.specs.declared.Finding.TheVariants.{Fine, First}
-use Rattle.theory.specs.Graph.{Graph, finding_of, verdict_of}
-use Rattle.theory.specs.Graph.Laws.{fine-not-over, not-over-fine}
+use Rattle.theory.specs.Graph.{Graph}
 use Rattle.space.specs.Space.Laws.{put_all, put_refused, put-done}
 use Rattle.sheet.specs.Field.{refused}
 use Rattle.sheet.specs.Graph.{over_fault}
-use Rattle.sheet.specs.Graph.Laws.{fine-fault, first-fault}
+use Rattle.sheet.specs.Graph.Laws.{fine-fault}
 use Rattle.sheet.specs.Answer.{by_rule}
 use Rattle.graph.specs.Lent.{Sound}
 use Rattle.graph.specs.Lent.Sheets.{found-fine, fine-few}
@@ -22,13 +17,12 @@ use Rattle.merges.specs.Run.{Merged, run_in}
 use Rattle.judge.specs.declared.Found.{Found}
 use Rattle.judge.specs.Judged.{Judged, listed, judged_by, judged_of}
 use Rattle.judge.specs.Judged.Laws.{steps-few, arrays-long, finals_are}
-use Rattle.judge.specs.Found.{JudgedIn}
-use Rattle.judge.specs.Found.Laws.{found-tells}
+use Rattle.judge.specs.Found.{FoundIn}
 use Rattle.chain.specs.Layers.{way, distance, chain_of}
 use Rattle.chain.specs.Layers.Laws.{chain-some, chain-none, length-way}
 use Rattle.chain.specs.Answer.{as_run, chain_answer, chain_after, finals_of, asked, ChainAnswers}
-use Rattle.chain.specs.declared.Answer.{Answer}
-use Rattle.chain.specs.declared.Answer.TheVariants.{Run, None, Refused}
+use Rattle.chain.specs.Says.{Answer}
+use Rattle.chain.specs.Says.{Run, None, Refused}
 
 -- ---- of clusters
 
@@ -57,17 +51,7 @@ module _ (s : List ℕ) (u v : ℕ) {t : ℕ} (is : t ≡ distance s u v) (space
 -- ---- of a judgement
 
 module _ (g : Graph) (sound : Sound g.n g.clusters) {f : Found} {parts joints slots : List ℕ}
-    (j : JudgedIn g f parts joints slots) where
-  told : f.verdict ≡ verdict_of g
-  told = (found-tells g sound j).verdict_is
-
-  pub over-fault : verdict_number f.verdict ≡ 0 → over_fault g ≡ 11
-  over-fault z = by (finding_of g) refl
-    where
-      by : (o : Finding) → finding_of g ≡ o → over_fault g ≡ 11
-      by Fine q = absurd (fine-not-over g q (sym told ∙ number-over _ z))
-      by (First c x) q = first-fault g q
-
+    (j : FoundIn g f parts joints slots) where
   -- the final clusters of one that is not over stand in the slots
   pub record FinalsIn (e : ℕ) : Type 0 where
     pub no_fault : over_fault g ≡ 0
@@ -76,22 +60,21 @@ module _ (g : Graph) (sound : Sound g.n g.clusters) {f : Found} {parts joints sl
     pub count : e + f.steps ≡ length (take (e + f.steps) slots)
     pub finals : take (e + f.steps) slots ≡ finals_of g
 
-  pub finals-in : {e : ℕ} → length g.clusters ≡ e → verdict_number f.verdict ≢ 0 → FinalsIn e
+  pub finals-in : {e : ℕ} → length g.clusters ≡ e → FinalsIn e
   unfolding judged_of listed
-  finals-in {e} count n =
+  finals-in {e} count =
       let cs = g.clusters in
       let pairs = sound.simple.pairs in
-      let q = not-over-fine g (λ o. n (ap verdict_number (told ∙ o))) in
-      let few = fine-few sound (found-fine sound q) in
+      let few = fine-few sound (found-fine sound j.fine) in
       let m : Merged cs (run_in f.steps parts joints slots) = record {
         p = plan_of cs;
         valid = (plan-of-maximal cs pairs).valid;
-        is = ap (λ (x : Judged). x.run) (j.plan n ∙ ap (judged_by g) q);
+        is = ap (λ (x : Judged). x.run) (j.judged ∙ ap (judged_by g) j.fine);
       } in
       let room : e + f.steps ≤ 192 = omega (arith, steps-few cs pairs m, few) in
       let long = (arrays-long cs pairs m few).1 in
       record {
-        no_fault = fine-fault g q;
+        no_fault = fine-fault g j.fine;
         few = room;
         within = omega (arith, long);
         count = sym (length-take-le (e + f.steps) slots (omega (arith, long)));

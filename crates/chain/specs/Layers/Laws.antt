@@ -5,6 +5,8 @@ use Rattle.theory.specs.Prelude.{cond}
 use Rattle.theory.specs.Prelude.{List, [], ℕ, zero, suc, arith, add-one, ℕ_discrete}
 use Rattle.theory.specs.Prelude.{eq-eqb, ne_eqb}
 use Rattle.theory.specs.Prelude.{none, some, lt-ltb, le-ltb, length, drop, drop-cons}
+use Rattle.std.specs.Prelude.{Some, position}
+use Rattle.std.proofs.lemmas.List.Recursion.{is_position_or_len}
 use Rattle.theory.specs.Set.{◌∈◌, ◌∩◌, ◌∪◌}
 use Rattle.theory.specs.Set.Laws.{at_other, at_zero, element, meets, ∈-∩⁻, ∈-∪⁻, ∈-∪ˡ, ∈-∪ʳ}
 use Rattle.theory.specs.Merge.{slot}
@@ -126,21 +128,6 @@ module _ (a d : ℕ) where
       by (yes p) (no n) = no (λ b. n b.1)
       by (no n) e = no (λ b. n b.0)
 
-  module _ (s : List ℕ) (k : ℕ) (low : k < length s) where
-    first_step : (b : Bool) → (shares a (slot s k) && shares (slot s k) d) ≡ b
-        → first_both (drop k s) a d ≡ cond b 0 (suc (first_both (drop (k + 1) s) a d))
-    unfolding first_both
-    first_step b e =
-        ap (λ (l : List ℕ). first_both l a d) (drop-cons s k 0 low)
-        ∙ ap (λ (x : Bool). cond x 0 (suc (first_both (drop (suc k) s) a d))) e
-        ∙ ap (λ (n : ℕ). cond b 0 (suc (first_both (drop n s) a d))) (sym (add-one k))
-
-    pub first-here : Both (slot s k) → first_both (drop k s) a d ≡ 0
-    first-here b = first_step true (both_yes b)
-
-    pub first-later : (Both (slot s k) → ⊥) → first_both (drop k s) a d ≡ suc (first_both (drop (k + 1) s) a d)
-    first-later n = first_step false (both-no n)
-
   -- it is one of them, and no higher than any
   pub record IsFirst (s : List ℕ) (i k : ℕ) : Type 0 where
     pub low : k < length s
@@ -159,6 +146,16 @@ module _ (a d : ℕ) where
       by (no n) (suc i) b on =
           let r = on i b in
           rw (both-no n) (record { low = omega (arith, r.low); both = r.both; least = omega (arith, r.least) })
+
+  -- and where there is one, the first place that passes
+  pub first-position : (s : List ℕ) → first_both s a d < length s
+      → position (λ c. shares a c && shares c d) s ≡ Some (first_both s a d)
+  unfolding first_both
+  first-position s l =
+      let one : (n : ℕ) → suc n ≡ 1 + n = λ n. omega arith in
+      let e = is_position_or_len (λ x. first_both x a d) (λ c. shares a c && shares c d) refl
+      (λ c x. ap (λ (n : ℕ). cond (shares a c && shares c d) 0 n) (one (first_both x a d))) s in
+      rw (← e, lt-ltb _ (length s) l)
 
 -- what holds below t and at t
 one_more : (P : ℕ → Type 0) (t : ℕ) → ((m : ℕ) → m < t → P m) → P t → (m : ℕ) → m < suc t → P m

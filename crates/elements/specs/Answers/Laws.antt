@@ -1,10 +1,11 @@
 -- The elements by their opening: under PF01 a bit each and no radius, under PF02 rules 2, 4 and 18 and then the radii. Assumes nothing.
-use Rattle.std.specs.Prelude.{◌+◌, ◌*◌, ◌/◌, ◌%◌, ◌^◌, ◌<◌, ◌≤◌, ◌≡◌, ◌∷◌}
+use Rattle.std.specs.Prelude.{◌+◌, ◌*◌, ◌/◌, ◌%◌, ◌^◌, ◌<◌, ◌≤◌, ◌≡◌, ◌∷◌, Ok}
 use Rattle.theory.specs.Prelude.{ℕ, zero, suc, pow-zero, pow-succ', arith, refl, sym, ap, ◌∙◌, subst, true}
 use Rattle.theory.specs.Prelude.{false, List, [], ltb, length, drop, length-map}
 use Rattle.sheet.specs.declared.Opening.TheVariants.{Pf01, Pf02}
 use Rattle.sheet.specs.declared.Kind.TheVariants.{Point, Line}
 use Rattle.sheet.specs.declared.Element.{Element}
+use Rattle.sheet.specs.declared.Kinds.{Kinds}
 use Rattle.sheet.specs.Facts.{kinds_of, kind_digit, bit_of, is_line, is_circle, lines_of, set_of, kind_at}
 use Rattle.sheet.specs.Facts.Kinds.{KindsIn, circles_of}
 use Rattle.sheet.specs.Facts.Laws.{digits_of, kinds_of-length}
@@ -13,8 +14,6 @@ use Rattle.sheet.specs.Rules.{kind_bits_used, kinds_known}
 use Rattle.sheet.specs.Decode.{read_kinds, element, read_elements}
 use Rattle.elements.specs.Fields.Numbers.{field-short, field-whole}
 use Rattle.elements.specs.declared.fields.Cursor.{Cursor}
-use Rattle.elements.specs.declared.fields.PlaceRead.TheVariants as place
-use Rattle.elements.specs.declared.KindsRead.TheVariants as kinds
 use Rattle.elements.specs.Answers.{elements_field, ElementsRead}
 use Rattle.elements.specs.Round.{round_number, round_kinds, places_of, SetsOf, RadiiStand, RadiiRead}
 use Rattle.elements.specs.Round.Elements.{elements-digits, sets-digits}
@@ -129,16 +128,16 @@ module _ (s : List ℕ) (from n : ℕ) where
       round-known k = rw (field-whole s from ((n + 3) / 4) (omega arith), used, k)
 
   -- the sets of the kinds are those of the elements
-  module _ (t : List ℕ) {es : List Element} {t1 : List ℕ} {lines circles : ℕ} (sets : SetsOf (round_kinds s from n) lines circles true)
+  module _ (t : List ℕ) {es : List Element} {t1 : List ℕ} {kinds : Kinds} (sets : SetsOf (round_kinds s from n) kinds)
       (e : read_elements (round_kinds s from n) t ≡ value es t1) where
     read-digits : digits_of es ≡ round_kinds s from n
-    read-digits = elements-digits (round_kinds s from n) t (sym sets.known_is) e
+    read-digits = elements-digits (round_kinds s from n) t sets.known e
 
     round-length : length es ≡ n
     round-length =
         sym (length-map es (λ x. kind_digit x.kind)) ∙ ap length read-digits ∙ kinds_of-length Pf02 n (round_number s from n)
 
-    round-kinds : {radii : List ℕ} → RadiiStand es radii → KindsIn es (record { lines = lines; circles = circles }) radii
+    round-kinds : {radii : List ℕ} → RadiiStand es radii → KindsIn es kinds radii
     round-kinds stand =
         record {
           lines_are = sets.lines_are ∙ ap (places_of 1) (sym read-digits) ∙ (sets-digits es).0;
@@ -147,10 +146,10 @@ module _ (s : List ℕ) (from n : ℕ) where
         }
 
   -- kinds in which nothing is wrong, with radii that are all there, are the elements
-  pub round_whole : {lines circles : ℕ} {radii : List ℕ} (c : Cursor) → from + (n + 3) / 4 ≤ length s
-      → kind_bits_used Pf02 n (round_number s from n) ≡ true → SetsOf (round_kinds s from n) lines circles true
-      → RadiiRead (round_kinds s from n) s (from + (n + 3) / 4) radii (place.Value c)
-      → ElementsRead (elements_field Pf02 n (drop from s)) s n radii (kinds.Value (record { lines = lines; circles = circles }) c)
+  pub round_whole : {kinds : Kinds} {radii : List ℕ} (c : Cursor) → from + (n + 3) / 4 ≤ length s
+      → kind_bits_used Pf02 n (round_number s from n) ≡ true → SetsOf (round_kinds s from n) kinds
+      → RadiiRead (round_kinds s from n) s (from + (n + 3) / 4) radii (Ok c)
+      → ElementsRead (elements_field Pf02 n (drop from s)) s n radii (Ok (kinds, c))
   round_whole c room used sets (es, e, stand) =
       let t = drop (from + (n + 3) / 4) s in
-      (es, round-known room used (sym sets.known_is) ∙ e, round-length t sets e, round-kinds t sets e stand)
+      (es, round-known room used sets.known ∙ e, round-length t sets e, round-kinds t sets e stand)

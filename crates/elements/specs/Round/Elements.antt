@@ -1,5 +1,5 @@
 -- The elements under PF02, read one after the other: each radius in its place, and the sets of what was read. Assumes nothing.
-use Rattle.std.specs.Prelude.{◌+◌, ◌<◌, ◌≤◌, ◌≡◌, ◌∷◌, ◌++◌}
+use Rattle.std.specs.Prelude.{◌+◌, ◌<◌, ◌≤◌, ◌≡◌, ◌∷◌, ◌++◌, Ok}
 use Rattle.theory.specs.Prelude.{ℕ, zero, suc, ℕ_discrete, arith, refl, sym, ap, ◌∙◌, subst, true, false, List, []}
 use Rattle.theory.specs.Prelude.{append-nil, append_assoc, ltb-true, T, eqb, ltb, length, drop, set, get_or, length-append, length-set}
 use Rattle.theory.specs.Prelude.{drop_of_length-le, drop-cons, get_or-set_same, get_or-set_other}
@@ -14,7 +14,6 @@ use Rattle.sheet.specs.Field.Laws.{next-value, demand-value, value-with}
 use Rattle.sheet.specs.Rules.{kinds_known, radius_in_range}
 use Rattle.sheet.specs.Decode.{element, read_elements}
 use Rattle.elements.specs.declared.fields.Cursor.{Cursor}
-use Rattle.elements.specs.declared.fields.PlaceRead.TheVariants.{Value}
 use Rattle.elements.specs.Round.{places_of, RadiiStand, Stored, ElementRead}
 
 -- ---- one element
@@ -118,7 +117,7 @@ module _ {ks s : List ℕ} {from i place : ℕ} {radii : List ℕ} (h : Partway 
 
   -- the next element, of kind k, was read
   pub partway-more : {k : ℕ} {c : Cursor} {radii1 : List ℕ} → i < length ks → k ≡ get_or ks i 0
-      → ElementRead (element k (drop place s)) s i radii radii1 (Value c) → Partway ks s from (i + 1) c.at radii1
+      → ElementRead (element k (drop place s)) s i radii radii1 (Ok c) → Partway ks s from (i + 1) c.at radii1
   partway-more {k} {c} {radii1} l is (x, e, st) =
       let two : suc i ≡ i + 1 = omega arith in
       record {

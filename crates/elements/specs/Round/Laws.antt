@@ -3,14 +3,20 @@ use Rattle.std.specs.Prelude.{◌+◌, ◌*◌, ◌-◌, ◌/◌, ◌%◌, ◌^�
 use Rattle.theory.specs.Prelude.{ℕ, zero, suc, pow-zero, pow-succ', pow-le-pow_right, dec_lt, arith, refl}
 use Rattle.theory.specs.Prelude.{sym, ap, ◌∙◌, Bool, true, false, List, [], lt-ltb, le-ltb, eq-eqb, ne_eqb, eqb, ltb, length, take, drop}
 use Rattle.theory.specs.Prelude.{get_or, length-drop, drop-cons, get_or-take, get_or-drop, length-take-le}
+use Rattle.std.specs.Int.{from_bool}
 use Rattle.theory.specs.Set.{at}
 use Rattle.sheet.specs.declared.Opening.TheVariants.{Pf02}
 use Rattle.sheet.specs.Facts.{bit_of}
+use Rattle.sheet.specs.Facts.Laws.{kinds_of-length}
 use Rattle.sheet.specs.Field.{number, Bytes}
 use Rattle.sheet.specs.Field.Laws.{bytes-front, bytes_rest, bytes_take, bytes_drop}
 use Rattle.sheet.specs.Rules.{kind_bits_used, kinds_known}
 use Rattle.sheet.specs.Decode.Laws.{round-kind-byte}
 use Rattle.elements.specs.Round.{round_number, round_kinds, places_of, SetsOf}
+
+-- the kinds are n
+pub kinds-length : (s : List ℕ) (at n : ℕ) → length (round_kinds s at n) ≡ n
+kinds-length s at n = kinds_of-length Pf02 n (round_number s at n)
 
 -- ---- two bits of a byte
 
@@ -87,19 +93,37 @@ last-used s all from n some room =
 
 -- ---- the sets, from the last kind down
 
-pub sets-none : SetsOf [] 0 0 true
+pub sets-none : SetsOf [] (record { lines = 0; circles = 0 })
 unfolding places_of kinds_known
-sets-none = record { lines_are = refl; circles_are = refl; known_is = refl }
+sets-none = record { lines_are = refl; circles_are = refl; known = refl }
 
-pub sets_more : {ks : List ℕ} {lines circles : ℕ} {known : Bool} (k : ℕ) → SetsOf ks lines circles known
-    → SetsOf (k ∷ ks) (2 * lines + bit_of (eqb k 1)) (2 * circles + bit_of (eqb k 2)) (ltb k 3 && known)
+and_false : (b : Bool) → b && false ≡ false
+and_false true = refl
+and_false false = refl
+
+from_bool-is : (b : Bool) → from_bool b ≡ bit_of b
+from_bool-is true = refl
+from_bool-is false = refl
+
+pub from_bool-le : (b : Bool) → from_bool b ≤ 1
+from_bool-le true = omega arith
+from_bool-le false = omega arith
+
+pub sets_more : {ks : List ℕ} {lines circles : ℕ} (k : ℕ) → k < 3 → SetsOf ks (record { lines = lines; circles = circles })
+    → SetsOf (k ∷ ks) (record { lines = 2 * lines + from_bool (eqb k 1); circles = 2 * circles + from_bool (eqb k 2) })
 unfolding places_of kinds_known
-sets_more k h =
+sets_more k l h =
     record {
-      lines_are = omega (arith, h.lines_are);
-      circles_are = omega (arith, h.circles_are);
-      known_is = ap (λ (q : Bool). ltb k 3 && q) h.known_is;
+      lines_are = omega (arith, h.lines_are, from_bool-is (eqb k 1));
+      circles_are = omega (arith, h.circles_are, from_bool-is (eqb k 2));
+      known = rw (lt-ltb k 3 l, h.known);
     }
+
+pub unknown-at : (ks : List ℕ) (i : ℕ) → i < length ks → 3 ≤ get_or ks i 0 → kinds_known ks ≡ false
+unfolding kinds_known
+unknown-at [] i l h = absurd (omega arith)
+unknown-at (k ∷ ks) zero l h = rw (le-ltb k 3 h)
+unknown-at (k ∷ ks) (suc i) l h = ap (λ (q : Bool). ltb k 3 && q) (unknown-at ks i (omega arith) h) ∙ and_false (ltb k 3)
 
 -- the kind before i stands before those from i on
 pub kind-before : (ks : List ℕ) (n i : ℕ) → length ks ≡ n → 0 < i → i ≤ n → drop (i - 1) ks ≡ get_or ks (i - 1) 0 ∷ drop i ks
@@ -107,14 +131,10 @@ kind-before ks n i l p a =
     let e : suc (i - 1) ≡ i = omega arith in
     drop-cons ks (i - 1) 0 (omega arith) ∙ ap (λ (m : ℕ). get_or ks (i - 1) 0 ∷ drop m ks) e
 
-pub bit_le : (b : Bool) → bit_of b ≤ 1
-bit_le true = omega arith
-bit_le false = omega arith
-
 places-below : (j : ℕ) (ks : List ℕ) → places_of j ks < 2 ^ length ks
 unfolding places_of
 places-below j [] = omega (arith, pow-zero 2)
-places-below j (k ∷ ks) = rw (pow-succ' 2 (length ks)) (omega (arith, places-below j ks, bit_le (eqb k j)))
+places-below j (k ∷ ks) = rw (pow-succ' 2 (length ks)) (omega (arith, places-below j ks, from_bool-is (eqb k j), from_bool-le (eqb k j)))
 
 pub places-small : (j : ℕ) (ks : List ℕ) (n i : ℕ) → length ks ≡ n → n ≤ 64 → 0 < i → i ≤ n → 2 * places_of j (drop i ks) + 1 < 2 ^ 64
 places-small j ks n i l few some within =

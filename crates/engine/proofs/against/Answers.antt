@@ -1,16 +1,22 @@
--- `engine::against` meets its contract: the two tests are the definition's. Assumes nothing.
-use borrow.Author.Tests.{lt-ltb, le-ltb}
+-- `engine::against` meets its contract: the order decides. Assumes nothing.
+use Rattle.std.specs.Prelude.{◌≡◌, ◌<◌}
+use Rattle.std.proofs.lemmas.Cmp.{ranked}
+use Rattle.theory.specs.Prelude.{arith, lt-ltb, le-ltb}
 use Rattle.theory.specs.Placement.{against}
 use Rattle.engine.proofs.against.Goals as goal
 
-pub returns-then-y-x : goal.returns-then-y-x
+pub returns-in-Greater : goal.returns-in-Greater
 unfolding against
-returns-then-y-x c = simp (lt-ltb _ _ c.if-y-x.true)
+returns-in-Greater c = let more : c.args.y < c.args.x = ranked _ _ _ c.in-Greater.ensures in simp (lt-ltb c.args.y c.args.x more)
 
-pub returns-then-x-y : goal.returns-then-x-y
+pub returns-in-Equal : goal.returns-in-Equal
 unfolding against
-returns-then-x-y c = simp (le-ltb _ _ c.if-y-x.false, lt-ltb _ _ c.if-x-y.true)
+returns-in-Equal c =
+    let same : c.args.x ≡ c.args.y = ranked _ _ _ c.in-Equal.ensures in
+    simp (le-ltb c.args.x c.args.y (omega arith), le-ltb c.args.y c.args.x (omega arith))
 
-pub returns-else-x-y : goal.returns-else-x-y
+pub returns-in-Less : goal.returns-in-Less
 unfolding against
-returns-else-x-y c = simp (le-ltb _ _ c.if-y-x.false, le-ltb _ _ c.if-x-y.false)
+returns-in-Less c =
+    let less : c.args.x < c.args.y = ranked _ _ _ c.in-Less.ensures in
+    simp (le-ltb c.args.y c.args.x (omega arith), lt-ltb c.args.x c.args.y less)

@@ -13,10 +13,10 @@ returns-then-out-count c =
     rw (none, c.put_all_living-count.ensures.next_is, zero-add) at c.if-out-count.true in
     rw none (put_refused (living_of (take a.used a.slots.now)) a.out.now h)
 
-pub returns-else-out-count : goal.returns-else-out-count
-returns-else-out-count c =
+pub returns : goal.returns
+returns c =
     let a = c.args in
     let none : c.put_all_living-count.new.out ≡ [] = none_left c.put_all_living-count.ensures in
     let h : length (living_of (take a.used a.slots.now)) ≤ length a.out.now =
     rw (none, c.put_all_living-count.ensures.next_is, zero-add) at c.if-out-count.false in
-    put-done h (rw none at c.put_all_living-written.ensures)
+    put-done h (rw none at c.put_all_living.ensures)

@@ -17,5 +17,5 @@ living (suc x) n = refl
 pub returns-then-x-eq0 : goal.returns-then-x-eq0
 returns-then-x-eq0 c = (put_as (sym (dead _ c.if-x-eq0.true)) (put-none _ _), search rules)
 
-pub returns : goal.returns
-returns c = let put = c in (put_as (sym (living _ put.if-x-eq0.false)) put.put_number64.ensures, search rules)
+pub returns-else-x-eq0 : goal.returns-else-x-eq0
+returns-else-x-eq0 c = (put_as (sym (living _ c.if-x-eq0.false)) c.put_item.ensures, search rules)

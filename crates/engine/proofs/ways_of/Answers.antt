@@ -5,18 +5,15 @@ use mir.Val.{SFits}
 use mir.Facts.{to_z-of_z}
 use Rattle.engine.specs.Steps.{ways_by}
 use Rattle.engine.proofs.ways_of.Goals as goal
+use Rattle.engine.proofs.ways_of.Goals.{then-e-i-via-then-e-i, then-e-i-via-else-e-i+then-e-j, then-e-i-via-else-e-i+else-e-j+then-e-k}
 
 pub returns-then-e-i : goal.returns-then-e-i
 unfolding ways_by
-returns-then-e-i c = simp (ways_by, le-ltb _ _ c.if-e-i.true)
-
-pub returns-then-e-j : goal.returns-then-e-j
-unfolding ways_by
-returns-then-e-j c = simp (ways_by, lt-ltb _ _ c.if-e-i.false, le-ltb _ _ c.if-e-j.true)
-
-pub returns-then-e-k : goal.returns-then-e-k
-unfolding ways_by
-returns-then-e-k c = simp (ways_by, lt-ltb _ _ c.if-e-i.false, lt-ltb _ _ c.if-e-j.false, le-ltb _ _ c.if-e-k.true)
+returns-then-e-i c = elim c.then-e-i.branch [
+  | then-e-i-via-then-e-i w ↦ simp (ways_by, le-ltb _ _ w.if-e-i.true)
+  | then-e-i-via-else-e-i+then-e-j w ↦ simp (ways_by, lt-ltb _ _ w.if-e-i.false, le-ltb _ _ w.if-e-j.true)
+  | then-e-i-via-else-e-i+else-e-j+then-e-k w ↦ simp (ways_by, lt-ltb _ _ w.if-e-i.false, lt-ltb _ _ w.if-e-j.false, le-ltb _ _ w.if-e-k.true)
+]
 
 pub returns : goal.returns
 unfolding ways_by

@@ -27,13 +27,16 @@ module _ (s : Sheet) (long : length s.constraints ≡ 200) (none : sheet_fault s
   counted : length (take s.e s.constraints) ≡ s.e
   counted = length-take-le s.e s.constraints (rw long few.1)
 
+  placed : length s.elements ≡ 64 → length (take s.n s.elements) ≡ s.n
+  placed places = length-take-le s.n s.elements (rw places few.0)
+
   unpacks : length s.elements ≡ 64 → (i : ℕ) → i < s.e → Unpacks (get_or s.constraints i zeros)
   unpacks places i l =
       rw (get_or-take s.e s.constraints i zeros l)
       at (accepted-unpack (facts_of s) i zeros (facts_of-accepted s places long none) (rw counted l))
 
 pub loop-i-init : goal.loop-i-init
-loop-i-init c = (omega arith, rw (c.requires.1, c.requires.2, c.requires.3) in-arrays-none)
+loop-i-init c = rw (c.requires.1, c.requires.2, c.requires.3) in-arrays-none
 
 pub offset_bounds-s-i : goal.offset_bounds-s-i
 offset_bounds-s-i c = omega (arith, few c.args.s (search rules) c.requires.0)
@@ -49,33 +52,39 @@ note-requires c =
     (omega (arith, few c.args.s long c.requires.0), p.ascend, p.below)
 
 pub loop-i-preserved : goal.loop-i-preserved
-loop-i-preserved c = let s = c in
-    let a = c.loop-i in
-    let cs = s.args.s.constraints in
+loop-i-preserved c =
+    let i = c.loop-i.i in
+    let cs = c.args.s.constraints in
     let long : length cs ≡ 200 = search rules in
-    let i : a.i < length cs = omega (arith, few s.args.s long s.requires.0) in (
-      omega arith,
-      rw (add-one, take-suc cs a.i zeros i)
-          (c.note.ensures (take a.i cs) (get_or cs a.i zeros) (length-take-le a.i cs (omega arith))
-          (record { first_is = refl; second_is = refl; code_is = sym (to_z-of_z {w = w32} {z = c.code_of.result} (search rules) ∙ c.code_of.ensures) })
-          a.invariant.1),
-    )
+    let h : i < length cs = omega (arith, few c.args.s long c.requires.0) in
+    rw (add-one, take-suc cs i zeros h)
+    (c.note.ensures (take i cs) (get_or cs i zeros) (length-take-le i cs (omega arith))
+    (record { first_is = refl; second_is = refl; code_is = sym (to_z-of_z {w = w32} {z = c.code_of.result} (search rules) ∙ c.code_of.ensures) })
+    c.loop-i.invariant)
 
-pub kinds_of-kinds-requires : goal.kinds_of-kinds-requires
-kinds_of-kinds-requires c = ((few c.args.s (search rules) c.requires.0).0, c.requires.4)
+pub slice_bounds-elements-end : goal.slice_bounds-elements-end
+slice_bounds-elements-end c = sym (placed c.args.s (search rules) c.requires.0 (search rules))
 
-pub returns : goal.returns
-returns c = let s = c in
-    let a = c.loop-i in
+pub shared_ref_as_front-elements : goal.shared_ref_as_front-elements
+shared_ref_as_front-elements c = (few c.args.s (search rules) c.requires.0).0
+
+pub kinds_of-requires : goal.kinds_of-requires
+kinds_of-requires c =
     let long : length c.args.s.constraints ≡ 200 = search rules in
     let places : length c.args.s.elements ≡ 64 = search rules in
-    let same : a.i ≡ s.args.s.e = omega arith in
-    let n : length (take s.args.s.n s.args.s.elements) ≡ s.args.s.n =
-    length-take-le s.args.s.n s.args.s.elements (rw places (few s.args.s long s.requires.0).0) in
+    rw (placed c.args.s long c.requires.0 places) (few c.args.s long c.requires.0).0
+
+pub returns : goal.returns
+returns c =
+    let s = c.args.s in
+    let long : length s.constraints ≡ 200 = search rules in
+    let places : length s.elements ≡ 64 = search rules in
+    let same : c.loop-i.i ≡ s.e = omega arith in
+    let n = placed s long c.requires.0 places in
     record {
-      accepted = facts_of-accepted s.args.s places long s.requires.0;
+      accepted = facts_of-accepted s places long c.requires.0;
       opening_is = refl;
-      head_is = cc (c.kinds_of-kinds.ensures.lines_are, counted s.args.s long s.requires.0);
-      kinds_in = c.kinds_of-kinds.ensures;
-      arrays = rw (← same) a.invariant.1;
+      head_is = cc (c.kinds_of.ensures.lines_are, counted s long c.requires.0);
+      kinds_in = c.kinds_of.ensures;
+      arrays = rw (← same) c.loop-i.invariant;
     }

@@ -8,14 +8,11 @@ use mir.Syntax.{w32}
 use mir.Val.{to_z, of_z}
 use Rattle.theory.specs.Block.Laws.{length-block}
 use Rattle.sheet.specs.declared.Constraint.{Constraint}
-use Rattle.sheet.specs.declared.Kind.{Kind}
-use Rattle.sheet.specs.declared.Kinds.{Kinds}
-use Rattle.sheet.specs.Facts.{Facts, kind_at, blank_constraint}
+use Rattle.sheet.specs.Facts.{Facts, blank_constraint}
 use Rattle.sheet.specs.Facts.Laws.{kind-in}
 use Rattle.sheet.specs.Rules.{radii_in_range}
 use Rattle.sheet.specs.Rules.Laws.{constraints-most, elements-taken}
-use Rattle.sheet.specs.Facts.Kinds.{kind_in}
-use Rattle.sheet.specs.Graph.{size_of, size_in, sized_of}
+use Rattle.sheet.specs.Graph.{size_in, sized_of}
 use Rattle.graph.specs.declared.Head.{Head}
 use Rattle.graph.specs.declared.Front.{Front}
 use Rattle.graph.specs.Lent.{code_of, SheetIn, sizes_of, Unpacks}
@@ -65,11 +62,12 @@ module _ {f : Facts} {h : Front} {near start : List ℕ} {codes : List ℤ} {rad
 
 pub loop-i-init : goal.loop-i-init
 loop-i-init c = record {
-  turns = omega arith;
   few = (drawn-in c.requires.2).few;
-  places = ap length c.requires.2.arrays.codes_are ∙ length-block 200 (pos 0) (map (λ (k : Constraint). code_of k.size) c.requires.0.constraints) (rw length-map (counted c.requires.2));
+  places =
+      ap length c.requires.2.arrays.codes_are
+      ∙ length-block 200 (pos 0) (map (λ (k : Constraint). code_of k.size) c.requires.0.constraints) (rw length-map (counted c.requires.2));
   left = refl;
-  made = λ f h near q a. refl;
+  made = λ f near a. refl;
 }
 
 pub kind_at-j-requires : goal.kind_at-j-requires
@@ -78,10 +76,9 @@ kind_at-j-requires c =
     let a = c.requires.2 in
     let w : l.i < length c.requires.0.constraints = omega (arith, c.loop-i-test.true, count a) in
     let u = unpacks a l.sizes l.i w l.invariant.left in
-    let is : c.constraint_in-c.result ≡ get_or c.requires.0.constraints l.i blank_constraint =
-    c.constraint_in-c.ensures _ u (pair-in-start a.arrays l.i blank_constraint w)
-    (coded a l.sizes l.i w l.invariant.left ∙ sym (to_z-of_z {w = w32} {z = get_or l.sizes l.i (pos 0)} (search rules))) in
-    rw is (omega (arith, u.ascend, u.below))
+    rw (c.constraint_in-c.ensures _ u (pair-in-start a.arrays l.i blank_constraint w)
+    (coded a l.sizes l.i w l.invariant.left ∙ sym (to_z-of_z {w = w32} {z = get_or l.sizes l.i (pos 0)} (search rules))))
+    (omega (arith, u.ascend, u.below))
 
 pub kind_at-k-requires : goal.kind_at-k-requires
 kind_at-k-requires c =
@@ -89,10 +86,9 @@ kind_at-k-requires c =
     let a = c.requires.2 in
     let w : l.i < length c.requires.0.constraints = omega (arith, c.loop-i-test.true, count a) in
     let u = unpacks a l.sizes l.i w l.invariant.left in
-    let is : c.constraint_in-c.result ≡ get_or c.requires.0.constraints l.i blank_constraint =
-    c.constraint_in-c.ensures _ u (pair-in-start a.arrays l.i blank_constraint w)
-    (coded a l.sizes l.i w l.invariant.left ∙ sym (to_z-of_z {w = w32} {z = get_or l.sizes l.i (pos 0)} (search rules))) in
-    rw is u.below
+    rw (c.constraint_in-c.ensures _ u (pair-in-start a.arrays l.i blank_constraint w)
+    (coded a l.sizes l.i w l.invariant.left ∙ sym (to_z-of_z {w = w32} {z = get_or l.sizes l.i (pos 0)} (search rules))))
+    u.below
 
 pub size_of-requires : goal.size_of-requires
 size_of-requires c =
@@ -106,40 +102,38 @@ loop-i-preserved c =
     let l = c.loop-i in
     let room : l.i < length l.sizes = omega (arith, l.invariant.places, l.invariant.few, c.loop-i-test.true) in
     record {
-      turns = omega (arith, c.loop-i-test.true);
       few = l.invariant.few;
       places = rw length-set l.invariant.places;
       left =
           drop-set-lt (l.i + 1) l.sizes l.i _ (omega arith) ∙ sym (drop-drop 1 l.i l.sizes) ∙ ap (drop 1) l.invariant.left
           ∙ drop-drop 1 l.i c.args.sizes.now;
-      made = λ f h near q a.
-          let w : l.i < length f.constraints = omega (arith, c.loop-i-test.true, count a, q.0) in
+      made = λ f near a.
+          let w : l.i < length f.constraints = omega (arith, c.loop-i-test.true, count a) in
           let k = get_or f.constraints l.i blank_constraint in
+          let there : l.i < length (sizes_of f) =
+          rw (length-block 200 (pos 0) (sized_of f).sizes (rw length-map (counted a))) (omega (arith, l.invariant.places, room)) in
           let is : c.constraint_in-c.result ≡ k =
           c.constraint_in-c.ensures k (unpacks a l.sizes l.i w l.invariant.left) (pair-in-start a.arrays l.i blank_constraint w)
           (coded a l.sizes l.i w l.invariant.left ∙ sym (to_z-of_z {w = w32} {z = get_or l.sizes l.i (pos 0)} (search rules))) in
-          let there : l.i < length (sizes_of f) =
-          rw (length-block 200 (pos 0) (sized_of f).sizes (rw length-map (counted a))) (omega (arith, l.invariant.places, room)) in
-          let j : c.kind_at-j.result ≡ kind_at f.elements k.first =
-          c.kind_at-j.ensures ∙ ap (λ (x : Constraint). kind_in c.args.h.kinds c.args.radii.now x.first) is
-          ∙ ap (λ (x : Kinds). kind_in x c.args.radii.now k.first) (sym q.1) ∙ kind-in a.kinds_in k.first in
-          let m : c.kind_at-k.result ≡ kind_at f.elements k.second =
-          c.kind_at-k.ensures ∙ ap (λ (x : Constraint). kind_in c.args.h.kinds c.args.radii.now x.second) is
-          ∙ ap (λ (x : Kinds). kind_in x c.args.radii.now k.second) (sym q.1) ∙ kind-in a.kinds_in k.second in
           let z : c.size_of.result ≡ size_in f.elements k =
-          c.size_of.ensures ∙ ap (λ (x : Constraint). size_of c.kind_at-j.result c.kind_at-k.result x.size) is
-          ∙ ap₂ (λ (x y : Kind). size_of x y k.size) j m in
+          c.size_of.ensures
+          ∙ rw (
+            c.kind_at-j.ensures,
+            c.kind_at-k.ensures,
+            kind-in a.kinds_in c.constraint_in-c.result.first,
+            kind-in a.kinds_in c.constraint_in-c.result.second,
+            is,
+          ) in
           let out : to_z w32 (of_z w32 c.size_of.result) ≡ get_or (sizes_of f) l.i (pos 0) =
           to_z-of_z {w = w32} {z = c.size_of.result} (search rules) ∙ z
           ∙ sym (size-there a l.i blank_constraint w) in
-          rw (add-one, take-suc-set l.sizes l.i _ room, take-suc (sizes_of f) l.i (pos 0) there, l.invariant.made f h near q a, out);
+          rw (add-one, take-suc-set l.sizes l.i _ room, take-suc (sizes_of f) l.i (pos 0) there, l.invariant.made f near a, out);
     }
 
 pub returns : goal.returns
 returns c = λ f near a.
     let l = c.loop-i in
-    let s = c in
-    let end : l.i ≡ s.args.h.e = omega (arith, l.invariant.turns, c.loop-i-test.false) in
+    let end : l.i ≡ c.args.h.e = omega arith in
     sym (take-append-drop l.i l.sizes)
-    ∙ ap₂ ◌++◌ (l.invariant.made f s.args.h near (refl, refl) a) (l.invariant.left ∙ rw end (blank-behind a))
+    ∙ ap₂ ◌++◌ (l.invariant.made f near a) (l.invariant.left ∙ rw end (blank-behind a))
     ∙ take-append-drop l.i (sizes_of f)

@@ -7,5 +7,4 @@ use Rattle.graph.proofs.note_code.Goals as goal
 
 pub returns : goal.returns
 returns c = λ cs k n p h.
-    let s = c in
-    rw (to_z-of_z {w = w32} {z = s.args.z} (search rules), ← p) (codes-more cs k s.args.i n s.requires h)
+    rw (to_z-of_z {w = w32} {z = c.args.z} (search rules), ← p) (codes-more cs k c.args.i n c.requires h)

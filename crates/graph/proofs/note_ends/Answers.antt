@@ -4,6 +4,5 @@ use Rattle.graph.proofs.note_ends.Goals as goal
 
 pub returns : goal.returns
 returns c = λ cs k n f g h.
-    let s = c in
     rw (c.pair.ensures, ← f, ← g)
-    (ends_more cs k s.args.i n s.requires.0 h (c.note_pair.ensures cs k f g h.ends_noted))
+    (ends_more cs k c.args.i n c.requires.0 h (c.note_pair.ensures cs k f g h.ends_noted))

@@ -1,10 +1,11 @@
 -- Laws of the constraint graph in lent arrays: one constraint more, and each constraint out again. Assumes nothing.
-use Rattle.std.specs.Prelude.{◌+◌, ◌-◌, ◌%◌, ◌/◌, ◌<◌, ◌≤◌, ◌≡◌, ◌≢◌, ◌||◌, ◌∷◌, ◌++◌}
-use Rattle.theory.specs.Prelude.{ℕ, zero, suc, le_of_suc-le-suc, pow-succ', arith, refl, sym, ap, ◌∙◌, subst}
+use Rattle.std.specs.Prelude.{◌+◌, ◌*◌, ◌^◌, ◌-◌, ◌%◌, ◌/◌, ◌<◌, ◌≤◌, ◌≡◌, ◌≢◌, ◌||◌, ◌∷◌, ◌++◌}
+use Rattle.theory.specs.Prelude.{ℕ, zero, suc, le_of_suc-le-suc, pow-succ', pow-le-pow_right, arith, refl, ◌∙◌, subst}
 use Rattle.theory.specs.Prelude.{⊎_elim, true, false, not, List, [], map, map-append, append_assoc, leb-true, leb, ℤ, pos, negsuc}
 use Rattle.theory.specs.Prelude.{pow_pos, count_trailing_zeros, under, length, get_or, set, replicate, length-map, length-append, List·getD-append}
-use Rattle.theory.specs.Prelude.{set-append_seam}
-use Rattle.std.specs.Int.Count.{count_leading_zeros, leading_unique}
+use Rattle.theory.specs.Prelude.{set-append_seam, Bool, ltb, ltb-true, ltb-false}
+use Rattle.std.specs.Prelude.{Option, None, Some, IfNone, IfSome}
+use Rattle.std.specs.Option.{unwrap_or}
 use Rattle.theory.specs.Set.{◌∈◌, at}
 use Rattle.theory.specs.Set.Less.{trailing_at, at_room}
 use Rattle.theory.specs.Constraints.{pair}
@@ -16,7 +17,7 @@ use Rattle.sheet.specs.declared.Kind.TheVariants.{Point, Line, Circle}
 use Rattle.sheet.specs.declared.PairKind.{PairKind}
 use Rattle.sheet.specs.declared.PairKind.TheVariants.{Points, PointLine, Lines}
 use Rattle.sheet.specs.declared.Size.{Size}
-use Rattle.sheet.specs.declared.Size.TheVariants.{Given, Missing, Tangent, OtherTangent, Unfit}
+use Rattle.sheet.specs.declared.Size.TheVariants.{Given, Unfit}
 use Rattle.theory.specs.Block.{block}
 use Rattle.sheet.specs.Facts.{Facts, is_circle, radius_of, kind_at}
 use Rattle.sheet.specs.Facts.Laws.{and-true}
@@ -104,6 +105,16 @@ trailing-least (suc k) (suc x) a e = either (a % 2) (trailing-least k x (a / 2) 
     either zero h = omega arith
     either (suc d) h = omega arith
 
+-- the powers of two around a number are one pair
+one : {b m : ℕ} (k : ℕ) → 2 ^ b ≤ m → m < 2 ^ suc b → 2 ^ k ≤ m → m < 2 * 2 ^ k → k ≡ b
+one {b} {m} k least most low high = below (ltb k b) (ltb b k) refl refl
+  where
+    below : (s t : Bool) → ltb k b ≡ s → ltb b k ≡ t → k ≡ b
+    below true t e f =
+        absurd (omega (arith, pow-succ' 2 k, pow-le-pow_right {n = 2} (omega arith) {i = suc k} {j = b} (ltb-true k b e)))
+    below false true e f = absurd (omega (arith, pow-le-pow_right {n = 2} (omega arith) {i = suc b} {j = k} (ltb-true b k f)))
+    below false false e f = omega (arith, ltb-false k b e, ltb-false b k f)
+
 -- the two elements of a pair
 module _ (a b : ℕ) (l : a < b) (m : b < 64) where
   pub pair-some : 0 < pair a b
@@ -115,60 +126,17 @@ module _ (a b : ℕ) (l : a < b) (m : b < 64) where
       ⊎_elim (λ e. e) (λ e. absurd (omega arith))
       (at_pair (count_trailing_zeros 64 (pair a b)) a b (trailing_at 64 (pair a b) pair-some (pair-below 64 a b (omega arith) m)))
 
-  pub pair-highest : 63 - count_leading_zeros 64 (pair a b) ≡ b
-  pair-highest =
-      omega (
-        arith,
-        leading_unique 64 (pair a b) (63 - b) (suc b) (omega arith) (pair-below (suc b) a b (omega arith) (omega arith))
-            (let h = at_room b (pair a b) (at-end a b).1 in omega (arith, pow-succ' 2 b)),
-      )
+  pub pair-highest : (o : Option ℕ) → IfNone o (pair a b ≡ 0) → IfSome o (λ k. 2 ^ k ≤ pair a b) → IfSome o (λ k. pair a b < 2 * 2 ^ k)
+      → unwrap_or o 0 ≡ b
+  pair-highest None none low high = absurd (omega (arith, pair-some))
+  pair-highest (Some k) none low high =
+      let least : 2 ^ b ≤ pair a b = at_room b (pair a b) (at-end a b).1 in
+      let most : pair a b < 2 ^ suc b = pair-below (suc b) a b (omega arith) (omega arith) in
+      one k least most low high
 
 pub constraint-is : {c : Constraint} {a b : ℕ} {s : Size} → a ≡ c.first → b ≡ c.second → s ≡ c.size
     → record { first = a; second = b; size = s } ≡ c
 constraint-is e f g = rw (e, f, g)
-
--- ---- the size by its number
-
-module _ (s : Size) (h : Fits s) {z : ℤ} (is : code_of s ≡ z) where
-  pub code-missing : z ≡ pos 0 → s ≡ Missing
-  code-missing e = out s h (is ∙ e)
-    where
-      out : (s : Size) → Fits s → code_of s ≡ pos 0 → s ≡ Missing
-      out (Given y) h e = absurd (h.not_zero (ap Given e))
-      out Missing h e = refl
-      out Tangent h e = let n : ◌≡◌ {A = ℕ} 0 1 = cc in absurd (omega arith)
-      out OtherTangent h e = let n : ◌≡◌ {A = ℕ} 0 1 = cc in absurd (omega arith)
-      out Unfit h e = absurd (h.fit refl)
-
-  pub code-tangent : z ≡ pos 100000 → s ≡ Tangent
-  code-tangent e = out s h (is ∙ e)
-    where
-      out : (s : Size) → Fits s → code_of s ≡ pos 100000 → s ≡ Tangent
-      out (Given y) h e = absurd (h.not_tangent (ap Given e))
-      out Missing h e = let n : ◌≡◌ {A = ℕ} 0 1 = cc in absurd (omega arith)
-      out Tangent h e = refl
-      out OtherTangent h e = let n : ◌≡◌ {A = ℕ} 0 1 = cc in absurd (omega arith)
-      out Unfit h e = absurd (h.fit refl)
-
-  pub code_other : z ≡ negsuc 99999 → s ≡ OtherTangent
-  code_other e = out s h (is ∙ e)
-    where
-      out : (s : Size) → Fits s → code_of s ≡ negsuc 99999 → s ≡ OtherTangent
-      out (Given y) h e = absurd (h.not_other (ap Given e))
-      out Missing h e = let n : ◌≡◌ {A = ℕ} 0 1 = cc in absurd (omega arith)
-      out Tangent h e = let n : ◌≡◌ {A = ℕ} 0 1 = cc in absurd (omega arith)
-      out OtherTangent h e = refl
-      out Unfit h e = absurd (h.fit refl)
-
-  pub code-given : z ≢ pos 0 → z ≢ pos 100000 → z ≢ negsuc 99999 → s ≡ Given z
-  code-given n m o = out s h is
-    where
-      out : (s : Size) → Fits s → code_of s ≡ z → s ≡ Given z
-      out (Given y) h e = ap Given e
-      out Missing h e = absurd (n (sym e))
-      out Tangent h e = absurd (m (sym e))
-      out OtherTangent h e = absurd (o (sym e))
-      out Unfit h e = absurd (h.fit refl)
 
 -- ---- the constraints of an accepted sheet
 

@@ -10,7 +10,7 @@ use Rattle.theory.specs.Graph.{Graph}
 use Rattle.theory.specs.Near.{Once, Near, Standing}
 use Rattle.theory.specs.Over.{over_of}
 use Rattle.theory.specs.Over.Laws.{fine-most, over_of-fine}
-use Rattle.theory.specs.declared.Finding.TheVariants.{Fine}
+use Rattle.theory.specs.Finding.{Fine}
 use Rattle.sheet.specs.declared.Element.{Element}
 use Rattle.sheet.specs.declared.Constraint.{Constraint}
 use Rattle.sheet.specs.Facts.{Facts}

@@ -1,10 +1,18 @@
--- `held::count` meets its contract: the count of the sketch by value that is read. Assumes nothing.
-use Rattle.theory.specs.Prelude.{refl, ◌∙◌}
+-- `held::count` meets its contract: the sketch that is read, counted. Assumes nothing.
+use Rattle.std.specs.Prelude.{◌≡◌, Err}
+use Rattle.theory.specs.Prelude.{rules, refl, sym, ap, ◌∙◌}
+use Rattle.theory.specs.Rule.{rule_number, by_number}
+use Rattle.held.specs.Held.{held_count_of}
 use Rattle.held.specs.Held.Laws.{count-is}
 use Rattle.held.proofs.count.Goals as goal
 
-pub read-got-requires : goal.read-got-requires
-read-got-requires c = (refl, refl, refl, refl)
+pub read-requires : goal.read-requires
+read-requires c = (refl, refl, refl, refl)
+
+pub returns-in_err-read : goal.returns-in_err-read
+returns-in_err-read c =
+    let passed : by_number c.from_residual.result ≡ Err (rule_number c.in_err-read.field-0.0) = search rules in
+    passed ∙ sym (ap held_count_of c.in_err-read.ensures)
 
 pub returns : goal.returns
-returns c = c.counted.ensures ∙ count-is _ _ _ _ _ c.read-got.result c.read-got.ensures
+returns c = count-is c.in_ok-read.ensures.2 c.in_ok-read.ensures.3

@@ -2,8 +2,7 @@
 use Rattle.std.specs.Prelude.{◌≡◌}
 use Rattle.theory.specs.Prelude.{ℕ, zero, suc, refl, sym, ap, ◌∙◌, List, [], ℤ}
 use Rattle.theory.specs.Graph.{Graph}
-use Rattle.space.specs.declared.Written.{Written}
-use Rattle.space.specs.declared.Written.TheVariants.{Done, Refused as Not}
+use Rattle.space.specs.Written.{Done}
 use Rattle.sheet.specs.declared.Sheet.{Sheet}
 use Rattle.sheet.specs.Facts.{Facts, facts_of}
 use Rattle.sheet.specs.Field.{Field, value, refused}
@@ -11,13 +10,9 @@ use Rattle.sheet.specs.Rules.{sheet_fault}
 use Rattle.sheet.specs.Graph.{graph_of, over_fault}
 use Rattle.graph.specs.declared.Head.{Head}
 use Rattle.graph.specs.declared.Front.{Front}
-use Rattle.graph.specs.Lent.{graph_in, head_in, Drawn}
+use Rattle.graph.specs.Lent.{graph_in, head_in, Drawn, SheetIn}
 use Rattle.graph.specs.Lent.Sheets.{graph_is, drawn-in}
-use Rattle.reader.specs.declared.CodesRead.{CodesRead}
-use Rattle.reader.specs.declared.CodesRead.TheVariants.{Value, Refused as Unread}
-use Rattle.reader.specs.Answers.{codes_rule, SheetRead}
 use Rattle.sketch.specs.Runs.{hold_fault}
-use Rattle.records.specs.Record.Laws.{FactsIn, read-refused, facts-in}
 use Rattle.held.specs.Held.{held_value, held_count_of, held_items_of}
 
 -- ---- by value
@@ -44,29 +39,16 @@ module _ (s : Sheet) where
     unfolding held_value hold_fault
     value-held o = rw (e, o)
 
--- ---- what the reading answers
+-- ---- the graph that stands in head and arrays
 
-abbrev pub count_read : CodesRead → Written
-count_read (Value h) = Done h.e
-count_read (Unread k) = Not k
+module _ {x : Field Facts} {h : Front} {near start radii : List ℕ} {codes : List ℤ} {f : Facts} {t : List ℕ} (reads : x ≡ value f t)
+    (a : SheetIn f h near start codes radii) where
+  pub count-is : Done h.e ≡ held_count_of x
+  count-is = ap Done (ap (λ (k : Head). k.e) a.head_is) ∙ sym (ap held_count_of reads)
 
-module _ (x : Field Facts) (near start : List ℕ) (codes : List ℤ) (radii : List ℕ) where
-  pub count-is : (r : CodesRead) → SheetRead x r near start codes radii → count_read r ≡ held_count_of x
-  count-is (Value h) got =
-      let f = facts-in near start codes radii got refl in
-      ap Done (ap (λ (k : Head). k.e) f.sheet_in.head_is) ∙ sym (ap held_count_of f.reads)
-  count-is (Unread k) got = sym (ap held_count_of got)
+  module _ {k : Head} (head_is : k ≡ head_in h) where
+    pub head-drawn : Drawn k near start
+    head-drawn = rw head_is (drawn-in a)
 
-  -- a refusal
-  pub items_refused : (what : Graph → List ℕ) (r : CodesRead) → SheetRead x r near start codes radii → {k j : ℕ} → r ≡ Unread k → j ≡ codes_rule r
-      → held_items_of what x ≡ refused j
-  items_refused what r got e n = ap (held_items_of what) (read-refused near start codes radii got e n)
-
--- the graph that stands in head and arrays
-module _ {x : Field Facts} {h : Front} {near start radii : List ℕ} {codes : List ℤ} (f : FactsIn x h near start codes radii) {k : Head}
-    (head_is : k ≡ head_in h) where
-  pub head-drawn : Drawn k near start
-  head-drawn = rw head_is (drawn-in f.sheet_in)
-
-  pub items-are : (what : Graph → List ℕ) → held_items_of what x ≡ value (what (graph_in k start)) []
-  items-are what = rw (f.reads, head_is) (ap (λ (g : Graph). value (what g) []) (sym (graph_is f.sheet_in)))
+    pub items-are : (what : Graph → List ℕ) → held_items_of what x ≡ value (what (graph_in k start)) []
+    items-are what = rw (reads, head_is) (ap (λ (g : Graph). value (what g) []) (sym (graph_is a)))

@@ -3,8 +3,11 @@ use Rattle.theory.specs.Prelude.{refl}
 use Rattle.judge.specs.Found.Laws.{found-tells}
 use Rattle.judge.proofs.judged_told.Goals as goal
 
-pub judge_on-found-requires : goal.judge_on-found-requires
-judge_on-found-requires c = (c.requires, record { slots_blank = refl; parts_blank = refl; joints_blank = refl })
+pub judge_on-requires : goal.judge_on-requires
+judge_on-requires c = (c.requires, record { slots_blank = refl; parts_blank = refl; joints_blank = refl })
 
-pub returns : goal.returns
-returns c = found-tells _ c.requires.sound c.judge_on-found.ensures
+pub returns-in-Ok : goal.returns-in-Ok
+returns-in-Ok c = found-tells _ c.requires.sound c.in-Ok.ensures
+
+pub returns-in-Err : goal.returns-in-Err
+returns-in-Err c = (_, c.in-Err.ensures)

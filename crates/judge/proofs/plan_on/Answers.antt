@@ -1,24 +1,18 @@
 -- `judge::plan_on` meets its contract: more than 2n-3 constraints are over, and else the judgement decides. Assumes nothing.
-use Rattle.theory.specs.Prelude.{arith, sym, ap, ◌∙◌, []}
+use Rattle.theory.specs.Prelude.{arith, sym, ap, ◌∙◌, ltb-true}
 use Rattle.graph.specs.Lent.{graph_in}
 use Rattle.graph.specs.Lent.Sheets.{counted}
 use Rattle.judge.specs.Judged.{Judged}
-use Rattle.judge.specs.Judged.Laws.{laid}
-use Rattle.judge.specs.Judged.Short.{run_more}
+use Rattle.judge.specs.Judged.Short.{run_more, run-first}
 use Rattle.judge.proofs.plan_on.Goals as goal
 
-pub returns-then-h-held : goal.returns-then-h-held
-returns-then-h-held c = let s = c in
-    let (d, blank) = s.requires in
-    run_more (graph_in s.args.h s.args.start.now) d.sound (omega (arith, c.if-h-held.true, counted d)) blank
+pub returns-then-crowded : goal.returns-then-crowded
+returns-then-crowded c =
+    let (d, blank) = c.requires in
+    run_more (graph_in c.args.h c.args.start.now) d.sound (omega (arith, ltb-true _ _ (sym c.crowded.ensures ∙ c.if-crowded.true), counted d)) blank
 
-pub returns-then-number-ne0 : goal.returns-then-number-ne0
-returns-then-number-ne0 c = ap (λ (j : Judged). j.run)
-    (c.judge_on-found.ensures.plan (λ v. c.if-number-ne0.true (c.number.ensures ∙ v)))
+pub returns-in-Ok : goal.returns-in-Ok
+returns-in-Ok c = ap (λ (j : Judged). j.run) c.in-Ok.ensures.judged
 
-pub returns : goal.returns
-returns c = let b = c.blank.ensures in
-    let k = c in
-    laid [] b b.slots_blank
-    ∙ ap (λ (j : Judged). j.run)
-    (k.judge_on-found.ensures.over (sym k.number.ensures ∙ omega (arith, k.if-number-ne0.false)))
+pub returns-in-Err : goal.returns-in-Err
+returns-in-Err c = run-first (graph_in c.args.h c.args.start.now) c.requires.0.sound c.in-Err.ensures c.blank.ensures

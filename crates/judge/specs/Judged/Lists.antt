@@ -8,8 +8,8 @@ use Rattle.theory.specs.Merge.{final, joints}
 use Rattle.theory.specs.Merge.Count.{steps-left}
 use Rattle.theory.specs.Plan.{plan_of, ascending}
 use Rattle.theory.specs.Plan.Laws.{plan-of-maximal}
-use Rattle.theory.specs.declared.Finding.{Finding}
-use Rattle.theory.specs.declared.Finding.TheVariants.{Fine, First}
+use Rattle.theory.specs.Finding.{Finding}
+use Rattle.theory.specs.Finding.{Fine, First}
 use Rattle.theory.specs.Graph.{Graph, finding_of, verdict_of}
 use Rattle.theory.specs.Graph.Laws.{first-verdict, fine-verdict}
 use Rattle.graph.specs.Lent.{Sound}

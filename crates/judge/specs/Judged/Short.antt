@@ -1,5 +1,6 @@
 -- What counts and peeling decide of a graph without a plan, and what the judgement says of the verdict. Assumes nothing.
-use Rattle.std.specs.Prelude.{◌+◌, ◌*◌, ◌≤◌, ◌<◌, ◌≡◌, ◌≢◌}
+use Rattle.std.specs.Prelude.{◌+◌, ◌*◌, ◌≤◌, ◌<◌, ◌≡◌, ◌≢◌, Result, Ok, Err}
+use Rattle.std.specs.Result.{result_unwrap_or}
 use Rattle.theory.specs.Prelude.{ℕ, arith, refl, sym, ap, ◌∙◌, subst, List, [], ones, length}
 use Rattle.theory.specs.Constraints.{NotOver}
 use Rattle.theory.specs.Merge.{final, left}
@@ -7,8 +8,8 @@ use Rattle.theory.specs.Merge.One.{one-fine}
 use Rattle.theory.specs.Merge.Count.{steps-left}
 use Rattle.theory.specs.Plan.{plan_of}
 use Rattle.theory.specs.Plan.Laws.{plan-of-maximal}
-use Rattle.theory.specs.declared.Finding.{Finding}
-use Rattle.theory.specs.declared.Finding.TheVariants.{Fine, First}
+use Rattle.theory.specs.Finding.{Finding}
+use Rattle.theory.specs.Finding.{Fine, First}
 use Rattle.theory.specs.declared.Verdict.TheVariants.{Over, Well, Under}
 use Rattle.theory.specs.Graph.{Graph, finding_of, verdict_of}
 use Rattle.theory.specs.Graph.Laws.{first-verdict, fine-finding, fine-not-over}
@@ -26,7 +27,6 @@ use Rattle.merges.specs.Run.{Run, run_in, Blank, Planned}
 use Rattle.judge.specs.Judged.{Judged, listed, over_found, judged_by, judged_of}
 use Rattle.judge.specs.Telling.{Tells, Reached}
 use Rattle.judge.specs.Judged.Laws.{laid}
-use Rattle.judge.specs.Judged.Lists.{judged-held}
 
 module _ (g : Graph) (sound : Sound g.n g.clusters) where
   abbrev cs : List ℕ
@@ -62,19 +62,14 @@ module _ (g : Graph) (sound : Sound g.n g.clusters) where
         fine-fault g (fine-finding g pairs sound.below
         (one-fine cs pairs r.merges r.valid (omega (arith, reached-left, one))))
 
-  pub judged-tells : {j : Judged} → j ≡ judged_of g → Tells g j.verdict j.first
-  judged-tells e = record {
-    verdict_is = (judged-held g sound e).verdict_is;
-    first_is = λ c x q. ap (λ (j : Judged). j.first) (e ∙ first-judged q);
-  }
+  -- of a sheet that is not over
+  pub fine-tells : {v : Verdict} → finding_of g ≡ Fine → v ≡ verdict_of g → Tells g (Ok v)
+  fine-tells q v = (q, v)
 
-  -- over
-  pub first-tells : {c x : ℕ} → finding_of g ≡ First c x → Tells g Over c
-  first-tells q = record { verdict_is = sym (first-verdict g q); first_is = λ k y o. cc }
-
-  -- of a sheet that is not over any number
-  pub fine-tells : {v : Verdict} {first : ℕ} → finding_of g ≡ Fine → v ≡ verdict_of g → Tells g v first
-  fine-tells q v = record { verdict_is = v; first_is = λ c x o. let z : ◌≡◌ {A = ℕ} 0 1 = cc (q, o) in absurd (omega (arith, z)) }
+  -- over is the verdict where no other is told
+  pub told-verdict : (r : Result Verdict ℕ) → Tells g r → result_unwrap_or r Over ≡ verdict_of g
+  told-verdict (Ok v) t = t.1
+  told-verdict (Err c) t = sym (first-verdict g t.1)
 
   -- ---- verdicts without a plan
 
@@ -112,7 +107,7 @@ module _ (g : Graph) (sound : Sound g.n g.clusters) where
     none_found = fine-finding g sound.simple.pairs sound.below none_over
 
     -- with too few lines for an angle
-    pub few-peeled : ones g.lines ≤ 2 → {first : ℕ} → Tells g Well first
+    pub few-peeled : ones g.lines ≤ 2 → Tells g (Ok Well)
     few-peeled few =
         let m = plan-of-maximal cs sound.simple.pairs in
         let one =

@@ -1,11 +1,8 @@
 -- `longest::strip` meets its contract. The loop's invariant: the front of the block is the strip for as many k as have been passed. Assumes nothing.
-use Rattle.std.specs.Prelude.{◌≡◌, ◌≤◌, ◌+◌, ◌*◌, ◌-◌}
+use Rattle.std.specs.Prelude.{◌≡◌, ◌+◌, ◌*◌}
 use Rattle.theory.specs.Prelude.{length, take}
 use Rattle.longest.specs.Longest.{strip}
 use Rattle.longest.proofs.strip.Given as goal
 
 abbrev pub invariant-loop-j : goal.invariant-loop-j
-invariant-loop-j l = (l.j ≤ l.steps) × (length l.cs ≡ 200) × (take (2 * l.j + 1) l.cs ≡ strip l.j)
-
-abbrev pub decreases-loop-j : goal.decreases-loop-j
-decreases-loop-j l = l.steps - l.j
+invariant-loop-j l = (length l.cs ≡ 200) × (take (2 * l.j + 1) l.cs ≡ strip l.j)

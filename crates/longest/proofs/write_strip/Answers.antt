@@ -10,14 +10,13 @@ use Rattle.longest.specs.Longest.Block.{facts_are, no_fault}
 use Rattle.longest.proofs.write_strip.Goals as goal
 
 pub write_accepted-requires : goal.write_accepted-requires
-write_accepted-requires c = no_fault _ (search rules) (search rules) refl refl refl c.strip-constraints.ensures
+write_accepted-requires c = no_fault _ (search rules) (search rules) refl refl refl c.strip.ensures
 
 pub returns : goal.returns
-returns c = let strip = c.strip-constraints in
-    let args = c.args in
-    let h = c.write_accepted.ensures in
-    let e = facts_are (record { opening = Pf01; n = args.n; e = 2 * args.n - 3; elements = points 64; constraints = strip.result })
-    (omega arith) (omega arith) refl refl refl strip.ensures in (
-      h.0 ∙ ap (λ (f : Facts). answer (sheet_bytes f) args.out.now) e,
-      h.1 ∙ ap (λ (f : Facts). after (sheet_bytes f) args.out.now) e,
+returns c =
+    let n = c.args.n in
+    let e = facts_are (record { opening = Pf01; n = n; e = 2 * n - 3; elements = points 64; constraints = c.strip.result })
+    (omega arith) (omega arith) refl refl refl c.strip.ensures in (
+      c.write_accepted.ensures.0 ∙ ap (λ (f : Facts). answer (sheet_bytes f) c.args.out.now) e,
+      c.write_accepted.ensures.1 ∙ ap (λ (f : Facts). after (sheet_bytes f) c.args.out.now) e,
     )

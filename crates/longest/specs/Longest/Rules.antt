@@ -7,7 +7,8 @@ use Rattle.sheet.specs.declared.Element.{Element}
 use Rattle.sheet.specs.declared.Constraint.{Constraint}
 use Rattle.sheet.specs.declared.Opening.TheVariants.{Pf01}
 use Rattle.sheet.specs.Facts.{blank_element}
-use Rattle.sheet.specs.Rules.{elements_in_range, kinds_allowed, radii_in_range, stands, size_fault, constraint_fault, constraints_fault, elements_fault}
+use Rattle.sheet.specs.Rules.{elements_in_range, kinds_allowed, radii_in_range, stands}
+use Rattle.sheet.specs.Rules.{size_fault, constraint_fault, constraints_fault, elements_fault}
 use Rattle.sheet.specs.Rules.Laws.{elements-range, stands-more, none-else}
 use Rattle.sheet.specs.Accepted.{Accepted}
 use Rattle.sheet.specs.Accepted.Laws.{not-refused}

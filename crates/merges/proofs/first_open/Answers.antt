@@ -1,79 +1,49 @@
 -- `merges::first_open` meets its contract: what it finds is tested, and by `Finding` it is the first. Assumes nothing.
-use Rattle.std.specs.Prelude.{◌/◌, ◌%◌, ◌<◌}
-use Rattle.theory.specs.Prelude.{sym, ◌∙◌, subst, arith, T}
+use Rattle.std.specs.Prelude.{◌/◌, ◌%◌}
+use Rattle.theory.specs.Prelude.{sym, ap, ◌∙◌, subst, arith, T}
 use Rattle.theory.specs.Merge.{slot, merge}
 use Rattle.theory.specs.Merge.Threes.{open_at}
 use Rattle.theory.specs.Plan.Laws.{first_is}
 use Rattle.theory.specs.Plan.Search.{open-test, test-open}
+use Rattle.merges.specs.Search.{hit_of}
 use Rattle.merges.proofs.Finding.{none_found, chosen-first, chosen-used}
 use Rattle.merges.proofs.first_open.Goals as goal
+use Rattle.merges.proofs.first_open.Goals.{else-i-j-via-then-i-j+then-j-k+then-k-used+else-open3, else-i-j-via-then-i-j+then-j-k+else-k-used}
+use Rattle.merges.proofs.first_open.Goals.{else-i-j-via-then-i-j+else-j-k, else-i-j-via-else-i-j}
 
-pub returns-then-i-ge-CLUSTERS : goal.returns-then-i-ge-CLUSTERS
-returns-then-i-ge-CLUSTERS c =
-    let e = c.lowest_reaching-r.ensures in
-    record { tested = tt; first = λ ready. none_found c.requires.0 e.lowest ready c.if-i-ge-CLUSTERS.true; kept = e.kept }
+pub returns-in_err-i-clause-first : goal.returns-in_err-i-clause-first
+returns-in_err-i-clause-first c ready =
+    ap hit_of c.from_residual.ensures ∙ none_found c.requires.0 c.in_err-i.ensures.lowest ready (omega arith)
 
-pub best-v-requires : goal.best-v-requires
-best-v-requires c = (c.lowest_reaching-r.ensures.outs (omega (arith, c.if-i-ge-CLUSTERS.false))).1
-
-pub returns-then-used-k : goal.returns-then-used-k
-returns-then-used-k c =
-    let e = c.lowest_reaching-r.ensures in
-    let outs = (e.outs (omega (arith, c.if-i-ge-CLUSTERS.false))).0 in
-    record {
-      tested = tt;
-      first = λ ready. let f = chosen-used c.requires.0 e.lowest ready outs c.best-v.ensures.0 in absurd (omega (arith, f, c.if-used-k.true));
-      kept = e.kept;
-    }
-
-pub returns-then-j-i : goal.returns-then-j-i
-returns-then-j-i c =
-    let e = c.lowest_reaching-r.ensures in
-    let outs = (e.outs (omega (arith, c.if-i-ge-CLUSTERS.false))).0 in
-    record {
-      tested = tt;
-      first = λ ready. let f = chosen-first c.requires.0 e.lowest ready outs c.best-v.ensures.0 in absurd (omega (arith, f.i<j, c.if-j-i.true));
-      kept = e.kept;
-    }
-
-pub returns-then-k-j : goal.returns-then-k-j
-returns-then-k-j c =
-    let e = c.lowest_reaching-r.ensures in
-    let outs = (e.outs (omega (arith, c.if-i-ge-CLUSTERS.false))).0 in
-    record {
-      tested = tt;
-      first = λ ready. let f = chosen-first c.requires.0 e.lowest ready outs c.best-v.ensures.0 in absurd (omega (arith, f.j<k, c.if-k-j.true));
-      kept = e.kept;
-    }
-
-pub returns-then-open3 : goal.returns-then-open3
-returns-then-open3 c =
+pub returns-then-open3-clause-tested : goal.returns-then-open3-clause-tested
+returns-then-open3-clause-tested c =
     let s = c.args.slots.now in
-    let e = c.lowest_reaching-r.ensures in
-    let i = c.lowest_reaching-r.result.cluster in
+    let i = c.in_ok-i.field-0.cluster in
     let v = c.best-v.result in
-    let outs = (e.outs (omega (arith, c.if-i-ge-CLUSTERS.false))).0 in
-    let l : i < v / 256 = omega (arith, c.if-j-i.false) in
-    let m : v / 256 < v % 256 = omega (arith, c.if-k-j.false) in
     let o = test-open (slot s i) (slot s (v / 256)) (slot s (v % 256)) (subst T (sym c.if-open3.true ∙ c.open3.ensures) tt) in
-    record {
-      tested = (l, m, omega (arith, c.if-used-k.false), open_at s (merge i (v / 256) (v % 256)) o);
-      first = λ ready. sym (first_is s (merge i (v / 256) (v % 256)) (chosen-first c.requires.0 e.lowest ready outs c.best-v.ensures.0));
-      kept = e.kept;
-    }
+    (c.if-i-j.true, c.if-j-k.true, c.if-k-used.true, open_at s (merge i (v / 256) (v % 256)) o)
 
-pub returns-else-open3 : goal.returns-else-open3
-returns-else-open3 c =
+pub returns-then-open3-clause-first : goal.returns-then-open3-clause-first
+returns-then-open3-clause-first c ready =
     let s = c.args.slots.now in
-    let e = c.lowest_reaching-r.ensures in
-    let i = c.lowest_reaching-r.result.cluster in
+    let i = c.in_ok-i.field-0.cluster in
     let v = c.best-v.result in
-    let outs = (e.outs (omega (arith, c.if-i-ge-CLUSTERS.false))).0 in
-    record {
-      tested = tt;
-      first = λ ready.
-          absurd (subst T (sym c.open3.ensures ∙ c.if-open3.false)
-          (open-test (slot s i) (slot s (v / 256)) (slot s (v % 256))
-          (chosen-first c.requires.0 e.lowest ready outs c.best-v.ensures.0).isopen.open3));
-      kept = e.kept;
-    }
+    let e = c.in_ok-i.ensures in
+    sym (first_is s (merge i (v / 256) (v % 256)) (chosen-first c.requires.0 e.lowest ready e.outs.1 c.best-v.ensures.0))
+
+pub returns-else-i-j-clause-first : goal.returns-else-i-j-clause-first
+returns-else-i-j-clause-first c ready =
+    let s = c.args.slots.now in
+    let i = c.in_ok-i.field-0.cluster in
+    let v = c.best-v.result in
+    let e = c.in_ok-i.ensures in
+    let f = chosen-first c.requires.0 e.lowest ready e.outs.1 c.best-v.ensures.0 in
+    elim c.else-i-j.branch [
+      | else-i-j-via-then-i-j+then-j-k+then-k-used+else-open3 w ↦ absurd (subst T (sym w.open3.ensures ∙ w.if-open3.false)
+          (open-test (slot s i) (slot s (v / 256)) (slot s (v % 256)) f.isopen.open3))
+      | else-i-j-via-then-i-j+then-j-k+else-k-used w ↦
+          let below = chosen-used c.requires.0 e.lowest ready e.outs.1 c.best-v.ensures.0 in
+          absurd (omega (arith, below, w.if-k-used.false))
+      | else-i-j-via-then-i-j+else-j-k w ↦ absurd (omega (arith, f.j<k, w.if-j-k.false))
+      | else-i-j-via-else-i-j w ↦ absurd (omega (arith, f.i<j, w.if-i-j.false))
+    ]

@@ -4,14 +4,8 @@ use Rattle.merges.specs.Search.Laws.{lent-begins}
 use Rattle.merges.proofs.Running.{planned-same}
 use Rattle.merges.proofs.merge_into.Goals as goal
 
-pub lay-requires : goal.lay-requires
-lay-requires c = (c.requires.0, c.requires.1.slots_blank)
-
-pub merge_on-halt-requires : goal.merge_on-halt-requires
-merge_on-halt-requires c = let b = c in
-    let (starts, blank) = b.requires in
-    lent-begins starts blank b.lay.ensures
+pub merge_on-requires : goal.merge_on-requires
+merge_on-requires c = lent-begins c.requires.0 c.requires.1 c.lay.ensures
 
 pub returns : goal.returns
-returns c = let b = c in
-    planned-same (begin-same b.requires.0 b.lay.ensures) c.merge_on-halt.ensures.planned
+returns c = planned-same (begin-same c.requires.0 c.lay.ensures) c.merge_on.ensures.planned

@@ -1,21 +1,21 @@
 -- Laws of the choice: one pair more among all elements, pairs of tight sets, and the choice of numbers. Assumes nothing.
-use Rattle.std.specs.Prelude.{◌≡◌, ◌≢◌, ◌∷◌, ◌+◌, ◌*◌, ◌-◌, ◌/◌, ◌%◌, ◌^◌, ◌≤◌, ◌<◌}
+use Rattle.std.specs.Prelude.{◌≡◌, ◌∷◌, ◌+◌, ◌*◌, ◌/◌, ◌%◌, ◌^◌, ◌≤◌, ◌<◌}
 use Rattle.theory.specs.Prelude.{refl, sym, ap, ap₂, ◌∙◌, subst, inl, inr, ⊎_elim, Bool, true, false, List, [], map, ℕ}
-use Rattle.theory.specs.Prelude.{arith, ℕ_discrete, bit_and, ones, length, get_or, set, length-set, get_or-set_same}
+use Rattle.theory.specs.Prelude.{arith, ℕ_discrete, ones, length, get_or, set, length-set, get_or-set_same}
 use Rattle.theory.specs.Prelude.{get_or-set_other}
-use Rattle.theory.specs.Set.{◌∈◌, ◌∩◌, ◌∪◌, ◌⊑◌, at, full}
+use Rattle.theory.specs.Set.{◌∈◌, ◌∩◌, ◌∪◌, at, full}
 use Rattle.theory.specs.Set.Laws.{⊑⇒size≤, a∩b⊑a, below-full, two_in, ∈-∪⁻, at_zero}
 use Rattle.theory.specs.Constraints.{pair, Pairs, Below, has, carried, NotOver, NotOverIn}
 use Rattle.theory.specs.Constraints.Laws.{has_in, carried-cut, not-over-in, pair-in, pair_comm, size-pair, pair-below}
-use Rattle.theory.specs.Over.{IsOver, is_over}
+use Rattle.theory.specs.Over.{IsOver, Smallest, is_over}
 use Rattle.theory.specs.Over.Laws.{more-over, over-is_over, fine-is_over}
 use Rattle.theory.specs.Completion.{Offer, ◌∈◌ as ◌∈ᵒ◌, cluster}
 use Rattle.theory.specs.Completion.Rank.{Exact}
 use Rattle.theory.specs.Completion.Laws.{exact-kept, next-carried}
 use Rattle.theory.specs.Choice.{choose}
-use Rattle.sparsity.specs.Answer.{Using, More, Took}
+use Rattle.sparsity.specs.Answer.{Using, More}
 use Rattle.missing.specs.Missing.{number}
-use Rattle.missing.specs.Choosing.{pair_at, choose_numbers, Numbered, Tied, Held, Tried}
+use Rattle.missing.specs.Choosing.{pair_at, choose_numbers, Numbered, Tied, Held}
 
 -- ---- one pair more among all 64 elements
 
@@ -35,11 +35,6 @@ more-whole {old} {new} {m} more pairs below low small = record {
 }
 
 -- ---- pairs of tight sets
-
--- a set without its lowest element
-pub fewer : (a : ℕ) → bit_and a (a - 1) ⊑ a
-unfolding ◌∩◌
-fewer a = a∩b⊑a a (a - 1)
 
 pub tied-more : (cs tied : List ℕ) (s x : ℕ) → x ∈ s → Exact cs s → Tied cs tied → Tied cs (set tied x (get_or tied x 0 ∪ s))
 tied-more cs tied s x xs e t = record { places = length-set tied x (get_or tied x 0 ∪ s) ∙ t.places; tight = λ y z l i. go y z l i (ℕ_discrete y x) }
@@ -100,25 +95,25 @@ module _ {cs : List ℕ} {own : List (List ℕ)} {tied : List ℕ} {a b : ℕ} (
     more = omega (arith, r.3, has_in m r.0 (pair-in a b r.0 r.1 r.2));
   }
 
-  -- a pair that the search looked at, its ends the other way round
-  module _ {own' : List (List ℕ)} {over : ℕ}
-      (took : (old new : List ℕ) (u : ℕ) → Using old u own → More old new (pair b a) u → Took old new (pair b a) u own' over) where
-    took-held : Took cs (m ∷ cs) m (full 64) own' over
-    took-held =
-        subst (λ (z : ℕ). Took cs (m ∷ cs) z (full 64) own' over) (pair_comm b a)
-        (took cs (m ∷ cs) (full 64) h.uses (subst (λ (z : ℕ). More cs (m ∷ cs) z (full 64)) (pair_comm a b) more-held))
+  -- what the search says of a pair, its ends the other way round
+  turned : (P : List ℕ → List ℕ → ℕ → ℕ → Type 0)
+      → ((old new : List ℕ) (u : ℕ) → Using old u own → More old new (pair b a) u → P old new (pair b a) u) → P cs (m ∷ cs) m (full 64)
+  turned P says =
+      subst (λ (z : ℕ). P cs (m ∷ cs) z (full 64)) (pair_comm b a)
+      (says cs (m ∷ cs) (full 64) h.uses (subst (λ (z : ℕ). More cs (m ∷ cs) z (full 64)) (pair_comm a b) more-held))
 
-    pub tried-taken : over ≡ 0 → Tried cs m own' tied over
-    tried-taken z = let u = took-held.taken z in record {
-      taken = λ e. record { pairs = more-pairs; below = more-below; uses = u; known = tied-kept cs tied m u.fine h.known };
-      refused = λ e. absurd (e z);
-    }
+  pub tried-taken : {new : List (List ℕ)} → ((old more : List ℕ) (u : ℕ) → Using old u own → More old more (pair b a) u → Using more u new)
+      → Held (m ∷ cs) new tied
+  tried-taken {new} says =
+      let u = turned (λ old more p u. Using more u new) says in
+      record { pairs = more-pairs; below = more-below; uses = u; known = tied-kept cs tied m u.fine h.known }
 
-    pub tried-over : over ≢ 0 → {tied' : List ℕ} → (Exact cs over → Tied cs tied → Tied cs tied') → Tried cs m own' tied' over
-    tried-over n w = let u = took-held.refused n in record {
-      taken = λ e. absurd (n e);
-      refused = λ e. (record { pairs = h.pairs; below = h.below; uses = u.0; known = w u.2.tight.exact h.known }, u.1);
-    }
+  pub tried-over : {over : ℕ}
+      → ((old more : List ℕ) (u : ℕ) → Using old u own → More old more (pair b a) u → IsOver more × Smallest old (pair b a) over)
+      → {tied' : List ℕ} → (Exact cs over → Tied cs tied → Tied cs tied') → Held cs own tied' × IsOver (m ∷ cs)
+  tried-over {over} says w =
+      let o = turned (λ old more p u. IsOver more × Smallest old p over) says in
+      (record { pairs = h.pairs; below = h.below; uses = h.uses; known = w o.1.tight.exact h.known }, o.0)
 
 -- ---- the choice of numbers
 

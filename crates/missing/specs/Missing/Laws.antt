@@ -1,12 +1,11 @@
 -- The answer is the cheapest list, of which there is one, or 23 where there is none. Assumes nothing.
 use Rattle.std.specs.Prelude.{◌≡◌, ◌≢◌, ◌∷◌, ◌+◌, ◌*◌, ◌≤◌}
 use Rattle.theory.specs.Prelude.{refl, sym, ap, ◌∙◌, subst, inl, inr, Bool, true, false, List, [], map, Option, none, some, ℕ}
-use Rattle.theory.specs.Prelude.{arith, eq-eqb, ne_eqb, T, eqb, eqb→eq, length}
+use Rattle.theory.specs.Prelude.{arith, eq-eqb, ne_eqb, T, eqb, eqb→eq, length, length-map}
 use Rattle.theory.specs.Constraints.{Among, Pairs, Below, NotOver}
 use Rattle.theory.specs.Graph.{Graph}
 use Rattle.sheet.specs.Field.{Field, value, refused, demand}
 use Rattle.sheet.specs.Refusals.{Rule, By, given, ruled}
-use Rattle.missing.specs.Links.Order.{length-map}
 use Rattle.theory.specs.Completion.{Offer, ◌∈◌}
 use Rattle.theory.specs.Completion.Laws.{cheapest-one}
 use Rattle.theory.specs.Choice.{prices_allowed, offers, chosen, cheapest}
@@ -82,7 +81,7 @@ module _ (g : Graph) (prices : List ℕ) where
       by true true true q z =
           let same : map number (chosen g prices) ≡ items = cc in
           let full = eqb→eq (length g.clusters + length (chosen g prices) + 3) (2 * g.n) (subst T (sym q) tt) in
-          omega (arith, ap length same, length-map (chosen g prices), full)
+          omega (arith, ap length same, length-map (chosen g prices) number, full)
 
   pub by-rules : By (Rule 21 23) (cheapest_field g prices)
   unfolding cheapest_field

@@ -7,8 +7,8 @@ use Rattle.sheet.specs.Field.Laws.{refused-value}
 use Rattle.report.specs.Report.{step_lines}
 use Rattle.report.specs.Block.{Stands}
 use Rattle.part.specs.declared.Tally.{Tally}
-use Rattle.part.specs.declared.Measured.{Measured}
-use Rattle.part.specs.declared.Measured.TheVariants.{Is, Refused}
+use Rattle.part.specs.Measured.{Measured}
+use Rattle.part.specs.Measured.{Is, Refused}
 use Rattle.part.specs.Tallies.{Listed, nothing, tally_of, measure_of, Tallied}
 
 -- a measure of steps, and a refusal

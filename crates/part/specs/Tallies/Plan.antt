@@ -19,15 +19,15 @@ use Rattle.merges.specs.Run.Laws.{length-final}
 use Rattle.engine.specs.Steps.{step_from, step_at, blank_step}
 use Rattle.engine.specs.Steps.Laws.{read-lists, steps-from}
 use Rattle.judge.specs.declared.Found.{Found}
-use Rattle.judge.specs.Found.{JudgedIn}
-use Rattle.judge.specs.Found.Laws.{PlanFound}
+use Rattle.judge.specs.Found.{FoundIn}
+use Rattle.judge.specs.Found.Laws.{PlanFound, found-plan}
 use Rattle.report.specs.Report.{step_lines}
 use Rattle.report.specs.Report.Bound.{Modest, AllModest, steps-short, modest-steps}
 use Rattle.part.specs.Part.{part_steps_of, plan_step, cluster_steps, held_field}
 use Rattle.part.specs.Part.Laws.{part_same, part-all}
 use Rattle.part.specs.Part.Count.{Counted, counted_start, counted-run}
 use Rattle.part.specs.declared.Tally.{Tally}
-use Rattle.part.specs.declared.Measured.TheVariants.{Is}
+use Rattle.part.specs.Measured.{Is}
 use Rattle.part.specs.Tallies.{Lower, Listed, Room, nothing, Tallied}
 use Rattle.part.specs.Tallies.Laws.{lines-append, lines_none, listed-as, room_as}
 use Rattle.part.specs.Tallies.Answers.{tallied-listed}
@@ -98,7 +98,7 @@ module _ (g : SizedGraph) (pairs : Pairs g.graph.clusters) where
 -- ---- in arrays
 
 module _ {h : Head} {near start : List ℕ} (sizes : List ℤ) (d : Drawn h near start) {f : Found} {parts knots slots : List ℕ}
-    (j : JudgedIn (graph_in h start) f parts knots slots) (found : PlanFound _ j) where
+    (j : FoundIn (graph_in h start) f parts knots slots) where
   abbrev held_graph : SizedGraph
   held_graph = sized_in h start sizes
 
@@ -110,6 +110,9 @@ module _ {h : Head} {near start : List ℕ} (sizes : List ℤ) (d : Drawn h near
 
   pairs-held : Pairs cs
   pairs-held = d.sound.simple.pairs
+
+  found : PlanFound (graph_in h start) j
+  found = found-plan _ d.sound j
 
   pub steps_are : f.steps ≡ length (plan_of cs)
   unfolding run_of

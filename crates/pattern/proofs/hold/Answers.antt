@@ -1,49 +1,52 @@
 -- `pattern::hold` meets its contract: 11 of the graph that is read, else the sheet out of the arrays. Assumes nothing.
-use Rattle.std.specs.Prelude.{◌≡◌}
-use Rattle.theory.specs.Prelude.{refl, sym, ap, ◌∙◌}
+use Rattle.std.specs.Prelude.{◌≡◌, Ok, Err}
+use Rattle.theory.specs.Rule.{by_number, rule_number}
+use Rattle.theory.specs.Rule.Laws.{rule-some as number-some}
+use Rattle.theory.specs.Prelude.{rules, refl, sym, ap, ◌∙◌}
 use Rattle.sheet.specs.declared.Sheet.{Sheet}
+use Rattle.sheet.specs.Field.{value}
 use Rattle.sheet.specs.Graph.{graph_of, over_fault}
 use Rattle.sheet.specs.Answer.Laws.{rule-some}
 use Rattle.graph.specs.declared.Head.{Head}
 use Rattle.graph.specs.Lent.{graph_in}
-use Rattle.reader.specs.declared.Outcome.TheVariants.{Accepted}
 use Rattle.reader.specs.Answers.{as_reading}
 use Rattle.pattern.specs.Entries.{held_sheet}
-use Rattle.pattern.specs.Entries.Reading.{refused-sheet, sheet-found}
+use Rattle.pattern.specs.Entries.Reading.{sheet-found}
 use Rattle.pattern.proofs.hold.Goals as goal
 
-pub read_codes-got-requires : goal.read_codes-got-requires
-read_codes-got-requires c = (refl, refl, refl, refl)
+pub read_codes-requires : goal.read_codes-requires
+read_codes-requires c = (refl, refl, refl, refl)
 
-pub returns-in_default : goal.returns-in_default
+pub returns-in_err-front : goal.returns-in_err-front
 unfolding held_sheet
-returns-in_default c = rw (refused-sheet _ _ _ _ _ _ c.read_codes-got.ensures c.in_default.is
-    c.refusal.ensures)
-    c.refuse.ensures
+returns-in_err-front c =
+    let passed : by_number c.from_residual.result ≡ Err (rule_number c.in_err-front.field-0.0) = search rules in
+    rw (passed, c.in_err-front.ensures)
 
-pub over_fault-over-requires : goal.over_fault-over-requires
-over_fault-over-requires c = rw c.head_of.ensures (sheet-found c.args.bytes.now _ _ _ _ _ c.read_codes-got.ensures c.in-Value.is).drawn_is
+pub check_over-requires : goal.check_over-requires
+check_over-requires c = rw c.head_of-head.ensures (sheet-found c.in_ok-front.ensures).drawn_is
 
-pub returns-then-over-ne0 : goal.returns-then-over-ne0
+pub returns-in_err-check_over : goal.returns-in_err-check_over
 unfolding held_sheet
-returns-then-over-ne0 c =
-    let f = sheet-found c.args.bytes.now _ _ _ _ _ c.read_codes-got.ensures c.in-Value.is in
-    let over-is : c.over_fault-over.result ≡ over_fault (graph_of f.facts) =
-    c.over_fault-over.ensures
-    ∙ ap over_fault (ap (λ (h : Head). graph_in h c.read_codes-got.new.start) c.head_of.ensures ∙ f.graph_read) in
-    rw f.reads (c.refuse-then-over-ne0.ensures ∙ ap as_reading (sym (rule-some _ _ over-is c.if-over-ne0.true)))
+returns-in_err-check_over c =
+    let f = sheet-found c.in_ok-front.ensures in
+    let over-is : rule_number c.in_err-check_over.field-0.0 ≡ over_fault (graph_of f.facts) =
+    c.in_err-check_over.ensures
+    ∙ ap over_fault (ap (λ (h : Head). graph_in h c.read_codes.new.start) c.head_of-head.ensures ∙ f.graph_read) in
+    let passed : by_number c.from_residual-in_err-check_over.result ≡ Err (rule_number c.in_err-check_over.field-0.0) = search rules in
+    rw (passed, f.reads) (ap as_reading (sym (rule-some (value f.facts f.rest) _ over-is (number-some _))))
 
-pub sheet_of-sheet-requires : goal.sheet_of-sheet-requires
-sheet_of-sheet-requires c =
-    let d = (sheet-found c.args.bytes.now _ _ _ _ _ c.read_codes-got.ensures c.in-Value.is).drawn_is in
+pub sheet_of-requires : goal.sheet_of-requires
+sheet_of-requires c =
+    let d = (sheet-found c.in_ok-front.ensures).drawn_is in
     (d.sound.most, d.few)
 
 pub returns : goal.returns
 unfolding held_sheet
 returns c =
-    let f = sheet-found c.args.bytes.now _ _ _ _ _ c.read_codes-got.ensures c.in-Value.is in
-    let over-is : c.over_fault-over.result ≡ over_fault (graph_of f.facts) =
-    c.over_fault-over.ensures
-    ∙ ap over_fault (ap (λ (h : Head). graph_in h c.read_codes-got.new.start) c.head_of.ensures ∙ f.graph_read) in
-    rw (f.reads, sym over-is ∙ c.if-over-ne0.false)
-    (ap (λ (s : Sheet). record { outcome = Accepted; sheet = s }) (c.sheet_of-sheet.ensures f.facts _ f.sheet_in))
+    let f = sheet-found c.in_ok-front.ensures in
+    let over-is : 0 ≡ over_fault (graph_of f.facts) =
+    c.in_ok-check_over.ensures
+    ∙ ap over_fault (ap (λ (h : Head). graph_in h c.read_codes.new.start) c.head_of-head.ensures ∙ f.graph_read) in
+    rw (f.reads, sym over-is)
+    (ap (λ (s : Sheet). Ok s) (c.sheet_of.ensures f.facts _ f.sheet_in))

@@ -1,15 +1,16 @@
 -- `pattern::missing` meets its contract: 11 and the rules of the price list, of the graph that is read. Assumes nothing.
-use Rattle.std.specs.Prelude.{◌≡◌}
-use Rattle.theory.specs.Prelude.{ℕ, refl, subst, List}
+use Rattle.std.specs.Prelude.{◌≡◌, Err}
+use Rattle.theory.specs.Rule.{by_number, rule_number}
+use Rattle.theory.specs.Prelude.{rules, ℕ, refl, subst, List}
 use Rattle.theory.specs.Graph.{Graph}
 use Rattle.sheet.specs.Answer.{by_rule, Answers}
-use Rattle.space.specs.declared.Written.{Written}
+use Rattle.space.specs.Written.{Written}
 use Rattle.sheet.specs.Graph.{graph_of, over_fault}
 use Rattle.sheet.specs.Field.{value}
 use Rattle.sheet.specs.Answer.Laws.{next-rule, answers-refused}
 use Rattle.missing.specs.Missing.{cheapest_field}
 use Rattle.pattern.specs.Entries.{held_sheet}
-use Rattle.pattern.specs.Entries.Reading.{refused-read, facts-read}
+use Rattle.pattern.specs.Entries.Reading.{facts-read}
 use Rattle.pattern.proofs.missing.Goals as goal
 
 -- the answer goes by the graph alone
@@ -18,20 +19,22 @@ by-graph : (prices : List ℕ) {g g' : Graph} {space left : List ℕ} {r : Writt
     → Answers (by_rule (over_fault g') (cheapest_field g' prices)) space r left
 by-graph prices {space = space} {left} {r} e h = subst (λ (x : Graph). Answers (by_rule (over_fault x) (cheapest_field x prices)) space r left) e h
 
-pub read_graph-got-requires : goal.read_graph-got-requires
-read_graph-got-requires c = (refl, refl, refl)
+pub read_graph-requires : goal.read_graph-requires
+read_graph-requires c = (refl, refl, refl)
 
-pub returns-in_default : goal.returns-in_default
+pub returns-in_err-head : goal.returns-in_err-head
 unfolding held_sheet
-returns-in_default c = answers-refused (rw (refused-read _ _ _ _ _ c.read_graph-got.ensures c.in_default.is c.refusal.ensures))
+returns-in_err-head c =
+    let passed : by_number c.from_residual.result ≡ Err (rule_number c.in_err-head.field-0.0) = search rules in
+    rw passed (answers-refused (rw c.in_err-head.ensures))
 
 pub missing-requires : goal.missing-requires
-missing-requires c = (facts-read c.args.bytes.now _ _ _ _ c.read_graph-got.ensures c.in-Value.is).drawn_is
+missing-requires c = (facts-read c.in_ok-head.ensures).drawn_is
 
 pub returns : goal.returns
 unfolding held_sheet
 returns c =
-    let read = facts-read c.args.bytes.now _ _ _ _ c.read_graph-got.ensures c.in-Value.is in
+    let read = facts-read c.in_ok-head.ensures in
     let a = c.args in
     let f = read in
     rw (

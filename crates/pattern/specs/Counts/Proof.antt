@@ -11,8 +11,8 @@ use Rattle.theory.specs.Plan.Laws.{plan-of-maximal}
 use Rattle.theory.specs.Graph.{Graph, finding_of, steps_of}
 use Rattle.theory.specs.Graph.Laws.{length-steps}
 use Rattle.theory.specs.declared.Step.{Step}
-use Rattle.theory.specs.declared.Finding.{Finding}
-use Rattle.theory.specs.declared.Finding.TheVariants.{Fine, First}
+use Rattle.theory.specs.Finding.{Finding}
+use Rattle.theory.specs.Finding.{Fine, First}
 use Rattle.sheet.specs.declared.Opening.TheVariants.{Pf01}
 use Rattle.sheet.specs.Facts.{Facts, facts_of, blank_element}
 use Rattle.sheet.specs.Field.{Field, value, refused, next, kind_bytes, Bytes}
@@ -42,7 +42,7 @@ use Rattle.sketch.specs.Sketch.{by27}
 use Rattle.sketch.specs.Sketch.Laws.{few-held}
 use Rattle.records.specs.Record.{record_bytes, record_sheet, place_field, held_record, sheet_field}
 use Rattle.held.specs.Held.{held_count_of}
-use Rattle.space.specs.declared.Written.TheVariants.{Done}
+use Rattle.space.specs.Written.{Done}
 use Rattle.records.specs.Record.Laws.{record-accepted, sheet-short}
 use Rattle.records.specs.Record.Room.{held-length, record-room, by27-none, placed-room}
 use Rattle.account.specs.Account.{list_report, report_of, saved_fault}

@@ -9,7 +9,7 @@ use Rattle.sheet.specs.Graph.{graph_of, over_fault}
 use Rattle.sheet.specs.Answer.{by_rule}
 use Rattle.sheet.specs.Answer.Laws.{next-rule}
 use Rattle.chain.specs.Answer.{asked, ChainAnswers}
-use Rattle.chain.specs.declared.Answer.{Answer}
+use Rattle.chain.specs.Says.{Answer}
 use Rattle.pattern.specs.Entries.{held_sheet, chain_field}
 
 module _ (bytes : List ℕ) (u v : ℕ) where

@@ -4,7 +4,7 @@ use Rattle.theory.specs.Prelude.{ℕ, refl, sym, ap, ◌∙◌, Bool, true, fals
 use Rattle.theory.specs.Graph.{SizedGraph}
 use Rattle.theory.specs.Plan.{plan_of}
 use Rattle.theory.specs.declared.Step.{Step}
-use Rattle.space.specs.declared.Written.TheVariants.{Done, Refused}
+use Rattle.space.specs.Written.{Done, Refused}
 use Rattle.sheet.specs.Facts.{Facts}
 use Rattle.sheet.specs.Field.{Field, value, Bytes}
 use Rattle.sheet.specs.Field.Laws.{next-value, refused-value}
@@ -17,8 +17,8 @@ use Rattle.sheet.specs.Graph.Laws.{fault-none}
 use Rattle.graph.specs.Lent.Sheets.{accepted-sound, found-fine}
 use Rattle.report.specs.Report.{step_lines}
 use Rattle.part.specs.declared.Tally.{Tally}
-use Rattle.part.specs.declared.Measured.{Measured}
-use Rattle.part.specs.declared.Measured.TheVariants.{Is, Refused as Not}
+use Rattle.part.specs.Measured.{Measured}
+use Rattle.part.specs.Measured.{Is, Refused as Not}
 use Rattle.part.specs.Part.{cluster_steps, cluster_field, held_field, lines_field}
 use Rattle.part.specs.Tallies.Plan.{short-plan}
 use Rattle.part.specs.Tallies.{measure_of}

@@ -7,10 +7,10 @@ use Rattle.theory.specs.Plan.{plan_of}
 use Rattle.theory.specs.Plan.Laws.{plan-of-maximal}
 use Rattle.theory.specs.Graph.{verdict_of}
 use Rattle.theory.specs.Graph.Laws.{not-over-fine}
-use Rattle.theory.specs.declared.Finding.{Finding}
+use Rattle.theory.specs.Finding.{Finding}
 use Rattle.theory.specs.declared.Verdict.TheVariants.{Over}
 use Rattle.space.specs.Space.{after}
-use Rattle.space.specs.declared.Written.TheVariants.{Done}
+use Rattle.space.specs.Written.{Done}
 use Rattle.sheet.specs.declared.Sheet.{Sheet}
 use Rattle.sheet.specs.Facts.{Facts, sheet_of, facts_of}
 use Rattle.sheet.specs.Field.{Field, value, Bytes}

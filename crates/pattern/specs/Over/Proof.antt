@@ -9,12 +9,12 @@ use Rattle.theory.specs.Over.Laws.{over_of-first}
 use Rattle.theory.specs.Plan.{plan_of, ascending}
 use Rattle.theory.specs.Graph.{Graph, finding_of, list_verdict, verdict_of}
 use Rattle.theory.specs.Graph.Laws.{first-verdict, fine-not-over, over-verdict, verdict-over, list-not-over}
-use Rattle.theory.specs.declared.Finding.{Finding}
-use Rattle.theory.specs.declared.Finding.TheVariants.{Fine, First}
+use Rattle.theory.specs.Finding.{Finding}
+use Rattle.theory.specs.Finding.{Fine, First}
 use Rattle.theory.specs.declared.Step.{Step}
 use Rattle.theory.specs.declared.Verdict.{Verdict}
 use Rattle.theory.specs.declared.Verdict.TheVariants.{Over, Angle, Well, Stuck, Under}
-use Rattle.space.specs.declared.Written.TheVariants.{Done, Refused}
+use Rattle.space.specs.Written.{Done, Refused}
 use Rattle.space.specs.Space.{answer}
 use Rattle.sheet.specs.declared.Constraint.{Constraint}
 use Rattle.sheet.specs.declared.Sheet.{Sheet}
@@ -41,8 +41,8 @@ use Rattle.chain.specs.Answer.{asked, ends_fault}
 use Rattle.missing.specs.Missing.{cheapest_field}
 use Rattle.missing.specs.Missing.Laws.{by-rules}
 use Rattle.opens.specs.Opens.{open_field}
-use Rattle.sketch.specs.declared.Judgement.{Judgement}
-use Rattle.sketch.specs.declared.Judgement.TheVariants.{Is, Refused as Not}
+use Rattle.sketch.specs.Judgement.{Judgement}
+use Rattle.sketch.specs.Judgement.{Is, Refused as Not}
 use Rattle.sketch.specs.Sketch.{extended, next_fault, as_judged}
 use Rattle.sketch.specs.Sketch.Laws.{extended_none, judged-not}
 use Rattle.sketch.specs.Runs.{Held}

@@ -3,7 +3,7 @@ use Rattle.std.specs.Prelude.{◌≤◌, ◌<◌, ◌≡◌}
 use Rattle.theory.specs.Prelude.{ℕ, arith, lt-ltb, le-ltb, refl, ap, ◌∙◌, Bool, true, false, cond, List}
 use Rattle.theory.specs.Prelude.{[], ltb, length}
 use Rattle.theory.specs.declared.Step.{Step}
-use Rattle.space.specs.declared.Written.TheVariants.{Done, Refused}
+use Rattle.space.specs.Written.{Written, Done, Refused}
 use Rattle.space.specs.Space.{answer, after}
 use Rattle.space.specs.Space.Laws.{long-answer}
 use Rattle.sheet.specs.Facts.{Facts}
@@ -29,7 +29,7 @@ written : (x : Field (List ℕ)) (space : List ℕ) (n : ℕ) → answer_to x sp
 unfolding answer
 written (value items rest) space n e = by (ltb (length space) (length items)) e
   where
-    by : (b : Bool) → cond b (Refused 17) (Done (length items)) ≡ Done n → Done (length items) ≡ Done n
+    by : (b : Bool) → cond {A = Written} b (Refused 17) (Done (length items)) ≡ Done n → count_of (value items rest) ≡ Done n
     by true h = absurd (let z : ◌≡◌ {A = ℕ} 0 1 = cc in omega arith)
     by false h = h
 written (refused k) space n e = e

@@ -9,7 +9,7 @@ use Rattle.theory.specs.Plan.{plan_of}
 use Rattle.theory.specs.Plan.Laws.{plan-of-maximal}
 use Rattle.theory.specs.Graph.{verdict_of}
 use Rattle.theory.specs.Graph.Laws.{not-over-fine}
-use Rattle.theory.specs.declared.Finding.{Finding}
+use Rattle.theory.specs.Finding.{Finding}
 use Rattle.theory.specs.declared.Verdict.TheVariants.{Over}
 use Rattle.sheet.specs.Facts.{Facts, sheet_of, facts_of}
 use Rattle.sheet.specs.Field.{Field, value}

@@ -15,7 +15,7 @@ use Rattle.theory.specs.Verdict.Laws.{judged-meets, under-below, stuck-several}
 use Rattle.theory.specs.Graph.{Graph, list_verdict, verdict_of}
 use Rattle.theory.specs.Graph.Laws.{not-over-fine, verdict-fine}
 use Rattle.theory.specs.Graph.Laws.{verdict-every}
-use Rattle.theory.specs.declared.Finding.{Finding}
+use Rattle.theory.specs.Finding.{Finding}
 use Rattle.theory.specs.declared.Verdict.{Verdict}
 use Rattle.theory.specs.declared.Verdict.TheVariants.{Over, Stuck, Under}
 use Rattle.sheet.specs.Answer.{by_rule}

@@ -34,9 +34,11 @@ module _ (bytes rest : List ℕ) (f : Facts) (all : Bytes bytes) (reads : read_s
   returned =
       let w = facts-written ∙ ap (λ (b : List ℕ). value b []) (written_read bytes f rest all reads).1 in
       record {
-        written = rw reads w;
+        sheet = sheet_of f;
+        is_read = rw reads;
+        written = w;
         rewritten = rw reads;
-        same = λ u. rw reads (w ∙ ap (λ (b : List ℕ). value b []) (untagged-same bytes u));
+        same = λ u. w ∙ ap (λ (b : List ℕ). value b []) (untagged-same bytes u);
       }
 
 pub read-write : ReadWrite

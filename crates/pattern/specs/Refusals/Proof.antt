@@ -2,11 +2,11 @@
 use Rattle.std.specs.Prelude.{◌≤◌, ◌<◌, ◌≡◌, ◌↔◌, ◌⊎◌, ◌&&◌, ◌∷◌}
 use Rattle.theory.specs.Prelude.{ℕ, zero, suc, dec_lt, arith, ltb-true, refl, sym, ◌∙◌, subst, inl, inr, Bool, true, false, cond, List}
 use Rattle.theory.specs.Prelude.{[], eqb, ltb, Option, none, some, length}
-use Rattle.theory.specs.declared.Finding.{Finding}
-use Rattle.theory.specs.declared.Finding.TheVariants.{Fine, First}
+use Rattle.theory.specs.Finding.{Finding}
+use Rattle.theory.specs.Finding.{Fine, First}
 use Rattle.theory.specs.Graph.{Graph, finding_of, verdict_of, steps_of}
 use Rattle.theory.specs.declared.Step.{Step}
-use Rattle.space.specs.declared.Written.TheVariants.{Done, Refused}
+use Rattle.space.specs.Written.{Done, Refused}
 use Rattle.space.specs.Space.{answer}
 use Rattle.space.specs.Space.Laws.{long-answer, put_refused}
 use Rattle.sheet.specs.declared.Constraint.{Constraint}
@@ -27,7 +27,7 @@ use Rattle.plans.specs.Check.{saved_steps_of, plan_fault}
 use Rattle.plans.specs.Check.Laws.{fault-range}
 use Rattle.theory.specs.declared.Verdict.{Verdict}
 use Rattle.theory.specs.Constraints.{Among}
-use Rattle.sketch.specs.declared.Judgement.TheVariants.{Is, Refused as Not}
+use Rattle.sketch.specs.Judgement.{Is, Refused as Not}
 use Rattle.sketch.specs.Sketch.{next_fault, by27, ask_fault, place_fault, ask_rule, place_rule, as_judged, ask_answer, place_answer}
 use Rattle.sketch.specs.Runs.Proof.{Rule as Told-rule, next-rule}
 use Rattle.records.specs.Record.{record_bytes, as27, counted, record_sheet, place_field, written_field, placed_in, held_record}
@@ -37,7 +37,7 @@ use Rattle.account.specs.Account.{list_report, report_of}
 use Rattle.steps.specs.Records.{filled_to}
 use Rattle.account.specs.Account.Room.{report-room}
 use Rattle.longest.specs.Longest.{longest_sheet, longest_field}
-use Rattle.chain.specs.declared.Answer.TheVariants.{Refused as No}
+use Rattle.chain.specs.Says.{Refused as No}
 use Rattle.chain.specs.Answer.{as_run, ends_fault, asked as chained, chain_to}
 use Rattle.missing.specs.Missing.Laws.{by-rules}
 use Rattle.pattern.specs.Entries.{report_field, held, held_sheet}

@@ -10,9 +10,6 @@ loop-i-init c = filling-none _ _ _ refl
 pub bounds-cs-i : goal.bounds-cs-i
 bounds-cs-i c = omega (arith, c.loop-i-test.true)
 
-pub loop-i-smaller : goal.loop-i-smaller
-loop-i-smaller c = omega (arith, c.loop-i.invariant.within)
-
 pub loop-i-preserved : goal.loop-i-preserved
 loop-i-preserved c = let a = c.args in
     let l = c.loop-i in

@@ -10,13 +10,10 @@ loop-i-init c = filling-none _ _ _ refl
 pub bounds-elements-i : goal.bounds-elements-i
 bounds-elements-i c = omega (arith, c.loop-i-test.true)
 
-pub loop-i-smaller : goal.loop-i-smaller
-loop-i-smaller c = omega (arith, c.loop-i.invariant.within)
-
 pub loop-i-preserved : goal.loop-i-preserved
 loop-i-preserved c = let a = c.args in
     let l = c.loop-i in
-    rw (c.kind_from-k.ensures, c.kind_number.ensures, c.radius_at.ensures)
+    rw (c.kind_from.ensures, c.kind_number.ensures, c.radius_at.ensures)
     (filling-more (element_in a.kinds.now a.radii.now) 64 l.i l.elements (omega (arith, c.loop-i-test.true))
     l.invariant)
 

@@ -13,9 +13,6 @@ returns-then-kind_number-gt2 c = let l = c.loop-i in
     sym (kinds-none c.args.kinds.now _ l.i c.loop-i-test.true
     (rw (← c.kind_number.ensures) c.if-kind_number-gt2.true))
 
-pub loop-i-smaller : goal.loop-i-smaller
-loop-i-smaller c = omega arith
-
 pub loop-i-preserved : goal.loop-i-preserved
 loop-i-preserved c = let l = c.loop-i in (
   omega (arith, c.loop-i-test.true),

@@ -14,5 +14,5 @@ returns c = let w = c.verdict_number in
     let a = c.args in
     let of = c.constraint_from-c.ensures
     ∙ ap (constraint_from a.first a.second a.map) (to_z-of_z {w = w32} {z = a.size} (search rules)) in
-    counted c.count.result w.result _ (record { sfits = c.count.type_inv }) c.count.ensures
+    counted c.count.result _ _ (record { sfits = c.count.type_inv }) c.count.ensures
     (w.ensures ∙ ap as_number (c.ask_in.ensures ∙ ap (λ (x : Constraint). as_judgement (ask_field a.lent.now x)) of))

@@ -1,11 +1,11 @@
 -- `pattern_c::pattern_card` meets its contract, as `pattern_verdict` does. Assumes nothing.
 use Rattle.theory.specs.Prelude.{ap, ◌∙◌}
-use Rattle.sketch.specs.declared.Judgement.TheVariants.{Is}
+use Rattle.sketch.specs.Judgement.{Is}
 use Rattle.pattern_c.specs.Numbers.{as_number}
 use Rattle.pattern_c.specs.Numbers.Laws.{counted}
 use Rattle.pattern_c.proofs.pattern_card.Goals as goal
 
 pub returns : goal.returns
 returns c = let w = c.verdict_number in
-    counted c.count.result w.result _ (record { sfits = c.count.type_inv }) c.count.ensures
-    (w.ensures ∙ ap as_number (ap Is c.card-is.ensures))
+    counted c.count.result _ _ (record { sfits = c.count.type_inv }) c.count.ensures
+    (w.ensures ∙ ap as_number (ap Is c.card.ensures))

@@ -3,6 +3,4 @@ use Rattle.pattern_c.specs.Numbers.Laws.{chain-counts}
 use Rattle.pattern_c.proofs.pattern_chain.Goals as goal
 
 pub returns : goal.returns
-returns c = chain-counts _ _ _ c.chain.result c.count.result _ (record { sfits = c.count.type_inv })
-    c.count.ensures
-    c.chain_items.ensures c.chain.ensures
+returns c = chain-counts _ _ _ _ c.count_chain.result (record { sfits = c.count_chain.type_inv }) c.count_chain.ensures c.chain.ensures

@@ -18,7 +18,7 @@ returns c = let w = c.verdict_number in
     let p = c.place_in.ensures in
     record {
       answer_is =
-          counted c.count.result w.result _ (record { sfits = c.count.type_inv }) c.count.ensures
+          counted c.count.result _ _ (record { sfits = c.count.type_inv }) c.count.ensures
           (w.ensures ∙ ap as_number (p.0 ∙ ap (λ (y : Constraint). placed_in (place_field a.lent.now y a.held) a.lent.now) of));
       left_is = p.1 ∙ ap (λ (y : Constraint). after_to (written_field (place_field a.lent.now y a.held)) a.lent.now) of;
     }

@@ -1,7 +1,7 @@
 -- No answer is cut at 2^31-1: its items are at most some thousand (`pattern` Counts). Assumes nothing.
 use Rattle.std.specs.Prelude.{◌<◌, ◌≡◌}
 use Rattle.theory.specs.Prelude.{ℕ, arith, List, lt-ltb, pos, length}
-use Rattle.space.specs.declared.Written.TheVariants.{Done}
+use Rattle.space.specs.Written.{Done}
 use Rattle.sheet.specs.Field.{Field, value}
 use Rattle.pattern.specs.Counts.{AtMost}
 use Rattle.pattern_c.specs.Numbers.{as_count}

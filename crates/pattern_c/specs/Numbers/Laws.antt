@@ -3,10 +3,10 @@ use Rattle.std.specs.Prelude.{◌<◌, ◌≡◌, ◌-ℤ◌}
 use Rattle.theory.specs.Prelude.{ℕ, zero, suc, arith, refl, ap, ◌∙◌, List, Option, lt-ltb, ℤ, pos, negsuc}
 use Rattle.std.specs.Int.{w32}
 use Rattle.std.proofs.Common.{SFits, to_z, of_z, to_z-of_z}
-use Rattle.space.specs.declared.Written.{Written}
+use Rattle.space.specs.Written.{Written}
 use Rattle.sheet.specs.Field.{Field}
 use Rattle.sheet.specs.Answer.{Answers}
-use Rattle.chain.specs.declared.Answer.{Answer}
+use Rattle.chain.specs.Says.{Answer}
 use Rattle.chain.specs.Answer.{ChainAnswers}
 use Rattle.pattern_c.specs.Numbers.{minus, as_count, AnswersCount, as_items, ChainCount}
 
@@ -26,7 +26,7 @@ pub counts : {x : Field (List ℕ)} {space left : List ℕ} (z : ℤ) (w : Writt
     → AnswersCount x space (to_z w32 (of_z w32 z)) left
 counts z w fits e a = record { answer_is = counted z w _ fits e a.answer_is; left_is = a.left_is }
 
-pub chain-counts : (x : Field (Option (List ℕ))) (space left : List ℕ) (a : Answer) (z : ℤ) (w : Written) → SFits w32 z → z ≡ as_count w
-    → w ≡ as_items a → ChainAnswers x space a left → ChainCount x space (to_z w32 (of_z w32 z)) left
-chain-counts x space left a z w fits e f h =
-    record { answer_is = counted z w _ fits e (f ∙ ap as_items h.answer_is); left_is = h.left_is }
+pub chain-counts : (x : Field (Option (List ℕ))) (space left : List ℕ) (a : Answer) (z : ℤ) → SFits w32 z → z ≡ as_count (as_items a)
+    → ChainAnswers x space a left → ChainCount x space (to_z w32 (of_z w32 z)) left
+chain-counts x space left a z fits e h =
+    record { answer_is = counted z _ _ fits e (ap as_items h.answer_is); left_is = h.left_is }

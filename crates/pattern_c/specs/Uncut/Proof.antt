@@ -6,13 +6,13 @@ use Rattle.theory.specs.Prelude.{lt-ltb, pos, Option, none, some, length}
 use Rattle.theory.specs.Verdict.{verdict_number}
 use Rattle.theory.specs.declared.Verdict.{Verdict}
 use Rattle.theory.specs.declared.Verdict.TheVariants.{Over, Angle, Well, Stuck, Under}
-use Rattle.space.specs.declared.Written.TheVariants.{Done, Refused}
+use Rattle.space.specs.Written.{Written, Done, Refused}
 use Rattle.space.specs.Space.{answer}
 use Rattle.sheet.specs.Field.{Field, value, refused}
 use Rattle.sheet.specs.Answer.{by_rule}
 use Rattle.chain.specs.Answer.{as_run, chain_to}
-use Rattle.sketch.specs.declared.Judgement.{Judgement}
-use Rattle.sketch.specs.declared.Judgement.TheVariants.{Is, Refused as No}
+use Rattle.sketch.specs.Judgement.{Judgement}
+use Rattle.sketch.specs.Judgement.{Is, Refused as No}
 use Rattle.card.specs.Card.{set_verdict}
 use Rattle.records.specs.Record.{as_judgement, ask_field, place_field, placed_in}
 use Rattle.pattern.specs.Entries.{verdict_field, count_of, chain_field}
@@ -23,14 +23,14 @@ use Rattle.pattern_c.specs.Numbers.Counts.{uncut}
 use Rattle.pattern_c.specs.Columns.{columns_fault, columns_field}
 use Rattle.pattern_c.specs.Uncut.{Whole, Uncut, NoneCut}
 
-apart : {A : Type 0} {k n : ℕ} → Refused k ≡ Done n → A
+apart : {A : Type 0} {k n : ℕ} → ◌≡◌ {A = Written} (Refused k) (Done n) → A
 apart e = absurd (let z : ◌≡◌ {A = ℕ} 0 1 = cc in omega arith)
 
-same_count : {m n : ℕ} → Done m ≡ Done n → m ≡ n
+same_count : {m n : ℕ} → ◌≡◌ {A = Written} (Done m) (Done n) → m ≡ n
 same_count e = cc
 
 -- a count below 2^31
-whole : (m n : ℕ) → m < 2147483648 → Done m ≡ Done n → as_count (Done m) ≡ pos n
+whole : (m n : ℕ) → m < 2147483648 → ◌≡◌ {A = Written} (Done m) (Done n) → as_count (Done m) ≡ pos n
 whole m n h e = rw (lt-ltb m 2147483648 h) (ap pos (same_count e))
 
 -- ---- items
@@ -40,8 +40,8 @@ unfolding answer
 written (refused k) short few space n e = apart e
 written (value items rest) short few space n e = by (ltb (length space) (length items)) e
   where
-    by : (b : Bool) → cond b (Refused 17) (Done (length items)) ≡ Done n
-        → as_count (cond b (Refused 17) (Done (length items))) ≡ pos n
+    by : (b : Bool) → cond {A = Written} b (Refused 17) (Done (length items)) ≡ Done n
+        → as_count (cond {A = Written} b (Refused 17) (Done (length items))) ≡ pos n
     by true h = apart h
     by false h = uncut short few items rest refl ∙ ap pos (same_count h)
 

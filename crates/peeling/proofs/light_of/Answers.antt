@@ -1,72 +1,50 @@
--- `light_of` meets its contract. The loop's invariant: the elements found are light, and those to be tried are left. Assumes nothing.
-use Rattle.std.specs.Prelude.{◌≡◌, ◌-◌, ◌≤◌}
-use Rattle.theory.specs.Prelude.{sym, ap, ◌∙◌, subst, inl, inr, ℕ, arith, bit_and, bit_or, ones, get_or, pow_pos}
-use Rattle.theory.specs.Set.{◌∈◌, ◌∩◌, ◌⊑◌, at}
-use Rattle.theory.specs.Set.Laws.{at-le, at_zero, ⊑_trans}
-use Rattle.theory.specs.Set.Less.{at_room, less_other, less-sub}
-use Rattle.peeling.specs.Core.Neighbours.{light-none, light-code, light-same, two-most, three-least, heavy-tried}
+-- `light_of` meets its contract: the loop keeps `Tried`. Assumes nothing.
+use Rattle.std.specs.Prelude.{◌≡◌, ◌<◌}
+use Rattle.theory.specs.Prelude.{◌∙◌, ap, arith, rules, one-mul, lt-suc_self, shl_exact, bit_or}
+use Rattle.theory.specs.Set.{◌∩◌, ◌∪◌}
+use Rattle.sets.specs.Each.Laws.{each-lowest}
+use Rattle.peeling.specs.Core.Neighbours.{two-most, three-least, tried-none, tried-light, tried-heavy, tried-all}
 use Rattle.peeling.proofs.light_of.Goals as goal
-use Rattle.peeling.proofs.light_of.Goals.{else-without_lowest-eq0, then-without_lowest-eq0}
+use Rattle.peeling.proofs.light_of.Goals.{In-Some}
 
-pub loop-m-init : goal.loop-m-init
-loop-m-init c = (c.requires, light-none c.args.near.now c.args.left, λ y o z. absurd (omega (arith, o.0, o.1)))
+pub loop-x-init : goal.loop-x-init
+loop-x-init c =
+    let begins : c.into_iter-x-iterator.result.rest ≡ c.args.who = cc in
+    record { can_next = tt; is_finite = tt; tried = rw begins (tried-none c.args.near.now c.args.left (search rules)) }
 
-pub single-bit-requires : goal.single-bit-requires
-single-bit-requires c = c.lowest-x.ensures.0
+low : (c : In-Some) → c.in-Some.x < 64
+low c = omega (arith, each-lowest c.loop-x.invariant.tried.each c.in-Some.ensures.steps.0, c.in-Some.ensures.steps.1)
 
-pub offset_bounds-near-i : goal.offset_bounds-near-i
-offset_bounds-near-i c = omega (arith, c.wide-i.ensures, c.lowest-x.ensures.0)
+pub bounds-near-x : goal.bounds-near-x
+bounds-near-x c = low (goal.at.bounds-near-x c).In-Some
 
-pub bounds-near-i : goal.bounds-near-i
-bounds-near-i c = omega (arith, c.wide-i.ensures, c.lowest-x.ensures.0)
+pub overflow_shl-light : goal.overflow_shl-light
+overflow_shl-light c = low (goal.at.overflow_shl-light c).In-Some
 
-pub overflow_sub-m : goal.overflow_sub-m
-overflow_sub-m c = omega (
-  arith,
-  at_room c.lowest-x.result
-      c.loop-m.m
-      c.lowest-x.ensures.1,
-  c.single-bit.ensures,
-)
+pub loop-x-preserved-then-without_lowest-eq0 : goal.loop-x-preserved-then-without_lowest-eq0
+unfolding ◌∩◌ ◌∪◌
+loop-x-preserved-then-without_lowest-eq0 c =
+    let s = c.in-Some.ensures.steps in
+    let l = c.loop-x in
+    let small : c.in-Some.x < 64 = omega (arith, each-lowest l.invariant.tried.each s.0, s.1) in
+    record {
+      can_next = tt;
+      is_finite = tt;
+      tried = tried-light c.requires l.invariant.tried s.0 s.1 s.2
+          (ap (bit_or l.light) (shl_exact 1 c.in-Some.x 64 (lt-suc_self 1) (omega arith) ∙ one-mul _))
+          (two-most _ c.without_lowest.ensures c.without_lowest-in-loop-x.ensures c.if-without_lowest-eq0.true);
+    }
 
-pub loop-m-smaller : goal.loop-m-smaller
-loop-m-smaller c = omega (
-  arith,
-  overflow_sub-m c,
-  c.single-bit.ensures,
-  pow_pos c.lowest-x.result,
-)
-
-pub loop-m-preserved : goal.loop-m-preserved
+pub loop-x-preserved : goal.loop-x-preserved
 unfolding ◌∩◌
-loop-m-preserved c = let a = c.args in
-    let l = c.loop-m in
-    let x = c.lowest-x in
-    let i = c.wide-i in
-    let b = c.single-bit in
-    let p = c.without_lowest in
-    let q = c.without_lowest-in-loop-m in (
-      ⊑_trans (subst (λ (z : ℕ). l.m - z ⊑ l.m) (sym b.ensures) (less-sub x.result l.m x.ensures.1)) l.invariant.0,
-      elim c.if-without_lowest-eq0.branch [
-        | then-without_lowest-eq0 w ↦ light-code a.near.now a.left l.todo l.invariant.1
-            (omega (arith, l.invariant.0.le x.result, x.ensures.1, at-le x.result a.left)) i.ensures b.ensures
-            (two-most (bit_and (get_or a.near.now i.result 0) a.left) p.result q.result p.ensures q.ensures w.if-without_lowest-eq0.true) w.todo-is
-        | else-without_lowest-eq0 w ↦ light-same a.near.now a.left w.todo-is l.invariant.1
-      ],
-      λ y o. heavy-tried (λ z. (z ∈ a.who) × (at z l.m ≡ 0)) (λ z. 3 ≤ ones (bit_and (get_or a.near.now z 0) a.left))
-          l.todo x.result l.invariant.2
-          (elim c.if-without_lowest-eq0.branch [
-            | then-without_lowest-eq0 w ↦ inl (w.todo-is ∙ ap (bit_or l.todo) b.ensures)
-            | else-without_lowest-eq0 w ↦ inr (
-              w.todo-is,
-              subst (λ (k : ℕ). 3 ≤ ones (bit_and (get_or a.near.now k 0) a.left)) i.ensures
-                  (three-least (bit_and (get_or a.near.now i.result 0) a.left) p.result q.result p.ensures q.ensures w.if-without_lowest-eq0.false),
-            )
-          ])
-          y (λ n. (o.0, sym (less_other x.result y l.m x.ensures.1 n) ∙ ap (λ (k : ℕ). at y (l.m - k)) (sym b.ensures) ∙ o.1)),
-    )
+loop-x-preserved c =
+    let s = c.in-Some.ensures.steps in
+    record {
+      can_next = tt;
+      is_finite = tt;
+      tried = tried-heavy c.requires c.loop-x.invariant.tried s.0 s.1 s.2
+          (three-least _ c.without_lowest.ensures c.without_lowest-in-loop-x.ensures c.if-without_lowest-eq0.false);
+    }
 
 pub returns : goal.returns
-returns c = let l = c.loop-m in
-    let z : l.m ≡ 0 = omega (arith, c.loop-m-test.false) in
-    (l.invariant.1, record { heavy = λ x i o. l.invariant.2 x (i, ap (at x) z ∙ at_zero x) o })
+returns c = tried-all c.loop-x.invariant.tried c.in-None.ensures.steps.0

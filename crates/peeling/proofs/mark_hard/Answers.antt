@@ -1,87 +1,76 @@
 -- `mark_hard` meets its contract. The loop's invariant: left is the core of the first c constraints, and those from c on are noted. Assumes nothing.
-use Rattle.std.specs.Prelude.{◌≡◌, ◌-◌, ◌<◌}
-use Rattle.theory.specs.Prelude.{sym, subst, ℕ, suc, arith, take, le_refl}
+use Rattle.std.specs.Prelude.{◌≡◌, ◌-◌, ◌≤◌, ◌<◌}
+use Rattle.theory.specs.Prelude.{sym, subst, List, ℕ, suc, arith, length, take, set, get_or, le_refl, bit_and, ones}
 use Rattle.theory.specs.Set.{◌⊑◌}
+use Rattle.theory.specs.Near.{Simple, Standing}
 use Rattle.theory.specs.Near.Laws.{standing-count, standing-item, standing-two}
-use Rattle.peeling.specs.Hard.{Linked, Left, Marks}
+use Rattle.peeling.specs.Hard.{Linked, Left}
 use Rattle.peeling.specs.Hard.Laws.{left-start, left-skip, left-linked, left-harmless, told_in, told-out, two_out}
 use Rattle.peeling.specs.Hard.Laws.{marks-start, marks-easy, marks-hard, marks-rest, in_list}
+use Rattle.peeling.proofs.mark_hard.Invariants.{Kept}
 use Rattle.peeling.proofs.mark_hard.Goals as goal
 
+-- the last of the first c constraints
+module _ {start : List ℕ} {e c : ℕ} (s : Standing start e) (some : 0 < c) (within : c ≤ e) {near old needs : List ℕ} {left : ℕ}
+    (w : Kept (take e start) c near left old needs) where
+  abbrev cs : List ℕ
+  cs = take e start
+
+  abbrev k : ℕ
+  k = c - 1
+
+  abbrev m : ℕ
+  m = get_or start k 0
+
+  listed : k < length cs
+  listed = in_list s (omega arith)
+
+  is : m ≡ get_or cs k 0
+  is = standing-item s k (omega arith)
+
+  next : Kept cs (suc k) near left old needs
+  next = let up : c ≡ suc k = omega arith in subst (λ (z : ℕ). Kept cs z near left old needs) up w
+
+  -- it lies in what is left
+  drops : bit_and m left ≡ m → (ones m ≡ 2) × (m ⊑ left) × Linked near m
+  drops t = let i = told_in is t in (
+    standing-two s k (omega arith),
+    subst (λ (z : ℕ). z ⊑ left) (sym is) i,
+    subst (Linked near) (sym is) (left-linked cs s.simple k listed next.core i),
+  )
+
+  noted : {near' : List ℕ} {left' : ℕ}
+      → ((cs : List ℕ) → Simple cs → (c : ℕ) → c < length cs → get_or cs c 0 ≡ m → Left cs (suc c) near left → Left cs c near' left')
+      → Kept cs k near' left' old (set needs k 4)
+  noted drop = record { core = drop cs s.simple k listed (sym is) next.core; marks = marks-hard next.marks (omega (arith, s.few)) }
+
+  -- it does not
+  passed : (bit_and m left ≡ m → ⊥) → Kept cs k near left old needs
+  passed t = record {
+    core = left-skip cs s.simple k listed next.core;
+    marks = marks-easy next.marks (left-harmless cs s.simple next.core k (le_refl (suc k)) listed (told-out is t));
+  }
+
 pub loop-c-init : goal.loop-c-init
-loop-c-init c = let s = c in
-    (omega arith, left-start (standing-count s.requires.0) s.requires.1 s.requires.2, marks-start s.requires.3 (standing-count s.requires.0))
+loop-c-init c = let s = c.requires in record {
+  core = left-start (standing-count s.0) s.1 s.2;
+  marks = marks-start s.3 (standing-count s.0);
+}
 
+-- nothing is left
 pub returns-then-left-eq0 : goal.returns-then-left-eq0
-returns-then-left-eq0 c = let s = c in
-    let l = c.loop-c in
-    marks-rest l.invariant.2
-    (λ k h.
-    let lk = in_list s.requires.0 (omega (arith, h, l.invariant.0)) in
-    left-harmless (take s.args.e s.args.start.now) s.requires.0.simple l.invariant.1 k h lk (two_out s.requires.0.simple k lk c.if-left-eq0.true))
-
-pub overflow_sub-c : goal.overflow_sub-c
-overflow_sub-c c = omega (arith, c.loop-c-test.true)
-
-pub offset_bounds-start-c : goal.offset_bounds-start-c
-offset_bounds-start-c c = omega (arith, c.loop-c.invariant.0, c.requires.0.few)
-
-pub bounds-start-c : goal.bounds-start-c
-bounds-start-c c = omega (arith, c.loop-c-test.true, c.loop-c.invariant.0, c.requires.0.few)
-
-pub bounds-needs-c : goal.bounds-needs-c
-bounds-needs-c c = omega (arith, c.loop-c-test.true, c.loop-c.invariant.0, c.requires.0.few)
+returns-then-left-eq0 c =
+    let s = c.requires.0 in
+    let w = c.loop-c.invariant in
+    marks-rest w.marks (λ k h.
+    let listed = in_list s (omega arith) in
+    left-harmless (take c.args.e c.args.start.now) s.simple w.core k h listed (two_out s.simple k listed c.if-left-eq0.true))
 
 pub drop_pair-left-requires : goal.drop_pair-left-requires
-drop_pair-left-requires c = let s = c in
-    let l = c.loop-c in
-    let cs = take s.args.e s.args.start.now in
-    let k = l.c - 1 in
-    let lt : k < s.args.e = omega (arith, c.loop-c-test.true, l.invariant.0) in
-    let up : l.c ≡ suc k = omega (arith, c.loop-c-test.true) in
-    let is = standing-item s.requires.0 k lt in
-    let i = told_in is c.if-pair-left.true in (
-      standing-two s.requires.0 k lt,
-      subst (λ (z : ℕ). z ⊑ l.left) (sym is) i,
-      subst (Linked l.rest) (sym is)
-          (left-linked cs s.requires.0.simple k (in_list s.requires.0 lt) (subst (λ (z : ℕ). Left cs z l.rest l.left) up l.invariant.1) i),
-    )
-
-pub loop-c-smaller-then-pair-left : goal.loop-c-smaller-then-pair-left
-loop-c-smaller-then-pair-left c = omega (arith, c.loop-c-test.true)
+drop_pair-left-requires c = let l = c.loop-c in drops c.requires.0 c.loop-c-test.true l.auto.c l.invariant c.if-pair-left.true
 
 pub loop-c-preserved-then-pair-left : goal.loop-c-preserved-then-pair-left
-loop-c-preserved-then-pair-left c = let s = c in
-    let l = c.loop-c in
-    let cs = take s.args.e s.args.start.now in
-    let k = l.c - 1 in
-    let lt : k < s.args.e = omega (arith, c.loop-c-test.true, l.invariant.0) in
-    let up : l.c ≡ suc k = omega (arith, c.loop-c-test.true) in (
-      omega (arith, l.invariant.0),
-      c.drop_pair-left.ensures cs s.requires.0.simple k (in_list s.requires.0 lt) (sym (standing-item s.requires.0 k lt))
-          (subst (λ (z : ℕ). Left cs z l.rest l.left) up l.invariant.1),
-      marks-hard (subst (λ (z : ℕ). Marks cs z s.args.needs.now l.needs) up l.invariant.2) (omega (arith, lt, s.requires.0.few)),
-    )
-
-pub loop-c-smaller : goal.loop-c-smaller
-loop-c-smaller c = omega (arith, c.loop-c-test.true)
+loop-c-preserved-then-pair-left c = let l = c.loop-c in noted c.requires.0 c.loop-c-test.true l.auto.c l.invariant c.drop_pair-left.ensures
 
 pub loop-c-preserved : goal.loop-c-preserved
-loop-c-preserved c = let s = c in
-    let l = c.loop-c in
-    let cs = take s.args.e s.args.start.now in
-    let k = l.c - 1 in
-    let lt : k < s.args.e = omega (arith, c.loop-c-test.true, l.invariant.0) in
-    let up : l.c ≡ suc k = omega (arith, c.loop-c-test.true) in
-    let w = subst (λ (z : ℕ). Left cs z l.rest l.left) up l.invariant.1 in
-    let lk = in_list s.requires.0 lt in (
-      omega (arith, l.invariant.0),
-      left-skip cs s.requires.0.simple k lk w,
-      marks-easy (subst (λ (z : ℕ). Marks cs z s.args.needs.now l.needs) up l.invariant.2)
-          (left-harmless cs s.requires.0.simple w k (le_refl (suc k)) lk (told-out (standing-item s.requires.0 k lt) c.if-pair-left.false)),
-    )
-
-pub returns : goal.returns
-returns c = let s = c in
-    let l = c.loop-c in
-    subst (λ (z : ℕ). Marks (take s.args.e s.args.start.now) z s.args.needs.now l.needs) (omega (arith, c.loop-c-test.false)) l.invariant.2
+loop-c-preserved c = let l = c.loop-c in passed c.requires.0 c.loop-c-test.true l.auto.c l.invariant c.if-pair-left.false

@@ -1,12 +1,13 @@
 -- Elements with two neighbours at most. Assumes nothing.
-use Rattle.std.specs.Prelude.{◌≡◌, ◌≢◌, ◌⊎◌, ◌-◌, ◌^◌, ◌≤◌, ◌<◌}
-use Rattle.theory.specs.Prelude.{sym, ap, ◌∙◌, subst, inl, inr, ⊎_elim, List, ℕ, zero, suc, ℕ_discrete, dec_le}
-use Rattle.theory.specs.Prelude.{arith, bit_and, bit_or, ones, get_or, pow-lt}
+use Rattle.std.specs.Prelude.{◌≡◌, ◌≢◌, ◌-◌, ◌^◌, ◌≤◌, ◌<◌}
+use Rattle.theory.specs.Prelude.{sym, ap, ◌∙◌, subst, inl, inr, List, ℕ, zero, suc, ℕ_discrete, dec_le, arith, bit_and, ones}
+use Rattle.theory.specs.Prelude.{count_trailing_zeros, get_or, pow-lt}
 use Rattle.theory.specs.Set.{◌∈◌, ◌∩◌, ◌∪◌, ◌⊑◌, at, full}
-use Rattle.theory.specs.Set.Laws.{at-∪, at-le, at_zero, at_same, at_other, bit, size-zero, size_none, ⊑⇒size≤, ⊑_refl, a∩b⊑a, ∩-comm, ∩-mono}
-use Rattle.theory.specs.Set.Laws.{⊑⇒∩≡, both, out, cut_below, below-full}
+use Rattle.theory.specs.Set.Laws.{at-∪, at-le, at_zero, at_same, at_other, bit, size-zero, size_none, ⊑⇒size≤, ⊑_refl, ∩-comm, ∩-mono, both, out, below-full}
 use Rattle.theory.specs.Set.Less.{drop-low, at-below, less-same, less_other, less-sub, less-out, less-in}
-use Rattle.peeling.specs.Core.{Beyond, Light, Heavy, Mutual}
+use Rattle.sets.specs.Each.{Each}
+use Rattle.sets.specs.Each.Laws.{each_none, each_next, each_all, each_in}
+use Rattle.peeling.specs.Core.{Light, Heavy, Mutual}
 
 pub near_sub : (m u v : ℕ) → u ⊑ v → ones (m ∩ u) ≤ ones (m ∩ v)
 near_sub m u v h = ⊑⇒size≤ (m ∩ v) (m ∩ u) (∩-mono (⊑_refl m) h)
@@ -18,7 +19,7 @@ one_fewer zero p e = ap ones e ∙ size-zero ∙ sym (ap (λ (n : ℕ). n - 1) s
 one_fewer (suc k) p e = omega (arith, ap ones e, drop-low (suc k) (omega arith))
 
 -- without its two lowest elements a set is empty
-module _ (k p q : ℕ) (ep : p ≡ k ∩ (k - 1)) (eq : q ≡ p ∩ (p - 1)) where
+module _ (k : ℕ) {p q : ℕ} (ep : p ≡ k ∩ (k - 1)) (eq : q ≡ p ∩ (p - 1)) where
   pub two-most : q ≡ 0 → ones k ≤ 2
   two-most z = omega (arith, one_fewer k p ep, one_fewer p q eq, ap ones z, size-zero)
 
@@ -31,41 +32,40 @@ module _ (k p q : ℕ) (ep : p ≡ k ∩ (k - 1)) (eq : q ≡ p ∩ (p - 1)) whe
 pub full_at : (n x : ℕ) → x < n → x ∈ full n
 full_at n x l = omega (arith, (below-full n (2 ^ x) (pow-lt l)).le x, at_same x, at-le x (full n))
 
-pub light-none : (near : List ℕ) (u : ℕ) → Light near u 0
-light-none near u = record { light = λ x e. absurd (omega (arith, at_zero x)) }
+-- ---- the elements of who are tried, lowest first
 
-pub light-one : (near : List ℕ) (u todo x : ℕ) → Light near u todo → x ∈ u → ones (get_or near x 0 ∩ u) ≤ 2 → Light near u (todo ∪ 2 ^ x)
-light-one near u todo x t e h = record { light = λ y q. go y q (ℕ_discrete y x) }
-  where
-    go : (y : ℕ) → y ∈ todo ∪ 2 ^ x → Dec (y ≡ x) → (y ∈ u) × (ones (get_or near y 0 ∩ u) ≤ 2)
-    go y q (yes p) = subst (λ (z : ℕ). (z ∈ u) × (ones (get_or near z 0 ∩ u) ≤ 2)) (sym p) (e, h)
-    go y q (no n) = t.light y (omega (arith, q, at-∪ y todo (2 ^ x), at_other y x n))
+-- those passed are found light, or have three neighbours
+pub record Tried (near : List ℕ) (left who rest light : ℕ) : Type 0 where
+  pub each : Each (λ x. at x light ≡ 0 → 3 ≤ ones (get_or near x 0 ∩ left)) who rest
+  pub found : Light near left light
 
-pub light-code : (near : List ℕ) (u todo : ℕ) {x i s new : ℕ} → Light near u todo → x ∈ u → i ≡ x → s ≡ 2 ^ x
-    → ones (bit_and (get_or near i 0) u) ≤ 2
-    → new ≡ bit_or todo s → Light near u new
-unfolding ◌∪◌ ◌∩◌
-light-code near u todo {x} {i} {s} {new} t e ei es two q =
-    subst (Light near u) (sym (q ∙ ap (bit_or todo) es))
-    (light-one near u todo x t e (subst (λ (k : ℕ). ones (bit_and (get_or near k 0) u) ≤ 2) ei two))
+pub tried-none : (near : List ℕ) (left : ℕ) {who : ℕ} → who < 2 ^ 64 → Tried near left who who 0
+tried-none near left l = record { each = each_none l; found = record { light = λ x e. absurd (omega (arith, at_zero x)) } }
 
--- two neighbours at most in all
-pub light-all-code : (near : List ℕ) (n todo : ℕ) {x i s new : ℕ} → Light near (full n) todo → x < n → i ≡ x → s ≡ 2 ^ x → ones (get_or near i 0) ≤ 2
-    → new ≡ bit_or todo s → Light near (full n) new
-unfolding ◌∩◌
-light-all-code near n todo {x} {i} t l ei es two q =
-    light-code near (full n) todo t (full_at n x l) ei es
-    (omega (arith, ⊑⇒size≤ (get_or near i 0) (get_or near i 0 ∩ full n) (a∩b⊑a (get_or near i 0) (full n)))) q
+module _ {near : List ℕ} {left who rest light : ℕ} (inside : who ⊑ left) (w : Tried near left who rest light) (some : rest ≢ 0)
+    {x after : ℕ} (lowest : x ≡ count_trailing_zeros 64 rest) (gone : after ≡ bit_and rest (rest - 1)) where
+  pub tried-light : {new : ℕ} → new ≡ light ∪ 2 ^ x → ones (get_or near x 0 ∩ left) ≤ 2 → Tried near left who after new
+  tried-light is two = rw (gone, is) (record {
+    each = each_next w.each some (λ y i h o. h (omega (arith, at-∪ y light (2 ^ x))))
+        (λ o. absurd (omega (arith, o, ap (λ (z : ℕ). at z (light ∪ 2 ^ x)) lowest, at-∪ x light (2 ^ x), at_same x)));
+    found = record { light = λ y i. by y i (ℕ_discrete y x) };
+  })
+    where
+      by : (y : ℕ) → y ∈ light ∪ 2 ^ x → Dec (y ≡ x) → (y ∈ left) × (ones (get_or near y 0 ∩ left) ≤ 2)
+      by y i (yes e) = subst (λ (z : ℕ). (z ∈ left) × (ones (get_or near z 0 ∩ left) ≤ 2)) (sym e)
+          (omega (arith, inside.le x, at-le x left, each_in w.each some, ap (λ (z : ℕ). at z who) lowest), two)
+      by y i (no n) = w.found.light y (omega (arith, i, at-∪ y light (2 ^ x), at_other y x n))
 
-pub light-same : (near : List ℕ) (u : ℕ) {todo new : ℕ} → new ≡ todo → Light near u todo → Light near u new
-light-same near u q t = subst (Light near u) (sym q) t
+  pub tried-heavy : 3 ≤ ones (get_or near x 0 ∩ left) → Tried near left who after light
+  tried-heavy three = rw gone (record {
+    each = each_next w.each some (λ y i h. h) (λ o. subst (λ (z : ℕ). 3 ≤ ones (get_or near z 0 ∩ left)) lowest three);
+    found = w.found;
+  })
 
-pub light-or : (near : List ℕ) (u s t : ℕ) → Light near u s → Light near u t → Light near u (s ∪ t)
-light-or near u s t f g = record {
-  light = λ x q. ⊎_elim
-      (λ (z : at x s ≡ 0). g.light x (omega (arith, q, at-∪ x s t)))
-      (λ (z : x ∈ s). f.light x z) (bit (at x s) (at-le x s));
-}
+pub tried-all : {near : List ℕ} {left who rest light : ℕ} → Tried near left who rest light → rest ≡ 0 → Light near left light × Heavy near left who light
+tried-all w z = (w.found, record { heavy = λ x i o. each_all w.each z x i o })
+
+-- ---- light elements are taken away
 
 -- those that are left when x is taken away are light still
 pub light-rest : (near : List ℕ) (u todo x : ℕ) → Light near u todo → x ∈ u → x ∈ todo → Light near (u - 2 ^ x) (todo - 2 ^ x)
@@ -76,43 +76,6 @@ light-rest near u todo x t e h = record {
         (less_other x y u e n ∙ o.0, omega (arith, o.1, near_sub (get_or near y 0) (u - 2 ^ x) u (less-sub x u e)))
   ];
 }
-
--- ---- those with three neighbours
-
--- x is tried: it is noted, or it has three
-pub heavy-tried : (P Q : ℕ → Type 0) (todo x : ℕ) {new : ℕ} → ((y : ℕ) → P y → at y todo ≡ 0 → Q y)
-    → (new ≡ bit_or todo (2 ^ x)) ⊎ ((new ≡ todo) × Q x) → (y : ℕ) → (y ≢ x → P y) → at y new ≡ 0 → Q y
-unfolding ◌∪◌
-heavy-tried P Q todo x {new} f d y i z = elim (ℕ_discrete y x) [
-  | yes q ↦ elim d [
-    | inl w ↦ absurd (omega (arith, z, ap (at y) w, at-∪ y todo (2 ^ x), ap (λ (k : ℕ). at k (2 ^ x)) q, at_same x))
-    | inr w ↦ subst Q (sym q) w.1
-  ]
-  | no n ↦ f y (i n) (elim d [ inl w ↦ omega (arith, z, ap (at y) w, at-∪ y todo (2 ^ x)) | inr w ↦ ap (at y) (sym w.0) ∙ z ])
-]
-
--- at the start every element below n is left
-pub heavy-start : (near : List ℕ) (n todo : ℕ) → n ≤ 64 → Beyond near n → Mutual near
-    → ((x : ℕ) → x < n → at x todo ≡ 0 → 3 ≤ ones (get_or near x 0)) → Heavy near (full n) (full n) todo
-heavy-start near n todo most none m f = record {
-  heavy = λ x i o.
-      let l : x < n = at-below n x (full n) (rw (⊑⇒∩≡ (full n) (full n) (⊑_refl (full n))) at (cut_below n (full n))) i in
-      rw (⊑⇒∩≡ (get_or near x 0) (full n) (record {
-        le = λ y. elim (bit (at y (get_or near x 0)) (at-le y (get_or near x 0))) [
-          | inl e ↦ omega arith
-          | inr e ↦ omega (arith, full_at n y (within x y (omega arith) e))
-        ];
-      })) (f x l o);
-}
-  where
-    -- a neighbour has one
-    within : (x y : ℕ) → x < 64 → y ∈ get_or near x 0 → y < n
-    within x y l e = elim (dec_le n y) [
-      | yes h ↦
-          let small = m.below x y l e in
-          absurd (omega (arith, m.back x y l small e, ap (at x) (none.none y h small), at_zero x))
-      | no h ↦ omega arith
-    ]
 
 -- those of around are left out of account
 pub heavy-but : (near : List ℕ) (u todo around : ℕ) → Heavy near u u todo → Heavy near u u (todo ∪ around)

@@ -1,7 +1,7 @@
 -- Elements with at most two constraints are taken away one by one: what is left is a core. A least over set has three constraints at each element, so
 -- none loses any. Assumes nothing.
 use Rattle.std.specs.Prelude.{◌≡◌, ◌⊎◌, ◌+◌, ◌*◌, ◌-◌, ◌^◌, ◌≤◌, ◌<◌}
-use Rattle.theory.specs.Prelude.{sym, ap, subst, inl, inr, List, ℕ, dec_le, arith, bit_and, bit_or, ones, length}
+use Rattle.theory.specs.Prelude.{ap, subst, inl, inr, List, ℕ, dec_le, arith, bit_and, ones, length}
 use Rattle.theory.specs.Prelude.{refl, ◌∙◌, zero, suc, sub-zero, and_le_r, take, get_or, take-length, pow_pos}
 use Rattle.theory.specs.Set.{◌∈◌, ◌∩◌, ◌∪◌, ◌⊑◌, at, full}
 use Rattle.theory.specs.Set.Laws.{at-∩, at-le, bit, size-zero, ⊑⇒size≤, ⊑_trans, a∩b⊑a, a∩b⊑b, ∩-comm, out, below-full}
@@ -13,7 +13,7 @@ use Rattle.theory.specs.Over.Laws.{pairs-take, below-take}
 use Rattle.theory.specs.Near.{Simple, Near}
 use Rattle.theory.specs.Near.Laws.{simple-take, near-counts-take, near-counts, carried-one}
 use Rattle.peeling.specs.Core.{Few, Loose, Core, Dense, Largest, Beyond, Light, Heavy, Mutual, Peeled, whole, less}
-use Rattle.peeling.specs.Core.Neighbours.{full_at, near_sub, light-or, light-rest, heavy-but, heavy-with, heavy-less}
+use Rattle.peeling.specs.Core.Neighbours.{full_at, near_sub, light-rest, heavy-but, heavy-with, heavy-less}
 
 -- ---- those without a neighbour are gone at the start
 
@@ -40,28 +40,9 @@ unfolding full
 peeled-small u whole = omega (arith, pow_pos 64)
 peeled-small u (less {u = v} x p q h) = omega (arith, peeled-small v p)
 
-module _ (near : List ℕ) (left todo x s : ℕ) (t : Light near left todo) (e : x ∈ todo) (es : s ≡ 2 ^ x) where
-  in_left : x ∈ left
-  in_left = (t.light x e).0
-
-  pub peel-room : s ≤ left
-  peel-room = omega (arith, at_room x left in_left)
-
-  pub todo-room : s ≤ todo
-  todo-room = omega (arith, at_room x todo e)
-
-  pub peel-less : left - s < left
-  peel-less = omega (arith, peel-room, pow_pos x)
-
-  pub light-next : (r : ℕ) → Light near (left - s) r → Light near (left - s) (bit_or (todo - s) r)
-  unfolding ◌∪◌
-  light-next r g =
-      light-or near (left - s) (todo - s) r
-      (subst (λ (z : ℕ). Light near (left - z) (todo - z)) (sym es) (light-rest near left todo x t in_left e)) g
-
 -- none is left to be taken away
-pub heavy-none : {near : List ℕ} {u todo : ℕ} → todo ≡ 0 → (Mutual near → Heavy near u u todo) → Mutual near → Dense near u
-heavy-none z h m = record { three = λ x e. (h m).heavy x e (ap (at x) z ∙ at_zero x) }
+pub heavy-none : {near : List ℕ} {u todo : ℕ} → todo ≡ 0 → Heavy near u u todo → Dense near u
+heavy-none z h = record { three = λ x e. h.heavy x e (ap (at x) z ∙ at_zero x) }
 
 -- ---- light elements taken away all at once
 
@@ -74,29 +55,27 @@ light-room {near} {u} {todo} t = omega (
 )
 
 -- around has their neighbours
-module _ (near : List ℕ) (around : ℕ) where
+module _ (near : List ℕ) (both_ways : Mutual near) (around : ℕ) where
   -- one after another
-  one_by_one : (k u todo : ℕ) → ones todo ≡ k → Light near u todo → ((x : ℕ) → x ∈ todo → get_or near x 0 ⊑ around) → Peeled near u
-      → (Mutual near → Heavy near u u (todo ∪ around)) → Peeled near (u - todo) × (Mutual near → Heavy near (u - todo) (u - todo) (0 ∪ around))
-  one_by_one zero u todo count t f p h = let z = size_none todo count in rw (z, sub-zero u) (p, rw z at h)
-  one_by_one (suc k) u todo count t f p h =
+  one_by_one : (k u todo : ℕ) → ones todo ≡ k → u < 2 ^ 64 → Light near u todo → ((x : ℕ) → x ∈ todo → get_or near x 0 ⊑ around)
+      → Heavy near u u (todo ∪ around) → Heavy near (u - todo) (u - todo) (0 ∪ around)
+  one_by_one zero u todo count l t f h = let z = size_none todo count in rw (z, sub-zero u) (rw z at h)
+  one_by_one (suc k) u todo count l t f h =
       let e = some todo (omega arith) in
       let x = e.0 in
       let i = e.1 in
-      let g = t.light x i in
+      let g = (t.light x i).0 in
       let same : u - 2 ^ x - (todo - 2 ^ x) ≡ u - todo = omega (arith, at_room x todo i) in
-      subst (λ (v : ℕ). Peeled near v × (Mutual near → Heavy near v v (0 ∪ around))) same
-      (one_by_one k (u - 2 ^ x) (todo - 2 ^ x) (omega (arith, size_less x todo i)) (light-rest near u todo x t g.0 i)
-      (λ y j. f y (less-in x y todo i j).0) (less x p g.0 g.1)
-      (λ m. heavy-less near u todo around x (peeled-small u p) m g.0 i (f x i) (h m)))
+      subst (λ (v : ℕ). Heavy near v v (0 ∪ around)) same
+      (one_by_one k (u - 2 ^ x) (todo - 2 ^ x) (omega (arith, size_less x todo i)) (omega arith) (light-rest near u todo x t g i)
+      (λ y j. f y (less-in x y todo i j).0) (heavy-less near u todo around x l both_ways g i (f x i) h))
 
   -- and then those of around are tried
-  pub round : {u todo r : ℕ} → Light near u todo → ((x : ℕ) → x ∈ todo → get_or near x 0 ⊑ around) → Peeled near u → (Mutual near → Heavy near u u todo)
-      → Heavy near (u - todo) (bit_and around (u - todo)) r → Peeled near (u - todo) × (Mutual near → Heavy near (u - todo) (u - todo) r)
+  pub round : {u todo r : ℕ} → u < 2 ^ 64 → Light near u todo → ((x : ℕ) → x ∈ todo → get_or near x 0 ⊑ around) → Heavy near u u todo
+      → Heavy near (u - todo) (bit_and around (u - todo)) r → Heavy near (u - todo) (u - todo) r
   unfolding ◌∩◌ ◌∪◌
-  round {u} {todo} {r} t f p h g =
-      let o = one_by_one (ones todo) u todo refl t f p (λ m. heavy-but near u todo around (h m)) in
-      (o.0, λ m. heavy-with near (u - todo) 0 around r (o.1 m) g)
+  round {u} {todo} {r} l t f h g =
+      heavy-with near (u - todo) 0 around r (one_by_one (ones todo) u todo refl l t f (heavy-but near u todo around h)) g
 
 -- ---- the core
 

@@ -1,18 +1,19 @@
 -- From the last constraint to the first: what is left without it, and that a constraint which does not lie in what is left closes no over set.
 -- Assumes nothing.
 use Rattle.std.specs.Prelude.{◌≡◌, ◌≢◌, ◌∷◌, ◌++◌, ◌-◌, ◌^◌, ◌≤◌, ◌<◌}
-use Rattle.theory.specs.Prelude.{refl, sym, ap, ap₂, ◌∙◌, subst, inl, inr, List, [], ℕ, zero, suc}
+use Rattle.theory.specs.Prelude.{refl, sym, ap, ap₂, ◌∙◌, subst, inl, inr, List, [], ℕ, zero, suc, sub-zero}
 use Rattle.theory.specs.Prelude.{ℕ_discrete, dec_lt, le_refl, arith, bit_and, ones, count_trailing_zeros, length, take, get_or, set, length-set, replicate}
 use Rattle.theory.specs.Prelude.{take-suc, take-take, take_all, get_or-set_same, get_or-set_other}
 use Rattle.theory.specs.Set.{◌∈◌, ◌∩◌, ◌⊑◌, at}
-use Rattle.theory.specs.Set.Laws.{at-∩, at-le, bit, ⊑⇒size≤, ⊑_trans, ∩≡⇒⊑, ⊑⇒∩≡, size-zero}
-use Rattle.theory.specs.Set.Less.{at-below, at_room, less_other, less-sub, trailing_at}
+use Rattle.theory.specs.Set.Laws.{at-∩, at-le, bit, ⊑⇒size≤, ⊑_trans, ∩≡⇒⊑, ⊑⇒∩≡, size-zero, size_none, some}
+use Rattle.theory.specs.Set.Less.{at-below, at_room, less_other, less-sub, size_less, trailing_at}
 use Rattle.theory.specs.Constraints.{pair, has, Among, Below, Pairs, NotOver}
 use Rattle.theory.specs.Constraints.Laws.{inside, outside, has-dec, pair_comm, at-end}
 use Rattle.theory.specs.Over.Laws.{among-at, carried-next}
 use Rattle.theory.specs.Near.{Once, Simple, Standing, Near}
 use Rattle.theory.specs.Near.Laws.{simple-take, among-front, among-back, pair_is, pair-with, near_none, near-more, standing-count}
-use Rattle.peeling.specs.Core.{Peeled, whole, less}
+use Rattle.peeling.specs.Core.{Light, Peeled, whole, less}
+use Rattle.peeling.specs.Core.Neighbours.{light-rest}
 use Rattle.peeling.specs.Core.Peeling.{peeled-small, core-peeled}
 use Rattle.peeling.specs.Hard.{Harmless, Noted, hard, easy, Shown, Linked, Left, Marks}
 
@@ -46,13 +47,25 @@ shown-part {u = u} s h = record {
 }
 
 -- one more element is taken away
-pub shown-next : {real near : List ℕ} {u : ℕ} (x s : ℕ) → Shown real near u → Peeled real u → x ∈ u → ones (get_or near x 0 ∩ u) ≤ 2 → s ≡ 2 ^ x
-    → Peeled real (u - s) × Shown real near (u - s)
-shown-next {real} {near} {u} x s h p i two es =
-    subst (λ (z : ℕ). Peeled real (u - z) × Shown real near (u - z)) (sym es) (
-      less x p i (omega (arith, two, fewer (get_or real x 0) (get_or near x 0) u (λ y j. h.shows x y i j))),
-      shown-part (less-sub x u i) h,
-    )
+shown-next : {real near : List ℕ} {u : ℕ} (x : ℕ) → Shown real near u → Peeled real u → x ∈ u → ones (get_or near x 0 ∩ u) ≤ 2
+    → Peeled real (u - 2 ^ x) × Shown real near (u - 2 ^ x)
+shown-next {real} {near} {u} x h p i two = (
+  less x p i (omega (arith, two, fewer (get_or real x 0) (get_or near x 0) u (λ y j. h.shows x y i j))),
+  shown-part (less-sub x u i) h,
+)
+
+-- light elements are taken away all at once
+pub shown-less : {real near : List ℕ} (k u todo : ℕ) → ones todo ≡ k → Light near u todo → Peeled real u × Shown real near u
+    → Peeled real (u - todo) × Shown real near (u - todo)
+shown-less zero u todo count t p = rw (size_none todo count, sub-zero u) p
+shown-less {real} {near} (suc k) u todo count t p =
+    let e = some todo (omega arith) in
+    let x = e.0 in
+    let i = e.1 in
+    let g = t.light x i in
+    let same : u - 2 ^ x - (todo - 2 ^ x) ≡ u - todo = omega (arith, at_room x todo i) in
+    subst (λ (v : ℕ). Peeled real v × Shown real near v) same
+    (shown-less k (u - 2 ^ x) (todo - 2 ^ x) (omega (arith, size_less x todo i)) (light-rest near u todo x t g.0 i) (shown-next x p.1 p.0 g.0 g.1))
 
 -- ---- one constraint less
 
@@ -186,24 +199,25 @@ module _ (near : List ℕ) (places : length near ≡ 64) (a b : ℕ) (la : a < 6
       (λ x y i j k h. kept link x y (λ e. not-again c cs simple.once lc (subst (λ (z : ℕ). Among z (take c cs)) (e ∙ sym is) k)) h)
 
 -- the constraint of m removed as the code removes it, a and b being the elements of m
-module _ {near : List ℕ} {m a b i j sa sb : ℕ} (two : ones m ≡ 2) (link : Linked near m) (fa : (a < 64) × (a ∈ m))
-    (fb : (b < 64) × (b ∈ m) × (a ≢ b)) (ei : i ≡ a) (ej : j ≡ b) (ea : sa ≡ 2 ^ a) (eb : sb ≡ 2 ^ b) where
+module _ {near : List ℕ} {m a b i sb : ℕ} (two : ones m ≡ 2) (link : Linked near m) (fa : (a < 64) × (a ∈ m))
+    (fb : (b < 64) × (b ∈ m) × (a ≢ b)) (ei : i ≡ a) (eb : sb ≡ 2 ^ b) where
   is-pair : m ≡ pair a b
   is-pair = pair_is m a b two fa.1 fb.1 fb.2
 
   pub drop-first : sb ≤ get_or near i 0
   drop-first = rw (eb, ei) (at_room b (get_or near a 0) (link.linked a b fa.1 fb.1 fb.2))
 
-  pub drop-second : sa ≤ get_or (set near i (get_or near i 0 - sb)) j 0
-  drop-second =
-      rw (ea, eb, ei, ej, get_or-set_other near a b (get_or near a 0 - 2 ^ b) 0 (λ e. fb.2 (sym e)))
-      (at_room a (get_or near b 0) (link.linked b a fb.1 fa.1 (λ e. fb.2 (sym e))))
+  module _ {j sa : ℕ} (ej : j ≡ b) (ea : sa ≡ 2 ^ a) where
+    pub drop-second : sa ≤ get_or (set near i (get_or near i 0 - sb)) j 0
+    drop-second =
+        rw (ea, eb, ei, ej, get_or-set_other near a b (get_or near a 0 - 2 ^ b) 0 (λ e. fb.2 (sym e)))
+        (at_room a (get_or near b 0) (link.linked b a fb.1 fa.1 (λ e. fb.2 (sym e))))
 
-  pub left-dropped : (cs : List ℕ) → Simple cs → (c : ℕ) → c < length cs → get_or cs c 0 ≡ m → {u : ℕ} → Left cs (suc c) near u
-      → Left cs c (set (set near i (get_or near i 0 - sb)) j (get_or (set near i (get_or near i 0 - sb)) j 0 - sa)) u
-  left-dropped cs simple c lc is w =
-      rw (ea, eb, ei, ej)
-      (left-drop near w.places a b fa.0 fb.0 fb.2 cs simple c lc (is ∙ is-pair) (subst (Linked near) is-pair link) w)
+    pub left-dropped : (cs : List ℕ) → Simple cs → (c : ℕ) → c < length cs → get_or cs c 0 ≡ m → {u : ℕ} → Left cs (suc c) near u
+        → Left cs c (set (set near i (get_or near i 0 - sb)) j (get_or (set near i (get_or near i 0 - sb)) j 0 - sa)) u
+    left-dropped cs simple c lc is w =
+        rw (ea, eb, ei, ej)
+        (left-drop near w.places a b fa.0 fb.0 fb.2 cs simple c lc (is ∙ is-pair) (subst (Linked near) is-pair link) w)
 
 pub left-shrunk : {cs : List ℕ} {c : ℕ} {near : List ℕ} {u v : ℕ} (w : Left cs c near u)
     → ((real : List ℕ) → Shown real near u → Peeled real u → Peeled real v × Shown real near v) → Left cs c near v

@@ -44,6 +44,13 @@ named-well s m n =
     }
 
 -- a step that no rule refuses is an open merge
+pub well-named : (s : List ℕ) (m : Merge) → Named s m → misnamed (slot s m.i) (slot s m.j) (slot s m.k) m ≡ false
+unfolding misnamed
+well-named s m w t =
+    ne_eqb (slot s m.i) 0 w.livei t
+    || (ne_eqb (slot s m.j) 0 w.livej t
+    || (ne_eqb (slot s m.k) 0 w.livek t || (ne_eqb m.i m.j w.i≢j t || (ne_eqb m.j m.k w.j≢k t || ne_eqb m.i m.k w.i≢k t))))
+
 pub fault-open : (s : List ℕ) (m : Merge) → step_fault s m ≡ 0 → OpenAt s m
 unfolding step_fault fault_of
 fault-open s m e = by (misnamed a b c m) refl (open_test a b c) refl e

@@ -1,29 +1,30 @@
 -- `reader::read_announced` meets its contract: only a given size has bytes. Assumes nothing.
-use Rattle.theory.specs.Prelude.{sym, ap, ◌∙◌, drop}
+use Rattle.std.specs.Prelude.{◌≡◌}
+use Rattle.theory.specs.Prelude.{refl, List, ℕ, ℤ, drop}
 use mir.Facts.{to_z-of_z}
 use mir.Syntax.{w32}
+use Rattle.sheet.specs.declared.PairKind.{PairKind}
 use Rattle.sheet.specs.declared.Size.{Size}
+use Rattle.sheet.specs.declared.Size.TheVariants.{Given, Missing, Tangent, OtherTangent, Unfit}
+use Rattle.sheet.specs.Field.{value}
 use Rattle.sheet.specs.Decode.{size}
-use Rattle.reader.specs.Answers.{code_in}
 use Rattle.reader.proofs.read_announced.Goals as goal
+
+no_bytes : (p : PairKind) (z : Size) (t : List ℕ) → ((x : ℤ) → z ≡ Given x → ⊥) → size p z t ≡ value z t
+unfolding size
+no_bytes p (Given x) t other = absurd (other x refl)
+no_bytes p Missing t other = refl
+no_bytes p Tangent t other = refl
+no_bytes p OtherTangent t other = refl
+no_bytes p Unfit t other = refl
 
 pub returns-in-Given : goal.returns-in-Given
 unfolding size
-returns-in-Given c = let a = c.args in
-    c.read_size.ensures ∙ sym (ap (λ (z : Size). code_in (size a.p z (drop a.c.at a.s.now))) c.in-Given.is)
+returns-in-Given c = rw c.in-Given.is c.read_size.ensures
 
-pub returns-in-Missing : goal.returns-in-Missing
-unfolding size
-returns-in-Missing c = rw (to_z-of_z {w = w32} {z = c.code_of.result} (record { sfits = c.code_of.type_inv }), c.code_of.ensures, c.in-Missing.is)
-
-pub returns-in-Tangent : goal.returns-in-Tangent
-unfolding size
-returns-in-Tangent c = rw (to_z-of_z {w = w32} {z = c.code_of-in-Tangent.result} (record { sfits = c.code_of-in-Tangent.type_inv }), c.code_of-in-Tangent.ensures, c.in-Tangent.is)
-
-pub returns-in-OtherTangent : goal.returns-in-OtherTangent
-unfolding size
-returns-in-OtherTangent c = rw (to_z-of_z {w = w32} {z = c.code_of-in-OtherTangent.result} (record { sfits = c.code_of-in-OtherTangent.type_inv }), c.code_of-in-OtherTangent.ensures, c.in-OtherTangent.is)
-
-pub returns-in-Unfit : goal.returns-in-Unfit
-unfolding size
-returns-in-Unfit c = rw (to_z-of_z {w = w32} {z = c.code_of-in-Unfit.result} (record { sfits = c.code_of-in-Unfit.type_inv }), c.code_of-in-Unfit.ensures, c.in-Unfit.is)
+pub returns-in_default : goal.returns-in_default
+returns-in_default c = rw (
+  no_bytes c.args.p c.args.z (drop c.args.c.at c.args.s.now) c.in_default.not-Given,
+  to_z-of_z {w = w32} {z = c.code_of.result} (record { sfits = c.code_of.type_inv }),
+  c.code_of.ensures,
+)

@@ -5,25 +5,16 @@ use Rattle.reader.proofs.Dimension.{dimension-is}
 use Rattle.reader.proofs.read_dimension.Goals as goal
 
 pub returns-in_default : goal.returns-in_default
-returns-in_default c = λ es h.
-    let s = c in
-    rw (
-      dimension-is (kind_at es s.args.a) (kind_at es s.args.b) _,
-      ← c.read_byte-third.ensures,
-      c.refusal.ensures,
-      c.in_default.is,
-    )
+returns-in_default c es h =
+    rw (dimension-is (kind_at es c.args.a) (kind_at es c.args.b) _, ← c.read_byte-third.ensures, c.unwrap_err.ensures)
 
 pub returns : goal.returns
-returns c = λ es h.
-    let m = c in
-    let s = m in
+returns c es h =
     rw (
-      dimension-is (kind_at es s.args.a) (kind_at es s.args.b) _,
-      ← m.read_byte-third.ensures,
-      m.in-Value.is,
-      ← kind-in h s.args.a,
-      ← kind-in h s.args.b,
+      dimension-is (kind_at es c.args.a) (kind_at es c.args.b) _,
+      ← c.in-Ok.ensures,
+      ← kind-in h c.args.a,
+      ← kind-in h c.args.b,
       ← c.kind_at-j.ensures,
       ← c.kind_at-k.ensures,
     ) c.read_by.ensures

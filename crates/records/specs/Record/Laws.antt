@@ -3,12 +3,18 @@ use Rattle.std.specs.Prelude.{◌+◌, ◌*◌, ◌-◌, ◌/◌, ◌%◌, ◌�
 use Rattle.theory.specs.Prelude.{ℕ, zero, suc, arith, refl, sym, ap, ◌∙◌, subst, List, []}
 use Rattle.theory.specs.Prelude.{append_assoc, append-nil, dec_lt, lt-ltb, le-ltb, le-leb, lt-leb, ℤ, leb, length, get_or, take, drop, length-append}
 use Rattle.theory.specs.Prelude.{length-drop, length-take, take-append-drop, take_all, drop-length, drop_at}
+use Rattle.std.specs.Prelude.{Result, Ok, Err}
+use Rattle.std.specs.Result.{result_or}
+use Rattle.theory.specs.declared.Rule.{Rule}
+use Rattle.theory.specs.declared.Rule.TheVariants.{NoSketch}
+use Rattle.graph.specs.declared.Front.{Front}
+use Rattle.reader.specs.Answers.{SheetRead}
 use Rattle.theory.specs.declared.Verdict.{Verdict}
 use Rattle.theory.specs.Graph.{verdict_of}
-use Rattle.space.specs.declared.Written.{Written}
-use Rattle.space.specs.declared.Written.TheVariants.{Done, Refused as NoRoom}
+use Rattle.space.specs.Written.{Written}
+use Rattle.space.specs.Written.{Done, Refused as NoRoom}
 use Rattle.space.specs.Space.{answer, after, Put}
-use Rattle.space.specs.Space.Laws.{put_refused, long-answer, sets-front, ◌then◌}
+use Rattle.space.specs.Space.Laws.{put_refused, long-answer, sets-front, put_as}
 use Rattle.sheet.specs.declared.Constraint.{Constraint}
 use Rattle.sheet.specs.declared.Sheet.{Sheet}
 use Rattle.sheet.specs.Facts.{Facts, facts_of}
@@ -25,13 +31,8 @@ use Rattle.sheet.specs.Encode.{sheet_bytes}
 use Rattle.sheet.specs.Graph.{graph_of, over_fault}
 use Rattle.sheet.specs.Answer.{by_rule, after_to}
 use Rattle.sheet.specs.Answer.Laws.{rule-some}
-use Rattle.reader.specs.declared.CodesRead.{CodesRead}
-use Rattle.reader.specs.declared.CodesRead.TheVariants.{Value, Refused as Unread}
-use Rattle.reader.specs.Answers.{codes_rule, SheetRead}
-use Rattle.graph.specs.declared.Front.{Front}
-use Rattle.graph.specs.Lent.{SheetIn}
-use Rattle.sketch.specs.declared.Judgement.{Judgement}
-use Rattle.sketch.specs.declared.Judgement.TheVariants.{Is, Refused}
+use Rattle.sketch.specs.Judgement.{Judgement}
+use Rattle.sketch.specs.Judgement.{Is, Refused}
 use Rattle.sketch.specs.Sketch.{extended, by27, ask_fault, place_fault, as_judged}
 use Rattle.sketch.specs.Sketch.Laws.{judged-taken, judged-not}
 use Rattle.records.specs.Record.{record_bytes, as27, counted, record_sheet, as_judgement, ask_field, place_field}
@@ -75,22 +76,11 @@ as27-value : (x : Field Facts) {f : Facts} {t : List ℕ} → as27 x ≡ value f
 as27-value (value g s) e = e
 as27-value (refused k) e = absurd (let z : ◌≡◌ {A = ℕ} 0 1 = cc in omega arith)
 
--- the facts of a sheet that is read, in front and arrays
-pub record FactsIn (x : Field Facts) (h : Front) (near start : List ℕ) (codes : List ℤ) (radii : List ℕ) : Type 0 where
-  pub facts : Facts
-  pub rest : List ℕ
-  pub reads : x ≡ value facts rest
-  pub sheet_in : SheetIn facts h near start codes radii
-
--- what the reading answers is one or the other
-module _ {x : Field Facts} (near start : List ℕ) (codes : List ℤ) (radii : List ℕ) {r : CodesRead} (got : SheetRead x r near start codes radii) where
-  pub read-refused : {k j : ℕ} → r ≡ Unread k → j ≡ codes_rule r → x ≡ refused j
-  read-refused {k} e n = subst (λ (y : CodesRead). SheetRead x y near start codes radii) e got ∙ ap refused (sym (n ∙ ap codes_rule e))
-
-  pub facts-in : {h : Front} → r ≡ Value h → FactsIn x h near start codes radii
-  facts-in e =
-      let (f, t, q, a) = subst (λ (y : CodesRead). SheetRead x y near start codes radii) e got in
-      record { facts = f; rest = t; reads = q; sheet_in = a }
+-- a refusal is 27
+pub read-as27 : (x : Field Facts) (near start : List ℕ) (codes : List ℤ) (radii : List ℕ) (r : Result Front Rule)
+    → SheetRead x r near start codes radii → SheetRead (as27 x) (result_or r (Err NoSketch)) near start codes radii
+read-as27 x near start codes radii (Ok h) (f, t, q, a) = (f, t, ap as27 q, a)
+read-as27 x near start codes radii (Err k) e = ap as27 e
 
 -- no rule refuses them, and all bytes that are counted are read
 pub record-accepted : (lent : List ℕ) {f : Facts} {t : List ℕ} → Bytes lent → record_sheet lent ≡ value f t → (t ≡ []) × Accepted f
@@ -211,16 +201,15 @@ module _ (f : Facts) (out : List ℕ) (two : 2 ≤ length out) {r : Written} {le
       let n = subst (λ (o : List ℕ). (NoRoom 17 ≡ answer (record_bytes f) o) × (o ≡ after (record_bytes f) o)) is (record-no-room f x y (drop 2 out) l) in
       (answer_is ∙ sym s.0 ∙ n.0, ap (◌++◌ (take 2 out)) (left_is ∙ sym s.1) ∙ take-append-drop 2 out ∙ n.1)
 
-  pub record-done : {n : ℕ} → r ≡ Done n → {o1 o2 : List ℕ} {second front : ℕ} → Put back 0 (n % 256 ∷ []) second o1
-      → Put o1 second (n / 256 % 256 ∷ []) front o2
+  pub record-done : {n : ℕ} → r ≡ Done n → {bytes o2 : List ℕ} {front : ℕ} → bytes ≡ n % 256 ∷ n / 256 % 256 ∷ [] → Put back 0 bytes front o2
       → (Done (front + n) ≡ answer (record_bytes f) out) × (o2 ≡ after (record_bytes f) out)
   unfolding digits
-  record-done {n} e {o2 = o2} p q =
+  record-done {n} e {o2 = o2} are p =
       let (n_is, fits) = done-is (sheet_bytes f) (drop 2 out) (sym answer_is ∙ e) in
       let (x, y, is) = front-two out two in
       let m = subst (λ (o : List ℕ). (Done (2 + length (sheet_bytes f)) ≡ answer (record_bytes f) o)
       × (digits 2 (length (sheet_bytes f)) ++ after (sheet_bytes f) (drop 2 out) ≡ after (record_bytes f) o)) is (record-room f x y (drop 2 out) fits) in
-      let pq : Put back 0 (n % 256 ∷ n / 256 % 256 ∷ []) _ o2 = p then q in
+      let pq : Put back 0 (n % 256 ∷ n / 256 % 256 ∷ []) _ o2 = put_as are p in
       let long : 2 ≤ length back = omega (arith, length-append (take 2 out) (left ++ drop (length out - 2) (drop 2 out)), length-take 2 out) in
       let kept : drop 2 back ≡ after (sheet_bytes f) (drop 2 out) =
       drop_at (take 2 out) (left ++ drop (length out - 2) (drop 2 out)) 2 (omega (arith, length-take 2 out)) ∙ left_is in (

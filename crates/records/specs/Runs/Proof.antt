@@ -19,8 +19,8 @@ use Rattle.sheet.specs.Accepted.Laws.{accepted-most}
 use Rattle.sheet.specs.Answer.{by_rule}
 use Rattle.sheet.specs.Graph.{graph_of, over_fault}
 use Rattle.sheet.specs.RoundTrip.{read-written}
-use Rattle.sketch.specs.declared.Judgement.{Judgement}
-use Rattle.sketch.specs.declared.Judgement.TheVariants.{Is, Refused}
+use Rattle.sketch.specs.Judgement.{Judgement}
+use Rattle.sketch.specs.Judgement.{Is, Refused}
 use Rattle.sketch.specs.Sketch.{extended, next_fault, by27, ask_fault, place_fault, as_judged, ask_answer}
 use Rattle.sketch.specs.Sketch.Laws.{ask-place, ask-sound, place-sound, refused-placed, taken-placed, stored-facts}
 use Rattle.sketch.specs.Runs.{Event, asks, places, answer_of, after_of, answers_to, after_all, Told, takes, refuses, Held}

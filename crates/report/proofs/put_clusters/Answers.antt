@@ -20,47 +20,19 @@ next-line slots low high m c ls ll lh few h =
     (wide_at low high c same)
 
 pub loop-c-init : goal.loop-c-init
-loop-c-init c = (omega arith, start _)
-
-pub offset_bounds-slots-c : goal.offset_bounds-slots-c
-offset_bounds-slots-c c = omega arith
-
-pub bounds-slots-c : goal.bounds-slots-c
-bounds-slots-c c = omega arith
-
-pub offset_bounds-low-c : goal.offset_bounds-low-c
-offset_bounds-low-c c = omega arith
-
-pub bounds-low-c : goal.bounds-low-c
-bounds-low-c c = omega arith
-
-pub offset_bounds-high-c : goal.offset_bounds-high-c
-offset_bounds-high-c c = omega arith
-
-pub bounds-high-c : goal.bounds-high-c
-bounds-high-c c = omega arith
+loop-c-init c = start _
 
 pub put_slot_line-next-requires : goal.put_slot_line-next-requires
-put_slot_line-next-requires c = let s = c in
-    let h = c.loop-c-test.true in
-    (s.requires.0, omega (arith, h, s.requires.1), omega (arith, place stands c.loop-c.invariant.1, s.requires.5))
-
-pub overflow_add-c : goal.overflow_add-c
-overflow_add-c c = omega arith
-
-pub loop-c-smaller : goal.loop-c-smaller
-loop-c-smaller c = omega arith
+put_slot_line-next-requires c = (c.requires.0, omega arith, omega (arith, place stands c.loop-c.invariant, c.requires.5))
 
 pub loop-c-preserved : goal.loop-c-preserved
-loop-c-preserved c = let s = c in
+loop-c-preserved c = let a = c.args in
+    let r = c.requires in
     let l = c.loop-c in
-    let h = c.loop-c-test.true in (
-      omega (arith, h),
-      put_next stands (next-line s.args.slots.now s.args.low.now s.args.high.now s.args.used l.c s.requires.2 s.requires.3 s.requires.4
-          s.requires.1 h) l.invariant.1 c.put_slot_line-next.ensures,
-    )
+    put_next stands (next-line a.slots.now a.low.now a.high.now a.used l.c r.2 r.3 r.4 r.1 c.loop-c-test.true) l.invariant
+    c.put_slot_line-next.ensures
 
 pub returns : goal.returns
 returns c = let a = c.args in
     put_last stands (clusters-none a.slots.now (wide a.low.now a.high.now) a.used c.loop-c.c c.loop-c-test.false)
-    c.loop-c.invariant.1
+    c.loop-c.invariant

@@ -1,5 +1,4 @@
 -- `report::put_clusters` meets its contract: the lines of the clusters from `c` on are still to be put. Assumes nothing.
-use Rattle.std.specs.Prelude.{◌-◌, ◌≤◌}
 use Rattle.theory.specs.Prelude.{take, drop}
 use Rattle.report.specs.Report.{cluster_lines}
 use Rattle.report.specs.Pieces.{wide}
@@ -8,8 +7,5 @@ use Rattle.report.specs.Going.{Going}
 use Rattle.report.proofs.put_clusters.Given as goal
 
 abbrev pub invariant-loop-c : goal.invariant-loop-c
-invariant-loop-c l = (l.c ≤ l.used) × Going Stands l.initial.out l.at (cluster_lines 0 (take l.used l.slots) (take l.used (wide l.low l.high))) l.out l.next
+invariant-loop-c l = Going Stands l.initial.out l.at (cluster_lines 0 (take l.used l.slots) (take l.used (wide l.low l.high))) l.out l.next
     (cluster_lines l.c (drop l.c (take l.used l.slots)) (drop l.c (take l.used (wide l.low l.high))))
-
-abbrev pub decreases-loop-c : goal.decreases-loop-c
-decreases-loop-c l = l.used - l.c

@@ -1,6 +1,6 @@
--- `report::put_set_from` meets its contract: the elements of `rest` are still to be put. Assumes nothing.
-use Rattle.std.specs.Prelude.{◌-◌}
-use Rattle.theory.specs.Prelude.{rules, ℕ, arith, ap, ◌∙◌, and_le_l, and_le_r, trailing_le}
+-- `report::put_set_from` meets its contract: the elements of the set to come are still to be put. Assumes nothing.
+use Rattle.std.specs.Prelude.{◌≡◌, ◌-◌}
+use Rattle.theory.specs.Prelude.{rules, ℕ, arith, ap, ◌∙◌, and_le_l, trailing_le}
 use Rattle.report.specs.Elements.{elements}
 use Rattle.report.specs.Pieces.{numbers, above}
 use Rattle.report.specs.Report.Laws.{above-lowest, above-none}
@@ -9,36 +9,32 @@ use Rattle.report.proofs.Standing.{stands}
 use Rattle.report.specs.Going.Laws.{start, put_next, put_last, place}
 use Rattle.report.proofs.put_set_from.Goals as goal
 
-pub loop-rest-init : goal.loop-rest-init
-loop-rest-init c = (search rules, start _)
-
-pub overflow_cast-x : goal.overflow_cast-x
-overflow_cast-x c = omega (arith, trailing_le 64 c.loop-rest.rest)
-
-pub overflow_add-first : goal.overflow_add-first
-overflow_add-first c = omega (arith, trailing_le 64 c.loop-rest.rest, c.requires.1)
+pub loop-x-init : goal.loop-x-init
+loop-x-init c =
+    let begins : c.into_iter-x-iterator.result.rest ≡ c.args.set = cc in
+    record { can_next = tt; is_finite = tt; fits = rw begins (search rules); going = rw begins (start _) }
 
 pub put_number-next-requires : goal.put_number-next-requires
-put_number-next-requires c = let s = c in
-    let l = c.loop-rest in (
-      s.requires.0,
-      omega (arith, trailing_le 64 l.rest, s.requires.1),
-      omega (arith, place stands l.invariant.1, above_most s.args.first s.args.set, s.requires.2),
+put_number-next-requires c =
+    let l = c.loop-x in (
+      c.requires.0,
+      omega (arith, trailing_le 64 l.x-iterator.rest, c.in-Some.ensures.steps.1, c.requires.1),
+      omega (arith, place stands l.invariant.going, above_most c.args.first c.args.set, c.requires.2),
     )
 
-pub overflow_sub-rest : goal.overflow_sub-rest
-overflow_sub-rest c = omega arith
-
-pub loop-rest-smaller : goal.loop-rest-smaller
-loop-rest-smaller c = let l = c.loop-rest in omega (arith, and_le_r l.rest (l.rest - 1))
-
-pub loop-rest-preserved : goal.loop-rest-preserved
-loop-rest-preserved c = let l = c.loop-rest in (
-  omega (arith, and_le_l l.rest (l.rest - 1)),
-  put_next stands (above-lowest _ l.rest l.invariant.0 c.loop-rest-test.true) l.invariant.1 c.put_number-next.ensures.0,
-)
+pub loop-x-preserved : goal.loop-x-preserved
+loop-x-preserved c =
+    let l = c.loop-x in
+    let steps = c.in-Some.ensures.steps in record {
+      can_next = tt;
+      is_finite = tt;
+      fits = omega (arith, and_le_l l.x-iterator.rest (l.x-iterator.rest - 1), steps.2, l.invariant.fits);
+      going = rw steps.2 (put_next stands (above-lowest _ l.x-iterator.rest l.invariant.fits steps.0) l.invariant.going
+          (rw steps.1 at c.put_number-next.ensures.0));
+    }
 
 pub returns : goal.returns
-returns c = let a = c.args in
-    let put = put_last stands (ap (λ (x : ℕ). numbers (above a.first (elements x))) (search rules) ∙ above-none a.first) c.loop-rest.invariant.1 in
+returns c =
+    let a = c.args in
+    let put = put_last stands (ap (λ (x : ℕ). numbers (above a.first (elements x))) c.in-None.ensures.steps.0 ∙ above-none a.first) c.loop-x.invariant.going in
     (put, omega (arith, put.next_is, above_most a.first a.set))

@@ -22,7 +22,7 @@ module _ (step : Step) {read : Step} (same : read ≡ step) where
   line_read p = stands-as (ap step_line same) p
 
 pub loop-t-init : goal.loop-t-init
-loop-t-init c = (omega arith, start _)
+loop-t-init c = start _
 
 pub step_at-s-requires : goal.step_at-s-requires
 step_at-s-requires c = omega arith
@@ -34,29 +34,21 @@ put_step_line-next-requires c =
     let steps : ℕ → Step = step_at a.lines a.e a.sizes.now a.start.now a.parts.now a.joints.now in (
       c.requires.0,
       small-read (steps l.t) c.step_at-s.ensures
-          (small_at steps a.first a.last l.t c.requires.3 l.invariant.0 c.loop-t-test.true),
-      omega (arith, place stands l.invariant.1, c.requires.4),
+          (small_at steps a.first a.last l.t c.requires.3 l.auto.t c.loop-t-test.true),
+      omega (arith, place stands l.invariant, c.requires.4),
     )
-
-pub overflow_add-t : goal.overflow_add-t
-overflow_add-t c = omega arith
-
-pub loop-t-smaller : goal.loop-t-smaller
-loop-t-smaller c = omega arith
 
 pub loop-t-preserved : goal.loop-t-preserved
 loop-t-preserved c =
     let a = c.args in
     let l = c.loop-t in
-    let steps : ℕ → Step = step_at a.lines a.e a.sizes.now a.start.now a.parts.now a.joints.now in (
-      omega (arith, l.invariant.0),
-      put_next stands (steps_next steps a.last l.t c.loop-t-test.true) l.invariant.1
-          (line_read (steps l.t) c.step_at-s.ensures c.put_step_line-next.ensures),
-    )
+    let steps : ℕ → Step = step_at a.lines a.e a.sizes.now a.start.now a.parts.now a.joints.now in
+    put_next stands (steps_next steps a.last l.t c.loop-t-test.true) l.invariant
+    (line_read (steps l.t) c.step_at-s.ensures c.put_step_line-next.ensures)
 
 pub returns : goal.returns
 returns c =
     let a = c.args in
     put_last stands
     (steps-none (step_at a.lines a.e a.sizes.now a.start.now a.parts.now a.joints.now) a.last c.loop-t.t c.loop-t-test.false)
-    c.loop-t.invariant.1
+    c.loop-t.invariant

@@ -12,5 +12,5 @@ returns c =
     let done =
     buffered {items = over_report a.n a.e a.first a.set} {buffer = replicate block 0}
     (omega (arith, put.0.next_is, put.1, length-replicate {A = ℕ} block 0)) put.0 a.out.now
-    (c.put_all8.ensures.answers, c.put_all8.ensures.leaves) in
+    (c.put_all.ensures.answers, c.put_all.ensures.leaves) in
     record { answers = done.0; leaves = done.1 }

@@ -23,5 +23,5 @@ returns c =
     (take (a.e + a.count) a.slots.now) (take (a.e + a.count) (wide a.low.now a.high.now)) in
     let done =
     buffered {items = items} {buffer = replicate block 0} (omega (arith, c.requires.high_len_bound, length-replicate {A = ℕ} block 0))
-    c.put_report-length.ensures a.out.now (c.put_all8.ensures.answers, c.put_all8.ensures.leaves) in
+    c.put_report-length.ensures a.out.now (c.put_all.ensures.answers, c.put_all.ensures.leaves) in
     record { answers = done.0; leaves = done.1 }

@@ -20,39 +20,29 @@ module _ {e steps t i j k : ℕ} {parts : List ℕ} (h : t < steps) (ei : i ≡ 
       (told-next l t h w words room told)
 
 pub loop-t-init : goal.loop-t-init
-loop-t-init c =
+loop-t-init c l =
     let low = c.note_alone.ensures in
     let high = c.note_alone-2.ensures in (
-      omega arith,
-      λ l. (
-        told-start l 0 _ low.long (λ n h. alone-low _ low n),
-        told-start l 1 _ high.long (alone-high _ c.args.e (omega (arith, c.requires.0)) high),
-      ),
+      told-start l 0 _ low.long (λ n h. alone-low _ low n),
+      told-start l 1 _ high.long (alone-high _ c.args.e (omega (arith, c.requires.0)) high),
     )
 
 pub join-requires : goal.join-requires
-join-requires c = in_use c.loop-t-test.true c.place_of-i.ensures c.place_of-j.ensures c.place_of-k.ensures
-    c.requires.0 c.requires.1 c.requires.2
+join-requires c = in_use c.loop-t-test.true c.from-i.ensures c.from-j.ensures c.from-k.ensures c.requires.0 c.requires.1 c.requires.2
 
 pub join-requires-in-loop-t : goal.join-requires-in-loop-t
-join-requires-in-loop-t c = in_use c.loop-t-test.true c.place_of-i.ensures c.place_of-j.ensures c.place_of-k.ensures
-    c.requires.0 c.requires.1 c.requires.2
+join-requires-in-loop-t c = in_use c.loop-t-test.true c.from-i.ensures c.from-j.ensures c.from-k.ensures c.requires.0 c.requires.1 c.requires.2
 
 pub loop-t-preserved : goal.loop-t-preserved
-loop-t-preserved c =
-    let n = c.loop-t.invariant in
-    let u = in_use c.loop-t-test.true c.place_of-i.ensures c.place_of-j.ensures c.place_of-k.ensures c.requires.0 c.requires.1 c.requires.2 in (
-      omega (arith, c.loop-t-test.true),
-      λ l.
-          let t = n.1 l in (
-            joined c.loop-t-test.true c.place_of-i.ensures c.place_of-j.ensures c.place_of-k.ensures 0 u.0 c.join.ensures l t.0,
-            joined c.loop-t-test.true c.place_of-i.ensures c.place_of-j.ensures c.place_of-k.ensures 1 u.0 c.join-in-loop-t.ensures l t.1,
-          ),
+loop-t-preserved c l =
+    let u = in_use c.loop-t-test.true c.from-i.ensures c.from-j.ensures c.from-k.ensures c.requires.0 c.requires.1 l in
+    let told = c.loop-t.invariant l in (
+      joined c.loop-t-test.true c.from-i.ensures c.from-j.ensures c.from-k.ensures 0 u.0 c.join.ensures l told.0,
+      joined c.loop-t-test.true c.from-i.ensures c.from-j.ensures c.from-k.ensures 1 u.0 c.join-in-loop-t.ensures l told.1,
     )
 
 pub returns : goal.returns
-returns c l = let n = c.loop-t in
-    let t = n.invariant.1 l in
-    let h = c.loop-t-test.false in
-    let e : n.t ≡ c.args.steps = omega (arith, n.invariant.0) in
-    (told-end l 0 n.t n.low e t.0, told-end l 1 n.t n.high e t.1)
+returns c l =
+    let all : c.loop-t.t ≡ c.args.steps = omega (arith, c.loop-t.auto.t-end, c.loop-t-test.false) in
+    let told = c.loop-t.invariant l in
+    (told-end l 0 c.loop-t.t c.loop-t.low all told.0, told-end l 1 c.loop-t.t c.loop-t.high all told.1)

@@ -24,21 +24,16 @@ module _ {first last i v : ℕ} {words : List ℕ} (h : first ≤ i) (l : i < la
   }
 
 pub loop-i-init : goal.loop-i-init
-loop-i-init c = (
-  omega arith,
-  rw c.requires.2 (record {
-    long = refl;
-    each = λ n f k m. absurd (omega arith);
-    less = λ n k. get_or-blank 192 0 192 n;
-    more = λ n k. get_or-blank 192 0 192 n;
-  }),
-)
+loop-i-init c = rw c.requires.2 (record {
+  long = refl;
+  each = λ n f k m. absurd (omega arith);
+  less = λ n k. get_or-blank 192 0 192 n;
+  more = λ n k. get_or-blank 192 0 192 n;
+})
 
 pub loop-i-preserved : goal.loop-i-preserved
-loop-i-preserved c = let l = c.loop-i in
-    let s = c in
-    (omega (arith, l.invariant.0), one_more l.invariant.0 c.loop-i-test.true s.requires.1 c.single.ensures l.invariant.1)
+loop-i-preserved c = one_more c.loop-i.auto.i c.loop-i-test.true c.requires.1 c.single.ensures c.loop-i.invariant
 
 pub returns : goal.returns
-returns c = let a = c.loop-i.invariant.1 in
+returns c = let a = c.loop-i.invariant in
     record { long = a.long; each = λ n f k m. a.each n f (omega (arith, c.loop-i-test.false)) m; less = a.less; more = a.more }

@@ -166,8 +166,7 @@ module _ {e : ℕ} {parts : List ℕ} {steps : ℕ} (l : Listed e parts steps) w
 
     -- the union's word is stored at its number
     pub told-next : (w : ℕ) (words : List ℕ) → e + t < places → Told w l.cs (take t l.p) words
-        → Told w l.cs (take (t + 1) l.p)
-        (set words (e + t) (get_or words (get_or parts (3 * t) 0) 0 ∪ get_or words (get_or parts (3 * t + 1) 0) 0 ∪ get_or words (get_or parts (3 * t + 2) 0) 0))
+        → Told w l.cs (take (t + 1) l.p) (set words (e + t) (get_or words m.i 0 ∪ get_or words m.j 0 ∪ get_or words m.k 0))
     unfolding rests_on union
     told-next w words room told = record {
       long = length-set words (e + t) v ∙ told.long;

@@ -4,8 +4,9 @@ use Rattle.search.specs.State.{linked, Joined}
 use Rattle.search.proofs.Two.{Leading}
 use Rattle.search.proofs.best.Given as goal
 
-abbrev pub invariant-loop-rest : goal.invariant-loop-rest
-invariant-loop-rest l = Leading (λ y. Joined l.hold (linked l.links y ∩ l.x) y) l.o l.rest l.best
-
-abbrev pub decreases-loop-rest : goal.decreases-loop-rest
-decreases-loop-rest l = l.rest
+abbrev pub invariant-loop-z : goal.invariant-loop-z
+invariant-loop-z l = record {
+  can_next : (goal.iterator-loop-z).can_next l.z-iterator;
+  is_finite : (goal.iterator-loop-z).is_finite l.z-iterator;
+  leading : Leading (λ y. Joined l.hold (linked l.links y ∩ l.x) y) l.o l.z-iterator.rest l.best;
+}

@@ -2,8 +2,9 @@
 use Rattle.search.proofs.Storing.{Entering}
 use Rattle.search.proofs.enter.Given as goal
 
-abbrev pub invariant-loop-rest : goal.invariant-loop-rest
-invariant-loop-rest l = Entering l.initial.links l.initial.hold l.x l.c l.links l.hold l.rest
-
-abbrev pub decreases-loop-rest : goal.decreases-loop-rest
-decreases-loop-rest l = l.rest
+abbrev pub invariant-loop-p : goal.invariant-loop-p
+invariant-loop-p l = record {
+  can_next : (goal.iterator-loop-p).can_next l.p-iterator;
+  is_finite : (goal.iterator-loop-p).is_finite l.p-iterator;
+  entering : Entering l.initial.links l.initial.hold l.x l.c l.links l.hold l.p-iterator.rest;
+}

@@ -1,10 +1,6 @@
 -- `search::join_all` meets its contract: the loop keeps `Begun` of the clusters passed. Assumes nothing.
-use Rattle.std.specs.Prelude.{◌-◌, ◌≤◌}
 use Rattle.search.specs.State.{Begun}
 use Rattle.search.proofs.join_all.Given as goal
 
 abbrev pub invariant-loop-c : goal.invariant-loop-c
-invariant-loop-c l = (l.c ≤ l.e) × Begun l.slots l.c l.links l.hold
-
-abbrev pub decreases-loop-c : goal.decreases-loop-c
-decreases-loop-c l = l.e - l.c
+invariant-loop-c l = Begun l.slots l.c l.links l.hold

@@ -1,52 +1,43 @@
--- `search::lowest_reaching` meets its contract: word after word, `Swept`. Assumes nothing.
-use Rattle.std.specs.Prelude.{◌<◌}
-use Rattle.theory.specs.Prelude.{arith, trailing_le}
-use Rattle.search.proofs.Swept.{swept_none, swept-next, swept-found, swept-end}
+-- `search::lowest_reaching` meets its contract: the loops keep `Swept`. Assumes nothing.
+use Rattle.std.specs.Prelude.{◌-◌}
+use Rattle.theory.specs.Prelude.{◌∙◌, arith, and_le_l, get_or-set_same}
+use Rattle.theory.specs.Set.{◌∩◌}
+use Rattle.theory.specs.Set.Lowest.{lowest-below}
+use Rattle.search.proofs.Swept.{swept_none, swept-next, swept-end, swept-found, swept-less}
 use Rattle.search.proofs.lowest_reaching.Goals as goal
 
-second : 1 < 3
-second = omega arith
+pub loop-w-init : goal.loop-w-init
+loop-w-init c = swept_none c.requires
 
-third : 2 < 3
-third = omega arith
+pub returns-then-outs-ne0-clause-lowest : goal.returns-then-outs-ne0-clause-lowest
+unfolding ◌∩◌
+returns-then-outs-ne0-clause-lowest c =
+    let step = c.in-Some.ensures.steps in
+    let l = c.loop-x.invariant in
+    swept-found l.swept c.loop-w-test.true l.word l.fits step.0 step.1 c.outs-outs.ensures c.if-outs-ne0.true
 
-none : 192 < 192 → ⊥
-none h = omega arith
+pub returns-then-outs-ne0-clause-outs : goal.returns-then-outs-ne0-clause-outs
+unfolding ◌∩◌
+returns-then-outs-ne0-clause-outs c =
+    let step = c.in-Some.ensures.steps in
+    let low = lowest-below 64 c.loop-x.waiting.rest c.loop-x.invariant.fits step.0 in
+    (omega (arith, step.1, low), c.outs-outs.ensures, c.if-outs-ne0.true)
 
-pub overflow_cast-result : goal.overflow_cast-result
-overflow_cast-result c = omega (arith, trailing_le 64 c.first_reaching-a.result.rest)
+pub loop-x-preserved : goal.loop-x-preserved
+unfolding ◌∩◌
+loop-x-preserved c =
+    let step = c.in-Some.ensures.steps in
+    let l = c.loop-x.invariant in
+    record {
+      can_next = tt;
+      is_finite = tt;
+      swept = rw step.2 (swept-less l.swept c.loop-w-test.true l.word l.fits step.0 step.1 c.outs-outs.ensures c.if-outs-ne0.false);
+      word = get_or-set_same c.loop-x.todo c.loop-w.w _ 0 (omega (arith, l.swept.long));
+      fits = omega (arith, step.2, l.fits, and_le_l c.loop-x.waiting.rest (c.loop-x.waiting.rest - 1));
+    }
 
-pub returns-then-x-ne0 : goal.returns-then-x-ne0
-returns-then-x-ne0 c = let every = swept-found (swept_none c.requires) (omega arith) c.first_reaching-a.ensures c.if-x-ne0.true _ (omega arith) in record { lowest = every.0; outs = every.1.0; kept = every.1.1 }
+pub loop-w-preserved : goal.loop-w-preserved
+loop-w-preserved c = swept-next c.loop-x.invariant.swept (c.loop-x.invariant.word ∙ c.in_default.ensures.steps.0)
 
-pub overflow_cast-result-then-y-ne0 : goal.overflow_cast-result-then-y-ne0
-overflow_cast-result-then-y-ne0 c = omega (arith, trailing_le 64 c.first_reaching-b.result.rest)
-
-pub overflow_add-result : goal.overflow_add-result
-overflow_add-result c = omega (arith, trailing_le 64 c.first_reaching-b.result.rest)
-
-pub returns-then-y-ne0 : goal.returns-then-y-ne0
-returns-then-y-ne0 c = let one = swept-next (swept_none c.requires) (omega arith)
-    c.first_reaching-a.ensures c.if-x-ne0.false in
-    let every = swept-found one second c.first_reaching-b.ensures c.if-y-ne0.true _ (omega arith) in record { lowest = every.0; outs = every.1.0; kept = every.1.1 }
-
-pub overflow_cast-result-then-z-ne0 : goal.overflow_cast-result-then-z-ne0
-overflow_cast-result-then-z-ne0 c = omega (arith, trailing_le 64 c.first_reaching-c.result.rest)
-
-pub overflow_add-result-then-z-ne0 : goal.overflow_add-result-then-z-ne0
-overflow_add-result-then-z-ne0 c = omega (arith, trailing_le 64 c.first_reaching-c.result.rest)
-
-pub returns-then-z-ne0 : goal.returns-then-z-ne0
-returns-then-z-ne0 c = let one = swept-next (swept_none c.requires) (omega arith)
-    c.first_reaching-a.ensures
-    c.if-x-ne0.false in
-    let two = swept-next one second c.first_reaching-b.ensures c.if-y-ne0.false in
-    let every = swept-found two third c.first_reaching-c.ensures c.if-z-ne0.true _ (omega arith) in record { lowest = every.0; outs = every.1.0; kept = every.1.1 }
-
-pub returns : goal.returns
-returns c = let one = swept-next (swept_none c.requires) (omega arith)
-    c.first_reaching-a.ensures
-    c.if-x-ne0.false in
-    let two = swept-next one second c.first_reaching-b.ensures c.if-y-ne0.false in
-    let three = swept-next two third c.first_reaching-c.ensures c.if-z-ne0.false in
-    record { lowest = swept-end three; outs = λ h. absurd (none h); kept = (three.kept, three.long) }
+pub returns-clause-lowest : goal.returns-clause-lowest
+returns-clause-lowest c = swept-end c.loop-w.invariant c.loop-w-test.false

@@ -2,8 +2,9 @@
 use Rattle.search.proofs.Gather.{Seen}
 use Rattle.search.proofs.outs.Given as goal
 
-abbrev pub invariant-loop-rest : goal.invariant-loop-rest
-invariant-loop-rest l = Seen l.links l.edge l.rest l.once l.twice
-
-abbrev pub decreases-loop-rest : goal.decreases-loop-rest
-decreases-loop-rest l = l.rest
+abbrev pub invariant-loop-p : goal.invariant-loop-p
+invariant-loop-p l = record {
+  can_next : (goal.iterator-loop-p).can_next l.p-iterator;
+  is_finite : (goal.iterator-loop-p).is_finite l.p-iterator;
+  seen : Seen l.links l.edge l.p-iterator.rest l.once l.twice;
+}

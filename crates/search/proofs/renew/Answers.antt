@@ -2,14 +2,16 @@
 -- Assumes nothing.
 use Rattle.theory.specs.Set.{◌∩◌, ◌∪◌}
 use Rattle.theory.specs.Merge.{union}
+use Rattle.search.proofs.Listing.{one_of, three-of}
 use Rattle.search.proofs.Calling.{called, holding, gone_of}
 use Rattle.search.proofs.renew.Goals as goal
 
 pub returns : goal.returns
 unfolding ◌∩◌ ◌∪◌ union
-returns c = let dead = c.three_of-dead.ensures in
-    let made = c.alone-made.ensures in
-    let near = c.image-n in
+returns c =
+    let dead = three-of c.set_of-dead.ensures in
+    let made = one_of c.set_of-made.ensures in
+    let near = c.image-near in
     let edge = c.rejoin-found in
     let j = edge.ensures.joined in
     record {
@@ -18,10 +20,10 @@ returns c = let dead = c.three_of-dead.ensures in
       todo_long = c.call_up.ensures.long;
       linking = j.linking;
       holding = holding dead made j.words;
-      gone = gone_of edge.ensures.inner;
+      gone = rw c.without-2.ensures (gone_of edge.ensures.inner);
       reached = edge.result.outs;
       near = near.result;
       reaches = edge.ensures.outs;
-      nears = near.ensures;
+      nears = rw (← c.without.ensures) near.ensures;
       calling = called dead made c.call_up.ensures;
     }

@@ -1,11 +1,13 @@
--- `search::todo_all` meets its contract: three words. Assumes nothing.
-use Rattle.theory.specs.Prelude.{refl, replicate}
+-- `search::todo_all` meets its contract: word after word. Assumes nothing.
+use Rattle.theory.specs.Prelude.{ap, ◌∙◌, ℕ, min, arith}
+use Rattle.theory.specs.Set.{full}
 use Rattle.search.proofs.Starting.{todo-words}
+use Rattle.search.proofs.Storing.{placed-next}
 use Rattle.search.proofs.todo_all.Goals as goal
 
+pub loop-w-preserved : goal.loop-w-preserved
+loop-w-preserved c = placed-next c.loop-w.invariant (λ v l e. omega arith) (omega arith)
+    (λ old. c.below.ensures ∙ ap (λ (x : ℕ). full (min x 64)) c.saturating_sub.ensures)
+
 pub returns : goal.returns
-returns c = let e = c.args.e in (
-  todo-words (replicate 3 0) e c.ahead-a.result c.ahead-b.result c.ahead-c.result refl
-      c.requires c.ahead-a.ensures c.ahead-b.ensures c.ahead-c.ensures,
-  refl,
-)
+returns c = (todo-words c.requires c.loop-w.invariant c.loop-w-test.false, c.loop-w.invariant.long)

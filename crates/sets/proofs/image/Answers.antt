@@ -1,35 +1,26 @@
 -- `sets::image` meets its contract: the loop keeps `Imaged`. Assumes nothing.
-use Rattle.std.specs.Prelude.{◌<◌}
+use Rattle.std.specs.Prelude.{◌<◌, ◌≡◌}
 use Rattle.theory.specs.Prelude.{arith, rules, count_trailing_zeros}
-use Rattle.sets.specs.Each.Laws.{each-lowest, each-less}
+use Rattle.sets.specs.Each.Laws.{each-lowest}
 use Rattle.sets.specs.Image.Laws.{imaged-none, imaged-next, imaged-all}
 use Rattle.sets.proofs.image.Goals as goal
 
-lowest : (c : goal.In-loop-rest) → count_trailing_zeros 64 c.loop-rest.rest < 64
-lowest c = each-lowest c.loop-rest.invariant.each c.loop-rest-test.true
-
-pub loop-rest-init : goal.loop-rest-init
-loop-rest-init c = imaged-none (search rules)
-
-pub overflow_cast-p : goal.overflow_cast-p
-overflow_cast-p c = omega (arith, lowest c)
-
-pub offset_bounds-table-p : goal.offset_bounds-table-p
-offset_bounds-table-p c = omega (arith, lowest c)
+pub loop-p-init : goal.loop-p-init
+loop-p-init c =
+    let begins : c.into_iter-p-iterator.result.rest ≡ c.args.set = cc in
+    record { can_next = tt; is_finite = tt; imaged = rw begins (imaged-none (search rules)) }
 
 pub bounds-table-p : goal.bounds-table-p
 bounds-table-p c =
-    let lowest : count_trailing_zeros 64 c.loop-rest.rest < 64 = each-lowest c.loop-rest.invariant.each c.loop-rest-test.true in
-    lowest
+    let lowest : count_trailing_zeros 64 c.loop-p.p-iterator.rest < 64 = each-lowest c.loop-p.invariant.imaged.each c.in-Some.ensures.steps.0 in
+    omega (arith, lowest, c.in-Some.ensures.steps.1)
 
-pub overflow_sub-rest : goal.overflow_sub-rest
-overflow_sub-rest c = omega arith
-
-pub loop-rest-smaller : goal.loop-rest-smaller
-loop-rest-smaller c = each-less c.loop-rest.invariant.each c.loop-rest-test.true
-
-pub loop-rest-preserved : goal.loop-rest-preserved
-loop-rest-preserved c = imaged-next c.loop-rest.invariant c.loop-rest-test.true
+pub loop-p-preserved : goal.loop-p-preserved
+loop-p-preserved c = record {
+  can_next = tt;
+  is_finite = tt;
+  imaged = rw (c.in-Some.ensures.steps.1, c.in-Some.ensures.steps.2) (imaged-next c.loop-p.invariant.imaged c.in-Some.ensures.steps.0);
+}
 
 pub returns : goal.returns
-returns c = imaged-all c.loop-rest.invariant (search rules)
+returns c = imaged-all c.loop-p.invariant.imaged c.in-None.ensures.steps.0

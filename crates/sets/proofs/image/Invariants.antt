@@ -2,8 +2,9 @@
 use Rattle.sets.specs.Image.Laws.{Imaged}
 use Rattle.sets.proofs.image.Given as goal
 
-abbrev pub invariant-loop-rest : goal.invariant-loop-rest
-invariant-loop-rest l = Imaged l.table l.set l.rest l.all
-
-abbrev pub decreases-loop-rest : goal.decreases-loop-rest
-decreases-loop-rest l = l.rest
+abbrev pub invariant-loop-p : goal.invariant-loop-p
+invariant-loop-p l = record {
+  can_next : (goal.iterator-loop-p).can_next l.p-iterator;
+  is_finite : (goal.iterator-loop-p).is_finite l.p-iterator;
+  imaged : Imaged l.table l.set l.p-iterator.rest l.all;
+}

@@ -1,45 +1,16 @@
--- `sheet::radii_in_range` meets its contract: the circles before i have radii in range. Assumes nothing.
-use Rattle.std.specs.Prelude.{◌≤◌, ◌≡◌}
-use Rattle.theory.specs.Prelude.{rules, arith, refl, sym, ◌∙◌, length}
-use Rattle.sheet.specs.Facts.{blank_element}
-use Rattle.sheet.specs.Rules.Kinds.{radii-turn, radii-spent}
+-- `sheet::radii_in_range` meets its contract: each element's radius is in range. Assumes nothing.
+use borrow.Author.Tests.{tests}
+use Rattle.std.proofs.lemmas.Iterator.{YieldsList-from_slice}
+use Rattle.std.proofs.lemmas.Iterator.Search.{all_from_yields_List}
+use Rattle.std.specs.Prelude.{◌||◌}
+use Rattle.theory.specs.Prelude.{rules, ◌∙◌, not}
+use Rattle.sheet.specs.Facts.{is_circle, radius_of}
+use Rattle.sheet.specs.Rules.{radius_in_range}
+use Rattle.sheet.specs.Rules.Kinds.{all-radii}
 use Rattle.sheet.proofs.radii_in_range.Goals as goal
-use Rattle.sheet.proofs.radii_in_range.Goals.{else-is_circle, then-is_circle+else-not-radius_in_range}
-
-pub loop-i-init : goal.loop-i-init
-loop-i-init c = (search rules, refl)
-
-pub returns-then-not-radius_in_range : goal.returns-then-not-radius_in_range
-returns-then-not-radius_in_range c =
-    let l : length c.args.elements ≡ 64 = search rules in
-    let room : c.args.n ≤ length c.args.elements = rw l c.requires in
-    rw (
-      c.loop-i.invariant.1,
-      radii-turn c.args.elements c.args.n c.loop-i.i blank_element room c.loop-i-test.true,
-      sym c.is_circle.ensures ∙ c.if-is_circle.true,
-      ← c.radius_of.ensures,
-      sym c.radius_in_range.ensures ∙ c.if-not-radius_in_range.true,
-    )
-
-pub loop-i-preserved : goal.loop-i-preserved
-loop-i-preserved c =
-    let l : length c.args.elements ≡ 64 = search rules in
-    let room : c.args.n ≤ length c.args.elements = rw l c.requires in (
-      omega arith,
-      c.loop-i.invariant.1 ∙ radii-turn c.args.elements c.args.n c.loop-i.i blank_element room c.loop-i-test.true
-          ∙ elim c.if-is_circle.branch [
-            | then-is_circle+else-not-radius_in_range w ↦
-                rw (
-                  sym c.is_circle.ensures ∙ w.if-is_circle.true,
-                  ← w.radius_of.ensures,
-                  sym w.radius_in_range.ensures ∙ w.if-not-radius_in_range.false,
-                )
-            | else-is_circle w ↦ rw (sym c.is_circle.ensures ∙ w.if-is_circle.false)
-          ],
-    )
 
 pub returns : goal.returns
 returns c =
-    let l : length c.args.elements ≡ 64 = search rules in
-    let room : c.args.n ≤ length c.args.elements = rw l c.requires in
-    sym (c.loop-i.invariant.1 ∙ radii-spent c.args.elements c.args.n c.loop-i.i blank_element room c.loop-i-test.false)
+    all_from_yields_List (λ x. not (is_circle x.kind) || radius_in_range (radius_of x.kind)) _ _ c.all.result c.all.ensures.ran
+    (YieldsList-from_slice c.args.elements.now c.iter.ensures.rest) (λ x b q k. search (rules, tests))
+    ∙ all-radii _

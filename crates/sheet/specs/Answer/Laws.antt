@@ -1,8 +1,8 @@
 -- Laws of answers over lent space. Assumes nothing.
 use Rattle.std.specs.Prelude.{◌≡◌}
 use Rattle.theory.specs.Prelude.{ℕ, zero, suc, refl, List, []}
-use Rattle.space.specs.declared.Written.{Written}
-use Rattle.space.specs.declared.Written.TheVariants.{Refused}
+use Rattle.space.specs.Written.{Written}
+use Rattle.space.specs.Written.{Refused}
 use Rattle.space.specs.Space.{answer, after}
 use Rattle.sheet.specs.Field.{Field, value, refused, next}
 use Rattle.sheet.specs.Answer.{by_rule, Answers}

@@ -1,8 +1,7 @@
--- Laws of the elements in numbers, and of a block that is filled from the front. Assumes nothing.
-use Rattle.std.specs.Prelude.{◌+◌, ◌*◌, ◌-◌, ◌/◌, ◌%◌, ◌^◌, ◌≤◌, ◌<◌, ◌≡◌, ◌&&◌, ◌∷◌}
-use Rattle.theory.specs.Prelude.{ℕ, zero, suc, pow-zero, pow-succ', add-one, arith, refl, sym, ap, ◌∙◌}
-use Rattle.theory.specs.Prelude.{subst, Bool, true, false, cond, not, List, [], map, T, eqb, length, take, drop, get_or, set, replicate}
-use Rattle.theory.specs.Prelude.{take-append-drop, drop_of_length-le, drop-set-lt, drop-drop, drop-cons, get_or-take, length-take-le}
+-- Laws of the elements in numbers. Assumes nothing.
+use Rattle.std.specs.Prelude.{◌+◌, ◌*◌, ◌/◌, ◌%◌, ◌^◌, ◌<◌, ◌≡◌, ◌&&◌, ◌∷◌}
+use Rattle.theory.specs.Prelude.{ℕ, zero, suc, pow-zero, pow-succ', arith, refl, sym, ap}
+use Rattle.theory.specs.Prelude.{subst, Bool, true, false, cond, not, List, [], map, T, eqb, length, get_or}
 use Rattle.theory.specs.Set.{at}
 use Rattle.sheet.specs.declared.Opening.{Opening}
 use Rattle.sheet.specs.declared.Opening.TheVariants.{Pf01, Pf02}
@@ -10,7 +9,6 @@ use Rattle.sheet.specs.declared.Kind.{Kind}
 use Rattle.sheet.specs.declared.Kind.TheVariants.{Point, Line, Circle}
 use Rattle.sheet.specs.declared.Kinds.{Kinds}
 use Rattle.sheet.specs.declared.Element.{Element}
-use Rattle.theory.specs.Block.{block}
 use Rattle.sheet.specs.Facts.{is_line, is_circle, radius_of, kind_base, kind_digit, kinds_of, kinds_number, bit_of, set_of, kind_at}
 use Rattle.sheet.specs.Rules.{kind_allowed, kinds_allowed}
 use Rattle.sheet.specs.Facts.Kinds.{kind_in, KindsIn}
@@ -18,29 +16,6 @@ use Rattle.sheet.specs.Facts.Kinds.{kind_in, KindsIn}
 pub and-true : (x y : Bool) → x && y ≡ true → (x ≡ true) × (y ≡ true)
 and-true true y e = (refl, e)
 and-true false y e = absurd (subst T (sym e) tt)
-
--- ---- a walk over the first n places
-
-pub turn : {A : Type 0} (l : List A) (n i : ℕ) (d : A) → i < n → n ≤ length l → drop i (take n l) ≡ get_or l i d ∷ drop (i + 1) (take n l)
-turn l n i d a b =
-    let h : i < length (take n l) = rw (length-take-le n l b) a in
-    rw (add-one, drop-cons (take n l) i d h, get_or-take n l i d a)
-
-pub spent : {A : Type 0} (l : List A) (n i : ℕ) → n ≤ i → n ≤ length l → drop i (take n l) ≡ []
-spent l n i a b =
-    let h : length (take n l) ≤ i = rw (length-take-le n l b) a in drop_of_length-le (take n l) h
-
--- ---- a block filled from the front: the places from i on are still blank
-
-module _ {A : Type 0} (l : List A) (places i : ℕ) (blank : A) where
-  pub still-blank : (x : A) → i < places → drop i l ≡ replicate (places - i) blank → drop (i + 1) (set l i x) ≡ replicate (places - (i + 1)) blank
-  still-blank x h e =
-      let m : places - i ≡ suc (places - (i + 1)) = omega arith in
-      let n : i < i + 1 = omega arith in
-      drop-set-lt (i + 1) l i x n ∙ sym (drop-drop 1 i l) ∙ rw (e, m)
-
-  pub filled : i ≤ length l → drop i l ≡ replicate (places - i) blank → l ≡ block places blank (take i l)
-  filled h e = sym (rw (length-take-le i l h, ← e) (take-append-drop i l))
 
 -- ---- the elements of a kind as one number
 

@@ -1,12 +1,12 @@
--- Laws of the rules on elements: which openings allow which circles, and a walk over the radii. Assumes nothing.
-use Rattle.std.specs.Prelude.{◌+◌, ◌*◌, ◌≤◌, ◌<◌, ◌≡◌, ◌&&◌, ◌||◌, ◌∷◌}
+-- Laws of the rules on elements: which openings allow which circles, and the radii of all. Assumes nothing.
+use Rattle.std.specs.List.{list_all}
+use Rattle.std.specs.Prelude.{◌+◌, ◌*◌, ◌≡◌, ◌&&◌, ◌||◌, ◌∷◌}
 use Rattle.theory.specs.Prelude.{ℕ, zero, suc, arith, refl, sym, ◌∙◌, Bool, true, false, not, List, []}
-use Rattle.theory.specs.Prelude.{ne_eqb, eqb, length, take, drop, get_or}
+use Rattle.theory.specs.Prelude.{ne_eqb, eqb}
 use Rattle.sheet.specs.declared.Opening.TheVariants.{Pf01, Pf02}
 use Rattle.sheet.specs.declared.Element.{Element}
 use Rattle.sheet.specs.Facts.{is_circle, radius_of, bit_of, set_of}
 use Rattle.sheet.specs.Facts.Kinds.{circles_of}
-use Rattle.sheet.specs.Facts.Laws.{turn, spent}
 use Rattle.sheet.specs.Rules.{kinds_allowed, radius_in_range, radii_in_range}
 
 -- PF01 allows elements of which none is a circle
@@ -29,15 +29,8 @@ unfolding kinds_allowed
 all-allowed [] = refl
 all-allowed (x ∷ xs) = all-allowed xs
 
--- ---- a walk over the radii
-
-module _ (es : List Element) (n i : ℕ) (d : Element) (room : n ≤ length es) where
-  pub radii-turn : i < n
-      → radii_in_range (drop i (take n es))
-      ≡ (not (is_circle (get_or es i d).kind) || radius_in_range (radius_of (get_or es i d).kind)) && radii_in_range (drop (i + 1) (take n es))
-  unfolding radii_in_range
-  radii-turn below = rw (turn es n i d below room)
-
-  pub radii-spent : n ≤ i → radii_in_range (drop i (take n es)) ≡ true
-  unfolding radii_in_range
-  radii-spent all = rw (spent es n i all room)
+-- the circles' radii, one after another
+pub all-radii : (es : List Element) → list_all (λ x. not (is_circle x.kind) || radius_in_range (radius_of x.kind)) es ≡ radii_in_range es
+unfolding radii_in_range
+all-radii [] = refl
+all-radii (x ∷ xs) = rw (all-radii xs)

@@ -1,11 +1,11 @@
 -- Laws of the rules on facts: what a rule that refuses nothing says. Assumes nothing.
 use Rattle.std.specs.Prelude.{◌+◌, ◌<◌, ◌≤◌, ◌≡◌, ◌&&◌, ◌||◌, ◌∷◌, ◌++◌}
 use Rattle.theory.specs.Prelude.{ℕ, zero, suc, add-one, arith, refl, Bool, true, false, or-false, or_assoc, List}
-use Rattle.theory.specs.Prelude.{[], ltb-true, leb-true, eqb, ltb, leb, length, get_or, take, drop, take-suc}
+use Rattle.theory.specs.Prelude.{[], ltb-true, leb-true, eqb, ltb, leb, length, get_or, take, drop, drop-cons, drop_of_length-le, take-suc}
 use Rattle.sheet.specs.declared.Opening.{Opening}
 use Rattle.sheet.specs.declared.Element.{Element}
 use Rattle.sheet.specs.declared.Constraint.{Constraint}
-use Rattle.sheet.specs.Facts.Laws.{and-true, turn, spent}
+use Rattle.sheet.specs.Facts.Laws.{and-true}
 use Rattle.sheet.specs.Rules.{elements_in_range, constraints_in_range, ends_ascend, stands, fault_unless, or_else}
 use Rattle.sheet.specs.Rules.{kinds_allowed, radii_in_range, constraint_fault, constraints_fault, elements_fault}
 
@@ -45,17 +45,16 @@ or_else_some (suc k) j h = refl
 
 -- ---- a walk over constraints: the faults from place i on, after those before it
 
-module _ (es : List Element) (cs : List Constraint) (e i : ℕ) (room : e ≤ length cs) where
-  pub faults-turn : (d : Constraint) → i < e
-      → constraints_fault es (take i cs) (drop i (take e cs))
-      ≡ or_else (constraint_fault es (take i cs) (get_or cs i d)) (constraints_fault es (take (i + 1) cs) (drop (i + 1) (take e cs)))
+module _ (es : List Element) (cs : List Constraint) (i : ℕ) where
+  pub faults-turn : (d : Constraint) → i < length cs
+      → constraints_fault es (take i cs) (drop i cs)
+      ≡ or_else (constraint_fault es (take i cs) (get_or cs i d)) (constraints_fault es (take (i + 1) cs) (drop (i + 1) cs))
   unfolding constraints_fault
-  faults-turn d below =
-      let h : i < length cs = omega arith in rw (turn cs e i d below room, add-one, take-suc cs i d h)
+  faults-turn d h = rw (drop-cons cs i d h, add-one, take-suc cs i d h)
 
-  pub faults-spent : (done : List Constraint) → e ≤ i → constraints_fault es done (drop i (take e cs)) ≡ 0
+  pub faults-spent : (done : List Constraint) → length cs ≤ i → constraints_fault es done (drop i cs) ≡ 0
   unfolding constraints_fault
-  faults-spent done all = rw (spent cs e i all room)
+  faults-spent done h = rw (drop_of_length-le cs h)
 
 -- ---- the elements
 

@@ -1,21 +1,12 @@
 -- `sketch::judge_last` meets its contract: what is told decides. Assumes nothing.
-use Rattle.std.specs.Prelude.{◌≡◌}
-use Rattle.theory.specs.Prelude.{arith, ℕ, sym, ap, ◌∙◌}
-use Rattle.theory.specs.Verdict.{verdict_number}
-use Rattle.theory.specs.declared.Verdict.{Verdict}
-use Rattle.theory.specs.declared.Verdict.TheVariants.{Over}
-use Rattle.sketch.specs.Placing.Laws.{number-over, last-not-over, told-listed, last-told}
+use Rattle.sketch.specs.Placing.Laws.{last-fine, first-listed, last-first}
 use Rattle.sketch.proofs.judge_last.Goals as goal
 
-over : {v : Verdict} {k : ℕ} → k ≡ verdict_number v → k ≡ 0 → v ≡ Over
-over e z = number-over _ (sym e ∙ z)
-
-pub returns-then-number-ne0 : goal.returns-then-number-ne0
-returns-then-number-ne0 c = last-not-over _ c.tell-told.ensures.verdict_is (λ o. c.if-number-ne0.true (c.number.ensures ∙ ap verdict_number o))
+pub returns-in-Ok : goal.returns-in-Ok
+returns-in-Ok c = last-fine _ c.in-Ok.ensures.1 c.in-Ok.ensures.0
 
 pub last_rule-requires : goal.last_rule-requires
-last_rule-requires c = told-listed c.requires c.tell-told.ensures (over c.number.ensures (omega (arith, c.if-number-ne0.false)))
+last_rule-requires c = first-listed c.requires c.in-Err.ensures.1
 
-pub returns : goal.returns
-returns c =
-    last-told c.requires c.tell-told.ensures (over c.number.ensures (omega (arith, c.if-number-ne0.false))) c.last_rule.ensures
+pub returns-in-Err : goal.returns-in-Err
+returns-in-Err c = last-first c.requires c.last_rule.ensures c.in-Err.ensures.1

@@ -16,6 +16,8 @@ use Rattle.graph.specs.Lent.{SheetIn}
 use Rattle.graph.specs.Lent.Sheets.{graph_is, drawn-in}
 use Rattle.sketch.specs.Sketch.{extended, as_judged}
 use Rattle.sketch.specs.Sketch.Laws.{extended-in}
+use Rattle.theory.specs.Rule.{rule_number}
+use Rattle.theory.specs.Rule.Laws.{rule-some}
 use Rattle.sketch.specs.Placing.{last_answer}
 use Rattle.sketch.specs.Placing.Laws.{more-fault, place-over, place-stale, place-asked, place-fault}
 use Rattle.sketch.specs.Placing.Laws.{place-full, refused-in, unless-in, last-asked}
@@ -57,18 +59,18 @@ returns-then-held-e c = λ f a.
     unless-in a c.args.c c.args.held 24 c.unless_over.ensures (λ z. omega arith)
     (place-stale f _ _ (λ e. c.if-held-e.true (e ∙ sym (count a))))
 
-pub constraint_fault-rule-requires : goal.constraint_fault-rule-requires
-constraint_fault-rule-requires c = (small c.requires.1).0
+pub check_constraint-requires : goal.check_constraint-requires
+check_constraint-requires c = (small c.requires.1).0
 
-pub unless_over-requires-then-rule-ne0 : goal.unless_over-requires-then-rule-ne0
-unless_over-requires-then-rule-ne0 c = drawn-in c.requires.1
+pub unless_over-requires-in-Err : goal.unless_over-requires-in-Err
+unless_over-requires-in-Err c = drawn-in c.requires.1
 
-pub returns-then-rule-ne0 : goal.returns-then-rule-ne0
-returns-then-rule-ne0 c = λ f a.
-    let fault = c.constraint_fault-rule.ensures _ _ (elements a) a.kinds_in a.arrays.noted in
+pub returns-in-Err : goal.returns-in-Err
+returns-in-Err c = λ f a.
+    let fault = c.in-Err.ensures f.elements f.constraints (elements a) a.kinds_in a.arrays.noted in
     let told : c.args.held ≡ length f.constraints = omega (arith, count a) in
-    unless-in a c.args.c c.args.held c.constraint_fault-rule.result c.unless_over-then-rule-ne0.ensures c.if-rule-ne0.true
-    (place-fault f _ _ told _ fault c.if-rule-ne0.true)
+    unless-in a c.args.c c.args.held (rule_number c.in-Err.rule) c.unless_over-in-Err.ensures (rule-some _)
+    (place-fault f _ _ told _ fault (rule-some _))
 
 pub overflow_add-e-2 : goal.overflow_add-e-2
 overflow_add-e-2 c = omega (arith, small c.requires.1)
@@ -81,7 +83,7 @@ unless_over-requires-then-e-n c = drawn-in c.requires.1
 
 pub returns-then-e-n : goal.returns-then-e-n
 returns-then-e-n c = λ f a.
-    let none = sym (c.constraint_fault-rule.ensures _ _ (elements a) a.kinds_in a.arrays.noted) ∙ c.if-rule-ne0.false in
+    let none = sym (c.in_default.ensures f.elements f.constraints (elements a) a.kinds_in a.arrays.noted) in
     let told : c.args.held ≡ length f.constraints = omega (arith, count a) in
     unless-in a c.args.c c.args.held 11 c.unless_over-then-e-n.ensures (λ z. omega arith)
     (place-full f _ _ told a.accepted (few a c.if-n-e.false) none
@@ -90,32 +92,29 @@ returns-then-e-n c = λ f a.
 pub note-requires : goal.note-requires
 note-requires c =
     let a = c.requires.1 in
-    let none = sym (c.constraint_fault-rule.ensures _ _ (elements a) a.kinds_in a.arrays.noted) ∙ c.if-rule-ne0.false in
+    let none = sym (c.in_default.ensures c.requires.0.elements c.requires.0.constraints (elements a) a.kinds_in a.arrays.noted) in
     let e = ends c.requires.0 c.args.c none in
     (omega (arith, few a c.if-n-e.false, count a), e.0, omega (arith, e.1, small a, elements a))
-
-pub overflow_add-next : goal.overflow_add-next
-overflow_add-next c = omega (arith, small c.requires.1)
 
 pub judge_last-requires : goal.judge_last-requires
 judge_last-requires c =
     let f = c.requires.0 in
     let a = c.requires.1 in
-    let none = sym (c.constraint_fault-rule.ensures _ _ (elements a) a.kinds_in a.arrays.noted) ∙ c.if-rule-ne0.false in
+    let none = sym (c.in_default.ensures f.elements f.constraints (elements a) a.kinds_in a.arrays.noted) in
     drawn-in (extended-in c.args.c a (few a c.if-n-e.false) none
     (c.note.ensures f.constraints c.args.c (sym (count a))
-    (record { first_is = refl; second_is = refl; code_is = sym (to_z-of_z {w = w32} {z = c.code_of-z.result} (search rules) ∙ c.code_of-z.ensures) })
+    (record { first_is = refl; second_is = refl; code_is = sym (to_z-of_z {w = w32} {z = c.code_of.result} (search rules) ∙ c.code_of.ensures) })
     a.arrays))
 
 pub returns : goal.returns
 returns c = λ f a.
     let one = c.args.c in
     let told : c.args.held ≡ length f.constraints = omega (arith, count a) in
-    let none = sym (c.constraint_fault-rule.ensures _ _ (elements a) a.kinds_in a.arrays.noted) ∙ c.if-rule-ne0.false in
+    let none = sym (c.in_default.ensures f.elements f.constraints (elements a) a.kinds_in a.arrays.noted) in
     let m =
     extended-in one a (few a c.if-n-e.false) none
     (c.note.ensures f.constraints one (sym (count a))
-    (record { first_is = refl; second_is = refl; code_is = sym (to_z-of_z {w = w32} {z = c.code_of-z.result} (search rules) ∙ c.code_of-z.ensures) })
+    (record { first_is = refl; second_is = refl; code_is = sym (to_z-of_z {w = w32} {z = c.code_of.result} (search rules) ∙ c.code_of.ensures) })
     a.arrays) in
     record {
       answer_is =

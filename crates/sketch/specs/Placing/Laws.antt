@@ -6,11 +6,10 @@ use Rattle.std.proofs.lemmas.List.{take-append-le}
 use Rattle.theory.specs.Constraints.{NotOver}
 use Rattle.theory.specs.Over.{IsOver, FirstOver}
 use Rattle.theory.specs.Over.Laws.{more-over, over-longer, fine-shorter, over_of-first}
-use Rattle.theory.specs.declared.Finding.{Finding}
-use Rattle.theory.specs.declared.Finding.TheVariants.{Fine, First}
+use Rattle.theory.specs.Finding.{Finding}
+use Rattle.theory.specs.Finding.{Fine, First}
 use Rattle.theory.specs.declared.Verdict.{Verdict}
-use Rattle.theory.specs.declared.Verdict.TheVariants.{Over, Angle, Well, Stuck, Under}
-use Rattle.theory.specs.Verdict.{verdict_number}
+use Rattle.theory.specs.declared.Verdict.TheVariants.{Over}
 use Rattle.theory.specs.Graph.{Graph, finding_of, verdict_of}
 use Rattle.theory.specs.Graph.Laws.{fine-not-over, not-over-fine, fine-finding, over-verdict}
 use Rattle.sheet.specs.declared.Constraint.{Constraint}
@@ -24,20 +23,12 @@ use Rattle.graph.specs.declared.Front.{Front}
 use Rattle.graph.specs.declared.Head.{Head}
 use Rattle.graph.specs.Lent.{graph_in, head_in, SheetIn, Sound, Drawn}
 use Rattle.graph.specs.Lent.Sheets.{accepted-sound, found-fine, graph_is, counted}
-use Rattle.judge.specs.Telling.{Tells}
-use Rattle.sketch.specs.declared.Judgement.TheVariants.{Is, Refused}
+use Rattle.sketch.specs.Judgement.{Is, Refused}
 use Rattle.sketch.specs.Sketch.{extended, next_fault, by27, ask_fault, place_fault, as_judged}
 use Rattle.sketch.specs.Sketch.Laws.{extended-accepted, judged-refused, ask-place}
 use Rattle.sketch.specs.Placing.{last_by, last_rule, last_answer, PlacedIn}
 
 -- ---- over by the verdict
-
-pub number-over : (v : Verdict) → verdict_number v ≡ 0 → v ≡ Over
-number-over Over e = refl
-number-over Angle e = absurd (omega arith)
-number-over Well e = absurd (omega arith)
-number-over Stuck e = absurd (omega arith)
-number-over Under e = absurd (omega arith)
 
 module _ (g : Graph) where
   pub over-fault : verdict_of g ≡ Over → over_fault g ≡ 11
@@ -122,9 +113,6 @@ module _ (g : Graph) where
   unfolding last_answer
   last-fine v q = ap Is v ∙ sym (ap (last_by g) q)
 
-  pub last-not-over : {v : Verdict} → v ≡ verdict_of g → (v ≡ Over → ⊥) → Is v ≡ last_answer g
-  last-not-over v n = last-fine v (not-over-fine g (λ o. n (v ∙ o)))
-
 module _ {h : Head} {near start : List ℕ} (d : Drawn h near start) {k x : ℕ} where
   pub first-listed : finding_of (graph_in h start) ≡ First k x → k < h.e
   first-listed q = let o = over_of-first _ _ d.sound.simple.pairs d.sound.below k x q in omega (arith, o.listed, counted d)
@@ -132,27 +120,6 @@ module _ {h : Head} {near start : List ℕ} (d : Drawn h near start) {k x : ℕ}
   pub last-first : {r : ℕ} → r ≡ last_rule k h.e → finding_of (graph_in h start) ≡ First k x → Refused r ≡ last_answer (graph_in h start)
   unfolding last_answer
   last-first e q = ap Refused (e ∙ ap (last_rule k) (sym (counted d))) ∙ sym (ap (last_by (graph_in h start)) q)
-
--- of a graph whose verdict is over, what is told
-module _ {h : Head} {near start : List ℕ} (d : Drawn h near start) {v : Verdict} {first : ℕ}
-    (t : Tells (graph_in h start) v first) (over : v ≡ Over) where
-  abbrev g : Graph
-  g = graph_in h start
-
-  -- by the first that is found
-  by_first : (A : Type 0) → ((k x : ℕ) → finding_of g ≡ First k x → A) → A
-  by_first A f = go (finding_of g) refl
-    where
-      go : (o : Finding) → finding_of g ≡ o → A
-      go Fine q = absurd (fine-not-over g q (sym t.verdict_is ∙ over))
-      go (First k x) q = f k x q
-
-  pub told-listed : first < h.e
-  told-listed = by_first (first < h.e) (λ k x q. omega (arith, t.first_is k x q, first-listed d q))
-
-  pub last-told : {r : ℕ} → r ≡ last_rule first h.e → Refused r ≡ last_answer g
-  last-told {r} e =
-      by_first (Refused r ≡ last_answer g) (λ k x q. last-first d (e ∙ ap (λ (i : ℕ). last_rule i h.e) (t.first_is k x q)) q)
 
 -- ---- the rules in their order
 

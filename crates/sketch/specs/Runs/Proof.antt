@@ -4,8 +4,8 @@ use Rattle.theory.specs.Prelude.{ℕ, zero, suc, ℕ_discrete, arith, refl, sym,
 use Rattle.theory.specs.Prelude.{not, List, [], map, append-nil, append_assoc, length, length-set, length-append, length-take}
 use Rattle.theory.specs.Prelude.{length-replicate}
 use Rattle.theory.specs.Constraints.{Among}
-use Rattle.theory.specs.declared.Finding.{Finding}
-use Rattle.theory.specs.declared.Finding.TheVariants.{Fine, First}
+use Rattle.theory.specs.Finding.{Finding}
+use Rattle.theory.specs.Finding.{Fine, First}
 use Rattle.theory.specs.Graph.{finding_of, verdict_of}
 use Rattle.sheet.specs.declared.Kind.{Kind}
 use Rattle.sheet.specs.declared.PairKind.{PairKind}
@@ -20,8 +20,8 @@ use Rattle.sheet.specs.Accepted.{Accepted}
 use Rattle.sheet.specs.Rules.Laws.{none-else, constraints-most}
 use Rattle.sheet.specs.Accepted.Laws.{accepted-most, facts_of-accepted, facts_of-sheet_of, sheet_of-fault}
 use Rattle.sheet.specs.Graph.{graph_of, over_rule, over_fault}
-use Rattle.sketch.specs.declared.Judgement.{Judgement}
-use Rattle.sketch.specs.declared.Judgement.TheVariants.{Is, Refused}
+use Rattle.sketch.specs.Judgement.{Judgement}
+use Rattle.sketch.specs.Judgement.{Is, Refused}
 use Rattle.sketch.specs.Sketch.{extended, next_fault, ask_fault, place_fault, place_rule, as_judged}
 use Rattle.sketch.specs.Sketch.{ask_answer, place_answer, stored, place_after}
 use Rattle.sketch.specs.Sketch.Laws.{few-held, stored-facts, stored-fault, ask-sound, ask-unsound, place-sound, place-unsound}

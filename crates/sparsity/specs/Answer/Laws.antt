@@ -1,6 +1,6 @@
 -- Laws of the answer: the search from its start, one constraint more that uses a freedom or finds none, a constraint that does not lie in u.
 -- Assumes nothing.
-use Rattle.std.specs.Prelude.{◌≡◌, ◌≢◌, ◌+◌, ◌*◌, ◌^◌, ◌≤◌, ◌<◌}
+use Rattle.std.specs.Prelude.{◌≡◌, ◌≢◌, ◌+◌, ◌*◌, ◌^◌, ◌≤◌, ◌<◌, Ok, Err}
 use Rattle.theory.specs.Prelude.{sym, ap, ap₂, ◌∙◌, subst, inl, inr, List, [], ℕ, suc, le_refl, arith, ones}
 use Rattle.theory.specs.Prelude.{length, take, get_or}
 use Rattle.theory.specs.Set.{◌∈◌, ◌∩◌, ◌⊑◌, at}
@@ -12,16 +12,16 @@ use Rattle.theory.specs.Over.Laws.{carried-next, tight-over, within-smallest, fi
 use Rattle.theory.specs.Set.Less.{sub-below}
 use Rattle.theory.specs.Near.{Simple, Standing}
 use Rattle.theory.specs.Near.Laws.{standing-item, standing-two, pair_is}
-use Rattle.theory.specs.declared.Finding.TheVariants.{Fine, First}
+use Rattle.theory.specs.Finding.{Fine, First}
 use Rattle.sparsity.specs.Freedoms.{entry, same, free, frees, Table, Balanced, Closed, FreeBelow}
 use Rattle.sparsity.specs.Freedoms.Sums.{free-count}
 use Rattle.sparsity.specs.Freedoms.Laws.{free-table, free-closed, free-balanced, kept-le, closed-kept, kept-closed, frees-two}
 use Rattle.sparsity.specs.Freedoms.Laws.{frees-only}
 use Rattle.sparsity.specs.Freedoms.Stores.{balanced-outside, balanced-placed, stored-table, stored-closed}
-use Rattle.sparsity.specs.Reach.{Gathered, Placed}
+use Rattle.sparsity.specs.Reach.{Rebalanced, Gathered, Placed}
 use Rattle.peeling.specs.Core.{Core}
 use Rattle.peeling.specs.Hard.{Noted, hard, easy}
-use Rattle.sparsity.specs.Answer.{EndsAt, Using, Ready, More, Took}
+use Rattle.sparsity.specs.Answer.{EndsAt, Using, Ready, More}
 
 -- ---- the start
 
@@ -157,33 +157,22 @@ module _ {old new : List ℕ} {u a b : ℕ} (ends : (a < 64) × (b < 64) × (a �
 
   -- ---- one more constraint, by the entries that the code gathers
 
-  module _ {own t : List (List ℕ)} {need over : ℕ} (uses : Using old u own) (g : Gathered own need a b t over) where
-    pub using-gathered : Using old u t
-    using-gathered = let o = pair_ends a b u more.inside in record {
-      table = g.again.table;
-      closed = g.again.closed u o.0 o.1 uses.closed;
-      balanced = g.again.balanced old u uses.balanced;
+  module _ {own : List (List ℕ)} (uses : Using old u own) where
+    pub using-again : {t : List (List ℕ)} → Rebalanced own a b t → Using old u t
+    using-again g = let o = pair_ends a b u more.inside in record {
+      table = g.table;
+      closed = g.closed u o.0 o.1 uses.closed;
+      balanced = g.balanced old u uses.balanced;
       fine = uses.fine;
     }
 
-    -- four free entries are not to be had
-    pub gathered-over : need ≤ 4 → over ≢ 0 → IsOver new × Smallest old m over
-    gathered-over l z =
-        let s = g.stuck z in
-        reached-over using-gathered (omega (arith, s.0)) over s.1.first s.1.second s.1.closed s.1.none s.1.least
+    pub took-four : {t fresh : List (List ℕ)} → Gathered own 4 a b (Ok t) → Placed t a b fresh → Using new u fresh
+    took-four g p = let k = using-again g.0 in using-placed k.table k.closed k.balanced p (four-fine k g.1)
 
-  module _ {own t : List (List ℕ)} {over : ℕ} (uses : Using old u own) (g : Gathered own 4 a b t over) where
-    pub took-four : {fresh : List (List ℕ)} → over ≡ 0 → Placed t a b fresh → Took old new m u fresh over
-    took-four z p = let k = using-gathered uses g in record {
-      taken = λ e. using-placed k.table k.closed k.balanced p (four-fine k (g.enough z));
-      refused = λ n. absurd (n z);
-    }
-
-    pub took-over : over ≢ 0 → Took old new m u t over
-    took-over n = record {
-      taken = λ z. absurd (n z);
-      refused = λ z. let r = gathered-over uses g (le_refl 4) z in (using-gathered uses g, r.0, r.1);
-    }
+    -- as many as are needed are not to be had
+    pub gathered-over : {need over : ℕ} → need ≤ 4 → Gathered own need a b (Err over) → IsOver new × Smallest old m over
+    gathered-over {over = over} l g =
+        let s = g.3 in reached-over (using-again g.1) (omega (arith, g.2)) over s.first s.second s.closed s.none s.least
 
 -- ---- constraint c
 
@@ -222,9 +211,8 @@ module _ {cs : List ℕ} {u : ℕ} (core : Core cs u) (c : ℕ) (lc : c < length
   }
 
   -- as many free entries as are needed could be had
-  pub ready-gathered : {own t : List (List ℕ)} {need over : ℕ} → Using (take c cs) u own → Gathered own need a b t over → over ≡ 0
-      → Ready (take c cs) u need a b t
-  ready-gathered uses g z = record { uses = using-gathered apart more-at uses g; enough = g.enough z }
+  pub ready-gathered : {own t : List (List ℕ)} {need : ℕ} → Using (take c cs) u own → Gathered own need a b (Ok t) → Ready (take c cs) u need a b t
+  ready-gathered uses g = record { uses = using-again apart more-at uses g.0; enough = g.1 }
 
   -- it uses one, and the list with it is not over
   pub using-next : {own fresh : List (List ℕ)} {need : ℕ} → Ready (take c cs) u need a b own → Noted cs c 1 need → Placed own a b fresh
@@ -236,10 +224,10 @@ module _ {cs : List ℕ} {u : ℕ} (core : Core cs u) (c : ℕ) (lc : c < length
       fine need (easy h) l = h.fine k.uses.fine
 
   -- fewer: c is the first that makes the list over
-  pub first-at : {own t : List (List ℕ)} {need over : ℕ} → Using (take c cs) u own → Noted cs c 1 need → Gathered own need a b t over → over ≢ 0
+  pub first-at : {own : List (List ℕ)} {need over : ℕ} → Using (take c cs) u own → Noted cs c 1 need → Gathered own need a b (Err over)
       → FirstOver cs c over
-  first-at k w g z =
-      let r = gathered-over apart more-at k g (noted-most w) z in
+  first-at k w g =
+      let r = gathered-over apart more-at k (noted-most w) g in
       record { listed = lc; earlier = k.fine; over = r.0; smallest = rw ends.is r.1 }
 
 -- ---- constraint c of those that stand in an array, as the code has it, with two elements that the code has found in it

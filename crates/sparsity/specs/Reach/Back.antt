@@ -1,14 +1,14 @@
 -- The way back from a place of the queue to the first two, which turns one freedom at each step, and what is gathered so. Assumes nothing.
-use Rattle.std.specs.Prelude.{◌≡◌, ◌≢◌, ◌+◌, ◌≤◌, ◌<◌}
-use Rattle.theory.specs.Prelude.{refl, sym, ap, ap₂, ◌∙◌, subst, inl, inr, ⊎_elim, List, ℕ, suc, lt_trans, lt-suc_self}
+use Rattle.std.specs.Prelude.{◌≡◌, ◌≢◌, ◌+◌, ◌-◌, ◌≤◌, ◌<◌}
+use Rattle.theory.specs.Prelude.{refl, sym, ap, ap₂, ◌∙◌, subst, inr, ⊎_elim, List, ℕ, suc, lt_trans, lt-suc_self}
 use Rattle.theory.specs.Prelude.{zero-lt-suc, le_refl, le_of_suc-le-suc, ℕ_discrete, dec_lt, arith}
 use Rattle.theory.specs.Set.{at}
 use Rattle.theory.specs.Set.Laws.{bit}
 use Rattle.sparsity.specs.Freedoms.{entry, stored, free, same, Table}
 use Rattle.sparsity.specs.Freedoms.Sums.{same_refl, same-ne, same-eq, same_bit}
 use Rattle.sparsity.specs.Freedoms.Stores.{turned-table, turned-closed, turned-balanced, turned-gains, turned-other}
-use Rattle.sparsity.specs.Reach.{item, Found, Rebalanced, Way, Walked, Gained, Placed}
-use Rattle.sparsity.specs.Reach.Laws.{linked-within, reached-most}
+use Rattle.sparsity.specs.Reach.{item, Rebalanced, Way, Walked, Gained, Placed}
+use Rattle.sparsity.specs.Reach.Laws.{linked-within}
 
 -- ---- entries
 
@@ -38,21 +38,6 @@ unfolding free
 free-same own new x h = ap₂ (λ (i j : ℕ). same i x + same j x) (h 0) (h 1)
 
 -- ---- the way
-
-pub way_of : {own : List (List ℕ)} {a b : ℕ} {queue from : List ℕ} {seen count place : ℕ} → Table own → Found own a b queue from seen count place
-    → place < count → Way own queue from place
-way_of t f l =
-    let r = f.reached in
-    record {
-      table = t;
-      far = (f.open_at l).0;
-      room = omega (arith, reached-most r);
-      inside = λ i h. r.inside i (omega arith);
-      back = λ i two h. r.back i two (omega arith);
-      link = λ i two h. r.link i two (omega arith);
-      apart = λ i j k h. r.apart i j k (omega arith);
-      open_at = (f.open_at l).1;
-    }
 
 pub walk_start : {own : List (List ℕ)} {queue from : List ℕ} {p : ℕ} → Way own queue from p → Walked own queue p p own
 walk_start {p = p} w = record {
@@ -176,18 +161,19 @@ gained-ends {own} {new} {a} {b} {x} {y} ex ey g = subst (λ (z : ℕ). Gained ow
 
 -- ---- placing
 
--- an entry of a, or of b, that is free: the one for a constraint between them
-pub placed_first : {own : List (List ℕ)} {a i : ℕ} (b s : ℕ) → i ≡ a → s < 2 → entry own a s ≡ a → Placed own a b (stored own i s b)
-placed_first {own} {a} b s ei l e =
-    record { from = _; to = b; slot = s; ends = inl (ei, refl); two = l; was_free = ap (λ (x : ℕ). entry own x s) ei ∙ e ∙ sym ei; stores = refl }
-
+-- a free entry of b, for a constraint between a and b
 pub placed-second : {own : List (List ℕ)} (a : ℕ) {b j : ℕ} (s : ℕ) → j ≡ b → s < 2 → entry own b s ≡ b → Placed own a b (stored own j s a)
 placed-second {own} a {b} s ej l e =
     record { from = _; to = a; slot = s; ends = inr (ej, refl); two = l; was_free = ap (λ (x : ℕ). entry own x s) ej ∙ e ∙ sym ej; stores = refl }
 
--- the last of four entries, where the others are in use
-pub last-free : (own : List (List ℕ)) {a b : ℕ} → 0 < free own a + free own b → entry own a 0 ≢ a → entry own a 1 ≢ a → entry own b 0 ≢ b
-    → entry own b 1 ≡ b
+-- neither entry of a is free: one of b is, the first where that is
+pub last-free : (own : List (List ℕ)) {a b r : ℕ} → r ≡ 1 - same (entry own b 0) b → entry own a 0 ≢ a → entry own a 1 ≢ a
+    → 0 < free own a + free own b → (r < 2) × (entry own b r ≡ b)
 unfolding free
-last-free own {a} {b} h n0 n1 m0 =
-    same-eq (entry own b 1) b (omega (arith, same-ne (entry own a 0) a n0, same-ne (entry own a 1) a n1, same-ne (entry own b 0) b m0))
+last-free own {a} {b} {r} e n0 n1 h = elim (ℕ_discrete (entry own b 0) b) [
+  | yes q ↦ let z : r ≡ 0 = omega (arith, e, ap (λ (y : ℕ). same y b) q, same_refl b) in (omega arith, ap (entry own b) z ∙ q)
+  | no n ↦ let o : r ≡ 1 = omega (arith, e, same-ne (entry own b 0) b n) in (
+    omega arith,
+    ap (entry own b) o ∙ same-eq (entry own b 1) b (omega (arith, same-ne (entry own a 0) a n0, same-ne (entry own a 1) a n1, same-ne (entry own b 0) b n)),
+  )
+]

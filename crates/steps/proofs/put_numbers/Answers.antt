@@ -5,17 +5,17 @@ use Rattle.steps.specs.Records.Laws.{numbers-short, numbers-put}
 use Rattle.steps.proofs.put_numbers.Goals as goal
 
 pub overflow_mul-count : goal.overflow_mul-count
-overflow_mul-count c = omega (arith, c.at_most_62-count.ensures)
+overflow_mul-count c = omega (arith, c.min-count.ensures)
 
 pub returns-then-out-count : goal.returns-then-out-count
 returns-then-out-count c =
     let long : length c.args.f.list ≡ 62 = omega arith in
-    numbers-short _ long _ c.in-Done.is c.at_most_62-count.ensures c.if-out-count.true
+    numbers-short _ long _ c.in_ok-n.was c.min-count.ensures c.if-out-count.true
 
 pub put_records-next-requires : goal.put_records-next-requires
-put_records-next-requires c = omega (arith, c.at_most_62-count.ensures)
+put_records-next-requires c = omega (arith, c.min-count.ensures)
 
 pub returns : goal.returns
 returns c =
     let long : length c.args.f.list ≡ 62 = omega arith in
-    numbers-put _ long _ c.in-Done.is c.at_most_62-count.ensures c.if-out-count.false c.put_records-next.ensures
+    numbers-put _ long _ c.in_ok-n.was c.min-count.ensures c.if-out-count.false c.put_records-next.ensures

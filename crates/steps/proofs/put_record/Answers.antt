@@ -6,6 +6,6 @@ use Rattle.steps.proofs.put_record.Goals as goal
 
 pub returns : goal.returns
 returns c =
-    c.put_number64-a1.ensures then (c.put_number64-a2.ensures then (c.put_number64-a3.ensures then (c.put_number64-a4.ensures
-    then (c.put_number64-a5.ensures then (put_as (ap (λ (x : ℕ). x ∷ []) c.kind_number.ensures) c.put_number64-a6.ensures
-    then put_as (ap (λ (x : ℕ). x ∷ []) c.ways_number.ensures) c.put_number64.ensures)))))
+    c.put_item-a1.ensures then (c.put_item-a2.ensures then (c.put_item-a3.ensures then (c.put_item-a4.ensures
+    then (c.put_item-a5.ensures then (put_as (ap (λ (x : ℕ). x ∷ []) c.kind_number.ensures) c.put_item-a6.ensures
+    then put_as (ap (λ (x : ℕ). x ∷ []) c.ways_number.ensures) c.put_item.ensures)))))

@@ -1,6 +1,5 @@
--- `steps::put_records` meets its contract: the numbers of the records from `i` on are still to be put. Assumes nothing.
-use Rattle.std.specs.Prelude.{◌≤◌}
-use Rattle.theory.specs.Prelude.{arith, refl, length, take, length-take, sets}
+-- `steps::put_records` meets its contract: the numbers of the records to come are still to be put. Assumes nothing.
+use Rattle.theory.specs.Prelude.{arith, refl, take, length-take, sets}
 use Rattle.space.specs.Space.{Put}
 use Rattle.space.specs.Space.Laws.{put-none, put_all, ◌then◌}
 use Rattle.report.specs.Going.{Composes}
@@ -12,20 +11,17 @@ use Rattle.steps.proofs.put_records.Goals as goal
 puts : Composes Put
 puts = record { none = put-none; both = λ p q. p then q; some = λ space at xs. (sets space at xs, put_all refl refl); next = λ p. p.next_is }
 
-pub loop-i-init : goal.loop-i-init
-loop-i-init c = (omega arith, start _)
+pub loop-s-init : goal.loop-s-init
+loop-s-init c = start _
 
 pub put_record-next-requires : goal.put_record-next-requires
 put_record-next-requires c =
-    let l = c.loop-i in
-    let xs = take c.args.count c.args.f.list in
-    omega (arith, place puts l.invariant.1, length-numbers xs, length-take c.args.count c.args.f.list, c.requires)
+    let records = take c.args.count c.args.f.list in
+    omega (arith, place puts c.loop-s.invariant, length-numbers records, length-take c.args.count c.args.f.list, c.requires)
 
-pub loop-i-preserved : goal.loop-i-preserved
-loop-i-preserved c =
-    let l = c.loop-i in
-    let long : c.args.count ≤ length c.args.f.list = omega arith in
-    (omega arith, put_next puts (numbers-next c.args.f.list c.args.count l.i _ long c.loop-i-test.true) l.invariant.1 c.put_record-next.ensures)
+pub loop-s-preserved : goal.loop-s-preserved
+loop-s-preserved c =
+    put_next puts (numbers-next (take c.args.count c.args.f.list) c.loop-s.s-index _ c.loop-s-test.true) c.loop-s.invariant c.put_record-next.ensures
 
 pub returns : goal.returns
-returns c = put_last puts (numbers-none c.args.f.list c.args.count c.loop-i.i c.loop-i-test.false) c.loop-i.invariant.1
+returns c = put_last puts (numbers-none (take c.args.count c.args.f.list) c.loop-s.s-index c.loop-s-test.false) c.loop-s.invariant

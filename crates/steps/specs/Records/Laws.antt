@@ -1,18 +1,19 @@
 -- The steps that the arrays of a run give are those of its list of merges, and what is filled from a listing is what its field gives. Assumes nothing.
-use Rattle.std.specs.Prelude.{◌+◌, ◌*◌, ◌≤◌, ◌<◌, ◌≡◌, ◌≢◌, ◌∷◌, ◌++◌}
-use Rattle.theory.specs.Prelude.{ℕ, zero, suc, min, arith, add-one, lt-ltb, le-ltb, ltb-true, ltb-false, refl, sym, ap, ◌∙◌}
+use Rattle.std.specs.Prelude.{◌+◌, ◌*◌, ◌≤◌, ◌<◌, ◌≡◌, ◌∷◌, ◌++◌, Result, Ok, Err}
+use Rattle.theory.specs.Prelude.{ℕ, min, arith, add-one, lt-ltb, le-ltb, ltb-true, ltb-false, refl, sym, ap, ◌∙◌}
 use Rattle.theory.specs.Prelude.{subst, Bool, true, false, cond, List, [], ltb, ℤ, length, get_or, take, drop, length-take}
 use Rattle.theory.specs.Prelude.{drop_of_length-le, List·getD-eq-default, drop-cons, ext_get_or, get_or-take, take_all, take-append_seam}
 use Rattle.theory.specs.Block.{block}
 use Rattle.theory.specs.Block.Laws.{length-block, get_or-block, take-block}
 use Rattle.theory.specs.Constraints.{NotOver}
-use Rattle.theory.specs.Plan.{plan_of}
-use Rattle.theory.specs.Plan.Laws.{plan-of-maximal}
 use Rattle.theory.specs.declared.Step.{Step}
-use Rattle.theory.specs.Graph.{Graph, SizedGraph, steps_of}
+use Rattle.theory.specs.declared.Rule.{Rule}
+use Rattle.theory.specs.declared.Rule.TheVariants.{NoRoom}
+use Rattle.theory.specs.Rule.{rule_number, by_number}
+use Rattle.theory.specs.Graph.{SizedGraph, steps_of}
 use Rattle.theory.specs.Graph.Laws.{length-steps}
-use Rattle.space.specs.declared.Written.{Written}
-use Rattle.space.specs.declared.Written.TheVariants.{Done, Refused}
+use Rattle.space.specs.Written.{Written}
+use Rattle.space.specs.Written.{Done, Refused}
 use Rattle.space.specs.Space.{Put}
 use Rattle.space.specs.Space.Laws.{put_refused, put-done}
 use Rattle.sheet.specs.Field.{Field, value, refused}
@@ -25,18 +26,12 @@ use Rattle.engine.specs.Steps.{Stepped, blank_step}
 use Rattle.engine.specs.Steps.Laws.{stepped-are}
 use Rattle.account.specs.Account.Laws.{room}
 use Rattle.steps.specs.declared.Listing.{Listing}
-use Rattle.steps.specs.declared.Taken.{Taken}
 use Rattle.steps.specs.Records.{filled_to, list_after, Fills}
-use Rattle.steps.specs.Listing.{listing_of, Fit, Listed, none, taken_of, filled}
+use Rattle.steps.specs.Listing.{listing_of, Fit, Listed, taken_of, taken, filled}
 use Rattle.steps.specs.Records.{numbers_of, step_numbers, numbers_field}
 use Rattle.steps.specs.Listing.{numbers_from}
 
 -- ---- the steps of a run
-
--- the engine's plan
-abbrev pub plan_merged : (g : Graph) → Sound g.n g.clusters → {run : Run} → run ≡ run_of g.clusters (plan_of g.clusters)
-    → Merged g.clusters run
-plan_merged g sound e = record { p = plan_of g.clusters; valid = (plan-of-maximal g.clusters sound.simple.pairs).valid; is = e }
 
 module _ (h : Head) (start : List ℕ) (sizes : List ℤ) (sound : Sound h.n (take h.e start)) (count : length (take h.e start) ≡ h.e)
     (fine : NotOver (take h.e start)) {run : Run} (m : Merged (take h.e start) run) {steps : List Step}
@@ -69,91 +64,100 @@ module _ (h : Head) (start : List ℕ) (sizes : List ℤ) (sound : Sound h.n (ta
       ∙ sym (get_or-block 62 blank_step (steps_of g m.p) t)
 
   -- they are the block that a listing has
-  pub listed-are : Listed (value (steps_of g m.p) []) (record { rule = 0; count = run.steps; steps = steps })
+  pub listed-are : Listed (value (steps_of g m.p) []) (Ok (record { count = run.steps; steps = steps }))
   unfolding listing_of
   listed-are =
       let most : length (steps_of g m.p) ≤ 62 = omega (arith, few, long) in
       let all : steps ≡ block 62 blank_step (steps_of g m.p) =
       ext_get_or blank_step steps (block 62 blank_step (steps_of g m.p)) (stepped.long ∙ sym (length-block 62 blank_step (steps_of g m.p) most))
       (λ t l. each t (ltb t run.steps) refl) in
-      record { is = λ z. record { rule = 0; count = long z; steps = all z }; fit = most }
+      record { is = λ z. Ok (record { count = long z; steps = all z }); fit = most }
 
 -- ---- a listing
 
-pub as-listed : {x y : Field (List Step)} {l : Listing} → Listed x l → y ≡ x → Listed y l
-as-listed {l = l} h e = subst (λ (z : Field (List Step)). Listed z l) (sym e) h
+pub as-listed : {x y : Field (List Step)} {r : Result Listing Rule} → Listed x r → y ≡ x → Listed y r
+as-listed {r = r} h e = subst (λ (z : Field (List Step)). Listed z r) (sym e) h
 
-pub as-refused : {x : Field (List Step)} {k : ℕ} {l : Listing} → l ≡ listing_of (refused k) → x ≡ refused k → k ≢ 0 → Listed x l
-as-refused is e n = as-listed (record { is = is; fit = n }) e
+pub as-refused : {x : Field (List Step)} (r : Rule) → x ≡ refused (rule_number r) → Listed x (Err r)
+unfolding listing_of
+as-refused r e = as-listed (record { is = refl; fit = tt }) e
+
+pub listed-refused : (x : Field (List Step)) {r : Rule} → Listed x (Err r) → x ≡ refused (rule_number r)
+unfolding listing_of
+listed-refused (value steps rest) h = let e = h.is in cc
+listed-refused (refused k) h = let e = h.is in cc
 
 -- ---- what is taken, by the tests of the code
 
-module _ (len k count : ℕ) where
-  pub taken_refused : k ≢ 0 → none k ≡ taken_of len k count
+module _ (len count : ℕ) where
+  pub taken-many : 62 < count → Err NoRoom ≡ taken_of len count
   unfolding taken_of
-  taken_refused h = by k h
+  taken-many h = rw (lt-ltb 62 count h) refl
+
+  pub taken-short : len < count → Err NoRoom ≡ taken_of len count
+  unfolding taken_of
+  taken-short h = rw (lt-ltb len count h) (by (ltb 62 count))
     where
-      by : (k : ℕ) → k ≢ 0 → none k ≡ taken_of len k count
-      by zero h = absurd (h refl)
-      by (suc k) h = refl
+      by : (b : Bool) → ◌≡◌ {A = Result ℕ Rule} (Err NoRoom) (cond b (Err NoRoom) (Err NoRoom))
+      by true = refl
+      by false = refl
 
-  pub taken-many : k ≡ 0 → 62 < count → none 17 ≡ taken_of len k count
+  pub taken-all : count ≤ 62 → count ≤ len → Ok count ≡ taken_of len count
   unfolding taken_of
-  taken-many e h = rw (e, lt-ltb 62 count h) refl
-
-  pub taken-short : k ≡ 0 → count ≤ 62 → len < count → none 17 ≡ taken_of len k count
-  unfolding taken_of
-  taken-short e m h = rw (e, le-ltb 62 count m, lt-ltb len count h) refl
-
-  pub taken-all : k ≡ 0 → count ≤ 62 → count ≤ len → record { n = count; answer = Done count } ≡ taken_of len k count
-  unfolding taken_of
-  taken-all e m h = rw (e, le-ltb 62 count m, le-ltb len count h) refl
+  taken-all m h = rw (le-ltb 62 count m, le-ltb len count h) refl
 
   -- it fits the block and the list
-  pub taken-small : ((taken_of len k count).n ≤ 62) × ((taken_of len k count).n ≤ len)
+  pub taken-small : (n : ℕ) → Ok n ≡ taken_of len count → (n ≤ 62) × (n ≤ len)
   unfolding taken_of
-  taken-small = by k (ltb 62 count) refl (ltb len count) refl
+  taken-small n = by (ltb 62 count) refl (ltb len count) refl
     where
-      by : (k : ℕ) (a : Bool) → ltb 62 count ≡ a → (b : Bool) → ltb len count ≡ b → ((taken_of len k count).n ≤ 62) × ((taken_of len k count).n ≤ len)
-      by (suc k) a p b q = (omega arith, omega arith)
-      by zero true p b q = rw p (omega arith, omega arith)
-      by zero false p true q = rw (p, q) (omega arith, omega arith)
-      by zero false p false q = rw (p, q) (ltb-false 62 count p, ltb-false len count q)
+      by : (a : Bool) → ltb 62 count ≡ a → (b : Bool) → ltb len count ≡ b
+          → ◌≡◌ {A = Result ℕ Rule} (Ok n) (cond a (Err NoRoom) (cond b (Err NoRoom) (Ok count))) → (n ≤ 62) × (n ≤ len)
+      by true p b q e = absurd (cc)
+      by false p true q e = absurd (cc)
+      by false p false q e =
+          let same : n ≡ count = cc in
+          (omega (arith, ltb-false 62 count p), omega (arith, ltb-false len count q))
 
 -- ---- what is filled
 
 module _ (list : List Step) where
-  answer-of : (x : Field (List Step)) → Fit x → (taken_of (length list) (listing_of x).rule (listing_of x).count).answer ≡ filled_to x list
+  answer-of : (x : Field (List Step)) {l : Listing} → Listed x (Ok l) → by_number (taken_of (length list) l.count) ≡ filled_to x list
   unfolding listing_of taken_of
-  answer-of (refused zero) fit = absurd (fit refl)
-  answer-of (refused (suc k)) fit = refl
-  answer-of (value steps rest) fit = rw (le-ltb 62 (length steps) fit) (by (ltb (length list) (length steps)))
+  answer-of (refused k) h = let e = h.is in absurd (cc)
+  answer-of (value steps rest) {l} h =
+      let e = h.is in
+      let same : l.count ≡ length steps = cc in
+      rw (same, le-ltb 62 (length steps) h.fit) (by (ltb (length list) (length steps)))
     where
-      by : (b : Bool) → (cond b (none 17) (record { n = length steps; answer = Done (length steps) })).answer ≡ cond b (Refused 17)
-          (Done (length steps))
+      by : (b : Bool) → by_number (cond b (Err NoRoom) (Ok (length steps))) ≡ cond b (Refused 17) (Done (length steps))
       by true = refl
       by false = refl
 
-  left-of : (x : Field (List Step)) → Fit x → filled list (listing_of x) ≡ list_after x list
+  left-of : (x : Field (List Step)) {l : Listing} → Listed x (Ok l) → filled list l ≡ list_after x list
   unfolding listing_of taken_of filled
-  left-of (refused zero) fit = absurd (fit refl)
-  left-of (refused (suc k)) fit = refl
-  left-of (value steps rest) fit = rw (le-ltb 62 (length steps) fit) (by (ltb (length list) (length steps)))
+  left-of (refused k) h = let e = h.is in absurd (cc)
+  left-of (value steps rest) {l} h =
+      let e = h.is in
+      let same : l ≡ record { count = length steps; steps = block 62 blank_step steps } = cc in
+      rw (same, le-ltb 62 (length steps) h.fit) (by (ltb (length list) (length steps)))
     where
-      taken : Bool → Taken
-      taken b = cond b (none 17) (record { n = length steps; answer = Done (length steps) })
+      room : Bool → Result ℕ Rule
+      room b = cond b (Err NoRoom) (Ok (length steps))
 
-      by : (b : Bool) → take (taken b).n (block 62 blank_step steps) ++ drop (taken b).n list ≡ cond b list (steps ++ drop (length steps) list)
+      by : (b : Bool) → take (taken (room b)) (block 62 blank_step steps) ++ drop (taken (room b)) list
+          ≡ cond b list (steps ++ drop (length steps) list)
       by true = refl
       by false = ap (λ (l : List Step). l ++ drop (length steps) list) (take-block 62 blank_step steps (length steps) refl)
 
   -- a list filled from a listing has what the field gives
-  pub fills : {x : Field (List Step)} {l : Listing} {r : Written} {left : List Step} → Listed x l
-      → (r ≡ (taken_of (length list) l.rule l.count).answer) × (left ≡ filled list l) → Fills x list r left
-  fills {x} h w = record {
-    answer_is = w.0 ∙ ap (λ (l : Listing). (taken_of (length list) l.rule l.count).answer) h.is ∙ answer-of x h.fit;
-    left_is = w.1 ∙ ap (filled list) h.is ∙ left-of x h.fit;
-  }
+  pub fills : {x : Field (List Step)} {l : Listing} {r : Result ℕ Rule} {left : List Step} → Listed x (Ok l)
+      → (r ≡ taken_of (length list) l.count) × (left ≡ filled list l) → Fills x list (by_number r) left
+  fills {x} h w = record { answer_is = ap by_number w.0 ∙ answer-of x h; left_is = w.1 ∙ left-of x h }
+
+  -- and one that a rule refuses stays as it is
+  pub refused-fills : {x : Field (List Step)} {r : Rule} → Listed x (Err r) → Fills x list (Refused (rule_number r)) list
+  refused-fills {x} h = rw (listed-refused x h) (record { answer_is = refl; left_is = refl })
 
 -- ---- as numbers
 
@@ -162,30 +166,37 @@ unfolding step_numbers
 length-numbers [] = refl
 length-numbers (s ∷ steps) = omega (arith, length-numbers steps)
 
--- those from record i on, of the first m
-pub numbers-next : (list : List Step) (m i : ℕ) (d : Step) → m ≤ length list → i < m
-    → step_numbers (drop i (take m list)) ≡ numbers_of (get_or list i d) ++ step_numbers (drop (i + 1) (take m list))
+-- those from record i on
+pub numbers-next : (list : List Step) (i : ℕ) (d : Step) → i < length list
+    → step_numbers (drop i list) ≡ numbers_of (get_or list i d) ++ step_numbers (drop (i + 1) list)
 unfolding step_numbers
-numbers-next list m i d long h =
-    rw (add-one, drop-cons (take m list) i d (omega (arith, length-take m list)), get_or-take m list i d h) refl
+numbers-next list i d h = rw (add-one, drop-cons list i d h) refl
 
-pub numbers-none : (list : List Step) (m i : ℕ) → m ≤ i → step_numbers (drop i (take m list)) ≡ []
+pub numbers-none : (list : List Step) (i : ℕ) → length list ≤ i → step_numbers (drop i list) ≡ []
 unfolding step_numbers
-numbers-none list m i h = let k : length (take m list) ≤ i = omega (arith, length-take m list) in ap step_numbers (drop_of_length-le (take m list) k)
+numbers-none list i h = ap step_numbers (drop_of_length-le list h)
 
 -- the numbers of a filled list are those of the field
-pub numbers-are : {x : Field (List Step)} {old list : List Step} {r : Written} → Fit x → length old ≡ 62 → Fills x old r list
+pub numbers-are : {x : Field (List Step)} {old list : List Step} (r : Result ℕ Rule) → Fit x → length old ≡ 62 → Fills x old (by_number r) list
     → numbers_from list r ≡ numbers_field x
-numbers-are {x} {old} fit long h = rw (h.answer_is, h.left_is) (by x fit)
+numbers-are {x} {old} {list} r fit size h = as-numbers r ∙ rw (h.answer_is, h.left_is) (by x fit)
   where
-    by : (x : Field (List Step)) → Fit x → numbers_from (list_after x old) (filled_to x old) ≡ numbers_field x
+    told : Written → List Step → Field (List ℕ)
+    told (Done n) l = value (step_numbers (take n l)) []
+    told (Refused k) l = refused k
+
+    as-numbers : (r : Result ℕ Rule) → numbers_from list r ≡ told (by_number r) list
+    as-numbers (Ok n) = refl
+    as-numbers (Err r) = refl
+
+    by : (x : Field (List Step)) → Fit x → told (filled_to x old) (list_after x old) ≡ numbers_field x
     by (refused k) fit = refl
     by (value steps rest) fit =
-        rw (le-ltb (length old) (length steps) (omega (arith, long, fit)))
+        rw (le-ltb (length old) (length steps) (omega (arith, size, fit)))
         (ap (λ (l : List Step). value (step_numbers l) []) (take-append_seam steps (drop (length steps) old)))
 
 -- into lent space: as many records as the list has at most
-module _ (list : List Step) (long : length list ≡ 62) (n : ℕ) {r : Written} (done : r ≡ Done n) {count : ℕ} (few : count ≡ min n 62) where
+module _ (list : List Step) (long : length list ≡ 62) (n : ℕ) {r : Result ℕ Rule} (done : r ≡ Ok n) {count : ℕ} (few : count ≡ min n 62) where
   first-few : step_numbers (take n list) ≡ step_numbers (take count list)
   first-few = by (ltb 62 n) refl
     where

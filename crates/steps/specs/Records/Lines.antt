@@ -3,7 +3,7 @@ use Rattle.std.specs.Prelude.{◌≡◌, ◌++◌}
 use Rattle.theory.specs.Prelude.{ℕ, refl, ap, ◌∙◌, List, length}
 use Rattle.theory.specs.Merge.{Merge}
 use Rattle.theory.specs.Plan.{plan_of}
-use Rattle.theory.specs.declared.Finding.TheVariants.{Fine}
+use Rattle.theory.specs.Finding.{Fine}
 use Rattle.theory.specs.declared.Step.{Step}
 use Rattle.theory.specs.declared.Verdict.{Verdict}
 use Rattle.theory.specs.Graph.{SizedGraph, finding_of, list_verdict, steps_of}

@@ -15,8 +15,8 @@ use Rattle.theory.specs.Plan.Order.{joint-ascending}
 use Rattle.theory.specs.Ring.Laws.{same-ringed}
 use Rattle.theory.specs.Verdict.Laws.{angled-same, judged-same, judged-not-over}
 use Rattle.theory.specs.Graph.{Graph, finding_of, list_verdict, verdict_by, verdict_of, SizedGraph, step_of, steps_from}
-use Rattle.theory.specs.declared.Finding.{Finding}
-use Rattle.theory.specs.declared.Finding.TheVariants.{Fine, First}
+use Rattle.theory.specs.Finding.{Finding}
+use Rattle.theory.specs.Finding.{Fine, First}
 use Rattle.theory.specs.declared.Verdict.TheVariants.{Over}
 use Rattle.theory.specs.declared.Step.{Step}
 

@@ -14,7 +14,7 @@ use Rattle.theory.specs.Verdict.{angled, judged}
 use Rattle.theory.specs.Verdict.Laws.{angled-is}
 use Rattle.theory.specs.Graph.{Graph, finding_of, list_verdict, verdict_of}
 use Rattle.theory.specs.Graph.Laws.{fine-verdict, over-verdict}
-use Rattle.theory.specs.declared.Finding.TheVariants.{Fine}
+use Rattle.theory.specs.Finding.{Fine}
 use Rattle.theory.specs.declared.Verdict.TheVariants.{Over, Angle, Well, Stuck, Under}
 
 -- every joint has three elements

@@ -11,8 +11,8 @@ use Rattle.theory.specs.Constraints.{has, carried, NotOver, NotOverIn, Among, Pa
 use Rattle.theory.specs.Constraints.Laws.{inside, Has, outside, has-dec, has_in, carried-two, carried-full, carried-cut, not-over-in}
 use Rattle.theory.specs.Over.{IsOver, Tight, Smallest, FirstOver, Finds, heavy, any_below, is_over, is_tight, smaller, fewest_below, smallest_set}
 use Rattle.theory.specs.Over.{next, over_up_to, over_of}
-use Rattle.theory.specs.declared.Finding.{Finding}
-use Rattle.theory.specs.declared.Finding.TheVariants.{Fine, First}
+use Rattle.theory.specs.Finding.{Finding}
+use Rattle.theory.specs.Finding.{Fine, First}
 
 -- ---- a list and one constraint more
 

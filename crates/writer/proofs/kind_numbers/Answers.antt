@@ -1,38 +1,30 @@
 -- `writer::kind_numbers` meets its contract. Assumes nothing.
-use Rattle.std.specs.Prelude.{◌≤◌, ◌≡◌}
-use Rattle.theory.specs.Prelude.{rules, min, arith, ap, ◌∙◌, length, take, take-take}
+use Rattle.std.specs.Prelude.{◌≤◌}
+use Rattle.theory.specs.Prelude.{arith, ap, ◌∙◌, length, take, length-take}
 use Rattle.sheet.specs.Facts.{kinds_number}
-use Rattle.writer.specs.Spread.{kinds_in_eight}
-use Rattle.writer.proofs.Spread.{front-least, rest-least, allowed-take, rest-few}
+use Rattle.writer.proofs.Spread.{take-least, drop-least, allowed-take, allowed-drop, rest-few}
 use Rattle.writer.proofs.kind_numbers.Goals as goal
 
-pub kinds_number-low-requires : goal.kinds_number-low-requires
-kinds_number-low-requires c =
-    let m : min c.args.n c.kinds_in_eight.result ≤ c.args.n = omega arith in (
-      omega arith,
-      omega arith,
-      omega (arith, c.least-split.ensures, c.kinds_in_eight.ensures),
-      rw (c.least-split.ensures, ← take-take (min c.args.n c.kinds_in_eight.result) c.args.n c.args.elements m)
-          (allowed-take c.args.o (min c.args.n c.kinds_in_eight.result) (take c.args.n c.args.elements) c.requires.1),
+pub kinds_number-requires : goal.kinds_number-requires
+kinds_number-requires c =
+    let all = take c.args.s.now.n c.args.s.now.elements in (
+      omega (arith, c.split_at.ensures.front_len, c.min.ensures, c.kinds_in_eight.ensures),
+      rw c.split_at.ensures.front (allowed-take c.args.s.now.opening c.min.result all c.requires.1),
     )
 
-pub kinds_number-high-requires : goal.kinds_number-high-requires
-kinds_number-high-requires c = (
-  omega (arith, c.least-split.ensures),
-  c.requires.0,
-  rw (c.least-split.ensures, c.kinds_in_eight.ensures) (rest-few c.args.o c.args.n c.requires.0),
-  c.requires.1,
-)
+pub kinds_number-requires-2 : goal.kinds_number-requires-2
+kinds_number-requires-2 c =
+    let all = take c.args.s.now.n c.args.s.now.elements in
+    let few : length all ≤ 64 = omega (arith, length-take c.args.s.now.n c.args.s.now.elements, c.requires.0) in (
+      omega (arith, c.split_at.ensures.back_len, c.min.ensures, c.kinds_in_eight.ensures, rest-few c.args.s.now.opening (length all) few),
+      rw c.split_at.ensures.back (allowed-drop c.args.s.now.opening c.min.result all c.requires.1),
+    )
 
 pub returns : goal.returns
 returns c =
-    let room : c.args.n ≤ length c.args.elements = let l : length c.args.elements ≡ 64 = search rules in rw l c.requires.0 in
-    let split : c.least-split.result ≡ min c.args.n (kinds_in_eight c.args.o) = rw (← c.kinds_in_eight.ensures) c.least-split.ensures in
+    let all = take c.args.s.now.n c.args.s.now.elements in
+    let number = kinds_number c.args.s.now.opening in
     record {
-      low_is =
-          c.kinds_number-low.ensures
-          ∙ ap (kinds_number c.args.o) (rw split (front-least c.args.elements c.args.n (kinds_in_eight c.args.o) room));
-      high_is =
-          c.kinds_number-high.ensures
-          ∙ ap (kinds_number c.args.o) (rw split (rest-least c.args.elements c.args.n (kinds_in_eight c.args.o) room));
+      low_is = c.kinds_number.ensures ∙ ap number (c.split_at.ensures.front ∙ rw (c.min.ensures, c.kinds_in_eight.ensures) (take-least all _));
+      high_is = c.kinds_number-2.ensures ∙ ap number (c.split_at.ensures.back ∙ rw (c.min.ensures, c.kinds_in_eight.ensures) (drop-least all _));
     }

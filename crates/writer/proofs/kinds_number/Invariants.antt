@@ -1,12 +1,12 @@
--- `writer::kinds_number` meets its contract: the kinds from the last element down; the number stays below 2 ^ 64. Assumes nothing.
-use Rattle.std.specs.Prelude.{◌≤◌, ◌≡◌}
-use Rattle.theory.specs.Prelude.{take, drop}
-use Rattle.sheet.specs.declared.Opening.{Opening}
-use Rattle.sheet.specs.Facts.{kind_base, kinds_number}
+-- `writer::kinds_number` meets its contract. The loop's invariant: the number is that of the elements passed, the last ones. Assumes nothing.
+use Rattle.std.specs.Slice.Iter.{iter_rest}
+use Rattle.std.specs.Iterator.Adapters.{rev_source}
+use Rattle.writer.proofs.Spread.{Passed}
 use Rattle.writer.proofs.kinds_number.Given as goal
 
-abbrev pub invariant-loop-i : goal.invariant-loop-i
-invariant-loop-i l = (l.from ≤ l.i) × (l.i ≤ l.to) × ((o : Opening) → l.base ≡ kind_base o → l.u ≡ kinds_number o (drop l.i (take l.to l.elements)))
-
-abbrev pub decreases-loop-i : goal.decreases-loop-i
-decreases-loop-i l = l.i
+abbrev pub invariant-loop-x : goal.invariant-loop-x
+invariant-loop-x l = record {
+  can_next : (goal.iterator-loop-x).can_next l.x-iterator;
+  is_finite : (goal.iterator-loop-x).is_finite l.x-iterator;
+  passed : Passed l.fn.o l.elements (iter_rest (rev_source l.x-iterator)) l.u;
+}

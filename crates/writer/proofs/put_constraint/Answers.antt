@@ -5,5 +5,4 @@ use Rattle.writer.proofs.put_constraint.Goals as goal
 
 pub returns : goal.returns
 unfolding constraint_bytes
-returns c = let h = c in
-    put_as (rw h.map_of.ensures) (h.put_head-next.ensures then c.put_size.ensures)
+returns c = put_as (rw c.map_of.ensures) (c.put_text-next.ensures then c.put_size.ensures)

@@ -1,14 +1,10 @@
 -- `writer::put_radius` meets its contract. Assumes nothing.
-use Rattle.theory.specs.Prelude.{ap}
+use Rattle.theory.specs.Prelude.{ap, ◌∙◌, arith}
 use Rattle.sheet.specs.Encode.{radius_bytes}
-use Rattle.space.specs.Space.Laws.{put-none}
+use Rattle.space.specs.Space.Laws.{put_as}
+use Rattle.writer.proofs.Bytes.{low-bytes}
 use Rattle.writer.proofs.put_radius.Goals as goal
 
-pub returns-in-Point : goal.returns-in-Point
-returns-in-Point c = rw (ap radius_bytes c.in-Point.is) (put-none _ _)
-
-pub returns-in-Line : goal.returns-in-Line
-returns-in-Line c = rw (ap radius_bytes c.in-Line.is) (put-none _ _)
-
 pub returns-in-Circle : goal.returns-in-Circle
-returns-in-Circle c = rw (ap radius_bytes c.in-Circle.is) c.put_number.ensures
+returns-in-Circle c =
+    rw (ap radius_bytes c.in-Circle.is) (put_as (c.to_le_bytes.ensures ∙ low-bytes 4 4 c.in-Circle.r (omega arith)) c.put_text.ensures)

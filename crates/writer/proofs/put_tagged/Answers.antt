@@ -6,10 +6,6 @@ use Rattle.writer.proofs.Untagged.{cut-least}
 use Rattle.writer.proofs.put_tagged.Goals as goal
 
 pub returns : goal.returns
-returns c = let least = c.least-last.ensures in
-    let s =
-    c
-    in
-    put_as (rw (least, cut-least s.args.s.now (s.args.at + 3) s.args.size (omega (arith, s.requires.2))) (rw append_assoc))
-    (c.put_text-a1.ensures
-    then c.put_byte-a2.ensures then c.put_text.ensures)
+returns c =
+    put_as (rw (c.min-last.ensures, cut-least c.args.s.now (c.args.at + 3) c.args.size (omega (arith, c.requires.2)), append_assoc))
+    (c.put_text-to.ensures then c.put_item-to.ensures then c.put_text.ensures)

@@ -1,9 +1,0 @@
--- `elements::also_known` meets its contract. Assumes nothing.
-use borrow.Author.Tests.{lt-ltb, le-ltb}
-use Rattle.elements.proofs.also_known.Goals as goal
-
-pub returns-then-k-lt3 : goal.returns-then-k-lt3
-returns-then-k-lt3 c = rw (lt-ltb _ _ c.if-k-lt3.true)
-
-pub returns-else-k-lt3 : goal.returns-else-k-lt3
-returns-else-k-lt3 c = rw (le-ltb _ _ c.if-k-lt3.false)

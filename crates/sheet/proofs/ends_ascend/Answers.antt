@@ -1,9 +1,0 @@
--- `sheet::ends_ascend` meets its contract: two comparisons, the second only where the first holds. Assumes nothing.
-use borrow.Author.Tests.{lt-ltb, le-ltb}
-use Rattle.sheet.proofs.ends_ascend.Goals as goal
-
-pub returns-then-a-b : goal.returns-then-a-b
-returns-then-a-b c = rw (lt-ltb _ _ c.if-a-b.true)
-
-pub returns-else-a-b : goal.returns-else-a-b
-returns-else-a-b c = rw (le-ltb _ _ c.if-a-b.false)
