@@ -15,7 +15,7 @@
  * State    There is none. Nothing is allocated or kept between calls; any threads may call at once,
  *          each with an `out` of its own. A held sketch is bytes of the caller's (pattern_hold).
  * Stack    A call takes at most PATTERN_MAX_STACK bytes of its thread's stack, as measured by
- *          tests/stack/run on x86-64; pattern_steps takes the most.
+ *          tests/stack/run on x86-64; pattern_saved_steps takes the most.
  *
  * A sheet in bytes; docs/FORMAT.md says the same at length, with the report's lines:
  *

@@ -150,4 +150,16 @@ class Browser:
         self.process.wait()
         os.close(self.into)
         os.close(self.out)
-        self.folder.cleanup()
+        self.clear(self.folder)
+
+    @staticmethod
+    def clear(folder, seconds=20):
+        """Takes away a folder that the browser wrote to; its helpers may still write there as they end."""
+        until = time.time() + seconds
+        while os.path.exists(folder.name):
+            try:
+                folder.cleanup()
+            except OSError:
+                if time.time() > until:
+                    raise
+                time.sleep(0.05)

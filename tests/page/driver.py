@@ -204,4 +204,4 @@ class Page(Browser):
 
     def close(self):
         super().close()
-        self.downloads.cleanup()
+        self.clear(self.downloads)

@@ -3,11 +3,10 @@ use crate::said::{
     say, say_bytes, say_judgement, say_longs, say_number, say_sheet, say_shorts, say_signed,
     say_written,
 };
-use crate::text::{constraint_of, least, number, some};
-use sheet::{Constraint, Element, Kind, Opening, Sheet, Size};
+use crate::text::{constraint_of, least, number, rule_of, some};
 use std::io;
 use steps::{Filled, Listing};
-use theory::{CONSTRAINTS, ELEMENTS, JointKind, Rule, STEPS, Step, Ways};
+use theory::{ELEMENTS, JointKind, Rule, STEPS, Step, Ways};
 
 // ---- bytes
 
@@ -90,8 +89,8 @@ pub fn lend_shorts(
 
 // ---- 64-bit numbers
 
-// A list of 62 marked records, filled with blank ones, as many as are counted, or left where a rule's number refuses; its first records then, as
-// numbers.
+// A list of 62 marked records, filled with blank ones, as many as are counted, or refused by a rule; its first records then, as numbers. By a number
+// that no rule has it is refused here.
 fn fill(to: &impl Print, rule: usize, count: usize, out: &mut [u64]) -> io::Result<()> {
     let mark = Step {
         made: 170,
@@ -103,23 +102,22 @@ fn fill(to: &impl Print, rule: usize, count: usize, out: &mut [u64]) -> io::Resu
         ways: Ways::Known(170),
     };
     let marked = [mark; STEPS];
+    let told = (rule % 256) as u8;
     let steps = engine::no_steps();
-    let filled = steps::fill_on(Listing { count, steps }, marked);
+    let listing = match rule_of(told) {
+        Some(rule) => Err(rule),
+        None => Ok(Listing { count, steps }),
+    };
+    let filled = steps::fill_on(listing, marked);
+    let unknown = told != 0 && listing.is_ok();
     let answer = Ok(out.len() / 7);
-    if rule % 256 == 0 {
-        let list = filled.list;
-        let _ = steps::put_numbers(Filled { answer, list }, out);
-        return say_written(to, filled.answer);
+    let list = if unknown { marked } else { filled.list };
+    let _ = steps::put_numbers(Filled { answer, list }, out);
+    if unknown {
+        say_number(to, b"refused ", u64::from(told))?;
+        return say(to, b" ");
     }
-    let _ = steps::put_numbers(
-        Filled {
-            answer,
-            list: marked,
-        },
-        out,
-    );
-    say_number(to, b"refused ", (rule % 256) as u64)?;
-    say(to, b" ")
+    say_written(to, filled.answer)
 }
 
 fn in_longs(entry: u8, bytes: &[u8], out: &mut [u64]) -> Result<usize, Rule> {
@@ -201,26 +199,10 @@ pub fn lend_columns(to: &impl Print, room: usize, numbers: &[u16], bytes: &[u8])
 
 // ---- a held sketch
 
-// The sketch that is asked where bytes stand for no sheet: one of no element.
-fn blank() -> Sheet {
-    let none = Constraint {
-        first: 0,
-        second: 0,
-        size: Size::Missing,
-    };
-    Sheet {
-        opening: Opening::Pf01,
-        n: 0,
-        e: 0,
-        elements: [Element { kind: Kind::Point }; ELEMENTS],
-        constraints: [none; CONSTRAINTS],
-    }
-}
-
-// Asked and placed in a sketch by value, by the number told.
+// Asked and placed in a sketch by value, by the number told; in the blank one where the bytes stand for no sheet.
 pub fn by_value(to: &impl Print, told: usize, numbers: &[u16], bytes: &[u8]) -> io::Result<()> {
     let c = constraint_of(numbers);
-    let sketch = pattern::read(bytes).unwrap_or(blank());
+    let sketch = pattern::read(bytes).unwrap_or(pattern::blank());
     say_judgement(to, sketch::asking(sketch, c))?;
     let placed = sketch::placing(sketch, c, told);
     let answer = placed.answer;

@@ -51,7 +51,9 @@ pub fn lay(slots: &mut [u64; CLUSTERS], start: &[u64; CONSTRAINTS], e: usize)
     requires { Start start.now e × (slots.old ≡ replicate places 0) }
     ensures { slots.new ≡ block places 0 (take e start.now) }
 {
-    slots[..e].copy_from_slice(&start[..e]);
+    for i in 0..e {
+        slots[i] = start[i];
+    }
 }
 
 // Merges clusters i, j and k, which ascend, as step `steps`: its parts and its joint are noted, the three die, and their union, which is answered, is

@@ -1,5 +1,5 @@
 -- The choice among pairs as numbers, and what the code keeps between two pairs. Assumes nothing.
-use Rattle.std.specs.Prelude.{◌≡◌, ◌∷◌, ◌/◌, ◌%◌, ◌<◌, Option, MatchOption}
+use Rattle.std.specs.Prelude.{◌≡◌, ◌≢◌, ◌∷◌, ◌/◌, ◌%◌, ◌<◌}
 use Rattle.theory.specs.Prelude.{true, false, List, [], ℕ, length, get_or}
 use Rattle.theory.specs.Set.{◌∈◌, full}
 use Rattle.theory.specs.Constraints.{pair, Among, Pairs, Below}
@@ -34,6 +34,7 @@ pub record Held (cs : List ℕ) (own : List (List ℕ)) (tied : List ℕ) : Type
   pub uses : Using cs (full 64) own
   pub known : Tied cs tied
 
--- the pair m is taken, which gives new freedoms, or it makes the constraints over
-abbrev pub Tried : List ℕ → ℕ → List (List ℕ) → List ℕ → Option (List (List ℕ)) → Type 0
-Tried cs m own tied tried = MatchOption tried (Held cs own tied × IsOver (m ∷ cs)) (λ new. Held (m ∷ cs) new tied)
+-- the pair m is taken, and over is 0; or it makes the constraints over
+pub record Tried (cs : List ℕ) (m : ℕ) (tied : List ℕ) (own : List (List ℕ)) (over : ℕ) : Type 0 where
+  pub taken : over ≡ 0 → Held (m ∷ cs) own tied
+  pub refused : over ≢ 0 → Held cs own tied × IsOver (m ∷ cs)

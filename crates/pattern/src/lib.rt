@@ -8,7 +8,8 @@ ghost use Rattle.theory.specs.Set.{◌∩◌};
 ghost use Rattle.space.specs.Space.{answer, after};
 ghost use Rattle.sheet.specs.Answer.{Answers, after_to};
 ghost use Rattle.sheet.specs.Decode.{read_sheet};
-ghost use Rattle.reader.specs.Answers.{as_reading};
+ghost use Rattle.sheet.specs.Facts.{sheet_of};
+ghost use Rattle.reader.specs.Answers.{as_reading, no_facts};
 ghost use Rattle.writer.specs.Write.{write_field};
 ghost use Rattle.judge.specs.Judged.{plan_numbers, final_clusters};
 ghost use Rattle.sketch.specs.Sketch.{ask_answer, place_answer, place_after};
@@ -32,7 +33,7 @@ ghost use Rattle.sheet.specs.Field.{kind_bytes};
 
 use graph::Front;
 use part::Tally;
-use sheet::{Constraint, Opening, Sheet};
+use sheet::{Constraint, Element, Kind, Opening, Sheet, Size};
 use steps::Listing;
 use theory::{CLUSTERS, CONSTRAINTS, ELEMENTS, JOINTS, PARTS, Rule, Step, Verdict};
 
@@ -41,6 +42,24 @@ pub fn read(bytes: &[u8]) -> Result<Sheet, Rule>
     ensures { by_number result ≡ as_reading (read_sheet bytes.now) }
 {
     reader::read_sheet(bytes)
+}
+
+// The blank sheet, for the place of one that is refused: no elements and no constraints, each place a point or a constraint 0-0 without size.
+pub fn blank() -> Sheet
+    ensures { result ≡ sheet_of no_facts }
+{
+    let none = Constraint {
+        first: 0,
+        second: 0,
+        size: Size::Missing,
+    };
+    Sheet {
+        opening: Opening::Pf01,
+        n: 0,
+        e: 0,
+        elements: [Element { kind: Kind::Point }; ELEMENTS],
+        constraints: [none; CONSTRAINTS],
+    }
 }
 
 // A sheet's facts as bytes in lent space, or the rule of 3, 5 to 9 and 17 to 20 that refuses them.
@@ -221,14 +240,14 @@ fn saved_listing(bytes: &[u8], plan: &[u16]) -> Result<Listing, Rule>
 pub fn steps(bytes: &[u8], out: &mut [Step]) -> Result<usize, Rule>
     ensures { Fills (steps_field bytes.now) out.old (by_number result) out.new }
 {
-    steps::fill(out, plan_listing(bytes)?)
+    steps::fill(out, plan_listing(bytes))
 }
 
 // A saved plan's steps, in the saved order, as records in a list that the caller lends, or the rule of 1 to 20 that refuses.
 pub fn saved_steps(bytes: &[u8], plan: &[u16], out: &mut [Step]) -> Result<usize, Rule>
     ensures { Fills (saved_steps_field bytes.now plan.now) out.old (by_number result) out.new }
 {
-    steps::fill(out, saved_listing(bytes, plan)?)
+    steps::fill(out, saved_listing(bytes, plan))
 }
 
 // The records of the engine's plan as numbers, seven a step, in lent space, or the rule of 1 to 11 and 17 to 20 that refuses.
@@ -236,7 +255,7 @@ pub fn step_numbers(bytes: &[u8], out: &mut [u64]) -> Result<usize, Rule>
     ensures { Answers (numbers_field (steps_field bytes.now)) out.old (by_number result) out.new }
 {
     let l = plan_listing(bytes)?;
-    let filled = steps::fill_on(l, l.steps);
+    let filled = steps::fill_on(Ok(l), l.steps);
     steps::put_numbers(filled, out)
 }
 
@@ -245,7 +264,7 @@ pub fn saved_step_numbers(bytes: &[u8], plan: &[u16], out: &mut [u64]) -> Result
     ensures { Answers (numbers_field (saved_steps_field bytes.now plan.now)) out.old (by_number result) out.new }
 {
     let l = saved_listing(bytes, plan)?;
-    let filled = steps::fill_on(l, l.steps);
+    let filled = steps::fill_on(Ok(l), l.steps);
     steps::put_numbers(filled, out)
 }
 

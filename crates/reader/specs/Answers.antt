@@ -2,6 +2,7 @@
 -- (document 01, "Where each form goes": each field read answers a value with the next cursor or a refusal number).
 use Rattle.std.specs.Prelude.{Result, Ok, Err, ℕ, ◌/◌, ◌%◌, ◌≤◌, ◌≡◌, Bool, List, [], eqb, ℤ, pos, length, drop}
 use Rattle.sheet.specs.declared.Opening.{Opening}
+use Rattle.sheet.specs.declared.Opening.TheVariants.{Pf01}
 use Rattle.sheet.specs.declared.Kind.{Kind}
 use Rattle.sheet.specs.declared.Element.{Element}
 use Rattle.sheet.specs.declared.Size.{Size}
@@ -83,6 +84,10 @@ GraphIs x (Ok h) near start sizes =
 GraphIs x (Err r) near start sizes = x ≡ refused (rule_number r)
 
 -- ---- a sheet by value
+
+-- the facts of the blank sheet, which stands in the place of one that is refused
+abbrev pub no_facts : Facts
+no_facts = record { opening = Pf01; elements = []; constraints = [] }
 
 abbrev pub as_reading : Field Facts → Result Sheet ℕ
 as_reading (value f s) = Ok (sheet_of f)

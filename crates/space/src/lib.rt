@@ -26,7 +26,9 @@ pub fn put_text(out: &mut [u8], at: usize, text: &[u8]) -> usize
 {
     let next = at + text.len();
     if next <= out.len() {
-        out[at..next].copy_from_slice(text);
+        for i in 0..text.len() {
+            out[at + i] = text[i];
+        }
     }
     next
 }
@@ -39,7 +41,9 @@ pub fn put_all<T: Copy>(out: &mut [T], items: &[T]) -> Result<usize, Rule>
     if out.len() < items.len() {
         return Err(Rule::NoRoom);
     }
-    out[..items.len()].copy_from_slice(items);
+    for i in 0..items.len() {
+        out[i] = items[i];
+    }
     Ok(items.len())
 }
 

@@ -34,6 +34,7 @@ pub record More (old new : List ℕ) (m u : ℕ) : Type 0 where
   pub fine : ((x : ℕ) → x ⊑ u → 2 ≤ ones x → carried new x + 3 ≤ 2 * ones x) → NotOver new
   pub cut : (x : ℕ) → carried old x + 2 * ones (x ∩ u) ≤ carried old (x ∩ u) + 2 * ones x
 
--- what taking m gives: the table with m among the constraints, where no set is over; or the smallest set that m makes over
-abbrev pub Took : List ℕ → List ℕ → ℕ → ℕ → Result (List (List ℕ)) ℕ → Type 0
-Took old new m u taken = MatchResult taken (λ own. Using new u own) (λ over. IsOver new × Smallest old m over)
+-- what taking m gives: the table with m among the constraints, where no set is over; or the constraints without m, and the smallest set that m makes
+-- over
+abbrev pub Took : List ℕ → List ℕ → ℕ → ℕ → Result (List (List ℕ)) (List (List ℕ) × ℕ) → Type 0
+Took old new m u taken = MatchResult taken (λ own. Using new u own) (λ r. Using old u r.0 × IsOver new × Smallest old m r.1)

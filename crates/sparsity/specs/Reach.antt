@@ -1,6 +1,6 @@
 -- What the search reaches from two elements a and b along the freedoms in use, and what it does with it. Assumes nothing.
-use Rattle.std.specs.Prelude.{◌≡◌, ◌≢◌, ◌⊎◌, ◌+◌, ◌^◌, ◌≤◌, ◌<◌, Result, MatchResult}
-use Rattle.theory.specs.Prelude.{List, ℕ, ones, length, get_or}
+use Rattle.std.specs.Prelude.{◌≡◌, ◌≢◌, ◌⊎◌, ◌+◌, ◌^◌, ◌≤◌, ◌<◌, Result, MatchResult, Ok, Err}
+use Rattle.theory.specs.Prelude.{List, ℕ, zero, suc, ones, length, get_or}
 use Rattle.theory.specs.Set.{◌∈◌, ◌⊑◌}
 use Rattle.sparsity.specs.Freedoms.{entry, stored, free, Table, Balanced, Closed}
 pub mod Visits
@@ -85,12 +85,17 @@ pub record Found (own : List (List ℕ)) (a b : ℕ) (queue from : List ℕ) (fo
   pub start' : item queue 1 ≡ b
   pub outcome : MatchResult found (λ place. Way own queue from place) (λ seen. Stuck own a b seen)
 
--- a table with need free entries on a and b; or fewer can be had, and the set where no more can be had
-abbrev pub Gathered : List (List ℕ) → ℕ → ℕ → ℕ → Result (List (List ℕ)) ℕ → Type 0
+-- a table, and 0; or a table, and the set that is told beside it
+abbrev pub told : List (List ℕ) → ℕ → Result (List (List ℕ)) (List (List ℕ) × ℕ)
+told own zero = Ok own
+told own (suc k) = Err (own, suc k)
+
+-- a table with need free entries on a and b; or one with fewer, and the set where no more can be had
+abbrev pub Gathered : List (List ℕ) → ℕ → ℕ → ℕ → Result (List (List ℕ)) (List (List ℕ) × ℕ) → Type 0
 Gathered own need a b result =
     MatchResult result
     (λ new. Rebalanced own a b new × (need ≤ free new a + free new b))
-    (λ over. (new : List (List ℕ)) × Rebalanced own a b new × (free new a + free new b < need) × Stuck new a b over)
+    (λ r. Rebalanced own a b r.0 × (free r.0 a + free r.0 b < need) × Stuck r.0 a b r.1)
 
 -- a free entry of one of a and b is used towards the other
 pub record Placed (own : List (List ℕ)) (a b : ℕ) (new : List (List ℕ)) : Type 0 where

@@ -12,7 +12,7 @@ ghost use Rattle.theory.specs.Near.{Standing, Near};
 ghost use Rattle.theory.specs.Finding.{found};
 ghost use Rattle.theory.specs.Over.{over_of};
 ghost use Rattle.sparsity.specs.Freedoms.{stored, same, free, Table, FreeBelow};
-ghost use Rattle.sparsity.specs.Reach.{item, Found, Gathered, Placed};
+ghost use Rattle.sparsity.specs.Reach.{item, Found, told, Gathered, Placed};
 ghost use Rattle.sparsity.specs.Answer.{Using, More, Took};
 ghost use Rattle.peeling.specs.Core.{Core};
 ghost use Rattle.peeling.specs.Hard.{Noted};
@@ -77,17 +77,23 @@ fn seek(
     Err(seen)
 }
 
-// A table with need free entries on a and b; or the set that was reached, where no more can be had. The path back from an element with a free entry
-// is an augmenting path: its freedoms are turned, so that a or b gets one.
-fn gather(own: Freedoms, need: usize, a: u8, b: u8) -> Result<Freedoms, u64>
+// A table with need free entries on a and b, and over is 0; or one with as many as can be had, and over is the set that was reached. The path back
+// from an element with a free entry is an augmenting path: its freedoms are turned, so that a or b gets one.
+fn gather(own: Freedoms, need: usize, a: u8, b: u8, over: &mut u64) -> Freedoms
     requires { Table own × (a < 64) × (b < 64) × (a ≢ b) }
-    ensures { Gathered own need a b result }
+    ensures { Gathered own need a b (told result over.new) }
 {
     let mut t = own;
     while free_of(t[usize::from(a)], a) + free_of(t[usize::from(b)], b) < need {
         let mut queue = [0u8; ELEMENTS];
         let mut from = [0u8; ELEMENTS];
-        let mut to = seek(t, &mut queue, &mut from, a, b)?;
+        let mut to = match seek(t, &mut queue, &mut from, a, b) {
+            Ok(to) => to,
+            Err(set) => {
+                *over = set;
+                return t;
+            }
+        };
         while 2 <= to {
             let back = usize::from(from[to]);
             let first = queue[back];
@@ -101,7 +107,8 @@ fn gather(own: Freedoms, need: usize, a: u8, b: u8) -> Result<Freedoms, u64>
             to = back;
         }
     }
-    Ok(t)
+    *over = 0;
+    t
 }
 
 // Where a constraint uses a freedom: an entry of an element, and the other end that it is to hold.
@@ -132,15 +139,19 @@ fn place(of_a: [u8; 2], of_b: [u8; 2], a: u8, b: u8) -> Spot
     }
 }
 
-// One more constraint, between a and b: the table with it, or the smallest set that it makes over.
-pub fn take_pair(own: Freedoms, a: u8, b: u8) -> Result<Freedoms, u64>
+// One more constraint, between a and b: the table with it, and over is 0; or the table without it, in which what was turned for it stays turned, and
+// over is the smallest set that it makes over.
+pub fn take_pair(own: Freedoms, a: u8, b: u8, over: &mut u64) -> Freedoms
     requires { Table own × (a < 64) × (b < 64) × (a ≢ b) }
-    ensures { (old new : List ℕ) (u : ℕ) → Using old u own → More old new (pair a b) u → Took old new (pair a b) u result }
+    ensures { (old new : List ℕ) (u : ℕ) → Using old u own → More old new (pair a b) u → Took old new (pair a b) u (told result over.new) }
 {
-    let mut t = gather(own, 4, a, b)?;
+    let mut t = gather(own, 4, a, b, over);
+    if *over != 0 {
+        return t;
+    }
     let spot = place(t[usize::from(a)], t[usize::from(b)], a, b);
     t[spot.element][spot.entry] = spot.other;
-    Ok(t)
+    t
 }
 
 // The first of e constraints that makes those up to it over, with the smallest set, where the sets within core tell. Each needs as many free entries
@@ -156,6 +167,7 @@ fn search(
     ensures { (n : ℕ) → Below n (take e start.now) → found result ≡ over_of n (take e start.now) }
 {
     let mut own = all_free();
+    let mut over = 0;
     for c in 0..e {
         let pair = start[c];
         if pair & core != pair {
@@ -165,9 +177,12 @@ fn search(
         let b = peeling::other_end(pair, a);
         let need = usize::from(needs[c]);
         if free_of(own[usize::from(a)], a) + free_of(own[usize::from(b)], b) < need {
-            match gather(own, need, a, b) {
-                Ok(t) => own = t,
-                Err(set) => return Some(Excess { constraint: c, set }),
+            own = gather(own, need, a, b, &mut over);
+            if over != 0 {
+                return Some(Excess {
+                    constraint: c,
+                    set: over,
+                });
             }
         }
         let spot = place(own[usize::from(a)], own[usize::from(b)], a, b);

@@ -39,13 +39,19 @@ abbrev pub taken : Result ℕ Rule → ℕ
 taken (Ok n) = n
 taken (Err r) = 0
 
+-- the answer: of steps that a rule refused, that rule
+abbrev pub answer_of : ℕ → Result Listing Rule → Result ℕ Rule
+answer_of len (Ok l) = taken_of len l.count
+answer_of len (Err r) = Err r
+
 -- the records that are taken, and after them the list as it was
-unfoldable pub filled : List Step → Listing → List Step
-filled list l = take (taken (taken_of (length list) l.count)) l.steps ++ drop (taken (taken_of (length list) l.count)) list
+unfoldable pub filled : List Step → Result Listing Rule → List Step
+filled list (Ok l) = take (taken (taken_of (length list) l.count)) l.steps ++ drop (taken (taken_of (length list) l.count)) list
+filled list (Err r) = list
 
 -- the same with a list by value
-unfoldable pub filled_of : List Step → Listing → Filled
-filled_of list l = record { answer = taken_of (length list) l.count; list = filled list l }
+unfoldable pub filled_of : List Step → Result Listing Rule → Filled
+filled_of list r = record { answer = answer_of (length list) r; list = filled list r }
 
 -- from a list that was filled: the numbers of as many records as were written
 abbrev pub numbers_from : List Step → Result ℕ Rule → Field (List ℕ)

@@ -11,7 +11,7 @@ ghost use Rattle.sheet.specs.Field.{value};
 ghost use Rattle.sheet.specs.Answer.{by_rule, Answers};
 ghost use Rattle.sheet.specs.Graph.{over_fault};
 ghost use Rattle.steps.specs.Records.{plan_steps, saved_records};
-ghost use Rattle.steps.specs.Listing.{Listed, taken_of, filled, filled_of};
+ghost use Rattle.steps.specs.Listing.{Listed, taken_of, answer_of, filled, filled_of};
 ghost use Rattle.steps.specs.Records.{kind_number, ways_number, numbers_of, step_numbers};
 ghost use Rattle.steps.specs.Listing.{numbers_from};
 
@@ -82,10 +82,14 @@ fn check_room(len: usize, count: usize) -> Result<usize, Rule>
     Ok(count)
 }
 
-// Fills a lent list: one record for each step, from the front; 17 where it is shorter.
-pub fn fill(out: &mut [Step], l: Listing) -> Result<usize, Rule>
-    ensures { (result ≡ taken_of (length out.old) l.count) × (out.new ≡ filled out.old l) }
+// Fills a lent list: one record for each step, from the front; 17 where it is shorter, or the rule that refused the steps.
+pub fn fill(out: &mut [Step], listing: Result<Listing, Rule>) -> Result<usize, Rule>
+    ensures { (result ≡ answer_of (length out.old) listing) × (out.new ≡ filled out.old listing) }
 {
+    let l = match &listing {
+        Ok(l) => l,
+        Err(rule) => return Err(*rule),
+    };
     let n = check_room(out.len(), l.count)?;
     for i in 0..n {
         out[i] = l.steps[i];
@@ -101,11 +105,11 @@ pub struct Filled {
 }
 
 // The same with a list of the function's own, lent whole: a caller of this one makes no reference to a record.
-pub fn fill_on(l: Listing, old: [Step; STEPS]) -> Filled
-    ensures { result ≡ filled_of old l }
+pub fn fill_on(listing: Result<Listing, Rule>, old: [Step; STEPS]) -> Filled
+    ensures { result ≡ filled_of old listing }
 {
     let mut out = old;
-    let answer = fill(&mut out, l);
+    let answer = fill(&mut out, listing);
     Filled { answer, list: out }
 }
 

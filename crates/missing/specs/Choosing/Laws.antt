@@ -108,12 +108,13 @@ module _ {cs : List ℕ} {own : List (List ℕ)} {tied : List ℕ} {a b : ℕ} (
       let u = turned (λ old more p u. Using more u new) says in
       record { pairs = more-pairs; below = more-below; uses = u; known = tied-kept cs tied m u.fine h.known }
 
-  pub tried-over : {over : ℕ}
-      → ((old more : List ℕ) (u : ℕ) → Using old u own → More old more (pair b a) u → IsOver more × Smallest old (pair b a) over)
-      → {tied' : List ℕ} → (Exact cs over → Tied cs tied → Tied cs tied') → Held cs own tied' × IsOver (m ∷ cs)
-  tried-over {over} says w =
-      let o = turned (λ old more p u. IsOver more × Smallest old p over) says in
-      (record { pairs = h.pairs; below = h.below; uses = h.uses; known = w o.1.tight.exact h.known }, o.0)
+  pub tried-over : {new : List (List ℕ)} {over : ℕ}
+      → ((old more : List ℕ) (u : ℕ) → Using old u own → More old more (pair b a) u
+      → Using old u new × IsOver more × Smallest old (pair b a) over)
+      → {tied' : List ℕ} → (Exact cs over → Tied cs tied → Tied cs tied') → Held cs new tied' × IsOver (m ∷ cs)
+  tried-over {new} {over} says w =
+      let o = turned (λ old more p u. Using old u new × IsOver more × Smallest old p over) says in
+      (record { pairs = h.pairs; below = h.below; uses = o.0; known = w o.2.tight.exact h.known }, o.1)
 
 -- ---- the choice of numbers
 

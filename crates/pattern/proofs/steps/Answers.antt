@@ -1,13 +1,6 @@
 -- `pattern::steps` meets its contract: a list filled from the listing has what the plan gives. Assumes nothing.
-use Rattle.std.specs.Prelude.{◌≡◌, Err}
-use Rattle.theory.specs.Prelude.{rules}
-use Rattle.steps.specs.Records.Laws.{fills, refused-fills}
+use Rattle.steps.specs.Records.Laws.{fills}
 use Rattle.pattern.proofs.steps.Goals as goal
 
-pub returns-in_err-plan_listing : goal.returns-in_err-plan_listing
-returns-in_err-plan_listing c =
-    let passed : c.from_residual.result ≡ Err c.in_err-plan_listing.field-0.0 = search rules in
-    rw passed (refused-fills c.args.out.now c.in_err-plan_listing.ensures)
-
 pub returns : goal.returns
-returns c = fills c.args.out.now c.in_ok-plan_listing.ensures c.fill.ensures
+returns c = fills c.args.out.now c.plan_listing.result c.plan_listing.ensures c.fill.ensures

@@ -44,10 +44,10 @@ module _ (what : SizedGraph → Field (List Step)) (bytes : List ℕ) where
 
 -- the numbers of a list of 62 that is filled
 pub listed-numbers : {x : Field (List Step)} {l : Listing} (old : List Step) {f : Filled} {space left : List ℕ} {r : Written} → Listed x (Ok l)
-    → length old ≡ 62 → f ≡ filled_of old l → Answers (numbers_from f.list f.answer) space r left → Answers (numbers_field x) space r left
+    → length old ≡ 62 → f ≡ filled_of old (Ok l) → Answers (numbers_from f.list f.answer) space r left → Answers (numbers_field x) space r left
 unfolding filled_of
 listed-numbers {x} {l} old {f} {space} {left} {r} is long e h =
-    let w = fills old is (refl, refl) in
+    let w = fills old (Ok l) is (refl, refl) in
     subst (λ (y : Field (List ℕ)). Answers y space r left)
     (ap (λ (g : Filled). numbers_from g.list g.answer) e ∙ numbers-are _ is.fit long w) h
 

@@ -1,11 +1,10 @@
 -- Laws of writing into lent space: one piece of writing after another is the writing of both, and what is put from the front, measured first, gives
 -- `answer` and `after`. Assumes nothing.
-use borrow.Rule.Slice.PartMut.{put_mid}
-use Rattle.std.specs.Prelude.{ℕ, suc, ◌+◌, ◌-◌, ◌≤◌, ◌<◌, ◌≡◌, refl, List, [], ◌∷◌, ◌++◌, length, take, drop, set}
-use Rattle.std.proofs.Common.{add-zero, zero-add, add-suc, suc-add, arith, lt-ltb, le-ltb, sym, ap, ◌∙◌, length-append, take_at}
+use Rattle.std.specs.Prelude.{ℕ, suc, ◌+◌, ◌≤◌, ◌<◌, ◌≡◌, refl, List, [], ◌∷◌, ◌++◌, length, take, drop, set, get_or}
+use Rattle.std.proofs.Common.{add-zero, zero-add, add-suc, suc-add, add-one, arith, lt-ltb, le-ltb, sym}
+use Rattle.std.proofs.Common.{ap, ◌∙◌, subst, length-append, length-set, drop_of_length-le, take_at, drop-cons}
 use Rattle.std.proofs.lemmas.List.Edits.{sets, sets-eq}
-use Rattle.std.proofs.lemmas.Slice.{put_mid-paste}
-use Rattle.std.proofs.Math.Seq.{length-sets, take-length}
+use Rattle.std.proofs.Math.Seq.{length-sets}
 use Rattle.space.specs.Written.{Done, Refused}
 use Rattle.space.specs.Space.{Put, answer, after}
 
@@ -17,6 +16,34 @@ sets-append (x ∷ xs) ys l i = sets-append xs ys (set l i x) (suc i) ∙ rw (ad
 
 pub sets-front : {A : Type 0} (xs l : List A) → length xs ≤ length l → sets l 0 xs ≡ xs ++ drop (length xs) l
 sets-front xs l h = sets-eq xs l 0 (omega arith) ∙ rw zero-add
+
+-- items stored one after another: what is left of them, put from the place reached, makes the space that all of them make
+pub record Storing {A : Type 0} (space : List A) (at : ℕ) (items : List A) (i : ℕ) (now : List A) : Type 0 where
+  pub bound : i ≤ length items
+  pub length_is : length now ≡ length space
+  pub sets_is : sets space at items ≡ sets now (at + i) (drop i items)
+
+pub storing-none : {A : Type 0} (space : List A) (at : ℕ) (items : List A) → Storing space at items 0 space
+storing-none space at items = record { bound = omega arith; length_is = refl; sets_is = rw add-zero }
+
+pub storing-one : {A : Type 0} {space now items : List A} {at i j : ℕ} (d : A) → j ≡ at + i → i < length items → Storing space at items i now
+    → Storing space at items (i + 1) (set now j (get_or items i d))
+storing-one {space = space} {now} {items} {at} {i} d j-is h s =
+    record {
+      bound = omega arith;
+      length_is = simp length-set s.length_is;
+      sets_is = s.sets_is ∙ rw (drop-cons items i d h, j-is, add-one, add-suc);
+    }
+
+-- the same of an item that is read
+pub storing-read : {A : Type 0} {space now items : List A} {i : ℕ} {x : A} → x ≡ get_or items i x → i < length items
+    → Storing space 0 items i now → Storing space 0 items (i + 1) (set now i x)
+storing-read {A} {space} {now} {items} {i} {x} e h s =
+    subst (λ (y : A). Storing space 0 items (i + 1) (set now i y)) (sym e) (storing-one x (omega arith) h s)
+
+pub storing-all : {A : Type 0} {space now items : List A} {at i : ℕ} → length items ≤ i → Storing space at items i now
+    → now ≡ sets space at items
+storing-all {items = items} h s = sym (s.sets_is ∙ rw (drop_of_length-le items h))
 
 -- ---- pieces of writing
 
@@ -43,12 +70,6 @@ pub put_all : {A : Type 0} {space items after : List A} {at next : ℕ} → next
     → Put space at items next after
 put_all {space} {items} {after} {at} n e =
     record { next_is = n; length_is = ap length e ∙ length-sets space at items; after_is = λ h. e }
-
--- the part of the space from at on is overwritten
-pub put_over : {A : Type 0} {space items part : List A} {at : ℕ} → at + length items ≤ length space → part ≡ items
-    → Put space at items (at + length items) (put_mid at (at + length items - at) space part)
-put_over {space} {items} {at = at} h e =
-    put_all refl (put_mid-paste at _ space _ items (length items) e (omega arith) refl ∙ rw take-length (sym (sets-eq items space at h)))
 
 -- one item
 pub put_one : {A : Type 0} {space after : List A} {at : ℕ} {x : A} → after ≡ set space at x → Put space at (x ∷ []) (at + 1) after
@@ -85,14 +106,13 @@ pub put-done : {A : Type 0} {items space left : List A} {next : ℕ} → length 
     → (Done next ≡ answer items space) × (left ≡ after items space)
 put-done h p = (ap Done (p.next_is ∙ zero-add _) ∙ sym (long-answer _ _ h), put-after h p)
 
--- items that have room, written over the front
-pub put_whole : {A : Type 0} (items space : List A) {part : List A} → length items ≤ length space → part ≡ items
-    → (Done (length items) ≡ answer items space) × (part ++ drop (length items) space ≡ after items space)
-unfolding after
-put_whole items space h e = (sym (long-answer items space h), rw (le-ltb _ _ h, e))
-
 -- items put from the front of a space that has room for them stand there
 pub put-stands : {A : Type 0} {items space left : List A} {next : ℕ} → length items ≤ length space → Put space 0 items next left
     → take next left ≡ items
 put-stands {items} {space} {left} {next} room p =
     ap (take next) (p.after_is (omega arith) ∙ sets-front items space room) ∙ take_at items _ next (omega (arith, p.next_is))
+
+-- items that have room, all of them stored
+pub stored : {A : Type 0} {items space now : List A} {i : ℕ} → length items ≤ length space → length items ≤ i → Storing space 0 items i now
+    → (Done (length items) ≡ answer items space) × (now ≡ after items space)
+stored h m s = put-done h (put_all (sym (zero-add _)) (storing-all m s))

@@ -2,10 +2,10 @@
 -- place found to place `to` are turned. Assumes nothing.
 use Rattle.std.specs.Prelude.{◌≡◌}
 use Rattle.std.proofs.lemmas.Bool.Decides.{nat_tests}
-use Rattle.std.proofs.lemmas.Result.{err_from_is_err_and}
 use Rattle.theory.specs.Prelude.{arith}
 use Rattle.sparsity.specs.Freedoms.{entry, same}
 use Rattle.sparsity.specs.Freedoms.Sums.{same-le, free-count}
+use Rattle.sparsity.specs.Answer.Laws.{told-set, some-set}
 use Rattle.sparsity.specs.Reach.Back.{walk_start, walk-stored, walk_end, again-refl, again-trans, gained-ends}
 use Rattle.sparsity.proofs.gather.Goals as goal
 
@@ -18,12 +18,10 @@ overflow_add-free_of c = omega (arith, same-le)
 pub seek-requires : goal.seek-requires
 seek-requires c = let s = c.requires in (c.loop-queue.invariant.table, s.1, s.2, s.3)
 
-pub returns-in_err-to : goal.returns-in_err-to
-returns-in_err-to c =
-    let p = err_from_is_err_and c.from_residual.result c.from_residual.ensures.1 in
+pub returns-in-Err : goal.returns-in-Err
+returns-in-Err c =
     let l = c.loop-queue in
-    rw (p.1, p.2) (
-      l.t,
+    rw (told-set (some-set c.args.a c.in-Err.ensures.outcome.first)) (
       l.invariant,
       omega (
         arith,
@@ -31,11 +29,11 @@ returns-in_err-to c =
         free-count l.t c.from-in-loop-queue.ensures c.free_of-in-loop-queue.ensures,
         c.loop-queue-test.true,
       ),
-      c.in_err-to.ensures.outcome,
+      c.in-Err.ensures.outcome,
     )
 
 pub loop-to-init : goal.loop-to-init
-loop-to-init c = let w = c.in_ok-to.ensures.outcome in record { way = w; walked = walk_start w }
+loop-to-init c = let w = c.in-Ok.ensures.outcome in record { way = w; walked = walk_start w }
 
 pub loop-queue-smaller : goal.loop-queue-smaller
 loop-queue-smaller c =

@@ -7,9 +7,9 @@ use Rattle.peeling.specs.Hard.Laws.{two_pos, in_list, told_in, told-out}
 use Rattle.sparsity.specs.Freedoms.Sums.{same-le}
 use Rattle.sparsity.specs.Answer.{Ready}
 use Rattle.sparsity.specs.Answer.Laws.{free-using, two_ends, ends_at, using-skip, ready-now, ready-gathered, ready-some, using-next, first-at}
-use Rattle.sparsity.specs.Answer.Laws.{answer-not, answer-first}
+use Rattle.sparsity.specs.Answer.Laws.{answer-not, answer-first, told-none, told-set}
 use Rattle.sparsity.proofs.search.Goals as goal
-use Rattle.sparsity.proofs.search.Goals.{then-free_of-need+in-Ok, else-free_of-need}
+use Rattle.sparsity.proofs.search.Goals.{then-free_of-need+else-over-ne0, else-free_of-need}
 
 pub loop-c-init : goal.loop-c-init
 loop-c-init c = free-using c.args.core c.all_free-own.result c.requires.1.small c.all_free-own.ensures
@@ -28,11 +28,11 @@ other_end-b-requires c = (two_ends c.requires.0 c.loop-c-test.true refl, c.lowes
 pub overflow_add-free_of : goal.overflow_add-free_of
 overflow_add-free_of c = omega (arith, same-le)
 
-pub gather-requires : goal.gather-requires
-gather-requires c = let b = c.other_end-b.ensures in (c.loop-c.invariant.table, c.lowest-a.ensures.0, b.0, b.2)
+pub gather-own-requires : goal.gather-own-requires
+gather-own-requires c = let b = c.other_end-b.ensures in (c.loop-c.invariant.table, c.lowest-a.ensures.0, b.0, b.2)
 
-pub returns-in-Err : goal.returns-in-Err
-returns-in-Err c = λ n below-n.
+pub returns-then-over-ne0 : goal.returns-then-over-ne0
+returns-then-over-ne0 c = λ n below-n.
     let s = c.requires.0 in
     let l = c.loop-c in
     let below = c.loop-c-test.true in
@@ -40,7 +40,8 @@ returns-in-Err c = λ n below-n.
     let i = told_in (standing-item s l.c below) c.if-pair-core.false in
     let noted = subst (Noted (take c.args.e c.args.start.now) l.c 1) (sym c.from-need.ensures) (c.requires.2 l.c below) in
     answer-first s.simple n below-n
-    (first-at c.requires.1 l.c (in_list s below) (ends_at s below refl (a.0, a.1) c.other_end-b.ensures) i l.invariant noted c.in-Err.ensures)
+    (first-at c.requires.1 l.c (in_list s below) (ends_at s below refl (a.0, a.1) c.other_end-b.ensures) i l.invariant noted
+    (rw (told-set {t = c.gather-own.result} c.if-over-ne0.true) at c.gather-own.ensures))
 
 pub loop-c-preserved : goal.loop-c-preserved
 loop-c-preserved c =
@@ -58,7 +59,8 @@ loop-c-preserved c =
     let v = c.if-free_of-need in
     let ready : Ready (take l.c cs) c.args.core need a.result b.result v.own =
     elim v.branch [
-      | then-free_of-need+in-Ok o ↦ rw o.own-is (ready-gathered c.requires.1 l.c listed pair i l.invariant o.in-Ok.ensures)
+      | then-free_of-need+else-over-ne0 o ↦ rw o.own-is
+          (ready-gathered c.requires.1 l.c listed pair i l.invariant (rw (told-none {t = o.gather-own.result} o.if-over-ne0.false) at o.gather-own.ensures))
       | else-free_of-need o ↦ rw o.own-is
           (ready-now l.invariant c.from.ensures c.from-in-loop-c.ensures c.free_of.ensures c.free_of-in-loop-c.ensures
           (omega (arith, o.if-free_of-need.false)))

@@ -1,10 +1,10 @@
 -- Laws of the answer: the search from its start, one constraint more that uses a freedom or finds none, a constraint that does not lie in u.
 -- Assumes nothing.
 use Rattle.std.specs.Prelude.{◌≡◌, ◌≢◌, ◌+◌, ◌*◌, ◌^◌, ◌≤◌, ◌<◌, Ok, Err}
-use Rattle.theory.specs.Prelude.{sym, ap, ap₂, ◌∙◌, subst, inl, inr, List, [], ℕ, suc, le_refl, arith, ones}
+use Rattle.theory.specs.Prelude.{refl, sym, ap, ap₂, ◌∙◌, subst, inl, inr, List, [], ℕ, zero, suc, le_refl, arith, ones}
 use Rattle.theory.specs.Prelude.{length, take, get_or}
 use Rattle.theory.specs.Set.{◌∈◌, ◌∩◌, ◌⊑◌, at}
-use Rattle.theory.specs.Set.Laws.{at-∩, ⊑_trans, a∩b⊑a, a∩b⊑b, two_in}
+use Rattle.theory.specs.Set.Laws.{at_zero, at-∩, ⊑_trans, a∩b⊑a, a∩b⊑b, two_in}
 use Rattle.theory.specs.Constraints.{pair, has, carried, NotOver, Below}
 use Rattle.theory.specs.Constraints.Laws.{inside, outside, has-dec, pair-in, pair_ends, has-pair, pair_comm}
 use Rattle.theory.specs.Over.{IsOver, Tight, Smallest, FirstOver, over_of}
@@ -18,7 +18,7 @@ use Rattle.sparsity.specs.Freedoms.Sums.{free-count}
 use Rattle.sparsity.specs.Freedoms.Laws.{free-table, free-closed, free-balanced, kept-le, closed-kept, kept-closed, frees-two}
 use Rattle.sparsity.specs.Freedoms.Laws.{frees-only}
 use Rattle.sparsity.specs.Freedoms.Stores.{balanced-outside, balanced-placed, stored-table, stored-closed}
-use Rattle.sparsity.specs.Reach.{Rebalanced, Gathered, Placed}
+use Rattle.sparsity.specs.Reach.{Rebalanced, told, Gathered, Placed}
 use Rattle.peeling.specs.Core.{Core}
 use Rattle.peeling.specs.Hard.{Noted, hard, easy}
 use Rattle.sparsity.specs.Answer.{EndsAt, Using, Ready, More}
@@ -52,6 +52,19 @@ pub ready-now : {old : List ℕ} {own : List (List ℕ)} {u need a b i j p q : �
     → p ≡ same (entry own i 0) a + same (entry own i 1) a → q ≡ same (entry own j 0) b + same (entry own j 1) b → need ≤ p + q
     → Ready old u need a b own
 ready-now {own = own} uses ei ej ep eq l = record { uses = uses; enough = omega (arith, free-count own ei ep, free-count own ej eq) }
+
+-- ---- what is told beside a table
+
+pub told-none : {t : List (List ℕ)} {over : ℕ} → over ≡ 0 → told t over ≡ Ok t
+told-none {t} e = ap (told t) e
+
+pub told-set : {t : List (List ℕ)} {over : ℕ} → over ≢ 0 → told t over ≡ Err (t, over)
+told-set {over = zero} n = absurd (n refl)
+told-set {over = suc k} n = refl
+
+-- a set with an element
+pub some-set : (a : ℕ) {set : ℕ} → a ∈ set → set ≢ 0
+some-set a h z = omega (arith, ap (at a) z, at_zero a, h)
 
 -- ---- one constraint more, between a and b
 
@@ -170,9 +183,12 @@ module _ {old new : List ℕ} {u a b : ℕ} (ends : (a < 64) × (b < 64) × (a �
     took-four g p = let k = using-again g.0 in using-placed k.table k.closed k.balanced p (four-fine k g.1)
 
     -- as many as are needed are not to be had
-    pub gathered-over : {need over : ℕ} → need ≤ 4 → Gathered own need a b (Err over) → IsOver new × Smallest old m over
+    pub gathered-over : {need over : ℕ} {t : List (List ℕ)} → need ≤ 4 → Gathered own need a b (Err (t, over))
+        → Using old u t × IsOver new × Smallest old m over
     gathered-over {over = over} l g =
-        let s = g.3 in reached-over (using-again g.1) (omega (arith, g.2)) over s.first s.second s.closed s.none s.least
+        let s = g.2 in
+        let k = using-again g.0 in
+        let o = reached-over k (omega (arith, g.1)) over s.first s.second s.closed s.none s.least in (k, o.0, o.1)
 
 -- ---- constraint c
 
@@ -224,11 +240,11 @@ module _ {cs : List ℕ} {u : ℕ} (core : Core cs u) (c : ℕ) (lc : c < length
       fine need (easy h) l = h.fine k.uses.fine
 
   -- fewer: c is the first that makes the list over
-  pub first-at : {own : List (List ℕ)} {need over : ℕ} → Using (take c cs) u own → Noted cs c 1 need → Gathered own need a b (Err over)
+  pub first-at : {own t : List (List ℕ)} {need over : ℕ} → Using (take c cs) u own → Noted cs c 1 need → Gathered own need a b (Err (t, over))
       → FirstOver cs c over
   first-at k w g =
       let r = gathered-over apart more-at k (noted-most w) g in
-      record { listed = lc; earlier = k.fine; over = r.0; smallest = rw ends.is r.1 }
+      record { listed = lc; earlier = k.fine; over = r.1; smallest = rw ends.is r.2 }
 
 -- ---- constraint c of those that stand in an array, as the code has it, with two elements that the code has found in it
 

@@ -27,7 +27,7 @@ use Rattle.engine.specs.Steps.Laws.{stepped-are}
 use Rattle.account.specs.Account.Laws.{room}
 use Rattle.steps.specs.declared.Listing.{Listing}
 use Rattle.steps.specs.Records.{filled_to, list_after, Fills}
-use Rattle.steps.specs.Listing.{listing_of, Fit, Listed, taken_of, taken, filled}
+use Rattle.steps.specs.Listing.{listing_of, Fit, Listed, taken_of, taken, answer_of, filled}
 use Rattle.steps.specs.Records.{numbers_of, step_numbers, numbers_field}
 use Rattle.steps.specs.Listing.{numbers_from}
 
@@ -134,7 +134,7 @@ module _ (list : List Step) where
       by true = refl
       by false = refl
 
-  left-of : (x : Field (List Step)) {l : Listing} → Listed x (Ok l) → filled list l ≡ list_after x list
+  left-of : (x : Field (List Step)) {l : Listing} → Listed x (Ok l) → filled list (Ok l) ≡ list_after x list
   unfolding listing_of taken_of filled
   left-of (refused k) h = let e = h.is in absurd (cc)
   left-of (value steps rest) {l} h =
@@ -150,14 +150,16 @@ module _ (list : List Step) where
       by true = refl
       by false = ap (λ (l : List Step). l ++ drop (length steps) list) (take-block 62 blank_step steps (length steps) refl)
 
-  -- a list filled from a listing has what the field gives
-  pub fills : {x : Field (List Step)} {l : Listing} {r : Result ℕ Rule} {left : List Step} → Listed x (Ok l)
-      → (r ≡ taken_of (length list) l.count) × (left ≡ filled list l) → Fills x list (by_number r) left
-  fills {x} h w = record { answer_is = ap by_number w.0 ∙ answer-of x h; left_is = w.1 ∙ left-of x h }
-
-  -- and one that a rule refuses stays as it is
+  -- one that a rule refuses stays as it is
   pub refused-fills : {x : Field (List Step)} {r : Rule} → Listed x (Err r) → Fills x list (Refused (rule_number r)) list
   refused-fills {x} h = rw (listed-refused x h) (record { answer_is = refl; left_is = refl })
+
+  -- a list filled from a listing has what the field gives
+  pub fills : {x : Field (List Step)} (l : Result Listing Rule) {r : Result ℕ Rule} {left : List Step} → Listed x l
+      → (r ≡ answer_of (length list) l) × (left ≡ filled list l) → Fills x list (by_number r) left
+  unfolding filled
+  fills {x} (Ok l) h w = record { answer_is = ap by_number w.0 ∙ answer-of x h; left_is = w.1 ∙ left-of x h }
+  fills (Err k) h w = rw (w.0, w.1) (refused-fills h)
 
 -- ---- as numbers
 
