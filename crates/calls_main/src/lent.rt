@@ -3,7 +3,7 @@ use crate::said::{
     say, say_bytes, say_judgement, say_longs, say_number, say_sheet, say_shorts, say_signed,
     say_written,
 };
-use crate::text::{constraint_of, least, number, rule_of, some};
+use crate::text::{constraint_of, least, number, some};
 use std::io;
 use steps::{Filled, Listing};
 use theory::{ELEMENTS, JointKind, Rule, STEPS, Step, Ways};
@@ -88,6 +88,44 @@ pub fn lend_shorts(
 }
 
 // ---- 64-bit numbers
+
+// The rule of a number; no rule has some.
+fn rule_of(number: u8) -> Option<Rule> {
+    let rules = [
+        Rule::Opening,
+        Rule::CutShort,
+        Rule::ElementCount,
+        Rule::KindBits,
+        Rule::ConstraintCount,
+        Rule::Ends,
+        Rule::PairTwice,
+        Rule::SizeMap,
+        Rule::SizeRange,
+        Rule::BytesLeft,
+        Rule::OverSheet,
+        Rule::PlanLength,
+        Rule::NoCluster,
+        Rule::NotOpen,
+        Rule::StillOpen,
+        Rule::NoRoom,
+        Rule::UnknownKind,
+        Rule::RadiusRange,
+        Rule::EqualRadii,
+        Rule::PriceCount,
+        Rule::PriceRange,
+        Rule::NoCompletion,
+        Rule::HeldCount,
+        Rule::NoElement,
+        Rule::NoPart,
+        Rule::NoSketch,
+    ];
+    for rule in rules {
+        if rule.number() == number {
+            return Some(rule);
+        }
+    }
+    None
+}
 
 // A list of 62 marked records, filled with blank ones, as many as are counted, or refused by a rule; its first records then, as numbers. By a number
 // that no rule has it is refused here.

@@ -3,7 +3,6 @@ ghost use Rattle.io.specs.Counts.{IsPrefixLen};
 ghost use Rattle.std.specs.Prelude.{◌≤◌};
 
 use sheet::Constraint;
-use theory::Rule;
 
 // A byte of a list, 0 past its end.
 pub fn byte(list: &[u8], at: usize) -> u8 {
@@ -24,44 +23,6 @@ pub fn number(list: &[u16], at: usize) -> usize
     ensures { result ≤ 65535 }
 {
     item(list, at) as usize
-}
-
-// The rule of a number; no rule has some.
-pub fn rule_of(number: u8) -> Option<Rule> {
-    let rules = [
-        Rule::Opening,
-        Rule::CutShort,
-        Rule::ElementCount,
-        Rule::KindBits,
-        Rule::ConstraintCount,
-        Rule::Ends,
-        Rule::PairTwice,
-        Rule::SizeMap,
-        Rule::SizeRange,
-        Rule::BytesLeft,
-        Rule::OverSheet,
-        Rule::PlanLength,
-        Rule::NoCluster,
-        Rule::NotOpen,
-        Rule::StillOpen,
-        Rule::NoRoom,
-        Rule::UnknownKind,
-        Rule::RadiusRange,
-        Rule::EqualRadii,
-        Rule::PriceCount,
-        Rule::PriceRange,
-        Rule::NoCompletion,
-        Rule::HeldCount,
-        Rule::NoElement,
-        Rule::NoPart,
-        Rule::NoSketch,
-    ];
-    for rule in rules {
-        if rule.number() == number {
-            return Some(rule);
-        }
-    }
-    None
 }
 
 // The lesser of two numbers.
